@@ -1,0 +1,168 @@
+-- The induction over the parser: what is shown of each rule and each turn, given the same of the calls and loops in it, holds of all. Assumes nothing.
+use mathlib.Core.Path.{_≡_, refl, sym, ap, _∙_}
+use mathlib.Core.Bool.{Bool, true, false}
+use mathlib.Core.List.{List, [], _∷_, _++_}
+use Prim.Native.Nat.{ℕ, zero, suc, _+_, _≤_, _<_}
+use native.Mathlib.Omega.{arith}
+use lib.Dec.{ltb}
+use lib.ListN.{length, length-append}
+use Rattle.definition.specs.Bytes.{Err}
+use Rattle.definition.specs.Token.{Tok, head, tail}
+use Rattle.definition.specs.Act.{Fallible, Ans, ok, fatal, Node, Items, Words, Goal, Loop, Module, Body, ListOf, Operators, Casts, Suffixes, Modifiers, Left, Act, done, peek, take, make, if_then_else_, call, loop, refuse, St, Res, gives, refused, stuck, after, advance, push, run, _>>=_, _>>?_, or-return}
+use Rattle.definition.specs.Parser.{rule, turn, loops, parse, parse-module, no-items}
+use Rattle.definition.proofs.Later.{Later, later-refl, later-trans, later-advance, later-push, later-full, After}
+
+-- an answer of a call or a loop, and what follows it
+pub join : {A B : Type 0} (P : A → St → Type 0) (Q : B → St → Type 0) (r : Res A) (f : A → St → Res B) → After P r → ((a : A) (s : St) → P a s → After Q (f a s)) → After Q (after r f)
+join P Q (gives a s) f p h = h a s p
+join P Q (refused n) f p h = tt
+join P Q stuck f p h = tt
+
+pub limit : {A : Type 0} (Q : A → St → Type 0) (b : Bool) (r : Res A) → After Q r → After Q (elim b as (λ _. Res A) [ true ↦ r | false ↦ refused 12 ])
+limit Q true r h = h
+limit Q false r h = tt
+
+-- a statement about each answer: an `Ans` by its two cases
+abbrev pub EachAns : (Ans Node → Type 0) → Type 0
+EachAns P = ((x : Fallible Node) → P (ok x)) × ((es : List Err) → P (fatal es))
+
+abbrev pub Each : (l : Loop) → (Left l → Type 0) → Type 0
+Each (Module i) P = (a : Items) → P a
+Each (Body i) P = (a : Items) → P a
+Each (ListOf k i) P = (a : Items) → P a
+Each (Operators l e) P = EachAns P
+Each (Casts e) P = EachAns P
+Each (Suffixes e) P = EachAns P
+Each (Modifiers w) P = (a : Words) → P a
+
+pub each-ans : (P : Ans Node → Type 0) → EachAns P → (a : Ans Node) → P a
+each-ans P h (ok x) = h .0 x
+each-ans P h (fatal es) = h .1 es
+
+pub each : (l : Loop) (P : Left l → Type 0) → Each l P → (a : Left l) → P a
+each (Module i) P h a = h a
+each (Body i) P h a = h a
+each (ListOf k i) P h a = h a
+each (Operators l e) P h a = each-ans P h a
+each (Casts e) P h a = each-ans P h a
+each (Suffixes e) P h a = each-ans P h a
+each (Modifiers w) P h a = h a
+
+pub to-each : (l : Loop) (P : Left l → Type 0) → ((a : Left l) → P a) → Each l P
+to-each (Module i) P h = h
+to-each (Body i) P h = h
+to-each (ListOf k i) P h = h
+to-each (Operators l e) P h = (λ x. h (ok x), λ es. h (fatal es))
+to-each (Casts e) P h = (λ x. h (ok x), λ es. h (fatal es))
+to-each (Suffixes e) P h = (λ x. h (ok x), λ es. h (fatal es))
+to-each (Modifiers w) P h = h
+
+-- G and L: what holds of a call's answer and of a loop's; R and M: what may be taken for granted where a token is read and where an error is made
+module _ (G : Goal → St → Ans Node → St → Type 0) (L : (l : Loop) → St → Left l → St → Type 0) (R : St → Type 0) (M : Err → St → Type 0) where
+  -- what has to hold before an act, for Q to hold after it
+  abbrev pub wp : {A : Type 0} → Act A → (A → St → Type 0) → St → Type 0
+  wp (done a) Q s = Q a s
+  wp (peek k) Q s = wp (k (head (s .left))) Q s
+  wp (take r k) Q s = R s → wp (k (head (s .left))) Q (advance r s)
+  wp (make e m) Q s = M e s → wp m Q (push e s)
+  wp (if_then_else_ b m n) Q s = (b ≡ true → wp m Q s) × (b ≡ false → wp n Q s)
+  wp (call g k) Q s = EachAns (λ a. (s′ : St) → Later s s′ → G g s a s′ → wp (k a) Q s′)
+  wp (loop l k) Q s = Each l (λ a. (s′ : St) → Later s s′ → L l s a s′ → wp (k a) Q s′)
+  wp (refuse n) Q s = Unit {0}
+
+  pub wp-always : {A : Type 0} (Q : A → St → Type 0) (m : Act A) (s : St) → ((a : A) (s′ : St) → Q a s′) → wp m Q s
+  wp-always Q (done a) s h = h a s
+  wp-always Q (peek k) s h = wp-always Q (k (head (s .left))) s h
+  wp-always Q (take p k) s h = λ r. wp-always Q (k (head (s .left))) (advance p s) h
+  wp-always Q (make x m) s h = λ r. wp-always Q m (push x s) h
+  wp-always Q (if_then_else_ b m n) s h = (λ d. wp-always Q m s h, λ d. wp-always Q n s h)
+  wp-always Q (call g k) s h = (λ x s′ l p. wp-always Q (k (ok x)) s′ h, λ es s′ l p. wp-always Q (k (fatal es)) s′ h)
+  wp-always Q (loop g k) s h = to-each g (λ a. (s′ : St) → Later s s′ → L g s a s′ → wp (k a) Q s′) (λ a s′ l p. wp-always Q (k a) s′ h)
+  wp-always Q (refuse n) s h = tt
+
+  pub wp-mono : {A : Type 0} (P Q : A → St → Type 0) (m : Act A) (s : St) → ((a : A) (s′ : St) → P a s′ → Q a s′) → wp m P s → wp m Q s
+  wp-mono P Q (done a) s h w = h a s w
+  wp-mono P Q (peek k) s h w = wp-mono P Q (k (head (s .left))) s h w
+  wp-mono P Q (take p k) s h w = λ r. wp-mono P Q (k (head (s .left))) (advance p s) h (w r)
+  wp-mono P Q (make x m) s h w = λ r. wp-mono P Q m (push x s) h (w r)
+  wp-mono P Q (if_then_else_ b m n) s h w = (λ d. wp-mono P Q m s h (w .0 d), λ d. wp-mono P Q n s h (w .1 d))
+  wp-mono P Q (call g k) s h w = (λ x s′ l p. wp-mono P Q (k (ok x)) s′ h (w .0 x s′ l p), λ es s′ l p. wp-mono P Q (k (fatal es)) s′ h (w .1 es s′ l p))
+  wp-mono P Q (loop g k) s h w =
+      to-each g (λ a. (s′ : St) → Later s s′ → L g s a s′ → wp (k a) Q s′)
+      (λ a s′ l p. wp-mono P Q (k a) s′ h (each g (λ a. (s′ : St) → Later s s′ → L g s a s′ → wp (k a) P s′) w a s′ l p))
+  wp-mono P Q (refuse n) s h w = tt
+
+  pub wp-bind : {A B : Type 0} (m : Act A) (f : A → Act B) (Q : B → St → Type 0) (s : St) → wp m (λ a s′. wp (f a) Q s′) s → wp (m >>= f) Q s
+  unfolding _>>=_
+  wp-bind (done a) f Q s h = h
+  wp-bind (peek k) f Q s h = wp-bind (k (head (s .left))) f Q s h
+  wp-bind (take p k) f Q s h = λ r. wp-bind (k (head (s .left))) f Q (advance p s) (h r)
+  wp-bind (make x m) f Q s h = λ r. wp-bind m f Q (push x s) (h r)
+  wp-bind (if_then_else_ b m n) f Q s h = (λ d. wp-bind m f Q s (h .0 d), λ d. wp-bind n f Q s (h .1 d))
+  wp-bind (call g k) f Q s h = (λ x s′ l p. wp-bind (k (ok x)) f Q s′ (h .0 x s′ l p), λ es s′ l p. wp-bind (k (fatal es)) f Q s′ (h .1 es s′ l p))
+  wp-bind (loop g k) f Q s h =
+      to-each g (λ a. (s′ : St) → Later s s′ → L g s a s′ → wp (k a >>= f) Q s′)
+      (λ a s′ l p. wp-bind (k a) f Q s′ (each g (λ a. (s′ : St) → Later s s′ → L g s a s′ → wp (k a) (λ a s′. wp (f a) Q s′) s′) h a s′ l p))
+  wp-bind (refuse n) f Q s h = tt
+
+  -- with where the act began
+  pub wp-later : {A : Type 0} (P Q : A → St → Type 0) (m : Act A) (s₀ s : St) → Later s₀ s → ((a : A) (s′ : St) → Later s₀ s′ → P a s′ → Q a s′) → wp m P s → wp m Q s
+  wp-later P Q (done a) s₀ s l h w = h a s l w
+  wp-later P Q (peek k) s₀ s l h w = wp-later P Q (k (head (s .left))) s₀ s l h w
+  wp-later P Q (take p k) s₀ s l h w = λ r. wp-later P Q (k (head (s .left))) s₀ (advance p s) (later-trans l (later-advance p s)) h (w r)
+  wp-later P Q (make x m) s₀ s l h w = λ r. wp-later P Q m s₀ (push x s) (later-trans l (later-push x s)) h (w r)
+  wp-later P Q (if_then_else_ b m n) s₀ s l h w = (λ d. wp-later P Q m s₀ s l h (w .0 d), λ d. wp-later P Q n s₀ s l h (w .1 d))
+  wp-later P Q (call g k) s₀ s l h w = (λ x s′ k′ p. wp-later P Q (k (ok x)) s₀ s′ (later-trans l k′) h (w .0 x s′ k′ p), λ es s′ k′ p. wp-later P Q (k (fatal es)) s₀ s′ (later-trans l k′) h (w .1 es s′ k′ p))
+  wp-later P Q (loop g k) s₀ s l h w =
+      to-each g (λ a. (s′ : St) → Later s s′ → L g s a s′ → wp (k a) Q s′)
+      (λ a s′ k′ p. wp-later P Q (k a) s₀ s′ (later-trans l k′) h (each g (λ a. (s′ : St) → Later s s′ → L g s a s′ → wp (k a) P s′) w a s′ k′ p))
+  wp-later P Q (refuse n) s₀ s l h w = tt
+
+  -- an act of which P is known, and what follows it
+  pub follow : {A B : Type 0} (m : Act A) (f : A → Act B) (P : A → St → Type 0) (Q : B → St → Type 0) (s : St) → wp m P s → ((a : A) (s′ : St) → P a s′ → wp (f a) Q s′) → wp (m >>= f) Q s
+  follow m f P Q s w h = wp-bind m f Q s (wp-mono P (λ a s′. wp (f a) Q s′) m s h w)
+
+  -- the same under `?`
+  pub try : {A B : Type 0} (m : Act (Ans A)) (f : Fallible A → Act (Ans B)) (P : Ans A → St → Type 0) (Q : Ans B → St → Type 0) (s : St)
+      → wp m P s → ((x : Fallible A) (s′ : St) → P (ok x) s′ → wp (f x) Q s′) → ((es : List Err) (s′ : St) → P (fatal es) s′ → Q (fatal es) s′) → wp (m >>? f) Q s
+  try {A} {B} m f P Q s w h e = wp-bind m (or-return f) Q s (wp-mono P (λ a s′. wp (or-return f a) Q s′) m s go w)
+    where
+      go : (a : Ans A) (s′ : St) → P a s′ → wp (or-return f a) Q s′
+      go (ok x) s′ p = h x s′ p
+      go (fatal es) s′ p = e es s′ p
+
+  module _ (r-ok : (s : St) → R s) (m-ok : (e : Err) (s : St) → M e s) where
+    module _ (c : Goal → St → Res (Ans Node)) (o : (l : Loop) → St → Res (Left l))
+        (c-ok : (g : Goal) (s : St) → After (λ a s′. Later s s′ × G g s a s′) (c g s))
+        (o-ok : (l : Loop) (s : St) → After (λ a s′. Later s s′ × L l s a s′) (o l s)) where
+      pub sound : {A : Type 0} (Q : A → St → Type 0) (m : Act A) (s₀ s : St) → Later s₀ s → wp m Q s → After (λ a s′. Later s₀ s′ × Q a s′) (run c o m s)
+      unfolding run
+      sound Q (done a) s₀ s l h = (l, h)
+      sound Q (peek k) s₀ s l h = sound Q (k (head (s .left))) s₀ s l h
+      sound Q (take r k) s₀ s l h = sound Q (k (head (s .left))) s₀ (advance r s) (later-trans l (later-advance r s)) (h (r-ok s))
+      sound Q (make e m) s₀ s l h = limit (λ a s′. Later s₀ s′ × Q a s′) (ltb (length (s .full)) 255) (run c o m (push e s)) (sound Q m s₀ (push e s) (later-trans l (later-push e s)) (h (m-ok e s)))
+      sound Q (if_then_else_ true m n) s₀ s l h = sound Q m s₀ s l (h .0 refl)
+      sound Q (if_then_else_ false m n) s₀ s l h = sound Q n s₀ s l (h .1 refl)
+      sound Q (call g k) s₀ s l h =
+          join (λ a s′. Later s s′ × G g s a s′) (λ a s′. Later s₀ s′ × Q a s′) (c g s) (λ a s′. run c o (k a) s′) (c-ok g s)
+          (λ a s′ p. sound Q (k a) s₀ s′ (later-trans l (p .0)) (each-ans (λ a. (s′ : St) → Later s s′ → G g s a s′ → wp (k a) Q s′) h a s′ (p .0) (p .1)))
+      sound Q (loop g k) s₀ s l h =
+          join (λ a s′. Later s s′ × L g s a s′) (λ a s′. Later s₀ s′ × Q a s′) (o g s) (λ a s′. run c o (k a) s′) (o-ok g s)
+          (λ a s′ p. sound Q (k a) s₀ s′ (later-trans l (p .0)) (each g (λ a. (s′ : St) → Later s s′ → L g s a s′ → wp (k a) Q s′) h a s′ (p .0) (p .1)))
+      sound Q (refuse n) s₀ s l h = tt
+
+    module _ (rules : (g : Goal) (s : St) → wp (rule g) (G g s) s) (turns : (l : Loop) (s : St) → wp (turn l) (L l s) s) where
+      pub loops-ind : (c : Goal → St → Res (Ans Node)) → ((g : Goal) (s : St) → After (λ a s′. Later s s′ × G g s a s′) (c g s))
+          → (n : ℕ) (l : Loop) (s : St) → After (λ a s′. Later s s′ × L l s a s′) (loops c n l s)
+      unfolding loops
+      loops-ind c c-ok zero l s = tt
+      loops-ind c c-ok (suc n) l s = sound c (λ m t. loops c n m t) c-ok (λ m t. loops-ind c c-ok n m t) (L l s) (turn l) s s (later-refl s) (turns l s)
+
+      pub parse-ind : (n : ℕ) (g : Goal) (s : St) → After (λ a s′. Later s s′ × G g s a s′) (parse n g s)
+      unfolding parse
+      parse-ind zero g s = tt
+      parse-ind (suc n) g s = sound (λ h t. parse n h t) (λ l t. loops (λ h u. parse n h u) (suc (suc (length (t .left)))) l t) (λ h t. parse-ind n h t) (λ l t. loops-ind (λ h u. parse n h u) (λ h u. parse-ind n h u) (suc (suc (length (t .left)))) l t) (G g s) (rule g) s s (later-refl s) (rules g s)
+
+      pub module-ind : (ts : List Tok) → After (λ i s′. Later (record { left = ts; read = []; full = [] }) s′ × L (Module (no-items [])) (record { left = ts; read = []; full = [] }) i s′) (parse-module ts)
+      unfolding parse-module
+      module-ind ts = loops-ind (λ g s. parse 96 g s) (λ g s. parse-ind 96 g s) (suc (suc (length ts))) (Module (no-items [])) (record { left = ts; read = []; full = [] })

@@ -1,0 +1,522 @@
+-- Two facts of every call and loop. The records of a tree take at most 16 bytes for each token, and the tokens' texts. The errors that are reported are among those made, none more often
+-- than it was made: so for the sum over any weights of errors, `f`. Assumes nothing.
+use mathlib.Core.Path.{_≡_, refl, sym, ap, _∙_, subst}
+use mathlib.Core.Bool.{Bool, true, false, not, _||_}
+use mathlib.Core.Option.{Option, none, some}
+use mathlib.Core.List.{List, [], _∷_, _++_}
+use Prim.Native.Nat.{ℕ, zero, suc, _+_, _*_, _≤_, _<_, min}
+use native.Mathlib.Omega.{arith}
+use lib.Dec.{eqb, T, eqb→eq}
+use lib.ListN.{length}
+use Rattle.definition.specs.Ascii.{ascii}
+use Rattle.definition.specs.Bytes.{Place, Num, byte, two, eight, Rec, Err}
+use Rattle.definition.specs.Token.{Tok, head, tail, _is_, end-token}
+use Rattle.definition.specs.Act.{Fallible, Ans, ok, fatal, Node, Items, Goal, Statement, Expression, Unary, Type', Loop, Module, Body, ListOf, Operators, Casts, Suffixes, Modifiers, Listed, Parameters, Arguments, StructFields, ArrayValues, StructValues, Level, BitOr, BitXor, BitAnd, Shift, AddSub, Mul, Left, Words, Act, St, advance, push, plain, next, done, _>>=_, _>>?_, or-return}
+use Rattle.definition.specs.Parser as P
+use Rattle.definition.specs.Parser.{rule, turn, statement-rule, expression-rule, unary-rule, type-rule, list-turn, body-turn, module-turn, operators-turn, casts-turn, suffixes-turn, modifiers-turn, Typed, parse-module}
+use Rattle.definition.proofs.Later.{Later, After, weaken}
+use Rattle.definition.proofs.Ind.{wp, wp-bind, wp-mono, follow, try, module-ind}
+
+abbrev pub place-size : Option Place → ℕ
+place-size none = 0
+place-size (some p) = 4
+
+abbrev pub nums-size : List Num → ℕ
+nums-size [] = 0
+nums-size (byte n ∷ ns) = 1 + nums-size ns
+nums-size (two n ∷ ns) = 2 + nums-size ns
+nums-size (eight n ∷ ns) = 8 + nums-size ns
+
+abbrev pub weight : List Rec → ℕ
+weight [] = 0
+weight (r ∷ rs) = (3 + place-size (r .place) + nums-size (r .numbers) + length (r .text)) + weight rs
+
+weight-append : (xs ys : List Rec) → weight (xs ++ ys) ≡ weight xs + weight ys
+weight-append [] ys = omega arith
+weight-append (x ∷ xs) ys = omega (arith, weight-append xs ys)
+
+abbrev pub cost : Tok → ℕ
+cost t = 16 * min (t .kind) 1 + length (t .text)
+
+abbrev pub budget : List Tok → ℕ
+budget [] = 0
+budget (t ∷ ts) = cost t + budget ts
+
+abbrev R : St → Type 0
+R s = cost (head (s .left)) + budget (tail (s .left)) ≡ budget (s .left)
+
+r-ok : (ts : List Tok) → cost (head ts) + budget (tail ts) ≡ budget ts
+r-ok [] = refl
+r-ok (t ∷ ts) = refl
+
+abbrev M : Err → St → Type 0
+M e s = Unit {0}
+
+is-kind : (t : Tok) (k : ℕ) → t is k ≡ true → t .kind ≡ k
+is-kind t k e = eqb→eq (t .kind) k (subst T (sym e) tt)
+
+not-end : (t : Tok) → t is 0 ≡ false → 0 < t .kind
+not-end t e = go (t .kind) e
+  where
+    go : (k : ℕ) → eqb k 0 ≡ false → 0 < k
+    go zero e = let z : _≡_ {A = ℕ} 0 1 = cc in absurd (omega arith)
+    go (suc k) e = omega arith
+
+module _ (f : Err → ℕ) where
+  abbrev pub tally : List Err → ℕ
+  tally [] = 0
+  tally (e ∷ es) = f e + tally es
+
+  tally-append : (xs ys : List Err) → tally (xs ++ ys) ≡ tally xs + tally ys
+  tally-append [] ys = omega arith
+  tally-append (x ∷ xs) ys = omega (arith, tally-append xs ys)
+
+  ruleset sums = (weight-append, tally-append)
+
+  -- k bytes are spared
+  abbrev Post : ℕ → St → Ans Node → St → Type 0
+  Post k s (ok x) s′ = (weight (x .item .recs) + k + budget (s′ .left) ≤ budget (s .left)) × (tally (x .errors) + tally (s .full) ≤ tally (s′ .full))
+  Post k s (fatal es) s′ = (budget (s′ .left) ≤ budget (s .left)) × (tally es + tally (s .full) ≤ tally (s′ .full))
+
+  -- at most k bytes more than the tokens read pay for
+  abbrev Over : ℕ → St → Ans Node → St → Type 0
+  Over k s (ok x) s′ = (weight (x .item .recs) + budget (s′ .left) ≤ k + budget (s .left)) × (tally (x .errors) + tally (s .full) ≤ tally (s′ .full))
+  Over k s (fatal es) s′ = (budget (s′ .left) ≤ budget (s .left)) × (tally es + tally (s .full) ≤ tally (s′ .full))
+
+  -- of a function whose parameters and return type are read, at most k bytes more
+  abbrev Built : ℕ → Items → Fallible Node → St → Ans Node → St → Type 0
+  Built k ps r s (ok x) s′ = (weight (x .item .recs) + budget (s′ .left) ≤ k + weight (ps .recs) + weight (r .item .recs) + budget (s .left)) × (tally (x .errors) + tally (s .full) ≤ tally (r .errors) + tally (ps .errors) + tally (s′ .full))
+  Built k ps r s (fatal es) s′ = (budget (s′ .left) ≤ budget (s .left)) × (tally es + tally (s .full) ≤ tally (s′ .full))
+
+  abbrev PostTyped : St → Ans Typed → St → Type 0
+  PostTyped s (ok x) s′ = (weight (x .item .type) + length (x .item .name) + 16 + budget (s′ .left) ≤ budget (s .left)) × (tally (x .errors) + tally (s .full) ≤ tally (s′ .full))
+  PostTyped s (fatal es) s′ = (budget (s′ .left) ≤ budget (s .left)) × (tally es + tally (s .full) ≤ tally (s′ .full))
+
+  abbrev PostTyped′ : St → Ans Typed → St → Type 0
+  PostTyped′ s (ok x) s′ = (weight (x .item .type) + length (x .item .name) + 13 + budget (s′ .left) ≤ budget (s .left)) × (tally (x .errors) + tally (s .full) ≤ tally (s′ .full))
+  PostTyped′ s (fatal es) s′ = (budget (s′ .left) ≤ budget (s .left)) × (tally es + tally (s .full) ≤ tally (s′ .full))
+
+  -- of the name that is read already
+  abbrev PostNamed : List ℕ → List Err → St → Ans Typed → St → Type 0
+  PostNamed name es s (ok x) s′ = (weight (x .item .type) + 16 + budget (s′ .left) ≤ budget (s .left)) × (tally (x .errors) + tally (s .full) ≤ tally es + tally (s′ .full)) × (length (x .item .name) ≡ length name)
+  PostNamed name es s (fatal es′) s′ = (budget (s′ .left) ≤ budget (s .left)) × (tally es′ + tally (s .full) ≤ tally (s′ .full))
+
+  abbrev PostItems : Items → St → Items → St → Type 0
+  PostItems i s a s′ = (weight (a .recs) + budget (s′ .left) ≤ weight (i .recs) + budget (s .left)) × (tally (a .errors) + tally (s .full) ≤ tally (i .errors) + tally (s′ .full))
+
+  -- a list, or a body, and the token that opens it
+  abbrev PostOpened : St → Items → St → Type 0
+  PostOpened s a s′ = (weight (a .recs) + cost (head (s .left)) + budget (s′ .left) ≤ budget (s .left)) × (tally (a .errors) + tally (s .full) ≤ tally (s′ .full))
+
+  abbrev spare : Goal → ℕ
+  spare Statement = 0
+  spare Expression = 8
+  spare Unary = 8
+  spare Type' = 0
+
+  abbrev G : Goal → St → Ans Node → St → Type 0
+  G g s a s′ = Post (spare g) s a s′
+
+  abbrev From : Fallible Node → St → Ans Node → St → Type 0
+  From e s (ok x) s′ = (weight (x .item .recs) + budget (s′ .left) ≤ weight (e .item .recs) + budget (s .left)) × (tally (x .errors) + tally (s .full) ≤ tally (e .errors) + tally (s′ .full))
+  From e s (fatal es) s′ = (budget (s′ .left) ≤ budget (s .left)) × (tally es + tally (s .full) ≤ tally (s′ .full))
+
+  abbrev L : (l : Loop) → St → Left l → St → Type 0
+  L (Module i) s a s′ = PostItems i s a s′
+  L (Body i) s a s′ = PostItems i s a s′
+  L (ListOf k i) s a s′ = PostItems i s a s′
+  L (Operators l e) s a s′ = From e s a s′
+  L (Casts e) s a s′ = From e s a s′
+  L (Suffixes e) s a s′ = From e s a s′
+  L (Modifiers w) s a s′ = (budget (s′ .left) ≤ budget (s .left)) × (tally (s .full) ≤ tally (s′ .full))
+
+  abbrev wp′ : {A : Type 0} → Act A → (A → St → Type 0) → St → Type 0
+  wp′ m Q s = wp G L R M m Q s
+
+  -- a lemma on an act, for another statement
+  via : {A : Type 0} (m : Act (Ans A)) (P Q : Ans A → St → Type 0) (s : St) → wp′ m P s → ((x : Fallible A) (s′ : St) → P (ok x) s′ → Q (ok x) s′) → ((es : List Err) (s′ : St) → P (fatal es) s′ → Q (fatal es) s′) → wp′ m Q s
+  via {A} m P Q s w h e = wp-mono G L R M P Q m s go w
+    where
+      go : (a : Ans A) (s′ : St) → P a s′ → Q a s′
+      go (ok x) s′ p = h x s′ p
+      go (fatal es) s′ p = e es s′ p
+
+  tries : {A B : Type 0} (m : Act (Ans A)) (f : Fallible A → Act (Ans B)) (P : Ans A → St → Type 0) (Q : Ans B → St → Type 0) (s : St)
+      → wp′ m P s → ((x : Fallible A) (s′ : St) → P (ok x) s′ → wp′ (f x) Q s′) → ((es : List Err) (s′ : St) → P (fatal es) s′ → Q (fatal es) s′) → wp′ (m >>? f) Q s
+  tries m f P Q s w h e = try G L R M m f P Q s w h e
+
+  follows : {A B : Type 0} (m : Act A) (f : A → Act B) (P : A → St → Type 0) (Q : B → St → Type 0) (s : St) → wp′ m P s → ((a : A) (s′ : St) → P a s′ → wp′ (f a) Q s′) → wp′ (m >>= f) Q s
+  follows m f P Q s w h = follow G L R M m f P Q s w h
+
+  typed-size : (name : List ℕ) (es : List Err) (s : St) → wp′ (P.typed name es) (λ a s′. PostNamed name es s a s′) s
+  unfolding P.typed _>>=_
+  typed-size name es s = simp sums (omega (arith, is-kind))
+
+  typed-identifier-size : (s : St) → wp′ P.parse-typed-identifier (PostTyped s) s
+  unfolding P.parse-typed-identifier ascii
+  typed-identifier-size s = λ r. (
+    λ i. named (head (s .left) .text) [] (advance (λ _. plain) s) (omega (arith, is-kind)) (omega arith),
+    λ n. (λ i m. simp sums (omega (arith, is-kind)), λ e m. named (ascii "<?>") _ (push _ (advance (λ _. plain) s)) (omega (arith, is-kind, not-end)) (simp sums (omega arith))),
+  )
+    where
+      named : (name : List ℕ) (es : List Err) (t : St) → length name + 0 + budget (t .left) ≤ budget (s .left) → tally es + tally (s .full) ≤ tally (t .full) → wp′ (P.typed name es) (PostTyped s) t
+      named name es t b c = via (P.typed name es) (PostNamed name es t) (PostTyped s) t (typed-size name es t) (omega arith) (omega arith)
+
+  prefix-size : (tag : ℕ) (s : St) → 0 < (head (s .left)) .kind → wp′ (P.prefix tag) (Post 8 s) s
+  unfolding P.prefix _>>=_
+  prefix-size tag s k = simp sums (omega arith)
+
+  group-size : (s : St) → 0 < (head (s .left)) .kind → wp′ P.parse-group (Post 8 s) s
+  unfolding P.parse-group _>>=_
+  group-size s k = simp sums (omega (arith, is-kind))
+
+  atom-size : (s : St) → wp′ P.parse-atom (Post 8 s) s
+  unfolding P.parse-atom _>>=_
+  atom-size s = (
+    λ i r. omega (arith, is-kind),
+    λ _. (
+      λ i r. omega (arith, is-kind),
+      λ _. (
+        λ i r. omega (arith, is-kind),
+        λ _. (
+          λ i r. omega (arith, is-kind),
+          λ _. (
+            λ i r. omega (arith, is-kind),
+            λ _.
+                (λ i. group-size s (omega (arith, is-kind)), λ _ r. simp sums (omega (arith, is-kind))),
+          ),
+        ),
+      ),
+    ),
+  )
+
+  list-size : (k : Listed) (s : St) → wp′ (P.parse-list k) (PostOpened s) s
+  unfolding P.parse-list _>>=_
+  list-size k s = simp sums (omega (arith, is-kind))
+
+  named-type-size : (s : St) → wp′ P.parse-named-type (Post 0 s) s
+  unfolding P.parse-named-type
+  named-type-size s = tries _ _ (PostTyped s) _ _ (typed-identifier-size s) (λ x s′ p. simp sums (omega arith)) (omega arith)
+
+  struct-field-size : (s : St) → wp′ P.parse-compound-struct-field (Post 0 s) s
+  unfolding P.parse-compound-struct-field _>>=_
+  struct-field-size s = simp sums (omega (arith, is-kind))
+
+  after-item-size : (k : Listed) (i : Items) (s : St) → wp′ (P.after-item k i) (PostItems i s) s
+  unfolding P.after-item
+  after-item-size k i s = simp sums (omega (arith, is-kind))
+
+  array-type-size : (p : Place) (s : St) → wp′ (P.parse-array-type p) (Post 0 s) s
+  unfolding P.parse-array-type _>>=_
+  array-type-size p s = simp sums (omega (arith, is-kind))
+
+  type-size : (s : St) → wp′ type-rule (Post 0 s) s
+  unfolding type-rule _>>=_
+  type-size s r = (
+    λ i. omega (arith, is-kind),
+    λ _. (
+      λ i. simp sums (omega (arith, is-kind)),
+      λ _. (
+        λ i. array (omega (arith, is-kind)),
+        λ _. (
+          λ i. struct (omega (arith, is-kind)),
+          λ _. (λ i m. simp sums (omega arith), λ _ m. simp sums (omega arith)),
+        ),
+      ),
+    ),
+  )
+    where
+      t : St
+      t = advance (λ _. plain) s
+
+      array : 16 + budget (t .left) ≤ budget (s .left) → wp′ (P.parse-array-type (head (s .left) .place)) (Post 0 s) t
+      array b = via (P.parse-array-type (head (s .left) .place)) (Post 0 t) (Post 0 s) t (array-type-size (head (s .left) .place) t) (omega arith) (omega arith)
+
+      struct : 16 + budget (t .left) ≤ budget (s .left) → wp′ (P.parse-list StructFields >>= λ i. P.good (P.node (i .recs) 0x14 (head (s .left) .place) (two (i .count) ∷ []) []) []) (Post 0 s) t
+      struct b = follows (P.parse-list StructFields) _ (PostOpened t) _ _ (list-size StructFields t) (λ i s′ p. simp sums (omega arith))
+
+  suffixes-size : (e : Fallible Node) (s : St) → wp′ (suffixes-turn e) (From e s) s
+  unfolding suffixes-turn _>>=_
+  suffixes-size e s = (
+    λ i r r′. (λ _. tt, λ _. (λ i′. simp sums (omega (arith, is-kind)), λ _ m. simp sums (omega (arith, is-kind)))),
+    λ _. (
+      λ i r. simp sums (omega (arith, is-kind)),
+      λ _. (λ i r. simp sums (omega (arith, is-kind)), λ _. omega arith),
+    ),
+  )
+
+  field-access-size : (s : St) → wp′ P.parse-field-access-or-index (Post 8 s) s
+  unfolding P.parse-field-access-or-index
+  field-access-size s = tries _ _ (Post 8 s) _ _ (atom-size s) (λ e s′ p. omega arith) (omega arith)
+
+  sizeof-size : (s : St) → wp′ P.parse-sizeof (Post 8 s) s
+  unfolding P.parse-sizeof _>>=_
+  sizeof-size s = (λ i r. simp sums (omega (arith, is-kind)), λ _. field-access-size s)
+
+  call-size : (s : St) → wp′ P.parse-call (Post 8 s) s
+  unfolding P.parse-call
+  call-size s =
+      tries _ _ (Post 8 s) _ _ (sizeof-size s)
+      (λ e s′ p. (λ i. follows (P.parse-list Arguments) _ (PostOpened s′) _ _ (list-size Arguments s′) (λ js s″ q. simp sums (omega (arith, is-kind))), λ _. omega arith)) (omega arith)
+
+  unary-size : (s : St) → wp′ unary-rule (Post 8 s) s
+  unfolding unary-rule
+  unary-size s = (λ i. prefix-size 0x27 s (omega (arith, is-kind)), λ _. (λ i. prefix-size 0x28 s (omega (arith, is-kind)), λ _. (λ i. prefix-size 0x2A s (omega (arith, is-kind)), λ _. (λ i. prefix-size 0x2B s (omega (arith, is-kind)), λ _. call-size s))))
+
+  cast-size : (s : St) → wp′ P.parse-cast (Post 8 s) s
+  unfolding P.parse-cast _>>=_
+  cast-size s = omega arith
+
+  casts-size : (e : Fallible Node) (s : St) → wp′ (casts-turn e) (From e s) s
+  unfolding casts-turn _>>=_
+  casts-size e s = simp sums (omega (arith, is-kind))
+
+  mul-size : (s : St) → wp′ P.parse-mul (Post 8 s) s
+  unfolding P.parse-mul
+  mul-size s = tries _ _ (Post 8 s) _ _ (cast-size s) (omega arith) (omega arith)
+
+  add-sub-size : (s : St) → wp′ P.parse-add-sub (Post 8 s) s
+  unfolding P.parse-add-sub
+  add-sub-size s = tries _ _ (Post 8 s) _ _ (mul-size s) (omega arith) (omega arith)
+
+  bit-shift-size : (s : St) → wp′ P.parse-bit-shift (Post 8 s) s
+  unfolding P.parse-bit-shift
+  bit-shift-size s = tries _ _ (Post 8 s) _ _ (add-sub-size s) (omega arith) (omega arith)
+
+  bitwise-and-size : (s : St) → wp′ P.parse-bitwise-and (Post 8 s) s
+  unfolding P.parse-bitwise-and
+  bitwise-and-size s = tries _ _ (Post 8 s) _ _ (bit-shift-size s) (omega arith) (omega arith)
+
+  bitwise-xor-size : (s : St) → wp′ P.parse-bitwise-xor (Post 8 s) s
+  unfolding P.parse-bitwise-xor
+  bitwise-xor-size s = tries _ _ (Post 8 s) _ _ (bitwise-and-size s) (omega arith) (omega arith)
+
+  bitwise-or-size : (s : St) → wp′ P.parse-bitwise-or (Post 8 s) s
+  unfolding P.parse-bitwise-or
+  bitwise-or-size s = tries _ _ (Post 8 s) _ _ (bitwise-xor-size s) (omega arith) (omega arith)
+
+  cascade-size : (l : Level) (s : St) → wp′ (P.cascade l) (Post 8 s) s
+  cascade-size BitOr s = bitwise-xor-size s
+  cascade-size BitXor s = bitwise-and-size s
+  cascade-size BitAnd s = bit-shift-size s
+  cascade-size Shift s = add-sub-size s
+  cascade-size AddSub s = mul-size s
+  cascade-size Mul s = cast-size s
+
+  -- one of a list of operators, or none
+  abbrev Positive : List P.Op → Type 0
+  Positive [] = Unit {0}
+  Positive (o ∷ os) = (0 < o .kind) × Positive os
+
+  find-size : {A : Type 0} (os : List P.Op) (y : ℕ → Act A) (n : Act A) (Q : A → St → Type 0) (s : St) (t : Tok) → Positive os → (0 < t .kind → (o : ℕ) → wp′ (y o) Q s) → wp′ n Q s → wp′ (P.find t os y n) Q s
+  find-size [] y n Q s t p h e = e
+  find-size (o ∷ os) y n Q s t p h e = (λ i. h (omega (arith, is-kind)) (o .op), λ _. find-size os y n Q s t (p .1) h e)
+
+  mapping-positive : (l : Level) → Positive (P.mapping l)
+  mapping-positive BitOr = omega arith
+  mapping-positive BitXor = omega arith
+  mapping-positive BitAnd = omega arith
+  mapping-positive Shift = omega arith
+  mapping-positive AddSub = omega arith
+  mapping-positive Mul = omega arith
+
+  operators-size : (l : Level) (e : Fallible Node) (s : St) → wp′ (operators-turn l e) (From e s) s
+  unfolding operators-turn
+  operators-size l e s =
+      find-size (P.mapping l) _ _ _ s (head (s .left)) (mapping-positive l)
+      (λ k o r. tries (P.cascade l) _ (Post 8 (advance (λ _. plain) s)) _ _ (cascade-size l (advance (λ _. plain) s)) (simp sums (omega arith)) (omega arith)) (omega arith)
+
+  comparison-size : (s : St) → wp′ P.parse-comparison (Post 8 s) s
+  unfolding P.parse-comparison
+  comparison-size s =
+      tries _ _ (Post 8 s) _ _ (bitwise-or-size s)
+      (λ e s′ p. find-size P.comparisons (λ o. next λ op. P.parse-bitwise-or >>? λ r. done (ok (P.binary 0x2E (byte o ∷ []) (op .place) e r))) (done (ok e)) (Post 8 s) s′ (head (s′ .left)) (omega arith)
+      (λ k o r. tries P.parse-bitwise-or _ (Post 8 (advance (λ _. plain) s′)) _ _ (bitwise-or-size (advance (λ _. plain) s′)) (simp sums (omega arith)) (omega arith)) (omega arith))
+      (omega arith)
+
+  expression-size : (s : St) → wp′ expression-rule (Post 8 s) s
+  unfolding expression-rule
+  expression-size s =
+      tries _ _ (Post 8 s) _ _ (comparison-size s)
+      (λ e s′ p. (λ i r. tries P.parse-comparison _ (Post 8 (advance (λ _. plain) s′)) _ _ (comparison-size (advance (λ _. plain) s′)) (simp sums (omega (arith, is-kind))) (omega arith), λ _. omega arith))
+      (omega arith)
+
+  item-size : (k : Listed) (s : St) → wp′ (P.item k) (Post 0 s) s
+  item-size Parameters s = named-type-size s
+  item-size Arguments s = omega arith
+  item-size StructFields s = named-type-size s
+  item-size ArrayValues s = omega arith
+  item-size StructValues s = struct-field-size s
+
+  list-turn-size : (k : Listed) (i : Items) (s : St) → wp′ (list-turn k i) (PostItems i s) s
+  unfolding list-turn
+  list-turn-size k i s = (λ e m. simp sums (omega arith), λ _. (λ c r. omega arith, λ _. follows (P.item k) _ (Post 0 s) _ _ (item-size k s) go))
+    where
+      go : (a : Ans Node) (s′ : St) → Post 0 s a s′ → wp′ (P.after-item k (P.integrate i a)) (PostItems i s) s′
+      go (ok x) s′ p = wp-mono G L R M (PostItems (P.integrate i (ok x)) s′) (PostItems i s) (P.after-item k (P.integrate i (ok x))) s′ (simp sums (omega arith)) (after-item-size k (P.integrate i (ok x)) s′)
+      go (fatal es) s′ p = wp-mono G L R M (PostItems (P.integrate i (fatal es)) s′) (PostItems i s) (P.after-item k (P.integrate i (fatal es))) s′ (simp sums (omega arith)) (after-item-size k (P.integrate i (fatal es)) s′)
+
+  compound-size : (s : St) → wp′ P.parse-compound (Post 3 s) s
+  unfolding P.parse-compound _>>=_
+  compound-size s r = (
+    λ i. (
+      λ e m. simp sums (omega arith),
+      λ _. (
+        λ b. follows (P.parse-list ArrayValues) _ (PostOpened t) _ _ (list-size ArrayValues t) (λ js s″ q. simp sums (omega (arith, is-kind))),
+        λ _. (λ b. follows (P.parse-list StructValues) _ (PostOpened t) _ _ (list-size StructValues t) (λ js s″ q. simp sums (omega (arith, is-kind))), λ _ m. simp sums (omega arith)),
+      ),
+    ),
+    λ _. simp sums (omega arith),
+  )
+    where
+      t : St
+      t = advance (λ _. plain) s
+
+  var-like-size : (s : St) → wp′ P.parse-var-like-declaration (PostTyped′ s) s
+  unfolding P.parse-var-like-declaration
+  var-like-size s =
+      tries _ _ (PostTyped s) _ _ (typed-identifier-size s)
+      (λ x s′ p. (λ i r. unfold _>>=_ in simp sums (omega (arith, is-kind)), λ _. (λ i r. tries P.parse-compound _ (Post 3 (advance (λ _. plain) s′)) _ _ (compound-size (advance (λ _. plain) s′)) (simp sums (omega (arith, is-kind))) (omega (arith, is-kind)), λ _. simp sums (omega arith))))
+      (omega arith)
+
+  declaration-size : (tag : ℕ) (p : Place) (s : St) → wp′ (P.declaration tag p) (Post 0 s) s
+  unfolding P.declaration _>>=_
+  declaration-size tag p s = tries P.parse-var-like-declaration _ (PostTyped′ s) _ _ (var-like-size s) (simp sums (omega (arith, is-kind))) (omega arith)
+
+  body-size : (s : St) → wp′ P.parse-body (PostOpened s) s
+  unfolding P.parse-body _>>=_
+  body-size s = simp sums (omega (arith, is-kind))
+
+  body-turn-size : (i : Items) (s : St) → wp′ (body-turn i) (PostItems i s) s
+  unfolding body-turn
+  body-turn-size i s = simp sums (omega (arith, is-kind))
+
+  return-size : (p : Place) (s : St) → wp′ (P.parse-return p) (Over 8 s) s
+  unfolding P.parse-return _>>=_
+  return-size p s = simp sums (omega (arith, is-kind))
+
+  if-size : (p : Place) (s : St) → wp′ (P.parse-if p) (Over 8 s) s
+  unfolding P.parse-if _>>=_
+  if-size p s = simp sums (omega (arith, is-kind))
+
+  after-expression-size : (p : Place) (e : Node) (s : St) → wp′ (P.after-expression p e) (λ a s′. Over (7 + weight (e .recs)) s a s′) s
+  unfolding P.after-expression _>>=_
+  after-expression-size p e s =
+      (λ i r. simp sums (omega (arith, is-kind)), λ _. (λ i r. tries P.parse-compound _ (Post 3 (advance (λ _. plain) s)) _ _ (compound-size (advance (λ _. plain) s)) (simp sums (omega (arith, is-kind))) (omega arith), λ _ r. simp sums (omega (arith, is-kind))))
+
+  expression-statement-size : (p : Place) (s : St) → wp′ (P.expression-statement p) (Post 0 s) s
+  unfolding P.expression-statement _>>=_
+  expression-statement-size p s = (
+    λ e s′ l q. (λ z. via (P.after-expression p (e .item)) (λ a s″. Over (7 + weight (e .item .recs)) s′ a s″) (Post 0 s) s′ (after-expression-size p (e .item) s′) (omega arith) (omega arith), λ z. simp sums (omega arith)),
+    λ es s′ l q. omega arith,
+  )
+
+  statement-size : (s : St) → wp′ statement-rule (Post 0 s) s
+  unfolding statement-rule _>>=_
+  statement-size s = (
+    λ i r. via (P.parse-return _) (Over 8 t) (Post 0 s) t (return-size _ t) (omega (arith, is-kind)) (omega arith),
+    λ _. (
+      λ i r. via (P.declaration 0x42 _) (Post 0 t) (Post 0 s) t (declaration-size 0x42 _ t) (omega arith) (omega arith),
+      λ _. (
+        λ i. follows P.parse-body _ (PostOpened s) _ _ (body-size s) (simp sums (omega (arith, is-kind))),
+        λ _. (
+          λ i r. simp sums (omega (arith, is-kind)),
+          λ _. (
+            λ i r. simp sums (omega (arith, is-kind)),
+            λ _. (
+              λ i r. simp sums (omega (arith, is-kind)),
+              λ _. (
+                λ i r. via (P.parse-if _) (Over 8 t) (Post 0 s) t (if-size _ t) (omega (arith, is-kind)) (omega arith),
+                λ _. (
+                  λ i r. omega (arith, is-kind),
+                  λ _.
+                      (λ i m. simp sums (omega arith), λ _. expression-statement-size _ s),
+                ),
+              ),
+            ),
+          ),
+        ),
+      ),
+    ),
+  )
+    where
+      t : St
+      t = advance (λ _. plain) s
+
+  function-body-size : (p : Place) (x : ℕ) (name : Tok) (ps : Items) (r : Fallible Node) (s : St) → wp′ (P.function-body p x name ps r) (Built (19 + length (name .text)) ps r s) s
+  unfolding P.function-body _>>=_
+  function-body-size p x name ps r s = (λ e q. simp sums (omega (arith, is-kind)), λ e. follows P.parse-body _ (PostOpened s) _ _ (body-size s) (simp sums (omega arith)))
+
+  function-size : (p : Place) (x : ℕ) (s : St) → wp′ (P.function p x) (Post 0 s) s
+  unfolding P.function _>>=_
+  function-size p x s r = (
+    λ k r₂. (
+      λ n. follows (P.parse-list Parameters) _ (PostOpened u) _ _ (list-size Parameters u) (λ ps v q. (
+        λ a r₃. (λ ty w l z. built ps ty w (Post 0 s) (omega (arith, is-kind)) (omega arith), λ es w l z. omega (arith, is-kind)),
+        λ _. built ps _ v (Post 0 s) (omega (arith, is-kind)) (omega arith),
+      )),
+      λ _. (λ e m. simp sums (omega arith), λ _ m. simp sums (omega arith)),
+    ),
+    λ _. (λ e m. simp sums (omega arith), λ _ m. simp sums (omega arith)),
+  )
+    where
+      t : St
+      t = advance (λ _. plain) s
+
+      u : St
+      u = advance (λ _. plain) t
+
+      built : (ps : Items) (ty : Fallible Node) (w : St) (Q : Ans Node → St → Type 0) → ((y : Fallible Node) (s′ : St) → Built (19 + length (head (t .left) .text)) ps ty w (ok y) s′ → Q (ok y) s′)
+          → ((es : List Err) (s′ : St) → Built (19 + length (head (t .left) .text)) ps ty w (fatal es) s′ → Q (fatal es) s′) → wp′ (P.function-body p x (head (t .left)) ps ty) Q w
+      built ps ty w Q h e = via (P.function-body p x (head (t .left)) ps ty) (Built (19 + length (head (t .left) .text)) ps ty w) Q w (function-body-size p x (head (t .left)) ps ty w) h e
+
+  function-definition-size : (s : St) → wp′ P.parse-function-definition (Post 0 s) s
+  unfolding P.parse-function-definition
+  function-definition-size s = (λ i r. via (P.function _ 1) (Post 0 (advance (λ _. plain) s)) (Post 0 s) _ (function-size _ 1 (advance (λ _. plain) s)) (omega arith) (omega arith), λ _. function-size _ 0 s)
+
+  modifiers-size : (w : Words) (s : St) → wp′ (modifiers-turn w) (L (Modifiers w) s) s
+  unfolding modifiers-turn
+  modifiers-size w s = omega arith
+
+  type-alias-size : (s : St) → wp′ P.parse-type-alias (Post 0 s) s
+  unfolding P.parse-type-alias _>>=_
+  type-alias-size s w s′ l p r = (λ i r₂. (λ _. tt, λ _. (λ e m. simp sums (omega arith), λ e. simp sums (omega (arith, is-kind)))), λ _. simp sums (omega arith))
+
+  use-size : (s : St) → wp′ P.parse-use (Post 0 s) s
+  unfolding P.parse-use _>>=_
+  use-size s = simp sums (omega (arith, is-kind))
+
+  top-level-var-size : (s : St) → wp′ P.parse-top-level-var-declaration (Post 0 s) s
+  unfolding P.parse-top-level-var-declaration _>>=_
+  top-level-var-size s r = (λ i. via (P.declaration 0x53 _) (Post 0 (advance (λ _. plain) s)) (Post 0 s) _ (declaration-size 0x53 _ (advance (λ _. plain) s)) (omega arith) (omega arith), λ _. (λ e m. simp sums (omega arith), λ _ m. simp sums (omega arith)))
+
+  top-level-item-size : (s : St) → wp′ P.parse-top-level-item (Post 0 s) s
+  unfolding P.parse-top-level-item
+  top-level-item-size s = (λ _. function-definition-size s, λ _. (λ _. type-alias-size s, λ _. (λ _. use-size s, λ _. (λ _. top-level-var-size s, λ _. (λ i r. omega (arith, is-kind), λ _ r m. simp sums (omega arith))))))
+
+  module-turn-size : (i : Items) (s : St) → wp′ (module-turn i) (PostItems i s) s
+  unfolding module-turn
+  module-turn-size i s = (λ _. omega arith, λ _. follows P.parse-top-level-item _ (Post 0 s) _ _ (top-level-item-size s) go)
+    where
+      go : (a : Ans Node) (s′ : St) → Post 0 s a s′ → (b : Items) (s″ : St) → Later s′ s″ → PostItems (P.integrate i a) s′ b s″ → PostItems i s b s″
+      go (ok x) s′ p = simp sums (omega arith)
+      go (fatal es) s′ p = simp sums (omega arith)
+
+  pub rules : (g : Goal) (s : St) → wp′ (rule g) (G g s) s
+  rules Statement s = statement-size s
+  rules Expression s = expression-size s
+  rules Unary s = unary-size s
+  rules Type' s = type-size s
+
+  pub turns : (l : Loop) (s : St) → wp′ (turn l) (L l s) s
+  turns (Module i) s = module-turn-size i s
+  turns (Body i) s = body-turn-size i s
+  turns (ListOf k i) s = list-turn-size k i s
+  turns (Operators l e) s = operators-size l e s
+  turns (Casts e) s = casts-size e s
+  turns (Suffixes e) s = suffixes-size e s
+  turns (Modifiers w) s = modifiers-size w s
+
+  -- of a whole reading
+  pub module-size : (ts : List Tok) → After (λ i s′. (weight (i .recs) ≤ budget ts) × (tally (i .errors) ≤ tally (s′ .full))) (parse-module ts)
+  module-size ts = weaken (parse-module ts) (λ i s′ p. omega arith) (module-ind G L R M (λ s. r-ok (s .left)) (λ e s. tt) rules turns ts)

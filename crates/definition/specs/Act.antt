@@ -1,0 +1,151 @@
+-- What a function of the parser does, step by step, and the answers it gives: the vocabulary of `Parser.antt`. Assumes nothing.
+use mathlib.Core.Bool.{Bool, true, false}
+use mathlib.Core.List.{List, [], _∷_, _++_}
+use Prim.Native.Nat.{ℕ, zero, suc, _+_}
+use lib.Dec.{ltb}
+use lib.ListN.{length}
+use Rattle.definition.specs.Bytes.{Place, Rec, Err}
+use Rattle.definition.specs.Token.{Tok, head, tail}
+
+-- `Fallible<T>`: a value with the errors that it reports
+pub record Fallible (A : Type 0) : Type 0 where
+  pub item : A
+  pub errors : List Err
+
+-- `Fallible<MaybeFatal<T>>`
+pub data Ans (A : Type 0) : Type 0 where
+  ok : Fallible A → Ans A
+  fatal : List Err → Ans A
+
+-- what a node of the tree is to the functions above it: its place, and its records, children first
+pub record Node : Type 0 where
+  pub place : Place
+  pub recs : List Rec
+
+-- `Fallible<Vec<T>>`: how many nodes, their records, and the errors reported
+pub record Items : Type 0 where
+  pub count : ℕ
+  pub recs : List Rec
+  pub errors : List Err
+
+-- The four functions whose open calls are counted
+pub data Goal : Type 0 where
+  Statement Expression Unary Type' : Goal
+
+-- The lists of `parse_bounded_list_of`
+pub data Listed : Type 0 where
+  Parameters Arguments StructFields ArrayValues StructValues : Listed
+
+-- The levels of `parse_arithmetic_binop`, the loosest first
+pub data Level : Type 0 where
+  BitOr BitXor BitAnd Shift AddSub Mul : Level
+
+pub record Words : Type 0 where
+  pub distinct : ℕ
+  pub internal : ℕ
+
+-- The loops of the parser, each with the variables that it changes
+pub data Loop : Type 0 where
+  Module : Items → Loop
+  Body : Items → Loop
+  ListOf : Listed → Items → Loop
+  Operators : Level → Fallible Node → Loop
+  Casts : Fallible Node → Loop
+  Suffixes : Fallible Node → Loop
+  Modifiers : Words → Loop
+
+-- what a loop leaves
+abbrev pub Left : Loop → Type 0
+Left (Module i) = Items
+Left (Body i) = Items
+Left (ListOf k i) = Items
+Left (Operators l e) = Ans Node
+Left (Casts e) = Ans Node
+Left (Suffixes e) = Ans Node
+Left (Modifiers w) = Words
+
+-- What a token is to the reading: a grouping parenthesis; a comma directly before the end of its list; an array's size; `distinct` or `internal`; `type` behind these words; or none of these
+pub data Role : Type 0 where
+  plain group final size word : Role
+  alias : Words → Role
+
+-- What a function does next
+pub data Act (A : Type 0) : Type 0 where
+  done : A → Act A  -- return
+  peek : (Tok → Act A) → Act A  -- self.tokens.peek()
+  take : (Tok → Role) → (Tok → Act A) → Act A  -- self.tokens.next(), and the token's role, by the token behind it
+  make : Err → Act A → Act A  -- ParseError::new(..)
+  if_then_else_ : Bool → Act A → Act A → Act A
+  call : Goal → (Ans Node → Act A) → Act A  -- a call of one of the four
+  loop : (l : Loop) → (Left l → Act A) → Act A  -- a loop, or its next turn
+  refuse : ℕ → Act A  -- where the Rust panics
+
+infix 10 if_then_else_
+abbrev pub next-as : {A : Type 0} → Role → (Tok → Act A) → Act A
+next-as r k = take (λ _. r) k
+
+abbrev pub next : {A : Type 0} → (Tok → Act A) → Act A
+next k = next-as plain k
+
+infixr 20 _>>=_
+unfoldable pub _>>=_ : {A B : Type 0} → Act A → (A → Act B) → Act B
+done a >>= f = f a
+peek k >>= f = peek (λ t. k t >>= f)
+take r k >>= f = take r (λ t. k t >>= f)
+make e m >>= f = make e (m >>= f)
+if_then_else_ b m n >>= f = if b then (m >>= f) else (n >>= f)
+call g k >>= f = call g (λ a. k a >>= f)
+loop l k >>= f = loop l (λ a. k a >>= f)
+refuse n >>= f = refuse n
+
+-- `m()?`: a fatal answer is returned, with its own errors only
+abbrev pub or-return : {A B : Type 0} → (Fallible A → Act (Ans B)) → Ans A → Act (Ans B)
+or-return f (ok x) = f x
+or-return f (fatal es) = done (fatal es)
+
+infixr 20 _>>?_
+abbrev pub _>>?_ : {A B : Type 0} → Act (Ans A) → (Fallible A → Act (Ans B)) → Act (Ans B)
+m >>? f = m >>= or-return f
+
+-- The state: the tokens left, those read and what each was, and every error made
+pub record Consumed : Type 0 where
+  pub tok : Tok
+  pub role : Role
+
+pub record St : Type 0 where
+  pub left : List Tok
+  pub read : List Consumed
+  pub full : List Err
+
+-- a token is read; at the end nothing is
+abbrev pub now-read : (Tok → Role) → List Tok → List Consumed
+now-read r [] = []
+now-read r (t ∷ ts) = record { tok = t; role = r (head ts) } ∷ []
+
+abbrev pub advance : (Tok → Role) → St → St
+advance r s = record { left = tail (s .left); read = s .read ++ now-read r (s .left); full = s .full }
+
+abbrev pub push : Err → St → St
+push e s = record { left = s .left; read = s .read; full = s .full ++ (e ∷ []) }
+
+-- an answer and the state after it; or a refusal; `stuck` is met by no script
+pub data Res (A : Type 0) : Type 0 where
+  gives : A → St → Res A
+  refused : ℕ → Res A
+  stuck : Res A
+
+abbrev pub after : {A B : Type 0} → Res A → (A → St → Res B) → Res B
+after (gives a s) f = f a s
+after (refused n) f = refused n
+after stuck f = stuck
+
+-- carry an act out, given what calls and loops answer
+unfoldable pub run : {A : Type 0} → (Goal → St → Res (Ans Node)) → ((l : Loop) → St → Res (Left l)) → Act A → St → Res A
+run c o (done a) s = gives a s
+run c o (peek k) s = run c o (k (head (s .left))) s
+run c o (take r k) s = run c o (k (head (s .left))) (advance r s)
+run c o (make e m) s = elim (ltb (length (s .full)) 255) [ true ↦ run c o m (push e s) | false ↦ refused 12 ]
+run c o (if_then_else_ b m n) s = elim b [ true ↦ run c o m s | false ↦ run c o n s ]
+run c o (call g k) s = after (c g s) (λ a s′. run c o (k a) s′)
+run c o (loop l k) s = after (o l s) (λ a s′. run c o (k a) s′)
+run c o (refuse n) s = refused n

@@ -1,0 +1,542 @@
+-- The parser, function by function as in `parser.rs`. Assumes nothing.
+use mathlib.Core.Bool.{Bool, true, false, _||_, not}
+use mathlib.Core.List.{List, [], _∷_, _++_}
+use mathlib.Core.Option.{Option, none, some}
+use Prim.Native.Nat.{ℕ, zero, suc, _+_, _^_}
+use lib.Dec.{leb, ltb}
+use lib.ListN.{length}
+use Rattle.definition.specs.Ascii.{ascii}
+use Rattle.definition.specs.Kind as K
+use Rattle.definition.specs.Bytes.{Place, nowhere, Rec, Err, Num, byte, two, eight}
+use Rattle.definition.specs.Utf8.{pick}
+use Rattle.definition.specs.Token.{Tok, _is_, number, dashed}
+use Rattle.definition.specs.Act.{Fallible, Ans, ok, fatal, Node, Items, Goal, Statement, Expression, Unary, Type', Listed, Parameters, Arguments, StructFields, ArrayValues, StructValues, Level, BitOr, BitXor, BitAnd, Shift, AddSub, Mul, Words, Loop, Module, Body, ListOf, Operators, Casts, Suffixes, Modifiers, Left, Role, plain, group, final, size, word, alias, Act, done, peek, take, make, if_then_else_, call, loop, refuse, next, next-as, _>>=_, _>>?_, St, Res, refused, stuck, run}
+
+-- ---- answers
+
+abbrev pub good : {A : Type 0} → A → List Err → Act (Ans A)
+good a es = done (ok (record { item = a; errors = es }))
+
+-- an error is made, and the answer is fatal
+abbrev pub raise : {A : Type 0} → Err → Act (Ans A)
+raise e = make e (done (fatal (e ∷ [])))
+
+abbrev pub error : ℕ → Place → ℕ → ℕ → Err
+error n p e g = record { number = n; place = p; expected = e; got = g }
+
+abbrev pub errors-of : {A : Type 0} → Ans A → List Err
+errors-of (ok x) = x .errors
+errors-of (fatal es) = es
+
+-- one record at a place, behind its children's; the node has that place
+abbrev pub node : List Rec → ℕ → Place → List Num → List ℕ → Node
+node rs tag p ns text = record { place = p; recs = rs ++ (record { tag = tag; place = some p; numbers = ns; text = text } ∷ []) }
+
+-- a record with no place
+abbrev pub bare : List Rec → ℕ → List ℕ → Node
+bare rs tag text = record { place = nowhere; recs = rs ++ (record { tag = tag; place = none; numbers = []; text = text } ∷ []) }
+
+abbrev pub no-items : List Err → Items
+no-items es = record { count = 0; recs = []; errors = es }
+
+-- `integrate_if_ok`: one more item, unless the answer is fatal; its errors in any case
+abbrev pub integrate : Items → Ans Node → Items
+integrate i (ok x) = record { count = suc (i .count); recs = i .recs ++ x .item .recs; errors = i .errors ++ x .errors }
+integrate i (fatal es) = record { count = i .count; recs = i .recs; errors = i .errors ++ es }
+
+abbrev pub with-error : Items → Err → Items
+with-error i e = record { count = i .count; recs = i .recs; errors = i .errors ++ (e ∷ []) }
+
+-- ---- expect, expect_identifier; the calls
+
+abbrev pub expect-as : Role → ℕ → Act (Ans Tok)
+expect-as r k =
+    next-as r λ t.
+    if t is k then good t [] else
+    if t is K.End then raise (error 3 nowhere k 0) else
+    raise (error 2 (t .place) k (t .kind))
+
+abbrev pub expect : ℕ → Act (Ans Tok)
+expect k = expect-as plain k
+
+abbrev pub expect-identifier : Act (Ans Tok)
+expect-identifier =
+    next λ t.
+    if t is K.Identifier then good t [] else
+    if t is K.End then raise (error 5 nowhere 0 0) else
+    raise (error 4 (t .place) 0 0)
+
+abbrev pub parse-statement : Act (Ans Node)
+parse-statement = call Statement done
+
+abbrev pub parse-expression : Act (Ans Node)
+parse-expression = call Expression done
+
+abbrev pub parse-unary : Act (Ans Node)
+parse-unary = call Unary done
+
+abbrev pub parse-type : Act (Ans Node)
+parse-type = call Type' done
+
+-- ---- parse_typed_identifier
+
+pub record Typed : Type 0 where
+  pub name : List ℕ
+  pub type : List Rec
+
+unfoldable pub typed : List ℕ → List Err → Act (Ans Typed)
+typed name es =
+    expect K.Colon >>? λ _.
+    parse-type >>? λ ty.
+    good (record { name = name; type = ty .item .recs }) (es ++ ty .errors)
+
+unfoldable pub parse-typed-identifier : Act (Ans Typed)
+parse-typed-identifier =
+    next λ t.
+    if t is K.Identifier then typed (t .text) [] else
+    if t is K.End then raise (error 5 nowhere 0 0) else
+    (let e = error 4 (t .place) 0 0 in make e (typed (ascii "<?>") (e ∷ [])))
+
+-- ---- parse_bounded_list_of
+
+abbrev pub opener : Listed → ℕ
+opener Parameters = K.LParen
+opener Arguments = K.LParen
+opener StructFields = K.LBrace
+opener ArrayValues = K.LBracket
+opener StructValues = K.LBrace
+
+abbrev pub closer : Listed → ℕ
+closer Parameters = K.RParen
+closer Arguments = K.RParen
+closer StructFields = K.RBrace
+closer ArrayValues = K.RBracket
+closer StructValues = K.RBrace
+
+-- a parameter, or a field of a struct type
+unfoldable pub parse-named-type : Act (Ans Node)
+parse-named-type =
+    parse-typed-identifier >>? λ x.
+    good (bare (x .item .type) 0x15 (x .item .name)) (x .errors)
+
+unfoldable pub parse-compound-struct-field : Act (Ans Node)
+parse-compound-struct-field =
+    expect-identifier >>? λ id.
+    expect K.Equals >>? λ _.
+    parse-expression >>? λ e.
+    good (node (e .item .recs) 0x32 (id .item .place) [] (id .item .text)) (e .errors)
+
+abbrev pub item : Listed → Act (Ans Node)
+item Parameters = parse-named-type
+item Arguments = parse-expression
+item StructFields = parse-named-type
+item ArrayValues = parse-expression
+item StructValues = parse-compound-struct-field
+
+unfoldable pub parse-list : Listed → Act Items
+parse-list k = expect (opener k) >>= λ a. loop (ListOf k (no-items (errors-of a))) done
+
+-- a comma is final where the token behind it closes the list
+abbrev pub comma-role : Listed → Tok → Role
+comma-role k t = pick (t is closer k) final plain
+
+-- what follows an item
+unfoldable pub after-item : Listed → Items → Act Items
+after-item k i =
+    peek λ t.
+    if t is K.Comma then (take (comma-role k) λ _. loop (ListOf k i) done) else
+    if t is closer k then loop (ListOf k i) done else
+    if t is K.End then loop (ListOf k i) done else
+    (next λ t. let e = error 15 (t .place) 0 (t .kind) in make e (loop (ListOf k (with-error i e)) done))
+
+unfoldable pub list-turn : Listed → Items → Act Items
+list-turn k i =
+    peek λ t.
+    if t is K.End then (let e = error 14 nowhere 0 0 in make e (done (with-error i e))) else
+    if t is closer k then (next λ _. done i) else
+    (item k >>= λ a. after-item k (integrate i a))
+
+-- ---- parse_type
+
+unfoldable pub parse-array-type : Place → Act (Ans Node)
+parse-array-type p =
+    next-as size λ n.
+    if not (n is K.Integer) then raise (error 9 p 0 0) else
+    if dashed (n .text) || not (ltb (number (n .base) 0 (n .text)) (2 ^ 64)) then raise (error 10 p 0 0) else
+    (expect K.RBracket >>? λ _.
+    parse-type >>? λ ty.
+    good (node (ty .item .recs) 0x13 p (eight (number (n .base) 0 (n .text)) ∷ []) []) (ty .errors))
+
+unfoldable pub type-rule : Act (Ans Node)
+type-rule =
+    next λ t.
+    if t is K.Identifier then good (node [] 0x10 (t .place) [] (t .text)) [] else
+    if t is K.Star then (parse-type >>? λ ty. good (node (ty .item .recs) 0x12 (t .place) [] []) (ty .errors)) else
+    if t is K.LBracket then parse-array-type (t .place) else
+    if t is K.KwStruct then (parse-list StructFields >>= λ i. good (node (i .recs) 0x14 (t .place) (two (i .count) ∷ []) []) []) else
+    if t is K.End then raise (error 12 nowhere 0 0) else
+    raise (error 11 (t .place) 0 (t .kind))
+
+-- ---- expressions
+
+-- an operator's record, behind both operands', at the operator's place
+abbrev pub binary : ℕ → List Num → Place → Fallible Node → Fallible Node → Fallible Node
+binary tag ns p l r = record { item = node (l .item .recs ++ r .item .recs) tag p ns []; errors = l .errors ++ r .errors }
+
+-- a record behind its one operand's
+abbrev pub wrap : ℕ → Place → List ℕ → Fallible Node → Fallible Node
+wrap tag p text e = record { item = node (e .item .recs) tag p [] text; errors = e .errors }
+
+abbrev pub both : Ans Node → Ans Tok → Ans Node
+both (ok e) c = ok (record { item = e .item; errors = e .errors ++ errors-of c })
+both (fatal es) c = fatal (es ++ errors-of c)
+
+-- the parentheses of parse_atom, which group; no `?` here
+unfoldable pub parse-group : Act (Ans Node)
+parse-group =
+    next-as group λ _.
+    parse-expression >>= λ e.
+    expect-as group K.RParen >>= λ c.
+    done (both e c)
+
+unfoldable pub parse-atom : Act (Ans Node)
+parse-atom =
+    peek λ t.
+    if t is K.Integer then (next λ t. good (node [] 0x21 (t .place) (byte (t .base) ∷ []) (t .text)) []) else
+    if t is K.Identifier then (next λ t. good (node [] 0x20 (t .place) [] (t .text)) []) else
+    if t is K.String then (next λ t. good (node [] 0x23 (t .place) [] (t .text)) []) else
+    if t is K.KwTrue then (next λ t. good (node [] 0x22 (t .place) (byte 1 ∷ []) []) []) else
+    if t is K.KwFalse then (next λ t. good (node [] 0x22 (t .place) (byte 0 ∷ []) []) []) else
+    if t is K.LParen then parse-group else
+    (next λ t. if t is K.End then raise (error 8 nowhere 0 0) else raise (error 7 (t .place) 0 (t .kind)))
+
+-- parse_field_access_or_index
+unfoldable pub parse-field-access-or-index : Act (Ans Node)
+parse-field-access-or-index = parse-atom >>? λ e. loop (Suffixes e) done
+
+unfoldable pub suffixes-turn : Fallible Node → Act (Ans Node)
+suffixes-turn e =
+    peek λ t.
+    if t is K.Dot then
+    (next λ op. next λ n.
+    if n is K.End then refuse 11 else
+    if n is K.Identifier then loop (Suffixes (wrap 0x29 (op .place) (n .text) e)) done else
+    (let x = error 4 (n .place) 0 0 in make x (good (e .item) (e .errors ++ (x ∷ []))))) else
+    if t is K.DotStar then (next λ op. loop (Suffixes (wrap 0x28 (op .place) [] e)) done) else
+    if t is K.LBracket then
+    (next λ op. parse-expression >>? λ i. expect K.RBracket >>? λ _. loop (Suffixes (binary 0x25 [] (op .place) e i)) done) else
+    done (ok e)
+
+unfoldable pub parse-sizeof : Act (Ans Node)
+parse-sizeof =
+    peek λ t.
+    if t is K.KwSizeof then
+    (next λ op. expect K.LParen >>? λ _. parse-type >>? λ ty. expect K.RParen >>? λ _.
+    good (node (ty .item .recs) 0x2F (op .place) [] []) (ty .errors)) else
+    parse-field-access-or-index
+
+-- the errors of the arguments are dropped
+unfoldable pub parse-call : Act (Ans Node)
+parse-call =
+    parse-sizeof >>? λ e.
+    peek λ t.
+    if t is K.LParen then
+    (parse-list Arguments >>= λ i.
+    good (node (e .item .recs ++ i .recs) 0x24 (e .item .place) (two (i .count) ∷ []) []) (e .errors)) else
+    done (ok e)
+
+unfoldable pub prefix : ℕ → Act (Ans Node)
+prefix tag = next λ _. parse-unary >>? λ e. done (ok (wrap tag (e .item .place) [] e))
+
+unfoldable pub unary-rule : Act (Ans Node)
+unary-rule =
+    peek λ t.
+    if t is K.Ampersand then prefix 0x27 else
+    if t is K.Star then prefix 0x28 else
+    if t is K.Tilde then prefix 0x2A else
+    if t is K.Bang then prefix 0x2B else
+    parse-call
+
+unfoldable pub parse-cast : Act (Ans Node)
+parse-cast = parse-unary >>? λ e. loop (Casts e) done
+
+unfoldable pub casts-turn : Fallible Node → Act (Ans Node)
+casts-turn e =
+    peek λ t.
+    if t is K.KwAs then (next λ op. parse-type >>? λ ty. loop (Casts (binary 0x26 [] (op .place) e ty)) done) else
+    done (ok e)
+
+-- an operator's token, and its position in its enum
+pub record Op : Type 0 where
+  pub kind : ℕ
+  pub op : ℕ
+
+abbrev pub on : ℕ → ℕ → Op
+on k o = record { kind = k; op = o }
+
+abbrev pub mapping : Level → List Op
+mapping BitOr = on K.Bar 5 ∷ []
+mapping BitXor = on K.Caret 4 ∷ []
+mapping BitAnd = on K.Ampersand 3 ∷ []
+mapping Shift = on K.LeftShift 6 ∷ on K.RightShift 7 ∷ []
+mapping AddSub = on K.Plus 0 ∷ on K.Minus 1 ∷ []
+mapping Mul = on K.Star 2 ∷ []
+
+-- where the token is one of the operators, go on with its number
+abbrev pub find : {A : Type 0} → Tok → List Op → (ℕ → Act A) → Act A → Act A
+find t [] found other = other
+find t (o ∷ os) found other = if t is (o .kind) then found (o .op) else find t os found other
+
+unfoldable pub parse-mul : Act (Ans Node)
+parse-mul = parse-cast >>? λ e. loop (Operators Mul e) done
+
+unfoldable pub parse-add-sub : Act (Ans Node)
+parse-add-sub = parse-mul >>? λ e. loop (Operators AddSub e) done
+
+unfoldable pub parse-bit-shift : Act (Ans Node)
+parse-bit-shift = parse-add-sub >>? λ e. loop (Operators Shift e) done
+
+unfoldable pub parse-bitwise-and : Act (Ans Node)
+parse-bitwise-and = parse-bit-shift >>? λ e. loop (Operators BitAnd e) done
+
+unfoldable pub parse-bitwise-xor : Act (Ans Node)
+parse-bitwise-xor = parse-bitwise-and >>? λ e. loop (Operators BitXor e) done
+
+unfoldable pub parse-bitwise-or : Act (Ans Node)
+parse-bitwise-or = parse-bitwise-xor >>? λ e. loop (Operators BitOr e) done
+
+-- the operands of a level
+abbrev pub cascade : Level → Act (Ans Node)
+cascade BitOr = parse-bitwise-xor
+cascade BitXor = parse-bitwise-and
+cascade BitAnd = parse-bit-shift
+cascade Shift = parse-add-sub
+cascade AddSub = parse-mul
+cascade Mul = parse-cast
+
+unfoldable pub operators-turn : Level → Fallible Node → Act (Ans Node)
+operators-turn l e =
+    peek λ t.
+    find t (mapping l) (λ o. next λ op. cascade l >>? λ r. loop (Operators l (binary 0x2D (byte o ∷ []) (op .place) e r)) done)
+    (done (ok e))
+
+abbrev pub comparisons : List Op
+comparisons = on K.DoubleEquals 0 ∷ on K.LAngle 3 ∷ on K.LAngleEquals 4 ∷ on K.RAngle 1 ∷ on K.RAngleEquals 2 ∷ []
+
+unfoldable pub parse-comparison : Act (Ans Node)
+parse-comparison =
+    parse-bitwise-or >>? λ e.
+    peek λ t.
+    find t comparisons
+    (λ o. next λ op. parse-bitwise-or >>? λ r. done (ok (binary 0x2E (byte o ∷ []) (op .place) e r)))
+    (done (ok e))
+
+unfoldable pub expression-rule : Act (Ans Node)
+expression-rule =
+    parse-comparison >>? λ e.
+    peek λ t.
+    if t is K.DoubleAmpersand then (next λ op. parse-comparison >>? λ r. done (ok (binary 0x2C [] (op .place) e r))) else
+    done (ok e)
+
+-- ---- parse_compound, parse_var_like_declaration
+
+unfoldable pub parse-compound : Act (Ans Node)
+parse-compound =
+    expect K.Hash >>? λ _.
+    peek λ t.
+    if t is K.End then raise (error 18 nowhere 0 0) else
+    if t is K.LBracket then (parse-list ArrayValues >>= λ i. good (node (i .recs) 0x30 (t .place) (two (i .count) ∷ []) []) (i .errors)) else
+    if t is K.LBrace then (parse-list StructValues >>= λ i. good (node (i .recs) 0x31 (t .place) (two (i .count) ∷ []) []) (i .errors)) else
+    raise (error 19 (t .place) 0 (t .kind))
+
+abbrev pub declared : Fallible Typed → Node → List Err → Act (Ans Typed)
+declared x v es = good (record { name = x .item .name; type = x .item .type ++ v .recs }) (x .errors ++ es)
+
+-- the name, and the records of the type and the initial value
+unfoldable pub parse-var-like-declaration : Act (Ans Typed)
+parse-var-like-declaration =
+    parse-typed-identifier >>? λ x.
+    peek λ t.
+    if t is K.Equals then (next λ _. parse-expression >>? λ e. declared x (bare (e .item .recs) 0x34 []) (e .errors)) else
+    if t is K.LArrow then (next λ _. parse-compound >>? λ c. declared x (bare (c .item .recs) 0x35 []) (c .errors)) else
+    declared x (bare [] 0x33 []) []
+
+-- a declaration's record, behind those of its type and its value
+unfoldable pub declaration : ℕ → Place → Act (Ans Node)
+declaration tag p =
+    parse-var-like-declaration >>? λ x.
+    expect K.Semicolon >>? λ _.
+    good (node (x .item .type) tag p [] (x .item .name)) (x .errors)
+
+-- ---- parse_body, parse_statement
+
+abbrev pub begin : Ans Tok → Act Items
+begin (ok x) = loop (Body (no-items [])) done
+begin (fatal es) = done (no-items es)
+
+unfoldable pub parse-body : Act Items
+parse-body = expect K.LBrace >>= λ a. begin a
+
+unfoldable pub body-turn : Items → Act Items
+body-turn i =
+    peek λ t.
+    if t is K.RBrace then (next λ _. done i) else
+    if t is K.End then (let e = error 13 nowhere 0 0 in make e (done (with-error i e))) else
+    call Statement λ a. loop (Body (integrate i a)) done
+
+unfoldable pub parse-return : Place → Act (Ans Node)
+parse-return p =
+    peek λ t.
+    if t is K.Semicolon then (next λ _. good (node [] 0x45 p (byte 0 ∷ []) []) []) else
+    (parse-expression >>? λ e. expect K.Semicolon >>? λ _. good (node (e .item .recs) 0x45 p (byte 1 ∷ []) []) (e .errors))
+
+unfoldable pub parse-if : Place → Act (Ans Node)
+parse-if p =
+    parse-expression >>? λ c.
+    parse-statement >>? λ a.
+    peek λ t.
+    if t is K.KwElse then
+    (next λ _. parse-statement >>? λ b.
+    good (node (c .item .recs ++ a .item .recs ++ b .item .recs) 0x49 p (byte 3 ∷ []) []) (c .errors ++ a .errors ++ b .errors)) else
+    good (node (c .item .recs ++ a .item .recs) 0x49 p (byte 2 ∷ []) []) (c .errors ++ a .errors)
+
+-- an expression with errors ends the statement at once
+unfoldable pub after-expression : Place → Node → Act (Ans Node)
+after-expression p e =
+    peek λ t.
+    if t is K.Equals then
+    (next λ _. parse-expression >>? λ v. expect K.Semicolon >>? λ _. good (node (e .recs ++ v .item .recs) 0x43 p [] []) (v .errors)) else
+    if t is K.LArrow then
+    (next λ _. parse-compound >>? λ v. expect K.Semicolon >>? λ _. good (node (e .recs ++ v .item .recs) 0x44 p [] []) (v .errors)) else
+    (expect K.Semicolon >>? λ _. good (node (e .recs) 0x41 p [] []) [])
+
+abbrev pub is-empty : List Err → Bool
+is-empty [] = true
+is-empty (e ∷ es) = false
+
+unfoldable pub expression-statement : Place → Act (Ans Node)
+expression-statement p =
+    parse-expression >>? λ e.
+    if is-empty (e .errors) then after-expression p (e .item) else
+    done (ok (wrap 0x41 p [] e))
+
+unfoldable pub statement-rule : Act (Ans Node)
+statement-rule =
+    peek λ t.
+    if t is K.KwReturn then (next λ _. parse-return (t .place)) else
+    if t is K.KwVar then (next λ _. declaration 0x42 (t .place)) else
+    if t is K.LBrace then (parse-body >>= λ i. good (node (i .recs) 0x40 (t .place) (two (i .count) ∷ []) []) (i .errors)) else
+    if t is K.KwLoop then (next λ _. parse-statement >>? λ b. done (ok (wrap 0x46 (t .place) [] b))) else
+    if t is K.KwWhile then (next λ _. parse-expression >>? λ c. parse-statement >>? λ b. done (ok (binary 0x47 [] (t .place) c b))) else
+    if t is K.KwBreak then (next λ _. expect K.Semicolon >>? λ _. good (node [] 0x48 (t .place) [] []) []) else
+    if t is K.KwIf then (next λ _. parse-if (t .place)) else
+    if t is K.InlineAssemblyFragment then (next λ _. good (node [] 0x4A (t .place) [] (t .text)) []) else
+    if t is K.End then raise (error 6 nowhere 0 0) else
+    expression-statement (t .place)
+
+-- ---- the items of a module
+
+-- body, then return type, then parameters: the order in which their errors are reported
+unfoldable pub function-body : Place → ℕ → Tok → Items → Fallible Node → Act (Ans Node)
+function-body p external name ps r =
+    if leb 1 external then
+    (expect K.Semicolon >>? λ _.
+    good (node (ps .recs ++ r .item .recs) 0x50 p (byte 1 ∷ two (ps .count) ∷ []) (name .text)) (r .errors ++ ps .errors)) else
+    (parse-body >>= λ b.
+    good (node (ps .recs ++ r .item .recs ++ node (b .recs) 0x40 p (two (b .count) ∷ []) [] .recs) 0x50 p (byte 0 ∷ two (ps .count) ∷ []) (name .text))
+    (b .errors ++ r .errors ++ ps .errors))
+
+unfoldable pub function : Place → ℕ → Act (Ans Node)
+function p external =
+    expect K.KwFn >>? λ _.
+    expect-identifier >>? λ name.
+    parse-list Parameters >>= λ ps.
+    peek λ t.
+    if t is K.RArrow then (next λ _. parse-type >>? λ r. function-body p external (name .item) ps r) else
+    function-body p external (name .item) ps (record { item = node [] 0x11 p [] []; errors = [] })
+
+unfoldable pub parse-function-definition : Act (Ans Node)
+parse-function-definition =
+    peek λ t.
+    if t is K.KwExtern then (next λ _. function (t .place) 1) else
+    function (t .place) 0
+
+unfoldable pub modifiers-turn : Words → Act Words
+modifiers-turn w =
+    peek λ t.
+    if t is K.KwDistinct then (next-as word λ _. loop (Modifiers (record { distinct = 1; internal = w .internal })) done) else
+    if t is K.KwInternal then (next-as word λ _. loop (Modifiers (record { distinct = w .distinct; internal = 2 })) done) else
+    done w
+
+unfoldable pub parse-type-alias : Act (Ans Node)
+parse-type-alias =
+    peek λ t.
+    loop (Modifiers (record { distinct = 0; internal = 0 })) λ w.
+    expect-as (alias w) K.KwType >>? λ _.
+    next λ n.
+    if n is K.End then refuse 11 else
+    if not (n is K.Identifier) then raise (error 16 (n .place) 0 0) else
+    (expect K.Equals >>? λ _.
+    parse-type >>? λ ty.
+    expect K.Semicolon >>? λ _.
+    good (node (ty .item .recs) 0x51 (t .place) (byte (w .distinct + w .internal) ∷ []) (n .text)) (ty .errors))
+
+unfoldable pub parse-use : Act (Ans Node)
+parse-use =
+    peek λ t.
+    expect K.KwUse >>? λ _.
+    next λ n.
+    if n is K.End then refuse 11 else
+    if not (n is K.String) then raise (error 17 (n .place) 0 0) else
+    (expect K.Semicolon >>? λ _.
+    good (node [] 0x52 (t .place) [] (n .text)) [])
+
+unfoldable pub parse-top-level-var-declaration : Act (Ans Node)
+parse-top-level-var-declaration = peek λ t. expect K.KwVar >>? λ _. declaration 0x53 (t .place)
+
+unfoldable pub parse-top-level-item : Act (Ans Node)
+parse-top-level-item =
+    peek λ t.
+    if t is K.KwFn || t is K.KwExtern then parse-function-definition else
+    if t is K.KwType || t is K.KwDistinct || t is K.KwInternal then parse-type-alias else
+    if t is K.KwUse then parse-use else
+    if t is K.KwVar then parse-top-level-var-declaration else
+    if t is K.InlineAssemblyFragment then (next λ t. good (node [] 0x54 (t .place) [] (t .text)) []) else
+    (next λ t. raise (error 1 (t .place) 0 (t .kind)))
+
+unfoldable pub module-turn : Items → Act Items
+module-turn i =
+    peek λ t.
+    if t is K.End then done i else
+    (parse-top-level-item >>= λ a. loop (Module (integrate i a)) done)
+
+-- ---- the whole parser
+
+abbrev pub rule : Goal → Act (Ans Node)
+rule Statement = statement-rule
+rule Expression = expression-rule
+rule Unary = unary-rule
+rule Type' = type-rule
+
+abbrev pub turn : (l : Loop) → Act (Left l)
+turn (Module i) = module-turn i
+turn (Body i) = body-turn i
+turn (ListOf k i) = list-turn k i
+turn (Operators l e) = operators-turn l e
+turn (Casts e) = casts-turn e
+turn (Suffixes e) = suffixes-turn e
+turn (Modifiers w) = modifiers-turn w
+
+-- a loop, for at most n turns
+unfoldable pub loops : (Goal → St → Res (Ans Node)) → ℕ → (l : Loop) → St → Res (Left l)
+loops c zero l s = stuck
+loops c (suc n) l s = run c (λ m t. loops c n m t) (turn l) s
+
+-- one of the four functions, with n more calls of them allowed; each turn of a loop reads a token, so a turn for each token left and two more are enough
+unfoldable pub parse : ℕ → Goal → St → Res (Ans Node)
+parse zero g s = refused 10
+parse (suc n) g s = run (λ h t. parse n h t) (λ l t. loops (λ h u. parse n h u) (suc (suc (length (t .left)))) l t) (rule g) s
+
+unfoldable pub parse-module : List Tok → Res Items
+unfolding run _>>=_ number ascii typed parse-typed-identifier parse-named-type parse-compound-struct-field parse-list after-item list-turn parse-array-type type-rule parse-group parse-atom parse-field-access-or-index suffixes-turn parse-sizeof parse-call prefix unary-rule parse-cast casts-turn parse-mul parse-add-sub parse-bit-shift parse-bitwise-and parse-bitwise-xor parse-bitwise-or operators-turn parse-comparison expression-rule parse-compound parse-var-like-declaration declaration parse-body body-turn parse-return parse-if after-expression expression-statement statement-rule function-body function parse-function-definition modifiers-turn parse-type-alias parse-use parse-top-level-var-declaration parse-top-level-item module-turn loops parse
+parse-module ts = loops (λ g s. parse 96 g s) (suc (suc (length ts))) (Module (no-items [])) (record { left = ts; read = []; full = [] })

@@ -1,0 +1,81 @@
+-- What a byte asks for, a fold over the bytes; the characters from a cursor on. Assumes nothing.
+use mathlib.Core.Path.{_≡_}
+use mathlib.Core.Bool.{Bool, true, false, _&&_, _||_}
+use mathlib.Core.List.{List, [], _∷_, _++_}
+use mathlib.Core.Option.{Option, none, some}
+use Prim.Native.Nat.{ℕ, zero, suc, _+_, _-_, _<_, _≤_}
+use lib.Dec.{eqb, ltb, leb}
+use lib.ListN.{length, getD, take, drop}
+use Rattle.definition.specs.Bytes.{Place}
+use Rattle.definition.specs.Utf8.{Ch, Lead, single, with-more, wrong, lead, pick, after, decode, fresh, characters}
+use Rattle.source.specs.declared.Need.{Need}
+use Rattle.source.specs.declared.Cursor.{Cursor}
+
+abbrev pub start : Need
+start = record { missing = 0; lo = 128; hi = 191 }
+
+abbrev pub bad : Need
+bad = record { missing = 9; lo = 0; hi = 0 }
+
+abbrev pub needOf : Lead → Need
+needOf single = start
+needOf (with-more n lo hi) = record { missing = n; lo = lo; hi = hi }
+needOf wrong = bad
+
+abbrev pub nextNeed : Need → ℕ → Need
+nextNeed n b =
+    pick (eqb (n .missing) 9) n
+    (pick (eqb (n .missing) 0) (needOf (lead b))
+    (pick (ltb b (n .lo)) bad
+    (pick (ltb (n .hi) b) bad
+    (pick (eqb (n .missing) 1) start
+    (record { missing = n .missing - 1; lo = 128; hi = 191 })))))
+
+unfoldable pub ranNeed : Need → List ℕ → Need
+ranNeed n [] = n
+ranNeed n (b ∷ bs) = ranNeed (nextNeed n b) bs
+
+abbrev pub more : Lead → ℕ
+more single = 0
+more (with-more n lo hi) = n
+more wrong = 0
+
+abbrev pub placed : Cursor → Place
+placed c = record { line = c .line; column = c .column }
+
+abbrev pub or-none : Option (List Ch) → List Ch
+or-none none = []
+or-none (some cs) = cs
+
+-- the characters from the cursor on
+unfoldable pub rest : List ℕ → Cursor → List Ch
+unfolding decode
+rest s c = or-none (decode fresh (placed c) (drop (c .at) s))
+
+pub record Stands (s : List ℕ) (c : Cursor) : Type 0 where
+  pub is : decode fresh (placed c) (drop (c .at) s) ≡ some (rest s c)
+  pub inside : c .at ≤ length s
+  pub lined : c .line ≤ c .at + 1
+  pub columned : c .column ≤ c .at + 1
+
+-- the character at the cursor
+abbrev pub char : List ℕ → Cursor → Ch
+char s c = record { byte = getD s (c .at) 0; more = take (more (lead (getD s (c .at) 0))) (drop (c .at + 1) s); place = placed c }
+
+pub record Stepped (s : List ℕ) (c r : Cursor) : Type 0 where
+  pub chars : rest s c ≡ char s c ∷ rest s r
+  pub stands : Stands s r
+  pub wide : r .at ≡ more (lead (getD s (c .at) 0)) + 1 + c .at
+
+abbrev pub is-some : Option (List Ch) → Bool
+is-some none = false
+is-some (some cs) = true
+
+-- the bytes are UTF-8
+unfoldable pub utf8 : List ℕ → Bool
+unfolding characters
+utf8 s = is-some (characters s)
+
+-- where a script starts
+abbrev pub origin : Cursor
+origin = record { at = 0; line = 1; column = 1 }
