@@ -1,80 +1,179 @@
--- Two scripts with one tree: if both are accepted with nothing in their full lists, and their trees' bytes are the same, their stripped tokens are the same. Assumes nothing.
-use mathlib.Core.Path.{_≡_, refl, sym, ap, _∙_, subst}
-use mathlib.Core.Bool.{Bool, true, false}
-use mathlib.Core.Option.{Option, none, some}
-use mathlib.Core.List.{List, [], _∷_, _++_}
+-- Demand 3, two scripts with one tree. Assumes nothing.
+use mathlib.Core.Path.{_≡_, refl, sym, ap, ap₂, _∙_, subst}
+use mathlib.Core.Bool.{Bool, true, false, _&&_, _||_}
+use mathlib.Core.Option.{none, some}
+use mathlib.Core.List.{List, [], _∷_, _++_, map}
 use Prim.Native.Nat.{ℕ, zero, suc, _+_, _≤_, _<_}
 use native.Mathlib.Omega.{arith}
-use lib.Dec.{leb, T, leb→le}
+use lib.Dec.{eqb}
 use lib.ListN.{length}
-use Rattle.definition.specs.Bytes.{Rec, Err, u16, field, recs-bytes}
-use Rattle.definition.specs.Token.{Tok}
-use Rattle.definition.specs.Utf8.{Ch, characters}
-use Rattle.definition.specs.Tokenizer as Z
+use borrow.Author.Tests.{eqb-true}
+use lib.Seq.{take-at}
+use Rattle.definition.specs.Choice.{pick}
+use Rattle.definition.specs.Source.{characters}
+use Rattle.definition.specs.Node.{Rec, u16, field, recs-bytes}
+use Rattle.definition.specs.Fallible.{Err}
+use Rattle.definition.specs.Kind as K
+use Rattle.definition.specs.Token.{Tok, number}
 use Rattle.definition.specs.Tokenizer.{tokenize}
-use Rattle.definition.specs.Act as A
-use Rattle.definition.specs.Act.{Items, St, Res}
+use Rattle.definition.specs.Act.{Role, plain, group, final, size, Consumed, Items}
 use Rattle.definition.specs.Parser.{parse-module}
-use Rattle.definition.specs.Strip.{Norm, strip}
-use Rattle.definition.specs.Reader.{Outcome, file, refused, stuck, file-bytes, read-tokens, read-script, whole}
-use Rattle.definition.proofs.Shown.{Distinct}
-use Rattle.definition.proofs.Fit.{AllFit, Small, clean-fit}
-use Rattle.definition.proofs.Inject.{tree, Both}
-use Rattle.definition.proofs.Tokens.{script-tokens, Kinds, texts}
+use Rattle.definition.specs.Records.{has-text}
+use Rattle.definition.specs.Operations.{file-bytes, whole}
+use Rattle.definition.specs.Demand.{tree, full-entries, file-of, tokens-of-script, read-by, reading, is-modifier, is-struck, strike, is-size, both-sizes, value, Same, Agree, none-left, one-more, OneReading}
+use Rattle.definition.proofs.Later.{toks}
+use Rattle.definition.proofs.Strip.{Norm, symbol, named, integer, sized, is-named, spelling, norm, strip}
+use Rattle.definition.proofs.Fit.{AllFit, clean-fit}
+use Rattle.definition.proofs.Inject.{same-tree, Both}
+use Rattle.definition.proofs.Tokens.{Textless, AllTextless}
+use Rattle.definition.proofs.Accepted.{Accepted, accepted}
+use Rattle.definition.proofs.Room.{all-read, light}
+use Rattle.definition.proofs.Fields.{tree-of-file, entries-of-file}
 use Rattle.definition.proofs.Unique.{unique}
 
--- what an accepted script was read to
-pub record Accepted (script out : List ℕ) : Type 0 where
-  pub short : length script ≤ 16384
-  pub chars : List Ch
-  pub decoded : characters script ≡ some chars
-  pub toks : List Tok
-  pub errors : List Err
-  pub tokenised : tokenize chars ≡ Z.tokens toks errors
-  pub items : Items
-  pub last : St
-  pub parsed : parse-module toks ≡ A.gives items last
-  pub written : out ≡ file-bytes errors items (last .full)
+-- ---- what is told of tokens determines them, but for the spelling of sizes
 
--- an accepted script is one
-pub accepted : (script out : List ℕ) → whole script ≡ file out → Accepted script out
-unfolding whole read-script read-tokens
-accepted script out e = go₁ (leb (length script) 16384) refl e
+-- what is told of a token that is not struck
+tell : Role → Tok → Norm
+tell r t = pick (is-size r) (sized (t .kind) (number (t .base) 0 (t .text))) (spelling t)
+
+-- those that are left, in a row
+told : List Consumed → List Norm
+told cs = map (λ c. tell (c .role) (c .tok)) cs
+
+module _ (t : Tok) (xs : List Norm) (cs : List Consumed) (h : xs ≡ told cs) where
+  unless : (r : Role) (n : Norm) → tell r t ≡ n → (m : Bool) → pick m [] (n ∷ []) ++ xs ≡ told (elim m as (λ _. List Consumed) [ true ↦ cs | false ↦ record { tok = t; role = r } ∷ cs ])
+  unfolding told
+  unless r n e true = h
+  unless r n e false = cc
+
+  one-told : (r : Role) → norm r t ++ xs ≡ told (elim (is-struck r (t .kind)) as (λ _. List Consumed) [ true ↦ cs | false ↦ record { tok = t; role = r } ∷ cs ])
+  unfolding tell
+  one-told plain = unless plain (spelling t) refl (is-modifier (t .kind))
+  one-told group = h
+  one-told final = h
+  one-told size = unless size (sized (t .kind) (number (t .base) 0 (t .text))) refl (is-modifier (t .kind))
+
+strip-told : (cs : List Consumed) → strip cs ≡ told (strike cs)
+unfolding strip strike told
+strip-told [] = refl
+strip-told (c ∷ cs) = one-told (c .tok) (strip cs) (strike cs) (strip-told cs) (c .role)
+
+no-text : (a b c d : Bool) → a || c || d ≡ false → b ≡ false → a || b || c || d ≡ false
+no-text true b c d h k = h
+no-text false true c d h k = k
+no-text false false c d h k = h
+
+untexted : (t : Tok) → is-named (t .kind) ≡ false → eqb (t .kind) K.Integer ≡ false → has-text (t .kind) ≡ false
+untexted t h k = no-text (eqb (t .kind) K.Identifier) (eqb (t .kind) K.Integer) (eqb (t .kind) K.String) (eqb (t .kind) K.InlineAssemblyFragment) h k
+
+-- no two forms are one
+form : Norm → ℕ
+form (symbol k) = 0
+form (named k x) = 1
+form (integer k x) = 2
+form (sized k x) = 3
+
+clash : {x y : Norm} {A : Type 0} → x ≡ y → (form x ≡ form y → ⊥) → A
+clash e f = absurd (f (ap form e))
+
+-- a spelling tells the kind and the text
+spelt : (t u : Tok) → Textless t → Textless u → spelling t ≡ spelling u → (t .kind ≡ u .kind) × (t .text ≡ u .text)
+unfolding form
+spelt t u a b e = go (is-named (t .kind)) (eqb (t .kind) K.Integer) (is-named (u .kind)) (eqb (u .kind) K.Integer) refl refl refl refl e
   where
-    never : {o : List ℕ} {n : ℕ} → Outcome.refused n ≡ file o → ⊥
-    never e = let z : _≡_ {A = ℕ} 0 1 = cc in omega arith
+    go : (p q r v : Bool) → is-named (t .kind) ≡ p → eqb (t .kind) K.Integer ≡ q → is-named (u .kind) ≡ r → eqb (u .kind) K.Integer ≡ v
+        → pick p (named (t .kind) (t .text)) (pick q (integer (t .base) (t .text)) (symbol (t .kind))) ≡ pick r (named (u .kind) (u .text)) (pick v (integer (u .base) (u .text)) (symbol (u .kind))) → (t .kind ≡ u .kind) × (t .text ≡ u .text)
+    go true q true v x y z w e = (cc, cc)
+    go true q false true x y z w e = clash e (λ n. omega arith)
+    go true q false false x y z w e = clash e (λ n. omega arith)
+    go false true true v x y z w e = clash e (λ n. omega arith)
+    go false true false true x y z w e = (eqb-true _ _ y ∙ sym (eqb-true _ _ w), cc)
+    go false true false false x y z w e = clash e (λ n. omega arith)
+    go false false true v x y z w e = clash e (λ n. omega arith)
+    go false false false true x y z w e = clash e (λ n. omega arith)
+    go false false false false x y z w e = (cc, a (untexted t x y) ∙ sym (b (untexted u z w)))
 
-    never-stuck : {o : List ℕ} → Outcome.stuck ≡ file o → ⊥
-    never-stuck e = let z : _≡_ {A = ℕ} 0 1 = cc in omega arith
+spelling-form : (t : Tok) → form (spelling t) < 3
+unfolding form
+spelling-form t = go (is-named (t .kind)) (eqb (t .kind) K.Integer)
+  where
+    go : (p q : Bool) → form (pick p (named (t .kind) (t .text)) (pick q (integer (t .base) (t .text)) (symbol (t .kind)))) < 3
+    go true q = omega arith
+    go false true = omega arith
+    go false false = omega arith
 
-    go₄ : leb (length script) 16384 ≡ true → (cs : List Ch) → characters script ≡ some cs → (ts : List Tok) (es : List Err) → tokenize cs ≡ Z.tokens ts es → (r : Res Items) → parse-module ts ≡ r
-        → elim r as (λ _. Outcome) [ A.gives i s ↦ file (file-bytes es i (s .full)) | A.refused n ↦ refused n | A.stuck ↦ stuck ] ≡ file out → Accepted script out
-    go₄ b cs c ts es t (A.gives i s) p e = record { short = leb→le (length script) 16384 (subst T (sym b) tt); chars = cs; decoded = c; toks = ts; errors = es; tokenised = t; items = i; last = s; parsed = p; written = cc }
-    go₄ b cs c ts es t (A.refused n) p e = absurd (never e)
-    go₄ b cs c ts es t A.stuck p e = absurd (never-stuck e)
+flip : {A : Type 0} → true ≡ false → A
+flip e = let z : _≡_ {A = ℕ} 0 1 = cc in absurd (omega arith)
 
-    go₃ : leb (length script) 16384 ≡ true → (cs : List Ch) → characters script ≡ some cs → (t : Z.Tokens) → tokenize cs ≡ t → elim t as (λ _. Outcome) [ Z.tokens ts es ↦ read-tokens ts es | Z.refused n ↦ refused n | Z.stuck ↦ stuck ] ≡ file out → Accepted script out
-    go₃ b cs c (Z.tokens [] es) t e = absurd (never e)
-    go₃ b cs c (Z.tokens (x ∷ ts) es) t e = go₄ b cs c (x ∷ ts) es t (parse-module (x ∷ ts)) refl e
-    go₃ b cs c (Z.Tokens.refused n) t e = absurd (never e)
-    go₃ b cs c Z.Tokens.stuck t e = absurd (never-stuck e)
+same-told : (c d : Consumed) → Textless (c .tok) → Textless (d .tok) → tell (c .role) (c .tok) ≡ tell (d .role) (d .tok) → Same c d
+unfolding tell form
+same-told c d a b e = go (is-size (c .role)) (is-size (d .role)) refl refl e
+  where
+    go : (p q : Bool) → is-size (c .role) ≡ p → is-size (d .role) ≡ q → pick p (sized (c .tok .kind) (value c)) (spelling (c .tok)) ≡ pick q (sized (d .tok .kind) (value d)) (spelling (d .tok)) → Same c d
+    go true true x y e = record { kind = cc; text = λ h. flip (sym (ap₂ _&&_ x y) ∙ h); value = λ h. cc }
+    go true false x y e = clash e (λ n. omega (arith, spelling-form (d .tok)))
+    go false true x y e = clash e (λ n. omega (arith, spelling-form (c .tok)))
+    go false false x y e = let z : (c .tok .kind ≡ d .tok .kind) × (c .tok .text ≡ d .tok .text) = spelt (c .tok) (d .tok) a b e in record { kind = z .0; text = λ h. z .1; value = λ h. flip (sym h ∙ ap₂ _&&_ x y) }
 
-    go₂ : leb (length script) 16384 ≡ true → (o : Option (List Ch)) → characters script ≡ o → elim o as (λ _. Outcome) [ none ↦ refused 2 | some cs ↦ read-script cs ] ≡ file out → Accepted script out
-    go₂ b none c e = absurd (never e)
-    go₂ b (some cs) c e = go₃ b cs c (tokenize cs) refl e
+told-agree : (cs ds : List Consumed) → AllTextless (toks cs) → AllTextless (toks ds) → told cs ≡ told ds → Agree cs ds
+unfolding told
+told-agree [] [] a b e = none-left
+told-agree [] (d ∷ ds) a b e = let z : _≡_ {A = ℕ} 0 1 = cc in absurd (omega arith)
+told-agree (c ∷ cs) [] a b e = let z : _≡_ {A = ℕ} 0 1 = cc in absurd (omega arith)
+told-agree (c ∷ cs) (d ∷ ds) a b e = one-more (same-told c d (a .0) (b .0) cc) (told-agree cs ds (a .1) (b .1) cc)
 
-    go₁ : (b : Bool) → leb (length script) 16384 ≡ b → elim b as (λ _. Outcome) [ false ↦ refused 1 | true ↦ elim (characters script) as (λ _. Outcome) [ none ↦ refused 2 | some cs ↦ read-script cs ] ] ≡ file out → Accepted script out
-    go₁ false b e = absurd (never e)
-    go₁ true b e = go₂ b (characters script) refl e
+textless-strike : (cs : List Consumed) → AllTextless (toks cs) → AllTextless (toks (strike cs))
+unfolding strike
+textless-strike [] a = tt
+textless-strike (c ∷ cs) a = go (is-struck (c .role) (c .tok .kind)) (textless-strike cs (a .1))
+  where
+    go : (b : Bool) → AllTextless (toks (strike cs)) → AllTextless (toks (elim b as (λ _. List Consumed) [ true ↦ strike cs | false ↦ c ∷ strike cs ]))
+    go true h = h
+    go false h = (a .0, h)
 
-abbrev pub tree-bytes : Items → List ℕ
-tree-bytes i = recs-bytes (i .recs) ++ field 0x5F (u16 (i .count))
+-- ---- the theorem
 
-pub claim : (s t f g : List ℕ) (a : Accepted s f) (b : Accepted t g) → a .last .full ≡ [] → b .last .full ≡ [] → tree-bytes (a .items) ≡ tree-bytes (b .items) → strip (a .last .read) ≡ strip (b .last .read)
-claim s t f g a b p q e =
-    let x : Distinct (a .toks) × Small (a .toks) × Kinds (a .toks) × (texts (a .toks) ≤ 16384) × (length (a .toks) ≤ 2048) × (length (a .errors) ≤ 255) = script-tokens s (a .chars) (a .toks) (a .errors) (a .short) (a .decoded) (a .tokenised) in
-    let y : Distinct (b .toks) × Small (b .toks) × Kinds (b .toks) × (texts (b .toks) ≤ 16384) × (length (b .toks) ≤ 2048) × (length (b .errors) ≤ 255) = script-tokens t (b .chars) (b .toks) (b .errors) (b .short) (b .decoded) (b .tokenised) in
-    let u : AllFit (a .items .recs) × (a .items .count < 65536) = clean-fit (a .toks) (x .1) (a .items) (a .last) (a .parsed) p in
-    let v : AllFit (b .items .recs) × (b .items .count < 65536) = clean-fit (b .toks) (y .1) (b .items) (b .last) (b .parsed) q in
-    let r : Both (a .items .recs ≡ b .items .recs) (a .items .count ≡ b .items .count) = tree (a .items .recs) (b .items .recs) (a .items .count) (b .items .count) (u .0 .all) (v .0 .all) (u .1) (v .1) e in
-    unique (a .toks) (b .toks) (x .0) (y .0) (a .items) (b .items) (a .last) (b .last) (a .parsed) (b .parsed) p q (r .left) (r .right)
+module _ (s o : List ℕ) (a : Accepted s o) where
+  file-is : file-of s o ≡ file-bytes (a .errors) (a .items) (a .last .full)
+  file-is = rw (a .bytes, a .file) (take-at _ _ _ refl)
+
+  tokens-are : tokens-of-script s ≡ a .toks
+  unfolding tokens-of-script
+  tokens-are = rw (tokens-of-script, a .decoded, a .tokenised)
+
+  reading-is : reading s ≡ a .last .read
+  unfolding reading
+  reading-is = ap read-by (ap parse-module tokens-are ∙ a .parsed)
+
+  reading-own : map (λ c. c .tok) (reading s) ≡ tokens-of-script s
+  reading-own = ap toks reading-is ∙ all-read (a .toks) (a .made .kinds) (a .items) (a .last) (a .parsed) ∙ sym tokens-are
+
+  clean : full-entries (file-of s o) ≡ 0 → a .last .full ≡ []
+  clean h = none-of (a .last .full) (sym (entries-of-file (a .errors) (a .items) (a .last .full) (omega (arith, light a .0))) ∙ ap full-entries (sym file-is) ∙ h)
+    where
+      none-of : (es : List Err) → length es ≡ 0 → es ≡ []
+      none-of [] h = refl
+      none-of (e ∷ es) h = absurd (omega arith)
+
+  tree-is : tree (file-of s o) ≡ recs-bytes (a .items .recs) ++ field 0x5F (u16 (a .items .count))
+  tree-is = ap tree file-is ∙ tree-of-file (a .errors) (a .items) (a .last .full) (omega (arith, light a .0))
+
+  fits : full-entries (file-of s o) ≡ 0 → AllFit (a .items .recs) × (a .items .count < 65536)
+  fits h = clean-fit (a .toks) (a .made .small, omega (arith, a .made .tokens)) (a .items) (a .last) (a .parsed) (clean h)
+
+  textless : AllTextless (toks (strike (reading s)))
+  textless = textless-strike (reading s) (subst AllTextless (sym (reading-own ∙ tokens-are)) (a .made .textless))
+
+-- For any two scripts s and t, read on file slices o and p: both are accepted, both files have no entry of the full list, and their trees are equal. Then each was read with its own tokens, and what is left of these once struck agrees.
+pub one-tree : (s t o p : List ℕ) → whole s o .number ≡ 0 → whole t p .number ≡ 0 → full-entries (file-of s o) ≡ 0 → full-entries (file-of t p) ≡ 0 → tree (file-of s o) ≡ tree (file-of t p) → OneReading s t
+one-tree s t o p x y h k e =
+    let a : Accepted s o = accepted s o x in
+    let b : Accepted t p = accepted t p y in
+    let r : Both (a .items .recs ≡ b .items .recs) (a .items .count ≡ b .items .count) = same-tree (a .items .recs) (b .items .recs) (a .items .count) (b .items .count) (fits s o a h .0 .all) (fits t p b k .0 .all) (fits s o a h .1) (fits t p b k .1) (sym (tree-is s o a) ∙ e ∙ tree-is t p b) in
+    let u : strip (a .last .read) ≡ strip (b .last .read) = unique (a .toks) (b .toks) (a .made .distinct) (b .made .distinct) (a .items) (b .items) (a .last) (b .last) (a .parsed) (b .parsed) (clean s o a h) (clean t p b k) (r .left) (r .right) in
+    record {
+      first = reading-own s o a;
+      second = reading-own t p b;
+      agree = told-agree (strike (reading s)) (strike (reading t)) (textless s o a) (textless t p b) (sym (strip-told (reading s)) ∙ ap strip (reading-is s o a) ∙ u ∙ sym (ap strip (reading-is t p b)) ∙ strip-told (reading t));
+    }

@@ -6,9 +6,9 @@ use Prim.Native.Nat.{ℕ, zero, suc, _+_, _≤_, _<_}
 use native.Mathlib.Omega.{arith}
 use lib.Dec.{ltb}
 use lib.ListN.{length, length-append}
-use Rattle.definition.specs.Bytes.{Err}
+use Rattle.definition.specs.Fallible.{Err, Fallible, Ans, ok, fatal}
 use Rattle.definition.specs.Token.{Tok, head, tail}
-use Rattle.definition.specs.Act.{Fallible, Ans, ok, fatal, Node, Items, Goal, Loop, Module, Left, Act, done, peek, take, make, if_then_else_, call, loop, refuse, St, Res, gives, refused, stuck, after, advance, push, run}
+use Rattle.definition.specs.Act.{Node, Items, Goal, Loop, Module, Left, Act, done, peek, take, make, if_then_else_, call, loop, panic, St, Res, gives, refused, after, advance, push, run}
 use Rattle.definition.specs.Parser.{rule, turn, loops, parse, parse-module, no-items}
 use Rattle.definition.proofs.Later.{Later, later-refl, later-trans, later-advance, later-push, later-full, After, weaken}
 use Rattle.definition.proofs.Ind.{join, limit, wp, each, each-ans, EachAns, Each}
@@ -30,7 +30,7 @@ module _ (c : Goal → St → Res (Ans Node)) (o : (l : Loop) → St → Res (Le
   run-later (if_then_else_ false m n) s₀ s l = run-later n s₀ s l
   run-later (call g k) s₀ s l = join (λ a s′. Later s s′) (λ a s′. Later s₀ s′) (c g s) (λ a s′. run c o (k a) s′) (c-later g s) (λ a s′ p. run-later (k a) s₀ s′ (later-trans l p))
   run-later (loop g k) s₀ s l = join (λ a s′. Later s s′) (λ a s′. Later s₀ s′) (o g s) (λ a s′. run c o (k a) s′) (o-later g s) (λ a s′ p. run-later (k a) s₀ s′ (later-trans l p))
-  run-later (refuse n) s₀ s l = tt
+  run-later panic s₀ s l = tt
 
 pub loops-later : (c : Goal → St → Res (Ans Node)) → ((g : Goal) (s : St) → After (λ a s′. Later s s′) (c g s)) → (n : ℕ) (l : Loop) (s : St) → After (λ a s′. Later s s′) (loops c n l s)
 unfolding loops
@@ -70,7 +70,6 @@ module _ (G : Goal → St → Ans Node → St → Type 0) (L : (l : Loop) → St
     on-the-way : {A : Type 0} (Q : A → St → Type 0) (s s′ : St) (r : Res A) → Later s s′ → (Clean s s′ → After (Kept s′ Q) r) → After (λ a s″. Later s′ s″) r → After (Kept s Q) r
     on-the-way Q s s′ (gives a s″) l h k = (later-trans l k, λ q. h (omega (arith, later-full l, later-full k)) .1 (omega (arith, later-full l, later-full k)))
     on-the-way Q s s′ (refused n) l h k = tt
-    on-the-way Q s s′ stuck l h k = tt
 
     pub clean-sound : {A : Type 0} (Q : A → St → Type 0) (m : Act A) (s : St) → I (s .left) → cwp m Q s → After (Kept s Q) (run c o m s)
     unfolding run
@@ -91,7 +90,7 @@ module _ (G : Goal → St → Ans Node → St → Type 0) (L : (l : Loop) → St
         join (Kept s (L g s)) (Kept s Q) (o g s) (λ a s′. run c o (k a) s′) (o-ok g s i)
         (λ a s′ p. on-the-way Q s s′ (run c o (k a) s′) (p .0) (λ q. clean-sound Q (k a) s′ (I-later s s′ (p .0) i) (each g (λ a. (s′ : St) → Later s s′ → L g s a s′ → cwp (k a) Q s′) h a s′ (p .0) (p .1 q)))
         (run-later c o c-later o-later (k a) s′ s′ (later-refl s′)))
-    clean-sound Q (refuse n) s i h = tt
+    clean-sound Q panic s i h = tt
 
   module _ (rules : (g : Goal) (s : St) → I (s .left) → cwp (rule g) (G g s) s) (turns : (l : Loop) (s : St) → I (s .left) → cwp (turn l) (L l s) s) where
     pub clean-loops : (c : Goal → St → Res (Ans Node)) → ((g : Goal) (s : St) → I (s .left) → After (Kept s (G g s)) (c g s)) → ((g : Goal) (s : St) → After (λ a s′. Later s s′) (c g s))

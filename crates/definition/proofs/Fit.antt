@@ -9,9 +9,11 @@ use lib.Dec.{eqb, ltb, leb, T, ltb→lt}
 use lib.ListN.{length, length-append}
 use Rattle.definition.specs.Ascii.{ascii}
 use Rattle.definition.specs.Kind as K
-use Rattle.definition.specs.Bytes.{Place, nowhere, Num, byte, two, eight, Rec, Err}
+use Rattle.definition.specs.Source.{Place, nowhere}
+use Rattle.definition.specs.Node.{Num, byte, two, eight, Rec}
+use Rattle.definition.specs.Fallible.{Err, Fallible, Ans, ok, fatal}
 use Rattle.definition.specs.Token.{Tok, head, tail, _is_, number, dashed, end-token}
-use Rattle.definition.specs.Act.{Fallible, Ans, ok, fatal, Node, Items, Goal, Statement, Expression, Unary, Type', Loop, Module, Body, ListOf, Operators, Casts, Suffixes, Modifiers, Listed, Parameters, Arguments, StructFields, ArrayValues, StructValues, Level, BitOr, BitXor, BitAnd, Shift, AddSub, Mul, Left, Words, Role, plain, group, final, size, word, alias, Consumed, Act, done, peek, next, if_then_else_, call, loop, St, Res, gives, advance, push, _>>=_, _>>?_, or-return}
+use Rattle.definition.specs.Act.{Node, Items, Goal, Statement, Expression, Unary, Type', Loop, Module, Body, ListOf, Operators, Casts, Suffixes, Modifiers, Listed, Parameters, Arguments, StructFields, ArrayValues, StructValues, Level, BitOr, BitXor, BitAnd, Shift, AddSub, Mul, Left, Words, Role, plain, group, final, size, Consumed, Act, done, peek, next, if_then_else_, call, loop, St, Res, gives, advance, push, _>>=_, _>>?_, or-return}
 use Rattle.definition.specs.Parser as P
 use Rattle.definition.proofs.Later.{Later, toks, later-left, later-refl, later-trans, later-advance, After, weaken}
 use Rattle.definition.proofs.Ind.{wp, wp-bind, wp-mono, wp-later}
@@ -618,14 +620,14 @@ function-definition-fit s d = (λ i _. more s (P.function (head (s .left) .place
 
 type-alias-fit : (s : St) → Small (s .left) → cwp P.parse-type-alias (Of s) s
 unfolding P.parse-type-alias layout
-type-alias-fit s d w t l _ = expects (alias w) K.KwType tt _ _ _ (λ _ b d₂. (
+type-alias-fit s d w t l _ = expects plain K.KwType tt _ _ _ (λ _ b d₂. (
   λ _. tt,
   λ _. (
     λ _ m. absurd m,
     λ e. expects plain K.Equals tt _ _ _ (λ _ b₂. calls Type' _ _ _ (λ ty u p. expects plain K.Semicolon tt _ _ _ (λ _ b₃. record {
       fit = add _ (p .fit) refl refl h tt (small-head (tail (t .left)) d₂ .2);
       place = h;
-      less = omega (arith, p .less, later-left l, b, later-left (later-advance (λ _. plain) (advance (λ _. alias w) t)));
+      less = omega (arith, p .less, later-left l, b, later-left (later-advance (λ _. plain) (advance (λ _. plain) t)));
     }))),
   ),
 ))

@@ -6,9 +6,9 @@ use Prim.Native.Nat.{ℕ, zero, suc, _+_, _≤_, _<_}
 use native.Mathlib.Omega.{arith}
 use lib.Dec.{ltb}
 use lib.ListN.{length}
-use Rattle.definition.specs.Bytes.{Err}
+use Rattle.definition.specs.Fallible.{Err, Fallible, Ans, ok, fatal}
 use Rattle.definition.specs.Token.{Tok, head, tail}
-use Rattle.definition.specs.Act.{Fallible, Ans, ok, fatal, Node, Items, Goal, Loop, Left, Act, done, peek, take, make, if_then_else_, call, loop, refuse, St, Res, gives, refused, stuck, after, advance, push, run, or-return, _>>=_, _>>?_}
+use Rattle.definition.specs.Act.{Node, Items, Goal, Loop, Left, Act, done, peek, take, make, if_then_else_, call, loop, panic, St, Res, gives, refused, after, advance, push, run, or-return, _>>=_, _>>?_}
 use Rattle.definition.specs.Go.{go, turns}
 use Rattle.definition.specs.Parser.{rule, turn, loops, parse, parse-module, no-items}
 use Rattle.definition.proofs.Later.{Later, later-left, later-refl, After, weaken}
@@ -20,7 +20,6 @@ use Rattle.definition.proofs.Walk.{run-bind}
 same-after : {A B : Type 0} (r r′ : Res A) (f g : A → St → Res B) (P : A → St → Type 0) → r ≡ r′ → After P r → ((a : A) (s : St) → P a s → f a s ≡ g a s) → after r f ≡ after r′ g
 same-after (gives a s) r′ f g P e p h = subst (λ (x : Res _). f a s ≡ after x g) e (h a s p)
 same-after (refused n) r′ f g P e p h = subst (λ (x : Res _). refused n ≡ after x g) e refl
-same-after stuck r′ f g P e p h = subst (λ (x : Res _). stuck ≡ after x g) e refl
 
 same-cut : {A : Type 0} (b : Bool) (r r′ : Res A) → r ≡ r′ → _≡_ {A = Res A} (elim b as (λ _. Res A) [ true ↦ r | false ↦ refused 12 ]) (elim b as (λ _. Res A) [ true ↦ r′ | false ↦ refused 12 ])
 same-cut true r r′ e = e
@@ -40,7 +39,7 @@ module _ (n : ℕ) (c : Goal → St → Res (Ans Node)) (o o′ : (l : Loop) →
   run-same (if_then_else_ false m m′) Q s h = run-same m′ Q s (h .1 refl)
   run-same (call g k) Q s h = same-after (c g s) (c g s) (λ a s′. run c o (k a) s′) (λ a s′. run c o′ (k a) s′) (λ a s′. Later s s′ × Called s s′) refl (c-after g s) (λ a s′ p. run-same (k a) Q s′ (h a s′ (p .0) (p .1)))
   run-same (loop g k) Q s h = same-after (o g s) (o′ g s) (λ a s′. run c o (k a) s′) (λ a s′. run c o′ (k a) s′) (λ a s′. Later s s′) (agree g s (h .0)) (o-after g s) (λ a s′ p. run-same (k a) Q s′ (h .1 a s′ p))
-  run-same (refuse k) Q s h = refl
+  run-same panic Q s h = refl
 
 module _ (c : Goal → St → Res (Ans Node)) (c-after : (g : Goal) (s : St) → After (λ a s′. Later s s′ × Called s s′) (c g s)) where
   all-later : (n : ℕ) (l : Loop) (s : St) → After (λ a s′. Later s s′) (loops c n l s)
@@ -73,7 +72,6 @@ module _ (c : Goal → St → Res (Ans Node)) (c-after : (g : Goal) (s : St) →
 nothing : {A : Type 0} (q : Res A) → after q (λ a s. gives a s) ≡ q
 nothing (gives a s) = refl
 nothing (refused n) = refl
-nothing stuck = refl
 
 -- a loop is one turn of it
 pub go-loop : (n : ℕ) (l : Loop) (s : St) → go n (loop l done) s ≡ go n (turn l) s

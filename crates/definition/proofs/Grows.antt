@@ -9,13 +9,12 @@ use lib.Dec.{eqb, T}
 use lib.ListN.{length}
 use Rattle.definition.specs.Kind as K
 use Rattle.definition.specs.Token.{Tok, head, tail, _is_, end-token}
-use Rattle.definition.specs.Act.{Ans, Node, Goal, Statement, Expression, Unary, Type', Loop, Left, Act, done, peek, take, make, if_then_else_, call, loop, refuse, St, Role, advance, push, _>>=_}
+use Rattle.definition.specs.Fallible.{Ans, Err, ok, fatal}
+use Rattle.definition.specs.Act.{Node, Goal, Statement, Expression, Unary, Type', Loop, Left, Act, done, peek, take, make, if_then_else_, call, loop, panic, St, Role, advance, push, _>>=_}
 use Rattle.definition.specs.Parser as P
 use Rattle.definition.specs.Parser.{rule, turn, statement-rule, expression-rule, unary-rule, type-rule, parse-return, declaration, parse-body, parse-if, expression-statement, parse-call, parse-sizeof, parse-field-access-or-index, parse-atom, prefix, parse-comparison}
 use Rattle.definition.proofs.Later.{Later, later-left}
 use Rattle.definition.proofs.Ind.{wp, wp-always, wp-mono, to-each, parse-ind}
-use Rattle.definition.specs.Bytes.{Err}
-use Rattle.definition.specs.Act.{ok, fatal}
 
 abbrev pub Shorter : St → St → Type 0
 Shorter s₀ s = length (s .left) < length (s₀ .left)
@@ -49,7 +48,7 @@ stays s₀ (make e m) s h = λ _. stays s₀ m (push e s) h
 stays s₀ (if_then_else_ b m n) s h = (λ e. stays s₀ m s h, λ e. stays s₀ n s h)
 stays s₀ (call g k) s h = (λ x s′ l p. stays s₀ (k (ok x)) s′ (omega (arith, later-left l)), λ es s′ l p. stays s₀ (k (fatal es)) s′ (omega (arith, later-left l)))
 stays s₀ (loop g k) s h = to-each g (λ a. (s′ : St) → Later s s′ → L g s a s′ → wp G L R M (k a) (λ a s′. Shorter s₀ s′) s′) (λ a s′ l p. stays s₀ (k a) s′ (omega (arith, later-left l)))
-stays s₀ (refuse n) s h = tt
+stays s₀ panic s h = tt
 
 -- the first thing that an act does, where a token is there, is to read it or to make a call
 abbrev Reads : {A : Type 0} → Act A → Type 0
@@ -60,7 +59,7 @@ Reads (make e m) = ⊥
 Reads (if_then_else_ b m n) = (b ≡ true → Reads m) × (b ≡ false → Reads n)
 Reads (call g k) = Unit {0}
 Reads (loop l k) = ⊥
-Reads (refuse n) = Unit {0}
+Reads panic = Unit {0}
 
 reads : {A : Type 0} (s : St) (m : Act A) → head (s .left) is K.End ≡ false → Reads m → wp G L R M m (λ a s′. Shorter s s′) s
 reads s (done a) e r = absurd r
@@ -70,7 +69,7 @@ reads s (make x m) e r = absurd r
 reads s (if_then_else_ b m n) e r = (λ d. reads s m e (r .0 d), λ d. reads s n e (r .1 d))
 reads s (call g k) e r = (λ x s′ l p. stays s (k (ok x)) s′ (p e), λ es s′ l p. stays s (k (fatal es)) s′ (p e))
 reads s (loop g k) e r = absurd r
-reads s (refuse n) e r = tt
+reads s panic e r = tt
 
 given : {A : Type 0} (Q : A → St → Type 0) (m : Act A) (s : St) (b : Bool) → (b ≡ false → wp G L R M m Q s) → wp G L R M m (λ a s′. b ≡ false → Q a s′) s
 given Q m s true h = wp-always G L R M (λ a s′. true ≡ false → Q a s′) m s (λ a s′ e. let z : _≡_ {A = ℕ} 0 1 = cc in absurd (omega arith))

@@ -6,9 +6,9 @@ use Prim.Native.Nat.{ℕ, zero, suc, _+_, _≤_, _<_}
 use native.Mathlib.Omega.{arith}
 use lib.Dec.{ltb}
 use lib.ListN.{length, length-append}
-use Rattle.definition.specs.Bytes.{Err}
+use Rattle.definition.specs.Fallible.{Err, Fallible, Ans, ok, fatal}
 use Rattle.definition.specs.Token.{Tok, head, tail}
-use Rattle.definition.specs.Act.{Fallible, Ans, ok, fatal, Node, Items, Words, Goal, Loop, Module, Body, ListOf, Operators, Casts, Suffixes, Modifiers, Left, Act, done, peek, take, make, if_then_else_, call, loop, refuse, St, Res, gives, refused, stuck, after, advance, push, run, _>>=_, _>>?_, or-return}
+use Rattle.definition.specs.Act.{Node, Items, Words, Goal, Loop, Module, Body, ListOf, Operators, Casts, Suffixes, Modifiers, Left, Act, done, peek, take, make, if_then_else_, call, loop, panic, St, Res, gives, refused, after, advance, push, run, _>>=_, _>>?_, or-return}
 use Rattle.definition.specs.Parser.{rule, turn, loops, parse, parse-module, no-items}
 use Rattle.definition.proofs.Later.{Later, later-refl, later-trans, later-advance, later-push, later-full, After}
 
@@ -16,7 +16,6 @@ use Rattle.definition.proofs.Later.{Later, later-refl, later-trans, lat
 pub join : {A B : Type 0} (P : A → St → Type 0) (Q : B → St → Type 0) (r : Res A) (f : A → St → Res B) → After P r → ((a : A) (s : St) → P a s → After Q (f a s)) → After Q (after r f)
 join P Q (gives a s) f p h = h a s p
 join P Q (refused n) f p h = tt
-join P Q stuck f p h = tt
 
 pub limit : {A : Type 0} (Q : A → St → Type 0) (b : Bool) (r : Res A) → After Q r → After Q (elim b as (λ _. Res A) [ true ↦ r | false ↦ refused 12 ])
 limit Q true r h = h
@@ -68,7 +67,7 @@ module _ (G : Goal → St → Ans Node → St → Type 0) (L : (l : Loop) → St
   wp (if_then_else_ b m n) Q s = (b ≡ true → wp m Q s) × (b ≡ false → wp n Q s)
   wp (call g k) Q s = EachAns (λ a. (s′ : St) → Later s s′ → G g s a s′ → wp (k a) Q s′)
   wp (loop l k) Q s = Each l (λ a. (s′ : St) → Later s s′ → L l s a s′ → wp (k a) Q s′)
-  wp (refuse n) Q s = Unit {0}
+  wp panic Q s = Unit {0}
 
   pub wp-always : {A : Type 0} (Q : A → St → Type 0) (m : Act A) (s : St) → ((a : A) (s′ : St) → Q a s′) → wp m Q s
   wp-always Q (done a) s h = h a s
@@ -78,7 +77,7 @@ module _ (G : Goal → St → Ans Node → St → Type 0) (L : (l : Loop) → St
   wp-always Q (if_then_else_ b m n) s h = (λ d. wp-always Q m s h, λ d. wp-always Q n s h)
   wp-always Q (call g k) s h = (λ x s′ l p. wp-always Q (k (ok x)) s′ h, λ es s′ l p. wp-always Q (k (fatal es)) s′ h)
   wp-always Q (loop g k) s h = to-each g (λ a. (s′ : St) → Later s s′ → L g s a s′ → wp (k a) Q s′) (λ a s′ l p. wp-always Q (k a) s′ h)
-  wp-always Q (refuse n) s h = tt
+  wp-always Q panic s h = tt
 
   pub wp-mono : {A : Type 0} (P Q : A → St → Type 0) (m : Act A) (s : St) → ((a : A) (s′ : St) → P a s′ → Q a s′) → wp m P s → wp m Q s
   wp-mono P Q (done a) s h w = h a s w
@@ -90,7 +89,7 @@ module _ (G : Goal → St → Ans Node → St → Type 0) (L : (l : Loop) → St
   wp-mono P Q (loop g k) s h w =
       to-each g (λ a. (s′ : St) → Later s s′ → L g s a s′ → wp (k a) Q s′)
       (λ a s′ l p. wp-mono P Q (k a) s′ h (each g (λ a. (s′ : St) → Later s s′ → L g s a s′ → wp (k a) P s′) w a s′ l p))
-  wp-mono P Q (refuse n) s h w = tt
+  wp-mono P Q panic s h w = tt
 
   pub wp-bind : {A B : Type 0} (m : Act A) (f : A → Act B) (Q : B → St → Type 0) (s : St) → wp m (λ a s′. wp (f a) Q s′) s → wp (m >>= f) Q s
   unfolding _>>=_
@@ -103,7 +102,7 @@ module _ (G : Goal → St → Ans Node → St → Type 0) (L : (l : Loop) → St
   wp-bind (loop g k) f Q s h =
       to-each g (λ a. (s′ : St) → Later s s′ → L g s a s′ → wp (k a >>= f) Q s′)
       (λ a s′ l p. wp-bind (k a) f Q s′ (each g (λ a. (s′ : St) → Later s s′ → L g s a s′ → wp (k a) (λ a s′. wp (f a) Q s′) s′) h a s′ l p))
-  wp-bind (refuse n) f Q s h = tt
+  wp-bind panic f Q s h = tt
 
   -- with where the act began
   pub wp-later : {A : Type 0} (P Q : A → St → Type 0) (m : Act A) (s₀ s : St) → Later s₀ s → ((a : A) (s′ : St) → Later s₀ s′ → P a s′ → Q a s′) → wp m P s → wp m Q s
@@ -116,7 +115,7 @@ module _ (G : Goal → St → Ans Node → St → Type 0) (L : (l : Loop) → St
   wp-later P Q (loop g k) s₀ s l h w =
       to-each g (λ a. (s′ : St) → Later s s′ → L g s a s′ → wp (k a) Q s′)
       (λ a s′ k′ p. wp-later P Q (k a) s₀ s′ (later-trans l k′) h (each g (λ a. (s′ : St) → Later s s′ → L g s a s′ → wp (k a) P s′) w a s′ k′ p))
-  wp-later P Q (refuse n) s₀ s l h w = tt
+  wp-later P Q panic s₀ s l h w = tt
 
   -- an act of which P is known, and what follows it
   pub follow : {A B : Type 0} (m : Act A) (f : A → Act B) (P : A → St → Type 0) (Q : B → St → Type 0) (s : St) → wp m P s → ((a : A) (s′ : St) → P a s′ → wp (f a) Q s′) → wp (m >>= f) Q s
@@ -149,7 +148,7 @@ module _ (G : Goal → St → Ans Node → St → Type 0) (L : (l : Loop) → St
       sound Q (loop g k) s₀ s l h =
           join (λ a s′. Later s s′ × L g s a s′) (λ a s′. Later s₀ s′ × Q a s′) (o g s) (λ a s′. run c o (k a) s′) (o-ok g s)
           (λ a s′ p. sound Q (k a) s₀ s′ (later-trans l (p .0)) (each g (λ a. (s′ : St) → Later s s′ → L g s a s′ → wp (k a) Q s′) h a s′ (p .0) (p .1)))
-      sound Q (refuse n) s₀ s l h = tt
+      sound Q panic s₀ s l h = tt
 
     module _ (rules : (g : Goal) (s : St) → wp (rule g) (G g s) s) (turns : (l : Loop) (s : St) → wp (turn l) (L l s) s) where
       pub loops-ind : (c : Goal → St → Res (Ans Node)) → ((g : Goal) (s : St) → After (λ a s′. Later s s′ × G g s a s′) (c g s))

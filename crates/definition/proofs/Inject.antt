@@ -8,7 +8,8 @@ use native.Mathlib.Omega.{arith}
 use native.Mathlib.Nat.{div-div-eq-div-mul, div-lt-iff-lt-mul}
 use lib.Dec.{eqb, T, eqb-refl, lit<}
 use lib.ListN.{length, length-append}
-use Rattle.definition.specs.Bytes.{Place, Num, byte, two, eight, Rec, u16, u64, place-bytes, at-place, num-bytes, nums-bytes, field, rec-bytes, recs-bytes}
+use Rattle.definition.specs.Source.{Place}
+use Rattle.definition.specs.Node.{Num, byte, two, eight, Rec, u16, u64, place-bytes, at-place, num-bytes, nums-bytes, field, rec-bytes, recs-bytes}
 use Rattle.definition.proofs.Fit.{width, widths, placed, shape, layout, one-of, choose, SmallPlace, SmallAt, SmallNums, Fit, Fits}
 
 u16-inj : (m n : ℕ) → m < 65536 → n < 65536 → m / 256 % 256 ≡ n / 256 % 256 → m % 256 ≡ n % 256 → m ≡ n
@@ -139,14 +140,14 @@ never {t} p e = let z : _≡_ {A = ℕ} 0 1 = cc (subst (λ (n : ℕ). eqb n 0x5
 fields : (t u : ℕ) (b c r q : List ℕ) → length b < 65536 → length c < 65536 → field t b ++ r ≡ field u c ++ q → Both (t ≡ u) (Both (b ≡ c) (r ≡ q))
 fields t u b c r q h k e = record { left = heads e; right = cancel b c r q (u16-inj (length b) (length c) h k (heads (tails e)) (heads (tails (tails e)))) (tails (tails (tails e))) }
 
-pub tree : (xs ys : List Rec) (m n : ℕ) → Fits xs → Fits ys → m < 65536 → n < 65536 → recs-bytes xs ++ field 0x5F (u16 m) ≡ recs-bytes ys ++ field 0x5F (u16 n) → Both (xs ≡ ys) (m ≡ n)
+pub same-tree : (xs ys : List Rec) (m n : ℕ) → Fits xs → Fits ys → m < 65536 → n < 65536 → recs-bytes xs ++ field 0x5F (u16 m) ≡ recs-bytes ys ++ field 0x5F (u16 n) → Both (xs ≡ ys) (m ≡ n)
 unfolding recs-bytes rec-bytes body
-tree [] [] m n f g h k e = record { left = refl; right = u16-inj m n h k (heads (tails (tails (tails e)))) (heads (tails (tails (tails (tails e))))) }
-tree [] (y ∷ ys) m n f g h k e = absurd (never (g .0 .module-not) (heads e))
-tree (x ∷ xs) [] m n f g h k e = absurd (never (f .0 .module-not) (sym (heads e)))
-tree (x ∷ xs) (y ∷ ys) m n f g h k e =
+same-tree [] [] m n f g h k e = record { left = refl; right = u16-inj m n h k (heads (tails (tails (tails e)))) (heads (tails (tails (tails (tails e))))) }
+same-tree [] (y ∷ ys) m n f g h k e = absurd (never (g .0 .module-not) (heads e))
+same-tree (x ∷ xs) [] m n f g h k e = absurd (never (f .0 .module-not) (sym (heads e)))
+same-tree (x ∷ xs) (y ∷ ys) m n f g h k e =
     let c : Both (x .tag ≡ y .tag) (Both (body x ≡ body y) (recs-bytes xs ++ field 0x5F (u16 m) ≡ recs-bytes ys ++ field 0x5F (u16 n))) =
     fields (x .tag) (y .tag) (body x) (body y) (recs-bytes xs ++ field 0x5F (u16 m)) (recs-bytes ys ++ field 0x5F (u16 n)) (body-short x (f .0)) (body-short y (g .0))
     (sym (append-assoc (rec-bytes x) (recs-bytes xs) (field 0x5F (u16 m))) ∙ e ∙ append-assoc (rec-bytes y) (recs-bytes ys) (field 0x5F (u16 n))) in
-    let d : Both (xs ≡ ys) (m ≡ n) = tree xs ys m n (f .1) (g .1) h k (c .right .right) in
+    let d : Both (xs ≡ ys) (m ≡ n) = same-tree xs ys m n (f .1) (g .1) h k (c .right .right) in
     record { left = λ i. same-rec x y (f .0) (g .0) (c .left) (c .right .left) i ∷ d .left i; right = d .right }

@@ -4,9 +4,9 @@ use mathlib.Core.List.{List, [], _∷_, _++_, map, append-nil, append-assoc, map
 use Prim.Native.Nat.{ℕ, zero, suc, _+_, _≤_, _<_}
 use native.Mathlib.Omega.{arith}
 use lib.ListN.{length, length-append, length-map}
-use Rattle.definition.specs.Bytes.{Err}
+use Rattle.definition.specs.Fallible.{Err}
 use Rattle.definition.specs.Token.{Tok, head, tail}
-use Rattle.definition.specs.Act.{Role, Consumed, St, Res, gives, refused, stuck, now-read, advance, push}
+use Rattle.definition.specs.Act.{Role, Consumed, St, Res, gives, refused, now-read, advance, push}
 
 abbrev pub toks : List Consumed → List Tok
 toks cs = map (λ c. c .tok) cs
@@ -51,9 +51,7 @@ later-full {s} {s′} p = omega (arith, simp length-append at (ap length (p .ful
 abbrev pub After : {A : Type 0} → (A → St → Type 0) → Res A → Type 0
 After P (gives a s) = P a s
 After P (refused n) = Unit {0}
-After P stuck = Unit {0}
 
 pub weaken : {A : Type 0} {P Q : A → St → Type 0} (r : Res A) → ((a : A) (s : St) → P a s → Q a s) → After P r → After Q r
 weaken (gives a s) f p = f a s p
 weaken (refused n) f p = tt
-weaken stuck f p = tt

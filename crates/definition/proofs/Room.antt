@@ -8,18 +8,20 @@ use native.Mathlib.Omega.{arith}
 use lib.Dec.{eqb, ltb, T, ltb→lt}
 use lib.ListN.{length, length-append}
 use Rattle.definition.specs.Kind as K
-use Rattle.definition.specs.Bytes.{Place, Num, byte, two, eight, Rec, Err, u16, at-place, nums-bytes, field, rec-bytes, recs-bytes, errs-bytes}
+use Rattle.definition.specs.Source.{Place}
+use Rattle.definition.specs.Node.{Num, byte, two, eight, Rec, u16, at-place, nums-bytes, field, rec-bytes, recs-bytes}
+use Rattle.definition.specs.Fallible.{Err, errs-bytes, Fallible, Ans}
 use Rattle.definition.specs.Token.{Tok, head, tail, _is_}
-use Rattle.definition.specs.Act.{Fallible, Ans, Node, Items, Goal, Loop, Module, Body, ListOf, Operators, Casts, Suffixes, Modifiers, Left, Act, done, peek, take, make, if_then_else_, call, loop, refuse, St, Res, gives, refused, stuck, after, advance, push, run}
+use Rattle.definition.specs.Act.{Node, Items, Goal, Loop, Module, Body, ListOf, Operators, Casts, Suffixes, Modifiers, Left, Act, done, peek, take, make, if_then_else_, call, loop, panic, St, Res, gives, refused, after, advance, push, run}
 use Rattle.definition.specs.Parser as P
 use Rattle.definition.specs.Parser.{rule, turn, loops, parse, parse-module}
-use Rattle.definition.specs.Reader.{file, whole, file-bytes}
+use Rattle.definition.specs.Operations.{Written, whole, file-bytes}
 use Rattle.definition.proofs.Later.{Later, toks, After, weaken}
 use Rattle.definition.proofs.Ind.{wp, wp-always, wp-bind, module-ind, join}
 use Rattle.definition.proofs.Shown.{is-kind}
 use Rattle.definition.proofs.Size as Z
-use Rattle.definition.proofs.Tokens.{script-tokens, Kinds, texts}
-use Rattle.definition.proofs.Claim.{Accepted, accepted}
+use Rattle.definition.proofs.Tokens.{Kinds, texts}
+use Rattle.definition.proofs.Accepted.{Accepted, accepted}
 
 -- ---- every token is read
 
@@ -91,7 +93,7 @@ module _ (c : Goal → St → Res (Ans Node)) (o : (l : Loop) → St → Res (Le
   run-few (if_then_else_ false m n) s h = run-few n s h
   run-few (call g k) s h = join Few Few (c g s) (λ a s′. run c o (k a) s′) (c-few g s h) (λ a s′ p. run-few (k a) s′ p)
   run-few (loop g k) s h = join Few Few (o g s) (λ a s′. run c o (k a) s′) (o-few g s h) (λ a s′ p. run-few (k a) s′ p)
-  run-few (refuse n) s h = tt
+  run-few panic s h = tt
 
 loops-few : (c : Goal → St → Res (Ans Node)) → ((g : Goal) (s : St) → length (s .full) ≤ 255 → After Few (c g s)) → (n : ℕ) (l : Loop) (s : St) → length (s .full) ≤ 255 → After Few (loops c n l s)
 unfolding loops
@@ -109,23 +111,23 @@ module-few ts = loops-few (λ g s. parse 96 g s) (λ g s h. parse-few 96 g s h) 
 
 -- ---- lengths
 
-nums-length : (ns : List Num) → length (nums-bytes ns) ≡ Z.nums-size ns
+pub nums-length : (ns : List Num) → length (nums-bytes ns) ≡ Z.nums-size ns
 unfolding nums-bytes
 nums-length [] = refl
 nums-length (byte n ∷ ns) = omega (arith, nums-length ns)
 nums-length (two n ∷ ns) = omega (arith, nums-length ns)
 nums-length (eight n ∷ ns) = omega (arith, nums-length ns)
 
-place-length : (p : Option Place) → length (at-place p) ≡ Z.place-size p
+pub place-length : (p : Option Place) → length (at-place p) ≡ Z.place-size p
 place-length none = refl
 place-length (some p) = omega arith
 
-recs-length : (rs : List Rec) → length (recs-bytes rs) ≡ Z.weight rs
+pub recs-length : (rs : List Rec) → length (recs-bytes rs) ≤ Z.weight rs
 unfolding recs-bytes rec-bytes
-recs-length [] = refl
+recs-length [] = omega arith
 recs-length (r ∷ rs) = simp length-append (omega (arith, place-length (r .place), nums-length (r .numbers), recs-length rs))
 
-errs-length : (tag : ℕ) (es : List Err) → length (errs-bytes tag es) ≡ 10 * length es
+pub errs-length : (tag : ℕ) (es : List Err) → length (errs-bytes tag es) ≡ 10 * length es
 unfolding errs-bytes
 errs-length tag [] = refl
 errs-length tag (e ∷ es) = omega (arith, errs-length tag es)
@@ -138,12 +140,17 @@ budget-bound : (ts : List Tok) → Z.budget ts ≤ 16 * length ts + texts ts
 budget-bound [] = omega arith
 budget-bound (t ∷ ts) = omega (arith, budget-bound ts)
 
--- an accepted script's file has room
-pub room : (script out : List ℕ) → whole script ≡ file out → length out ≤ 65536
-unfolding file-bytes
-room script out e =
-    let a : Accepted script out = accepted script out e in
-    let x : _ = script-tokens script (a .chars) (a .toks) (a .errors) (a .short) (a .decoded) (a .tokenised) in
+-- the records of a script weigh less than 65,536, and no more errors are reported than made
+pub light : {s o : List ℕ} (a : Accepted s o) → (Z.weight (a .items .recs) ≤ 49152) × (length (a .items .errors) ≤ length (a .last .full)) × (length (a .last .full) ≤ 255)
+light a =
     let w : (Z.weight (a .items .recs) ≤ Z.budget (a .toks)) × (Z.tally (λ _. 1) (a .items .errors) ≤ Z.tally (λ _. 1) (a .last .full)) = subst (After (λ i s′. (Z.weight (i .recs) ≤ Z.budget (a .toks)) × (Z.tally (λ _. 1) (i .errors) ≤ Z.tally (λ _. 1) (s′ .full)))) (a .parsed) (Z.module-size (λ _. 1) (a .toks)) in
     let f : length (a .last .full) ≤ 255 = subst (After Few) (a .parsed) (module-few (a .toks)) in
-    rw (a .written) (simp length-append (omega (arith, w .0, w .1, recs-length (a .items .recs), errs-length 0x62 (a .errors), errs-length 0x60 (a .items .errors), errs-length 0x61 (a .last .full), tally-one (a .items .errors), tally-one (a .last .full), budget-bound (a .toks), x .3, x .4, x .5)))
+    (omega (arith, w .0, budget-bound (a .toks), a .made .text, a .made .tokens), omega (arith, w .1, tally-one (a .items .errors), tally-one (a .last .full)), f)
+
+-- an accepted script's file has room in 65,536 bytes
+pub room : (s o : List ℕ) → whole s o .number ≡ 0 → whole s o .bytes ≤ 65536
+unfolding file-bytes
+room s o e =
+    let a : Accepted s o = accepted s o e in
+    let l : _ = light a in
+    rw (a .bytes) (simp length-append (omega (arith, l .0, l .1, l .2, recs-length (a .items .recs), errs-length 0x62 (a .errors), errs-length 0x60 (a .items .errors), errs-length 0x61 (a .last .full), a .made .errors)))

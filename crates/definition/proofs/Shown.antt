@@ -7,13 +7,16 @@ use Prim.Native.Nat.{ℕ, zero, suc, _+_, _≤_, _<_}
 use native.Mathlib.Omega.{arith}
 use lib.Dec.{eqb, ltb, T, eqb→eq, eqb-refl, ltb→lt}
 use lib.ListN.{length}
-use Rattle.definition.specs.Utf8.{pick}
+use Rattle.definition.specs.Choice.{pick}
 use Rattle.definition.specs.Kind as K
-use Rattle.definition.specs.Bytes.{Place, nowhere, Num, byte, two, eight, Rec, Err}
+use Rattle.definition.specs.Source.{Place, nowhere}
+use Rattle.definition.specs.Node.{Num, byte, two, eight, Rec}
+use Rattle.definition.specs.Fallible.{Err, Fallible, Ans, ok, fatal}
 use Rattle.definition.specs.Token.{Tok, head, tail, _is_, end-token, number}
-use Rattle.definition.specs.Act.{Fallible, Ans, ok, fatal, Node, Items, Role, plain, group, final, size, word, alias, Consumed, St, now-read, advance}
+use Rattle.definition.specs.Act.{Node, Items, Role, plain, group, final, size, Consumed, St, now-read, advance}
 use Rattle.definition.specs.Parser as P
-use Rattle.definition.specs.Strip.{Norm, symbol, named, integer, sized, aliased, has-text, spelling, norm, strip}
+use Rattle.definition.proofs.Strip.{Norm, symbol, named, integer, sized, is-named, spelling, norm, strip}
+use Rattle.definition.specs.Demand.{is-modifier}
 use Rattle.definition.proofs.Later.{Later, toks}
 use Rattle.definition.proofs.Unparse.{Entry, entry, Gathered, gathered, gather, add, unparse, unparse-append, step, same-place, sym1, comma, extend, gather-one-more}
 
@@ -111,37 +114,52 @@ took r k h s i = record { by = strip-append (s .read) (now-read r (s .left)) ∙
 
 -- the kinds that are shown by themselves
 abbrev pub is-symbol : ℕ → Bool
-is-symbol k = ltb 0 k && not (has-text k || eqb k K.Integer)
+is-symbol k = ltb 0 k && not (is-named k || eqb k K.Integer || is-modifier k)
 
 and-left : (a b : Bool) → T (a && b) → T a
 and-left true b t = tt
 and-left false b t = t
 
-pub spell : (k : ℕ) → T (is-symbol k) → (t : Tok) → t .kind ≡ k → spelling t ≡ symbol k
-spell k h t e = rw e (go (ltb 0 k) (has-text k) (eqb k K.Integer) h)
+pub symbol-norm : (k : ℕ) → T (is-symbol k) → (t : Tok) → t .kind ≡ k → norm plain t ≡ symbol k ∷ []
+symbol-norm k h t e = rw e (go (ltb 0 k) (is-named k) (eqb k K.Integer) (is-modifier k) h)
   where
-    go : (z a b : Bool) → T (z && not (a || b)) → pick a (named k (t .text)) (pick b (integer (t .base) (t .text)) (symbol k)) ≡ symbol k
-    go false a b h = absurd h
-    go true true b h = absurd h
-    go true false true h = absurd h
-    go true false false h = refl
+    go : (z a b m : Bool) → T (z && not (a || b || m)) → pick m [] (pick a (named k (t .text)) (pick b (integer (t .base) (t .text)) (symbol k)) ∷ []) ≡ symbol k ∷ []
+    go false a b m h = absurd h
+    go true true b m h = absurd h
+    go true false true m h = absurd h
+    go true false false true h = absurd h
+    go true false false false h = refl
 
 pub took-symbol : (k : ℕ) → T (is-symbol k) → (s : St) → head (s .left) is k ≡ true → Grew s (sym1 k) (advance (λ _. plain) s)
-took-symbol k h s i = grew-as (took (λ _. plain) k (and-left (ltb 0 k) _ h) s i) (ap {B = List Norm} (λ n. n ∷ []) (spell k h (head (s .left)) (is-kind (head (s .left)) k i)))
+took-symbol k h s i = grew-as (took (λ _. plain) k (and-left (ltb 0 k) _ h) s i) (symbol-norm k h (head (s .left)) (is-kind (head (s .left)) k i))
+
+-- `distinct` or `internal`
+pub took-modifier : (k : ℕ) → T (ltb 0 k && is-modifier k) → (s : St) → head (s .left) is k ≡ true → Grew s [] (advance (λ _. plain) s)
+took-modifier k h s i = grew-as (took (λ _. plain) k (and-left (ltb 0 k) _ h) s i) (rw (is-kind (head (s .left)) k i) (go (ltb 0 k) (is-modifier k) _ h))
+  where
+    go : (z m : Bool) (x : List Norm) → T (z && m) → pick m [] x ≡ []
+    go true true x h = refl
+    go true false x h = absurd h
+    go false m x h = absurd h
 
 abbrev pub is-name : ℕ → Bool
-is-name k = ltb 0 k && has-text k
+is-name k = ltb 0 k && (is-named k && not (is-modifier k))
 
 pub took-name : (k : ℕ) → T (is-name k) → (s : St) → head (s .left) is k ≡ true → Grew s (named k (head (s .left) .text) ∷ []) (advance (λ _. plain) s)
-took-name k h s i = grew-as (took (λ _. plain) k (and-left (ltb 0 k) _ h) s i) (ap {B = List Norm} (λ n. n ∷ []) (rw (is-kind (head (s .left)) k i) (go (ltb 0 k) (has-text k) h)))
+took-name k h s i = grew-as (took (λ _. plain) k (and-left (ltb 0 k) _ h) s i) (rw (is-kind (head (s .left)) k i) (go (ltb 0 k) (is-named k) (is-modifier k) h))
   where
-    go : (z a : Bool) → T (z && a) → pick a (named k (head (s .left) .text)) (pick (eqb k K.Integer) (integer (head (s .left) .base) (head (s .left) .text)) (symbol k)) ≡ named k (head (s .left) .text)
-    go true true h = refl
-    go true false h = absurd h
-    go false a h = absurd h
+    go : (z a m : Bool) → T (z && (a && not m)) → pick m [] (pick a (named k (head (s .left) .text)) (pick (eqb k K.Integer) (integer (head (s .left) .base) (head (s .left) .text)) (symbol k)) ∷ []) ≡ named k (head (s .left) .text) ∷ []
+    go true true false h = refl
+    go true true true h = absurd h
+    go true false m h = absurd h
+    go false a m h = absurd h
 
 pub took-integer : (s : St) → head (s .left) is K.Integer ≡ true → Grew s (integer (head (s .left) .base) (head (s .left) .text) ∷ []) (advance (λ _. plain) s)
-took-integer s i = grew-as (took (λ _. plain) K.Integer tt s i) (ap {B = List Norm} (λ n. n ∷ []) (rw (is-kind (head (s .left)) K.Integer i) refl))
+took-integer s i = grew-as (took (λ _. plain) K.Integer tt s i) (rw (is-kind (head (s .left)) K.Integer i) refl)
+
+-- an array's size
+pub took-size : (s : St) → head (s .left) is K.Integer ≡ true → Grew s (sized K.Integer (number (head (s .left) .base) 0 (head (s .left) .text)) ∷ []) (advance (λ _. size) s)
+took-size s i = grew-as (took (λ _. size) K.Integer tt s i) (rw (is-kind (head (s .left)) K.Integer i) refl)
 
 -- ---- records that show tokens
 

@@ -4,14 +4,16 @@ use mathlib.Core.Path.{_≡_, refl, sym, ap, _∙_, subst}
 use mathlib.Core.Bool.{Bool, true, false, not, _||_}
 use mathlib.Core.Option.{Option, none, some}
 use mathlib.Core.List.{List, [], _∷_, _++_}
-use Prim.Native.Nat.{ℕ, zero, suc, _+_, _*_, _≤_, _<_, min}
+use Prim.Native.Nat.{ℕ, zero, suc, _+_, _*_, _-_, _≤_, _<_, min}
 use native.Mathlib.Omega.{arith}
 use lib.Dec.{eqb, T, eqb→eq}
 use lib.ListN.{length}
 use Rattle.definition.specs.Ascii.{ascii}
-use Rattle.definition.specs.Bytes.{Place, Num, byte, two, eight, Rec, Err}
+use Rattle.definition.specs.Source.{Place}
+use Rattle.definition.specs.Node.{Num, byte, two, eight, Rec}
+use Rattle.definition.specs.Fallible.{Err, Fallible, Ans, ok, fatal}
 use Rattle.definition.specs.Token.{Tok, head, tail, _is_, end-token}
-use Rattle.definition.specs.Act.{Fallible, Ans, ok, fatal, Node, Items, Goal, Statement, Expression, Unary, Type', Loop, Module, Body, ListOf, Operators, Casts, Suffixes, Modifiers, Listed, Parameters, Arguments, StructFields, ArrayValues, StructValues, Level, BitOr, BitXor, BitAnd, Shift, AddSub, Mul, Left, Words, Act, St, advance, push, plain, next, done, _>>=_, _>>?_, or-return}
+use Rattle.definition.specs.Act.{Node, Items, Goal, Statement, Expression, Unary, Type', Loop, Module, Body, ListOf, Operators, Casts, Suffixes, Modifiers, Listed, Parameters, Arguments, StructFields, ArrayValues, StructValues, Level, BitOr, BitXor, BitAnd, Shift, AddSub, Mul, Left, Words, Act, St, advance, push, plain, next, done, _>>=_, _>>?_, or-return}
 use Rattle.definition.specs.Parser as P
 use Rattle.definition.specs.Parser.{rule, turn, statement-rule, expression-rule, unary-rule, type-rule, list-turn, body-turn, module-turn, operators-turn, casts-turn, suffixes-turn, modifiers-turn, Typed, parse-module}
 use Rattle.definition.proofs.Later.{Later, After, weaken}
@@ -27,9 +29,14 @@ nums-size (byte n ∷ ns) = 1 + nums-size ns
 nums-size (two n ∷ ns) = 2 + nums-size ns
 nums-size (eight n ∷ ns) = 8 + nums-size ns
 
+-- more than all tokens of a script pay for, where the tag is none that a record of the tree has
+abbrev pub excess : ℕ → ℕ
+excess tag = 65536 * (tag - 0x54)
+
+-- the bytes of the records, and the excess of their tags
 abbrev pub weight : List Rec → ℕ
 weight [] = 0
-weight (r ∷ rs) = (3 + place-size (r .place) + nums-size (r .numbers) + length (r .text)) + weight rs
+weight (r ∷ rs) = (3 + place-size (r .place) + nums-size (r .numbers) + length (r .text) + excess (r .tag)) + weight rs
 
 weight-append : (xs ys : List Rec) → weight (xs ++ ys) ≡ weight xs + weight ys
 weight-append [] ys = omega arith
@@ -162,9 +169,9 @@ module _ (f : Err → ℕ) where
       named : (name : List ℕ) (es : List Err) (t : St) → length name + 0 + budget (t .left) ≤ budget (s .left) → tally es + tally (s .full) ≤ tally (t .full) → wp′ (P.typed name es) (PostTyped s) t
       named name es t b c = via (P.typed name es) (PostNamed name es t) (PostTyped s) t (typed-size name es t) (omega arith) (omega arith)
 
-  prefix-size : (tag : ℕ) (s : St) → 0 < (head (s .left)) .kind → wp′ (P.prefix tag) (Post 8 s) s
+  prefix-size : (tag : ℕ) (s : St) → tag ≤ 0x54 → 0 < (head (s .left)) .kind → wp′ (P.prefix tag) (Post 8 s) s
   unfolding P.prefix _>>=_
-  prefix-size tag s k = simp sums (omega arith)
+  prefix-size tag s h k = simp sums (omega arith)
 
   group-size : (s : St) → 0 < (head (s .left)) .kind → wp′ P.parse-group (Post 8 s) s
   unfolding P.parse-group _>>=_
@@ -261,7 +268,7 @@ module _ (f : Err → ℕ) where
 
   unary-size : (s : St) → wp′ unary-rule (Post 8 s) s
   unfolding unary-rule
-  unary-size s = (λ i. prefix-size 0x27 s (omega (arith, is-kind)), λ _. (λ i. prefix-size 0x28 s (omega (arith, is-kind)), λ _. (λ i. prefix-size 0x2A s (omega (arith, is-kind)), λ _. (λ i. prefix-size 0x2B s (omega (arith, is-kind)), λ _. call-size s))))
+  unary-size s = (λ i. prefix-size 0x27 s (omega arith) (omega (arith, is-kind)), λ _. (λ i. prefix-size 0x28 s (omega arith) (omega (arith, is-kind)), λ _. (λ i. prefix-size 0x2A s (omega arith) (omega (arith, is-kind)), λ _. (λ i. prefix-size 0x2B s (omega arith) (omega (arith, is-kind)), λ _. call-size s))))
 
   cast-size : (s : St) → wp′ P.parse-cast (Post 8 s) s
   unfolding P.parse-cast _>>=_
@@ -379,9 +386,9 @@ module _ (f : Err → ℕ) where
       (λ x s′ p. (λ i r. unfold _>>=_ in simp sums (omega (arith, is-kind)), λ _. (λ i r. tries P.parse-compound _ (Post 3 (advance (λ _. plain) s′)) _ _ (compound-size (advance (λ _. plain) s′)) (simp sums (omega (arith, is-kind))) (omega (arith, is-kind)), λ _. simp sums (omega arith))))
       (omega arith)
 
-  declaration-size : (tag : ℕ) (p : Place) (s : St) → wp′ (P.declaration tag p) (Post 0 s) s
+  declaration-size : (tag : ℕ) (p : Place) (s : St) → tag ≤ 0x54 → wp′ (P.declaration tag p) (Post 0 s) s
   unfolding P.declaration _>>=_
-  declaration-size tag p s = tries P.parse-var-like-declaration _ (PostTyped′ s) _ _ (var-like-size s) (simp sums (omega (arith, is-kind))) (omega arith)
+  declaration-size tag p s h = tries P.parse-var-like-declaration _ (PostTyped′ s) _ _ (var-like-size s) (simp sums (omega (arith, is-kind))) (omega arith)
 
   body-size : (s : St) → wp′ P.parse-body (PostOpened s) s
   unfolding P.parse-body _>>=_
@@ -416,7 +423,7 @@ module _ (f : Err → ℕ) where
   statement-size s = (
     λ i r. via (P.parse-return _) (Over 8 t) (Post 0 s) t (return-size _ t) (omega (arith, is-kind)) (omega arith),
     λ _. (
-      λ i r. via (P.declaration 0x42 _) (Post 0 t) (Post 0 s) t (declaration-size 0x42 _ t) (omega arith) (omega arith),
+      λ i r. via (P.declaration 0x42 _) (Post 0 t) (Post 0 s) t (declaration-size 0x42 _ t (omega arith)) (omega arith) (omega arith),
       λ _. (
         λ i. follows P.parse-body _ (PostOpened s) _ _ (body-size s) (simp sums (omega (arith, is-kind))),
         λ _. (
@@ -488,7 +495,7 @@ module _ (f : Err → ℕ) where
 
   top-level-var-size : (s : St) → wp′ P.parse-top-level-var-declaration (Post 0 s) s
   unfolding P.parse-top-level-var-declaration _>>=_
-  top-level-var-size s r = (λ i. via (P.declaration 0x53 _) (Post 0 (advance (λ _. plain) s)) (Post 0 s) _ (declaration-size 0x53 _ (advance (λ _. plain) s)) (omega arith) (omega arith), λ _. (λ e m. simp sums (omega arith), λ _ m. simp sums (omega arith)))
+  top-level-var-size s r = (λ i. via (P.declaration 0x53 _) (Post 0 (advance (λ _. plain) s)) (Post 0 s) _ (declaration-size 0x53 _ (advance (λ _. plain) s) (omega arith)) (omega arith) (omega arith), λ _. (λ e m. simp sums (omega arith), λ _ m. simp sums (omega arith)))
 
   top-level-item-size : (s : St) → wp′ P.parse-top-level-item (Post 0 s) s
   unfolding P.parse-top-level-item

@@ -9,11 +9,14 @@ use lib.Dec.{eqb, ltb, leb, T, eqb→eq, leb→le, ltb→lt}
 use lib.ListN.{length, length-append}
 use Rattle.definition.specs.Ascii.{ascii}
 use Rattle.definition.specs.Kind as K
-use Rattle.definition.specs.Bytes.{Place, Err}
+use Rattle.definition.specs.Source.{Place, Ch, Lead, single, with-more, wrong, lead, after, Pending, fresh, within, and-then, decode, characters}
+use Rattle.definition.specs.Fallible.{Err}
 use Rattle.definition.specs.Token.{Tok}
-use Rattle.definition.specs.Utf8.{Ch, pick, first, Lead, single, with-more, wrong, lead, after, Pending, fresh, within, and-then, decode, characters}
+use Rattle.definition.specs.Records.{has-text}
+use Rattle.definition.specs.Choice.{pick, first}
+use Rattle.definition.specs.Classes as C
 use Rattle.definition.specs.Tokenizer as Z
-use Rattle.definition.specs.Tokenizer.{Turn, goes, refused, Span, ahead, Quoted, Run, ends, foreign, Class, Foreign, White, Comment, Pair, Symbol, Quote, Word, Dash, Zero, Digit, Unknown, Tokens, tokens, stuck, turn, tokenize, tokenize-from, comment, digits, assembly, quoted, word, white, look, drop-one}
+use Rattle.definition.specs.Tokenizer.{Turn, goes, refused, Span, ahead, Quoted, Run, ends, foreign, Class, Foreign, White, Comment, Pair, Symbol, Quote, Word, Dash, Zero, Digit, Unknown, Tokens, tokens, turn, tokenize, tokenize-from, comment, digits, assembly, quoted, word, white, look, drop-one}
 use Rattle.definition.proofs.Unparse.{same-place}
 use Rattle.definition.proofs.Shown.{Apart, Distinct}
 use Rattle.definition.proofs.Fit.{SmallTok, AllSmall, Small}
@@ -120,25 +123,26 @@ script bs h = enough (decode fresh (record { line = 1; column = 1 }) bs) (decode
 record Ran (cs rest : List Ch) (n : ℕ) : Type 0 where
   keeps : (k : ℕ) → Chars k cs → Chars k rest
   size : n + bytes rest ≤ bytes cs
+  fewer : length rest ≤ length cs
 
 ran-none : (cs : List Ch) → Ran cs cs 0
-ran-none cs = record { keeps = λ k p. p; size = omega arith }
+ran-none cs = record { keeps = λ k p. p; size = omega arith; fewer = omega arith }
 
 ran-one : (c : Ch) (cs : List Ch) → Ran (c ∷ cs) cs 0
-ran-one c cs = record { keeps = λ k p. chars-tail k c cs p; size = omega arith }
+ran-one c cs = record { keeps = λ k p. chars-tail k c cs p; size = omega arith; fewer = omega arith }
 
 ran-drop : (cs : List Ch) → Ran cs (drop-one cs) 0
 ran-drop [] = ran-none []
 ran-drop (c ∷ cs) = ran-one c cs
 
 ran-trans : {xs ys zs : List Ch} {m n : ℕ} → Ran xs ys m → Ran ys zs n → Ran xs zs (m + n)
-ran-trans p q = record { keeps = λ k h. q .keeps k (p .keeps k h); size = omega (arith, p .size, q .size) }
+ran-trans p q = record { keeps = λ k h. q .keeps k (p .keeps k h); size = omega (arith, p .size, q .size); fewer = omega (arith, p .fewer, q .fewer) }
 
 ran-char : (c : Ch) (cs rest : List Ch) (n m : ℕ) → m ≤ 1 + length (c .more) → Ran cs rest n → Ran (c ∷ cs) rest (m + n)
-ran-char c cs rest n m h p = record { keeps = λ k q. p .keeps k (chars-tail k c cs q); size = omega (arith, p .size) }
+ran-char c cs rest n m h p = record { keeps = λ k q. p .keeps k (chars-tail k c cs q); size = omega (arith, p .size); fewer = omega (arith, p .fewer) }
 
 ran-as : {xs ys : List Ch} {m n : ℕ} → Ran xs ys m → n ≤ m → Ran xs ys n
-ran-as p h = record { keeps = p .keeps; size = omega (arith, p .size) }
+ran-as p h = record { keeps = p .keeps; size = omega (arith, p .size); fewer = p .fewer }
 
 comment-ran : (cs : List Ch) → Ran cs (comment cs) 0
 unfolding comment
@@ -155,7 +159,7 @@ SpanRan cs s = Ran cs (s .rest) (length (s .text))
 digits-ran : (base : ℕ) (cs : List Ch) → SpanRan cs (digits base cs)
 unfolding digits
 digits-ran base [] = ran-none []
-digits-ran base (c ∷ cs) = go (Z.is-digit-of base (c .byte)) (digits-ran base cs)
+digits-ran base (c ∷ cs) = go (C.is-digit-of base (c .byte)) (digits-ran base cs)
   where
     go : (b : Bool) → SpanRan cs (digits base cs) → SpanRan (c ∷ cs) (elim b as (λ _. Span) [ true ↦ ahead (c .byte ∷ []) (digits base cs) | false ↦ record { text = []; rest = c ∷ cs } ])
     go true p = ran-as (ran-char c cs (digits base cs .rest) (length (digits base cs .text)) 1 (omega arith) p) (omega arith)
@@ -177,6 +181,10 @@ by-quoted : (cs : List Ch) (b : Bool) (x y : Quoted) → QuotedRan cs x → Quot
 by-quoted cs true x y p q = p
 by-quoted cs false x y p q = q
 
+by-escape : (cs : List Ch) (k : ℕ) (x : Quoted) (f : ℕ → Quoted) → QuotedRan cs x → ((e : ℕ) → QuotedRan cs (f e)) → QuotedRan cs (elim k as (λ _. Quoted) [ zero ↦ x | suc e ↦ f e ])
+by-escape cs zero x f p q = p
+by-escape cs (suc e) x f p q = q e
+
 quoted-ran : (f : Bool) (cs : List Ch) → QuotedRan cs (quoted f cs)
 unfolding quoted
 quoted-ran false [] = ran-none []
@@ -186,10 +194,8 @@ quoted-ran false (c ∷ cs) =
     (by-quoted (c ∷ cs) (eqb (c .byte) 92) _ _ (ran-as (ran-char c cs _ _ 0 (omega arith) (quoted-ran true cs)) (omega arith))
     (ran-as (ran-char c cs _ _ (1 + length (c .more)) (omega arith) (quoted-ran false cs)) (omega (arith, length-append (c .more) (quoted false cs .text)))))
 quoted-ran true (c ∷ cs) =
-    by-quoted (c ∷ cs) (eqb (c .byte) 114) _ _ (ran-as (ran-char c cs _ _ 1 (omega arith) (quoted-ran false cs)) (omega arith))
-    (by-quoted (c ∷ cs) (eqb (c .byte) 110) _ _ (ran-as (ran-char c cs _ _ 1 (omega arith) (quoted-ran false cs)) (omega arith))
-    (by-quoted (c ∷ cs) (eqb (c .byte) 116) _ _ (ran-as (ran-char c cs _ _ 1 (omega arith) (quoted-ran false cs)) (omega arith))
-    (ran-as (ran-char c cs _ _ 0 (omega arith) (quoted-ran false cs)) (omega arith))))
+    by-escape (c ∷ cs) (Z.escape (c .byte)) _ _ (ran-as (ran-char c cs _ _ 0 (omega arith) (quoted-ran false cs)) (omega arith))
+    (λ e. ran-as (ran-char c cs _ _ 1 (omega arith) (quoted-ran false cs)) (omega arith))
 
 abbrev RunRan : List Ch → Run → Type 0
 RunRan cs (ends s) = SpanRan cs s
@@ -210,35 +216,43 @@ run-skip c cs foreign p = tt
 word-ran : (cs : List Ch) → RunRan cs (word cs)
 unfolding word
 word-ran [] = ran-none []
-word-ran (c ∷ cs) = by-run (c ∷ cs) (ltb 127 (c .byte)) _ _ tt (by-run (c ∷ cs) (Z.is-letter (c .byte) || Z.is-digit (c .byte)) _ _ (run-char c cs (word cs) (word-ran cs)) (ran-none (c ∷ cs)))
+word-ran (c ∷ cs) = by-run (c ∷ cs) (ltb 127 (c .byte)) _ _ tt (by-run (c ∷ cs) (C.is-letter (c .byte) || C.is-digit (c .byte)) _ _ (run-char c cs (word cs) (word-ran cs)) (ran-none (c ∷ cs)))
 
 white-ran : (cs : List Ch) → RunRan cs (white cs)
 unfolding white
 white-ran [] = ran-none []
-white-ran (c ∷ cs) = by-run (c ∷ cs) (ltb 127 (c .byte)) _ _ tt (by-run (c ∷ cs) (Z.is-white (c .byte)) _ _ (run-skip c cs (white cs) (white-ran cs)) (ran-none (c ∷ cs)))
+white-ran (c ∷ cs) = by-run (c ∷ cs) (ltb 127 (c .byte)) _ _ tt (by-run (c ∷ cs) (C.is-white (c .byte)) _ _ (run-skip c cs (white cs) (white-ran cs)) (ran-none (c ∷ cs)))
 
 -- ---- one turn: at most one token, at the place of its first character
 
+-- a kind with no text has none
+abbrev pub Textless : Tok → Type 0
+Textless t = has-text (t .kind) ≡ false → t .text ≡ []
+
+clash : {A : Type 0} → true ≡ false → A
+clash e = let z : _≡_ {A = ℕ} 0 1 = cc in absurd (omega arith)
+
 abbrev OneToken : Place → ℕ → ℕ → List Tok → Type 0
 OneToken p r n [] = Unit {0}
-OneToken p r n (t ∷ []) = (t .place ≡ p) × (length (t .text) + r ≤ n) × (0 < t .kind)
+OneToken p r n (t ∷ []) = (t .place ≡ p) × (length (t .text) + r ≤ n) × (0 < t .kind) × Textless t
 OneToken p r n (t ∷ u ∷ us) = ⊥
 
 record Turned (c : Ch) (cs rest : List Ch) (ts : List Tok) : Type 0 where
   keeps : (k : ℕ) → Chars k cs → Chars k rest
   size : bytes rest ≤ bytes cs
+  fewer : length rest ≤ length cs
   token : OneToken (c .place) (bytes rest) (bytes (c ∷ cs)) ts
 
 abbrev TurnOf : Ch → List Ch → Turn → Type 0
 TurnOf c cs (goes rest es ts) = Turned c cs rest ts
-TurnOf c cs (refused n) = Unit {0}
+TurnOf c cs (refused n) = T (C.between 4 7 n)
 
 by-turn : (c : Ch) (cs : List Ch) (b : Bool) (x y : Turn) → TurnOf c cs x → TurnOf c cs y → TurnOf c cs (elim b as (λ _. Turn) [ true ↦ x | false ↦ y ])
 by-turn c cs true x y p q = p
 by-turn c cs false x y p q = q
 
 made : (c : Ch) (cs rest : List Ch) (n : ℕ) (ts : List Tok) → Ran cs rest n → OneToken (c .place) (bytes rest) (bytes (c ∷ cs)) ts → Turned c cs rest ts
-made c cs rest n ts p t = record { keeps = p .keeps; size = omega (arith, p .size); token = t }
+made c cs rest n ts p t = record { keeps = p .keeps; size = omega (arith, p .size); fewer = p .fewer; token = t }
 
 or-zero-length : (xs : List ℕ) → length (Z.or-zero xs) ≡ max 1 (length xs)
 or-zero-length [] = omega arith
@@ -273,21 +287,21 @@ class-symbol false false false false false false false false false false q = abs
 
 pair-kind : (c d : ℕ) → Z.class c d ≡ Pair → 0 < Z.pair c d
 unfolding Z.class first
-pair-kind c d e = ltb→lt 0 (Z.pair c d) (class-pair (ltb 127 c) (Z.is-white c) (eqb c 47 && eqb d 47) (ltb 0 (Z.pair c d)) (ltb 0 (Z.symbol c)) (eqb c 34) (Z.is-letter c) (eqb c 45) (eqb c 48) (Z.is-digit c) e)
+pair-kind c d e = ltb→lt 0 (Z.pair c d) (class-pair (ltb 127 c) (C.is-white c) (eqb c 47 && eqb d 47) (ltb 0 (Z.pair c d)) (ltb 0 (Z.symbol c)) (eqb c 34) (C.is-letter c) (eqb c 45) (eqb c 48) (C.is-digit c) e)
 
 symbol-kind : (c d : ℕ) → Z.class c d ≡ Symbol → 0 < Z.symbol c
 unfolding Z.class first
-symbol-kind c d e = ltb→lt 0 (Z.symbol c) (class-symbol (ltb 127 c) (Z.is-white c) (eqb c 47 && eqb d 47) (ltb 0 (Z.pair c d)) (ltb 0 (Z.symbol c)) (eqb c 34) (Z.is-letter c) (eqb c 45) (eqb c 48) (Z.is-digit c) e)
+symbol-kind c d e = ltb→lt 0 (Z.symbol c) (class-symbol (ltb 127 c) (C.is-white c) (eqb c 47 && eqb d 47) (ltb 0 (Z.pair c d)) (ltb 0 (Z.symbol c)) (eqb c 34) (C.is-letter c) (eqb c 45) (eqb c 48) (C.is-digit c) e)
 
 string-turned : (c : Ch) (cs : List Ch) (q : Quoted) → QuotedRan cs q → TurnOf c cs (Z.string-turn (c .place) q)
 unfolding Z.string-turn
-string-turned c cs q p = by-turn c cs (q .closed) _ _ (made c cs (q .rest) (length (q .text)) _ p (refl, omega (arith, p .size), omega arith)) (made c cs (q .rest) (length (q .text)) [] p tt)
+string-turned c cs q p = by-turn c cs (q .closed) _ _ (made c cs (q .rest) (length (q .text)) _ p (refl, omega (arith, p .size), omega arith, λ e. clash e)) (made c cs (q .rest) (length (q .text)) [] p tt)
 
 assembly-turned : (c : Ch) (cs : List Ch) (r : Run) → RunRan cs r → TurnOf c cs (Z.assembly-turn (c .place) r)
 unfolding Z.assembly-turn
 assembly-turned c cs foreign p = tt
 assembly-turned c cs (ends s) p =
-    by-turn c cs (eqb (look (s .rest)) 123) _ _ (made c cs _ _ _ (ran-trans p (ran-trans (ran-drop (s .rest)) (assembly-ran (drop-one (s .rest))))) (refl, omega (arith, p .size, ran-drop (s .rest) .size, assembly-ran (drop-one (s .rest)) .size), omega arith))
+    by-turn c cs (eqb (look (s .rest)) 123) _ _ (made c cs _ _ _ (ran-trans p (ran-trans (ran-drop (s .rest)) (assembly-ran (drop-one (s .rest))))) (refl, omega (arith, p .size, ran-drop (s .rest) .size, assembly-ran (drop-one (s .rest)) .size), omega arith, λ e. clash e))
     (made c cs _ _ [] (ran-trans p (ran-drop (s .rest))) tt)
 
 skipped : (cs rest : List Ch) (n : ℕ) (r : Run) → Ran cs rest n → RunRan rest r → RunRan cs r
@@ -303,17 +317,17 @@ unfolding Z.word-turn
 word-turned c cs foreign p = tt
 word-turned c cs (ends s) p =
     by-turn c cs (Z.same (c .byte ∷ s .text) (ascii "asm")) _ _ (assembly-turned c cs (white (s .rest)) (skipped cs (s .rest) (length (s .text)) (white (s .rest)) p (white-ran (s .rest))))
-    (by-keyword c cs (Z.keyword (c .byte ∷ s .text)) _ _ (made c cs (s .rest) (length (s .text)) _ p (refl, omega (arith, p .size), omega arith)) (λ j. made c cs (s .rest) (length (s .text)) _ p (refl, omega (arith, p .size), omega arith)))
+    (by-keyword c cs (Z.keyword (c .byte ∷ s .text)) _ _ (made c cs (s .rest) (length (s .text)) _ p (refl, omega (arith, p .size), omega arith, λ e. clash e)) (λ j. made c cs (s .rest) (length (s .text)) _ p (refl, omega (arith, p .size), omega arith, λ _. refl)))
 
 integer-turned : (c : Ch) (cs : List Ch) (base : ℕ) (before : List ℕ) (rest : List Ch) (s : Span) → length before ≤ 1 → Ran cs rest 0 → SpanRan rest s → TurnOf c cs (Z.integer (c .place) base before s)
-integer-turned c cs base before rest s h p q = made c cs (s .rest) _ _ (ran-trans p q) (refl, omega (arith, or-zero-length (before ++ s .text), length-append before (s .text), p .size, q .size), omega arith)
+integer-turned c cs base before rest s h p q = made c cs (s .rest) _ _ (ran-trans p q) (refl, omega (arith, or-zero-length (before ++ s .text), length-append before (s .text), p .size, q .size), omega arith, λ e. clash e)
 
 dash-turned : (c : Ch) (cs : List Ch) → TurnOf c cs (Z.dash-turn (c .place) cs)
 unfolding Z.dash-turn
 dash-turned c [] = tt
 dash-turned c (d ∷ cs) =
-    by-turn c (d ∷ cs) (eqb (d .byte) 62) _ _ (made c (d ∷ cs) cs 0 _ (ran-one d cs) (refl, omega arith, omega arith))
-    (by-turn c (d ∷ cs) (Z.is-digit (d .byte)) _ _ (integer-turned c (d ∷ cs) 10 (45 ∷ []) (d ∷ cs) (digits 10 (d ∷ cs)) (omega arith) (ran-none (d ∷ cs)) (digits-ran 10 (d ∷ cs))) (made c (d ∷ cs) cs 0 _ (ran-one d cs) (refl, omega arith, omega arith)))
+    by-turn c (d ∷ cs) (eqb (d .byte) 62) _ _ (made c (d ∷ cs) cs 0 _ (ran-one d cs) (refl, omega arith, omega arith, λ _. refl))
+    (by-turn c (d ∷ cs) (C.is-digit (d .byte)) _ _ (integer-turned c (d ∷ cs) 10 (45 ∷ []) (d ∷ cs) (digits 10 (d ∷ cs)) (omega arith) (ran-none (d ∷ cs)) (digits-ran 10 (d ∷ cs))) (made c (d ∷ cs) cs 0 _ (ran-one d cs) (refl, omega arith, omega arith, λ _. refl)))
 
 zero-turned : (c : Ch) (cs : List Ch) → TurnOf c cs (Z.zero-turn (c .place) cs)
 unfolding Z.zero-turn
@@ -342,8 +356,8 @@ turned c cs = go (Z.class (c .byte) (look cs)) refl
     go Foreign e = tt
     go White e = made c cs cs 0 [] (ran-none cs) tt
     go Comment e = made c cs _ _ [] (ran-trans (ran-drop cs) (comment-ran (drop-one cs))) tt
-    go Pair e = made c cs (drop-one cs) 0 _ (ran-drop cs) (refl, omega (arith, ran-drop cs .size), pair-kind (c .byte) (look cs) e)
-    go Symbol e = made c cs cs 0 _ (ran-none cs) (refl, omega arith, symbol-kind (c .byte) (look cs) e)
+    go Pair e = made c cs (drop-one cs) 0 _ (ran-drop cs) (refl, omega (arith, ran-drop cs .size), pair-kind (c .byte) (look cs) e, λ _. refl)
+    go Symbol e = made c cs cs 0 _ (ran-none cs) (refl, omega arith, symbol-kind (c .byte) (look cs) e, λ _. refl)
     go Quote e = string-turned c cs (quoted false cs) (quoted-ran false cs)
     go Word e = word-turned c cs (word cs) (word-ran cs)
     go Dash e = dash-turned c cs
@@ -363,6 +377,15 @@ abbrev pub Kinds : List Tok → Type 0
 Kinds [] = Unit {0}
 Kinds (t ∷ ts) = (0 < t .kind) × Kinds ts
 
+-- those with no text have none
+abbrev pub AllTextless : List Tok → Type 0
+AllTextless [] = Unit {0}
+AllTextless (t ∷ ts) = Textless t × AllTextless ts
+
+textless-snoc : (ts : List Tok) (t : Tok) → AllTextless ts → Textless t → AllTextless (ts ++ (t ∷ []))
+textless-snoc [] t k h = (h, tt)
+textless-snoc (x ∷ ts) t k h = (k .0, textless-snoc ts t (k .1) h)
+
 kinds-snoc : (ts : List Tok) (t : Tok) → Kinds ts → 0 < t .kind → Kinds (ts ++ (t ∷ []))
 kinds-snoc [] t k h = (h, tt)
 kinds-snoc (x ∷ ts) t k h = (k .0, kinds-snoc ts t (k .1) h)
@@ -380,6 +403,7 @@ record Have (k : ℕ) (ts : List Tok) : Type 0 where
   distinct : Distinct ts
   small : AllSmall ts
   kinds : Kinds ts
+  textless : AllTextless ts
 
 upto-weaken : (k j : ℕ) (ts : List Tok) → k ≤ j → Upto k ts → Upto j ts
 upto-weaken k j [] h p = tt
@@ -410,24 +434,34 @@ small-snoc [] t a h = (h, tt)
 small-snoc (x ∷ ts) t a h = (a .0, small-snoc ts t (a .1) h)
 
 have-more : (k r n : ℕ) (p : Place) (ts us : List Tok) → Have k ts → k < key p → p .line < 65536 → p .column < 65536 → n ≤ 60000 → OneToken p r n us → Have (key p) (ts ++ us)
-have-more k r n p ts [] h a b c m o = rw append-nil (record { upto = upto-weaken k (key p) ts (omega arith) (h .upto); distinct = h .distinct; small = h .small; kinds = h .kinds })
+have-more k r n p ts [] h a b c m o = rw append-nil (record { upto = upto-weaken k (key p) ts (omega arith) (h .upto); distinct = h .distinct; small = h .small; kinds = h .kinds; textless = h .textless })
 have-more k r n p ts (t ∷ []) h a b c m o =
     let e : key (t .place) ≡ key p = ap key (o .0) in
     let l : t .place .line ≡ p .line = ap (λ (q : Place). q .line) (o .0) in
     let r′ : t .place .column ≡ p .column = ap (λ (q : Place). q .column) (o .0) in
-    record { upto = upto-snoc (key p) ts t (upto-weaken k (key p) ts (omega arith) (h .upto)) (omega arith); distinct = distinct-snoc k ts t (h .upto) (omega arith) (h .distinct); small = small-snoc ts t (h .small) (omega (arith, l, r′, o .1)); kinds = kinds-snoc ts t (h .kinds) (o .2) }
+    record { upto = upto-snoc (key p) ts t (upto-weaken k (key p) ts (omega arith) (h .upto)) (omega arith); distinct = distinct-snoc k ts t (h .upto) (omega arith) (h .distinct); small = small-snoc ts t (h .small) (omega (arith, l, r′, o .1)); kinds = kinds-snoc ts t (h .kinds) (o .2); textless = textless-snoc ts t (h .textless) (o .3) }
 have-more k r n p ts (t ∷ u ∷ us) h a b c m o = absurd o
 
-abbrev TokensOf : Tokens → Type 0
-TokensOf (tokens ts es) = Distinct ts × AllSmall ts × (length ts ≤ 2048) × Kinds ts × (texts ts ≤ 16384) × (length es ≤ 255)
-TokensOf (refused n) = Unit {0}
-TokensOf stuck = Unit {0}
+-- what is known of the tokens and errors of a script
+pub record Made (ts : List Tok) (es : List Err) : Type 0 where
+  pub distinct : Distinct ts
+  pub small : AllSmall ts
+  pub kinds : Kinds ts
+  pub textless : AllTextless ts
+  pub text : texts ts ≤ 16384
+  pub tokens : length ts ≤ 2048
+  pub errors : length es ≤ 255
 
-tokens-from : (n : ℕ) (cs : List Ch) (ts : List Tok) (es : List Err) (k : ℕ) → Chars k cs → texts ts + bytes cs ≤ 16384 → Have k ts → length ts ≤ 2048 → length es ≤ 255 → TokensOf (tokenize-from n cs ts es)
+-- a script has tokens, or is refused with 4 to 7
+abbrev pub TokensOf : Tokens → Type 0
+TokensOf (tokens ts es) = Made ts es
+TokensOf (refused n) = T (C.between 4 7 n)
+
+tokens-from : (n : ℕ) (cs : List Ch) (ts : List Tok) (es : List Err) (k : ℕ) → length cs < n → Chars k cs → texts ts + bytes cs ≤ 16384 → Have k ts → length ts ≤ 2048 → length es ≤ 255 → TokensOf (tokenize-from 2048 n cs ts es)
 unfolding tokenize-from
-tokens-from zero cs ts es k c b h m w = tt
-tokens-from (suc n) [] ts es k c b h m w = (h .distinct, h .small, m, h .kinds, omega arith, w)
-tokens-from (suc n) (x ∷ cs) ts es k c b h m w = go (turn x cs) (turned x cs) (λ cs′ ts′ es′ t z y. tokens-from n cs′ (ts ++ ts′) (es ++ es′) (key (x .place)) (t .keeps (key (x .place)) (c .3)) (grown ts′ cs′ t) (have-more k (bytes cs′) (bytes (x ∷ cs)) (x .place) ts ts′ h (c .0) (c .1) (c .2) (omega arith) (t .token)) z y)
+tokens-from zero cs ts es k f c b h m w = absurd (omega arith)
+tokens-from (suc n) [] ts es k f c b h m w = record { distinct = h .distinct; small = h .small; kinds = h .kinds; textless = h .textless; text = omega arith; tokens = m; errors = w }
+tokens-from (suc n) (x ∷ cs) ts es k f c b h m w = go (turn x cs) (turned x cs) (λ cs′ ts′ es′ t z y. tokens-from n cs′ (ts ++ ts′) (es ++ es′) (key (x .place)) (omega (arith, t .fewer)) (t .keeps (key (x .place)) (c .3)) (grown ts′ cs′ t) (have-more k (bytes cs′) (bytes (x ∷ cs)) (x .place) ts ts′ h (c .0) (c .1) (c .2) (omega arith) (t .token)) (rw length-append z) (rw length-append y))
   where
     one : (ts′ : List Tok) (r : ℕ) → r ≤ bytes cs → OneToken (x .place) r (bytes (x ∷ cs)) ts′ → texts ts′ + r ≤ bytes (x ∷ cs)
     one [] r h o = omega arith
@@ -437,19 +471,18 @@ tokens-from (suc n) (x ∷ cs) ts es k c b h m w = go (turn x cs) (turned x cs) 
     grown : (ts′ : List Tok) (cs′ : List Ch) → Turned x cs cs′ ts′ → texts (ts ++ ts′) + bytes cs′ ≤ 16384
     grown ts′ cs′ t = omega (arith, texts-append ts ts′, one ts′ (bytes cs′) (t .size) (t .token))
 
-    go : (t : Turn) → TurnOf x cs t → ((cs′ : List Ch) (ts′ : List Tok) (es′ : List Err) → Turned x cs cs′ ts′ → length (ts ++ ts′) ≤ 2048 → length (es ++ es′) ≤ 255 → TokensOf (tokenize-from n cs′ (ts ++ ts′) (es ++ es′)))
-        → TokensOf (elim t as (λ _. Tokens) [ refused j ↦ Tokens.refused j | goes cs′ es′ ts′ ↦ elim (leb (length (es ++ es′)) 255) as (λ _. Tokens) [ false ↦ Tokens.refused 7 | true ↦ elim (leb (length (ts ++ ts′)) 2048) as (λ _. Tokens) [ false ↦ Tokens.refused 6 | true ↦ tokenize-from n cs′ (ts ++ ts′) (es ++ es′) ] ] ])
-    go (refused j) p f = tt
-    go (goes cs′ es′ ts′) p f = limits (leb (length (es ++ es′)) 255) (leb (length (ts ++ ts′)) 2048) (λ y z. f cs′ ts′ es′ p (leb→le (length (ts ++ ts′)) 2048 z) (leb→le (length (es ++ es′)) 255 y))
+    go : (t : Turn) → TurnOf x cs t → ((cs′ : List Ch) (ts′ : List Tok) (es′ : List Err) → Turned x cs cs′ ts′ → length ts + length ts′ ≤ 2048 → length es + length es′ ≤ 255 → TokensOf (tokenize-from 2048 n cs′ (ts ++ ts′) (es ++ es′)))
+        → TokensOf (elim t as (λ _. Tokens) [ refused j ↦ Tokens.refused j | goes cs′ es′ ts′ ↦ elim (leb (length es + length es′) 255) as (λ _. Tokens) [ false ↦ Tokens.refused 7 | true ↦ elim (leb (length ts + length ts′) 2048) as (λ _. Tokens) [ false ↦ Tokens.refused 6 | true ↦ tokenize-from 2048 n cs′ (ts ++ ts′) (es ++ es′) ] ] ])
+    go (refused j) p f = p
+    go (goes cs′ es′ ts′) p f = limits (leb (length es + length es′) 255) (leb (length ts + length ts′) 2048) (λ y z. f cs′ ts′ es′ p (leb→le (length ts + length ts′) 2048 z) (leb→le (length es + length es′) 255 y))
       where
-        limits : (a b : Bool) → (T a → T b → TokensOf (tokenize-from n cs′ (ts ++ ts′) (es ++ es′))) → TokensOf (elim a as (λ _. Tokens) [ false ↦ Tokens.refused 7 | true ↦ elim b as (λ _. Tokens) [ false ↦ Tokens.refused 6 | true ↦ tokenize-from n cs′ (ts ++ ts′) (es ++ es′) ] ])
+        limits : (a b : Bool) → (T a → T b → TokensOf (tokenize-from 2048 n cs′ (ts ++ ts′) (es ++ es′))) → TokensOf (elim a as (λ _. Tokens) [ false ↦ Tokens.refused 7 | true ↦ elim b as (λ _. Tokens) [ false ↦ Tokens.refused 6 | true ↦ tokenize-from 2048 n cs′ (ts ++ ts′) (es ++ es′) ] ])
         limits false b q = tt
         limits true false q = tt
         limits true true q = q tt tt
 
-pub script-tokens : (bs : List ℕ) (cs : List Ch) (ts : List Tok) (es : List Err) → length bs ≤ 16384 → characters bs ≡ some cs → tokenize cs ≡ tokens ts es → Distinct ts × Small ts × Kinds ts × (texts ts ≤ 16384) × (length ts ≤ 2048) × (length es ≤ 255)
+pub script-tokens : (bs : List ℕ) (cs : List Ch) → length bs ≤ 16384 → characters bs ≡ some cs → TokensOf (tokenize cs)
 unfolding tokenize
-script-tokens bs cs ts es h e f =
+script-tokens bs cs h e =
     let d : Decoded 0 16384 cs = subst (DecodedOf 0 16384) e (script bs h) in
-    let t : TokensOf (tokens ts es) = subst TokensOf f (tokens-from (suc (length cs)) cs [] [] 0 (d .chars) (omega (arith, d .size)) (record { upto = tt; distinct = tt; small = tt; kinds = tt }) (omega arith) (omega arith)) in
-    (t .0, (t .1, omega (arith, t .2)), t .3, t .4, t .2, t .5)
+    tokens-from (suc (length cs)) cs [] [] 0 (omega arith) (d .chars) (omega (arith, d .size)) (record { upto = tt; distinct = tt; small = tt; kinds = tt; textless = tt }) (omega arith) (omega arith)

@@ -1,4 +1,4 @@
--- The turns that loops are allowed are enough: no reading is stuck. And an accepted reading has read every token. Assumes nothing.
+-- The turns that loops are allowed are enough: a reading answers, or is refused with 10, 11 or 12. Assumes nothing.
 use mathlib.Core.Path.{_≡_, refl, sym, ap, _∙_, subst}
 use mathlib.Core.Bool.{Bool, true, false, not, _||_}
 use mathlib.Core.List.{List, [], _∷_, _++_}
@@ -6,10 +6,12 @@ use Prim.Native.Nat.{ℕ, zero, suc, _+_, _≤_, _<_}
 use native.Mathlib.Omega.{arith}
 use lib.Dec.{eqb, ltb, T, ltb→lt}
 use lib.ListN.{length, length-append}
+use Rattle.definition.specs.Classes.{between}
 use Rattle.definition.specs.Kind as K
-use Rattle.definition.specs.Bytes.{Err, byte}
+use Rattle.definition.specs.Fallible.{Err, Fallible, Ans, ok, fatal}
+use Rattle.definition.specs.Node.{byte}
 use Rattle.definition.specs.Token.{Tok, head, tail, _is_, end-token}
-use Rattle.definition.specs.Act.{Fallible, Ans, ok, fatal, Node, Items, Goal, Statement, Expression, Unary, Type', Loop, Module, Body, ListOf, Operators, Casts, Suffixes, Modifiers, Listed, Parameters, Arguments, StructFields, ArrayValues, StructValues, Level, BitOr, BitXor, BitAnd, Shift, AddSub, Mul, Left, Words, Consumed, Act, done, peek, take, make, if_then_else_, call, loop, refuse, St, Res, gives, refused, stuck, after, plain, advance, push, run, next, _>>=_, _>>?_}
+use Rattle.definition.specs.Act.{Node, Items, Goal, Statement, Expression, Unary, Type', Loop, Module, Body, ListOf, Operators, Casts, Suffixes, Modifiers, Listed, Parameters, Arguments, StructFields, ArrayValues, StructValues, Level, BitOr, BitXor, BitAnd, Shift, AddSub, Mul, Left, Words, Consumed, Act, done, peek, take, make, if_then_else_, call, loop, panic, St, Res, gives, refused, after, plain, advance, push, run, next, _>>=_, _>>?_}
 use Rattle.definition.specs.Parser as P
 use Rattle.definition.specs.Parser.{rule, turn, loops, parse, parse-module}
 use Rattle.definition.proofs.Later.{Later, toks, later-left, later-refl, later-trans, later-advance, later-push, After, weaken}
@@ -46,8 +48,7 @@ clash p q = let z : _≡_ {A = ℕ} 0 1 = cc in omega arith
 
 abbrev pub Moves : {A : Type 0} → Res A → Type 0
 Moves (gives a s) = Unit {0}
-Moves (refused n) = Unit {0}
-Moves stuck = ⊥
+Moves (refused n) = T (between 10 12 n)
 
 -- a call reads a token, where there is one
 abbrev pub Called : St → St → Type 0
@@ -63,7 +64,7 @@ module _ (n : ℕ) where
   Enough (if_then_else_ b m m′) Q s = (b ≡ true → Enough m Q s) × (b ≡ false → Enough m′ Q s)
   Enough (call g k) Q s = (a : Ans Node) (s′ : St) → Later s s′ → Called s s′ → Enough (k a) Q s′
   Enough (loop l k) Q s = (rank l + length (s .left) ≤ n) × ((a : Left l) (s′ : St) → Later s s′ → Enough (k a) Q s′)
-  Enough (refuse m) Q s = Unit {0}
+  Enough panic Q s = Unit {0}
 
   -- where two more turns than tokens are left, every loop has its turns
   pub plenty : {A : Type 0} (m : Act A) (Q : St → Type 0) (s₀ s : St) → Later s₀ s → 2 + length (s .left) ≤ n → ((s′ : St) → length (s′ .left) ≤ length (s .left) → Q s′) → Enough m Q s
@@ -74,7 +75,7 @@ module _ (n : ℕ) where
   plenty (if_then_else_ b m m′) Q s₀ s z h q = (λ _. plenty m Q s₀ s z h q, λ _. plenty m′ Q s₀ s z h q)
   plenty (call g k) Q s₀ s z h q = λ a s′ l c. plenty (k a) Q s₀ s′ (later-trans z l) (omega (arith, later-left l)) (λ s″ d. q s″ (omega (arith, later-left l)))
   plenty (loop g k) Q s₀ s z h q = (omega (arith, rank-le g), λ a s′ l. plenty (k a) Q s₀ s′ (later-trans z l) (omega (arith, later-left l)) (λ s″ d. q s″ (omega (arith, later-left l))))
-  plenty (refuse m) Q s₀ s z h q = tt
+  plenty panic Q s₀ s z h q = tt
 
   enough-bind : {A B : Type 0} (m : Act A) (f : A → Act B) (P Q : St → Type 0) (s : St) → Enough m P s → ((a : A) (s′ : St) → P s′ → Enough (f a) Q s′) → Enough (m >>= f) Q s
   unfolding _>>=_
@@ -85,7 +86,7 @@ module _ (n : ℕ) where
   enough-bind (if_then_else_ b m m′) f P Q s h q = (λ d. enough-bind m f P Q s (h .0 d) q, λ d. enough-bind m′ f P Q s (h .1 d) q)
   enough-bind (call g k) f P Q s h q = λ a s′ l c. enough-bind (k a) f P Q s′ (h a s′ l c) q
   enough-bind (loop g k) f P Q s h q = (h .0, λ a s′ l. enough-bind (k a) f P Q s′ (h .1 a s′ l) q)
-  enough-bind (refuse m) f P Q s h q = tt
+  enough-bind panic f P Q s h q = tt
 
   -- what reads or calls first, where a token is there
   abbrev First : {A : Type 0} → Act A → Type 0
@@ -96,7 +97,7 @@ module _ (n : ℕ) where
   First (if_then_else_ b m m′) = (b ≡ true → First m) × (b ≡ false → First m′)
   First (call g k) = Unit {0}
   First (loop l k) = ⊥
-  First (refuse m) = Unit {0}
+  First panic = Unit {0}
 
   abbrev Less : St → St → Type 0
   Less s s′ = length (s′ .left) < length (s .left)
@@ -109,12 +110,11 @@ module _ (n : ℕ) where
   begins (if_then_else_ b m m′) s e r h = (λ d. begins m s e (r .0 d) h, λ d. begins m′ s e (r .1 d) h)
   begins (call g k) s e r h = λ a s′ l c. plenty (k a) (Less s) s s′ l (omega (arith, c e)) (λ s″ d. omega (arith, c e))
   begins (loop l k) s e r h = absurd r
-  begins (refuse m) s e r h = tt
+  begins panic s e r h = tt
 
   follows : {A B : Type 0} (r : Res A) (f : A → St → Res B) (P : A → St → Type 0) → After P r → Moves r → ((a : A) (s : St) → P a s → Moves (f a s)) → Moves (after r f)
   follows (gives a s) f P p m h = h a s p
-  follows (refused k) f P p m h = tt
-  follows stuck f P p m h = m
+  follows (refused k) f P p m h = m
 
   limited : {A : Type 0} (b : Bool) (r : Res A) → Moves r → Moves {A = A} (elim b as (λ _. Res A) [ true ↦ r | false ↦ refused 12 ])
   limited true r h = h
@@ -133,7 +133,7 @@ module _ (n : ℕ) where
     run-moves (if_then_else_ false m m′) Q s h = run-moves m′ Q s (h .1 refl)
     run-moves (call g k) Q s h = follows (c g s) (λ a s′. run c o (k a) s′) (λ a s′. Later s s′ × Called s s′) (c-after g s) (c-moves g s) (λ a s′ p. run-moves (k a) Q s′ (h a s′ (p .0) (p .1)))
     run-moves (loop g k) Q s h = follows (o g s) (λ a s′. run c o (k a) s′) (λ a s′. Later s s′) (o-after g s) (o-moves g s (h .0)) (λ a s′ p. run-moves (k a) Q s′ (h .1 a s′ p))
-    run-moves (refuse k) Q s h = tt
+    run-moves panic Q s h = tt
 
 -- ---- the turns
 
@@ -230,7 +230,7 @@ turn-enough n (Suffixes e) s h = (
 )
 turn-enough n (Modifiers w) s h = (λ i. (omega (arith, there K.KwDistinct tt (s .left) i), λ a s′ l. tt), λ _. (λ i. (omega (arith, there K.KwInternal tt (s .left) i), λ a s′ l. tt), λ _. tt))
 
--- ---- no reading is stuck
+-- ---- a reading answers, or is refused with 10, 11 or 12
 
 pub parse-after : (n : ℕ) (g : Goal) (s : St) → After (λ a s′. Later s s′ × Called s s′) (parse n g s)
 parse-after n g s = parse-ind Gr.G Gr.L Gr.R Gr.M (λ s. tt) (λ e s. tt) Gr.rules Gr.turns n g s

@@ -7,17 +7,19 @@ use Prim.Native.Nat.{ℕ, zero, suc, _+_, _≤_, _<_}
 use native.Mathlib.Omega.{arith}
 use lib.Dec.{eqb, ltb, leb, T}
 use lib.ListN.{length, length-append}
-use Rattle.definition.specs.Utf8.{pick}
+use Rattle.definition.specs.Choice.{pick}
 use Rattle.definition.specs.Kind as K
-use Rattle.definition.specs.Bytes.{Place, nowhere, Num, byte, two, eight, Rec, Err}
+use Rattle.definition.specs.Source.{Place, nowhere}
+use Rattle.definition.specs.Node.{Num, byte, two, eight, Rec}
+use Rattle.definition.specs.Fallible.{Err, Fallible, Ans, ok, fatal}
 use Rattle.definition.specs.Token.{Tok, head, tail, _is_, number, dashed}
-use Rattle.definition.specs.Act.{Fallible, Ans, ok, fatal, Node, Items, Goal, Statement, Expression, Unary, Type', Loop, Module, Body, ListOf, Operators, Casts, Suffixes, Modifiers, Listed, Parameters, Arguments, StructFields, ArrayValues, StructValues, Level, BitOr, BitXor, BitAnd, Shift, AddSub, Mul, Left, Words, Role, plain, group, final, size, word, alias, Act, done, peek, next, if_then_else_, call, loop, St, Res, gives, advance, push, _>>=_, _>>?_, or-return}
+use Rattle.definition.specs.Act.{Node, Items, Goal, Statement, Expression, Unary, Type', Loop, Module, Body, ListOf, Operators, Casts, Suffixes, Modifiers, Listed, Parameters, Arguments, StructFields, ArrayValues, StructValues, Level, BitOr, BitXor, BitAnd, Shift, AddSub, Mul, Left, Words, Role, plain, group, final, size, Act, done, peek, next, if_then_else_, call, loop, St, Res, gives, advance, push, _>>=_, _>>?_, or-return}
 use Rattle.definition.specs.Parser as P
-use Rattle.definition.specs.Strip.{Norm, symbol, named, integer, sized, aliased, strip, norm, spelling}
+use Rattle.definition.proofs.Strip.{Norm, symbol, named, integer, sized, strip, norm, spelling}
 use Rattle.definition.proofs.Later.{Later, later-refl, later-trans, later-advance, After, weaken}
 use Rattle.definition.proofs.Ind.{wp, wp-bind, wp-mono, wp-later}
 use Rattle.definition.proofs.Unparse.{Entry, entry, Gathered, gathered, gather, unparse, unparse-append, step, same-place, sym1, comma, extend, dereference, on-call, on-list, arithmetic, comparison, returning}
-use Rattle.definition.proofs.Shown.{Fresh, Distinct, fresh-tail, distinct-tail, fresh-later, distinct-later, fresh-head, differs, same-self, Grew, grew-refl, _▸_, grew-as, took, spell, is-kind, is-symbol, took-symbol, took-name, took-integer, Shows, shows-as, after0, after1, shows2, after2, after3, ShowsItems, items-none, items-more, items-join}
+use Rattle.definition.proofs.Shown.{Fresh, Distinct, fresh-tail, distinct-tail, fresh-later, distinct-later, fresh-head, differs, same-self, Grew, grew-refl, _▸_, grew-as, took, symbol-norm, took-modifier, took-size, is-kind, is-symbol, took-symbol, took-name, took-integer, Shows, shows-as, after0, after1, shows2, after2, after3, ShowsItems, items-none, items-more, items-join}
 use Rattle.definition.proofs.Clean.{Clean, Known, Never, clean-module}
 
 -- ---- what is shown of an answer
@@ -289,7 +291,7 @@ clash p q = let z : _≡_ {A = ℕ} 0 1 = cc in omega arith
 rest-as : {k : Listed} {a : Items} {xs ys : List Norm} → Rest k a xs → xs ≡ ys → Rest k a ys
 rest-as {k} {a} r e = subst (λ (l : List Norm). Rest k a l) e r
 
-comma-due : (b : Bool) (t : Tok) (ts us : List Norm) (c n : ℕ) → c ≡ suc n → spelling t ≡ symbol K.Comma → pick b ts (lead c ts) ++ us ≡ ts ++ (norm (pick b final plain) t ++ us)
+comma-due : (b : Bool) (t : Tok) (ts us : List Norm) (c n : ℕ) → c ≡ suc n → norm plain t ≡ comma → pick b ts (lead c ts) ++ us ≡ ts ++ (norm (pick b final plain) t ++ us)
 comma-due true t ts us c n e h = refl
 comma-due false t ts us c n e h = rw (e, h) (append-assoc ts comma us)
 
@@ -299,7 +301,7 @@ after-item-shown k i n c s = (
   λ e d a t l p. record {
     toks = norm (P.comma-role k (head (tail (s .left)))) (head (s .left)) ++ p .toks;
     grew = took (P.comma-role k) K.Comma tt s e ▸ p .grew;
-    shows = λ ts h. rest-as (p .shows ts h) (comma-due (head (tail (s .left)) is P.closer k) (head (s .left)) ts (p .toks) (i .count) n c (spell K.Comma tt (head (s .left)) (is-kind (head (s .left)) K.Comma e)));
+    shows = λ ts h. rest-as (p .shows ts h) (comma-due (head (tail (s .left)) is P.closer k) (head (s .left)) ts (p .toks) (i .count) n c (symbol-norm K.Comma tt (head (s .left)) (is-kind (head (s .left)) K.Comma e)));
     none = p .none;
   },
   λ _. (
@@ -560,8 +562,8 @@ array-type-shown s i = λ d. (
   λ e. (
     λ _ m. absurd m,
     λ _. expects plain K.RBracket _ _ _ (λ j d₂. calls Type' _ _ _ (λ ty t l p. record {
-      toks = sym1 K.LBracket ++ (sized _ ∷ []) ++ sym1 K.RBracket ++ p .toks;
-      grew = took-symbol K.LBracket tt s i ▸ took (λ _. size) K.Integer tt (next-state s) (is-not _ e) ▸ took-symbol K.RBracket tt (advance (λ _. size) (next-state s)) j ▸ p .grew;
+      toks = sym1 K.LBracket ++ (sized K.Integer _ ∷ []) ++ sym1 K.RBracket ++ p .toks;
+      grew = took-symbol K.LBracket tt s i ▸ took-size (next-state s) (is-not _ e) ▸ took-symbol K.RBracket tt (advance (λ _. size) (next-state s)) j ▸ p .grew;
       shows = record { on = λ st. after1 (p .shows) _ st };
       none = p .none;
       extra = omega arith;
@@ -895,17 +897,17 @@ function-definition-shown s = (λ i d. function-shown s (next-state s) (head (s 
 modifiers-shown : (w : Words) (s : St) → cwp (P.modifiers-turn w) (L (Modifiers w) s) s
 unfolding P.modifiers-turn
 modifiers-shown w s =
-    (λ i d a t l p. took (λ _. word) K.KwDistinct tt s i ▸ p, λ _. (λ i d a t l p. took (λ _. word) K.KwInternal tt s i ▸ p, λ _. grew-refl s))
+    (λ i d a t l p. took-modifier K.KwDistinct tt s i ▸ p, λ _. (λ i d a t l p. took-modifier K.KwInternal tt s i ▸ p, λ _. grew-refl s))
 
 type-alias-shown : (s : St) → cwp P.parse-type-alias (G Statement s) s
 unfolding P.parse-type-alias step
-type-alias-shown s w t l g = expects (alias w) K.KwType _ _ _ (λ i d d₂. (
+type-alias-shown s w t l g = expects plain K.KwType _ _ _ (λ i d d₂. (
   λ _. tt,
   λ _. (
     λ _ m. absurd m,
     λ e. expects plain K.Equals _ _ _ (λ j d₃. calls Type' _ _ _ (λ ty u l₂ p. expects plain K.Semicolon _ _ _ (λ k d₄. record {
-      toks = (aliased (w .distinct + w .internal) ∷ []) ++ (named K.Identifier _ ∷ []) ++ sym1 K.Equals ++ p .toks ++ sym1 K.Semicolon;
-      grew = g ▸ took (λ _. alias w) K.KwType tt t i ▸ took-name K.Identifier tt (advance (λ _. alias w) t) (is-not _ e) ▸ took-symbol K.Equals tt _ j ▸ p .grew ▸ took-symbol K.Semicolon tt u k;
+      toks = sym1 K.KwType ++ (named K.Identifier _ ∷ []) ++ sym1 K.Equals ++ p .toks ++ sym1 K.Semicolon;
+      grew = g ▸ took-symbol K.KwType tt t i ▸ took-name K.Identifier tt (next-state t) (is-not _ e) ▸ took-symbol K.Equals tt _ j ▸ p .grew ▸ took-symbol K.Semicolon tt u k;
       shows = record { on = λ st. after1 (p .shows) _ st };
       none = p .none;
       extra = tt;

@@ -6,10 +6,11 @@ use mathlib.Core.List.{List, [], _∷_, _++_}
 use Prim.Native.Nat.{ℕ, zero, suc, _+_}
 use lib.Dec.{eqb}
 use lib.ListN.{getD}
-use Rattle.definition.specs.Utf8.{pick}
+use Rattle.definition.specs.Choice.{pick}
 use Rattle.definition.specs.Kind as K
-use Rattle.definition.specs.Bytes.{Place, nowhere, Num, byte, two, eight, Rec}
-use Rattle.definition.specs.Strip.{Norm, symbol, named, integer, sized, aliased}
+use Rattle.definition.specs.Source.{Place, nowhere}
+use Rattle.definition.specs.Node.{Num, byte, two, eight, Rec}
+use Rattle.definition.proofs.Strip.{Norm, symbol, named, integer, sized}
 
 -- a subtree's place, and its tokens
 pub record Entry : Type 0 where
@@ -123,7 +124,7 @@ handlers p ns tx =
     at 0x10 (leaf p (named K.Identifier tx ∷ [])) ∷
     at 0x11 (leaf p []) ∷
     at 0x12 (on1 p (λ e. sym1 K.Star ++ e .toks)) ∷
-    at 0x13 (on1 p (λ e. sym1 K.LBracket ++ (sized (number-at 0 ns) ∷ []) ++ sym1 K.RBracket ++ e .toks)) ∷
+    at 0x13 (on1 p (λ e. sym1 K.LBracket ++ (sized K.Integer (number-at 0 ns) ∷ []) ++ sym1 K.RBracket ++ e .toks)) ∷
     at 0x14 (λ st. on-list p (λ ts. sym1 K.KwStruct ++ sym1 K.LBrace ++ ts ++ sym1 K.RBrace) (gather comma (number-at 0 ns) st)) ∷
     at 0x15 (on1 p (λ e. (named K.Identifier tx ∷ []) ++ sym1 K.Colon ++ e .toks)) ∷
     at 0x20 (leaf p (named K.Identifier tx ∷ [])) ∷
@@ -160,7 +161,7 @@ handlers p ns tx =
     at 0x49 (λ st. pick (eqb (number-at 0 ns) 2) (on2 p (λ a b. sym1 K.KwIf ++ a ++ b) st) (on3 p (λ a b c. sym1 K.KwIf ++ a ++ b ++ sym1 K.KwElse ++ c) st)) ∷
     at 0x4A (leaf p (named K.InlineAssemblyFragment tx ∷ [])) ∷
     at 0x50 (λ st. pick (eqb (number-at 0 ns) 0) (with-body p tx (number-at 1 ns) st) (external p tx (number-at 1 ns) st)) ∷
-    at 0x51 (on1 p (λ e. (aliased (number-at 0 ns) ∷ []) ++ (named K.Identifier tx ∷ []) ++ sym1 K.Equals ++ e .toks ++ sym1 K.Semicolon)) ∷
+    at 0x51 (on1 p (λ e. sym1 K.KwType ++ (named K.Identifier tx ∷ []) ++ sym1 K.Equals ++ e .toks ++ sym1 K.Semicolon)) ∷
     at 0x52 (leaf p (sym1 K.KwUse ++ (named K.String tx ∷ []) ++ sym1 K.Semicolon)) ∷
     at 0x53 (on2 p (λ a b. sym1 K.KwVar ++ (named K.Identifier tx ∷ []) ++ sym1 K.Colon ++ a ++ b ++ sym1 K.Semicolon)) ∷
     at 0x54 (leaf p (named K.InlineAssemblyFragment tx ∷ [])) ∷ []

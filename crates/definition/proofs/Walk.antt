@@ -6,9 +6,11 @@ use Prim.Native.Nat.{ℕ, zero, suc, _+_, _≤_, _<_}
 use lib.Dec.{ltb}
 use lib.ListN.{length}
 use Rattle.definition.specs.Kind as K
-use Rattle.definition.specs.Bytes.{Place, Rec, Err}
+use Rattle.definition.specs.Source.{Place}
+use Rattle.definition.specs.Node.{Rec}
+use Rattle.definition.specs.Fallible.{Err, Fallible, Ans, ok, fatal}
 use Rattle.definition.specs.Token.{Tok, head, tail, _is_}
-use Rattle.definition.specs.Act.{Fallible, Ans, ok, fatal, Node, Items, Goal, Statement, Expression, Unary, Type', Loop, Left, Casts, Act, done, peek, take, make, if_then_else_, call, loop, refuse, St, Res, gives, refused, stuck, after, plain, advance, push, run, _>>=_, _>>?_, or-return}
+use Rattle.definition.specs.Act.{Node, Items, Goal, Statement, Expression, Unary, Type', Loop, Left, Casts, Act, done, peek, take, make, if_then_else_, call, loop, panic, St, Res, gives, refused, after, plain, advance, push, run, _>>=_, _>>?_, or-return}
 use Rattle.definition.specs.Parser as P
 use Rattle.definition.specs.Parser.{parse, loops}
 
@@ -19,7 +21,6 @@ cut false r q f h = refl
 assoc : {A B C : Type 0} (r : Res A) (f : A → St → Res B) (g : B → St → Res C) (h : A → St → Res C) → ((a : A) (t : St) → h a t ≡ after (f a t) g) → after r h ≡ after (after r f) g
 assoc (gives a t) f g h e = e a t
 assoc (refused n) f g h e = refl
-assoc stuck f g h e = refl
 
 -- an act and what follows it
 pub run-bind : {A B : Type 0} (c : Goal → St → Res (Ans Node)) (o : (l : Loop) → St → Res (Left l)) (m : Act A) (f : A → Act B) (s : St) → run c o (m >>= f) s ≡ after (run c o m s) (λ a t. run c o (f a) t)
@@ -32,7 +33,7 @@ run-bind c o (if_then_else_ true m n) f s = run-bind c o m f s
 run-bind c o (if_then_else_ false m n) f s = run-bind c o n f s
 run-bind c o (call g k) f s = assoc (c g s) (λ a t. run c o (k a) t) (λ a t. run c o (f a) t) (λ a t. run c o (k a >>= f) t) (λ a t. run-bind c o (k a) f t)
 run-bind c o (loop l k) f s = assoc (o l s) (λ a t. run c o (k a) t) (λ a t. run c o (f a) t) (λ a t. run c o (k a >>= f) t) (λ a t. run-bind c o (k a) f t)
-run-bind c o (refuse n) f s = refl
+run-bind c o panic f s = refl
 
 -- a path of the code: `*`, and an operand that was read
 star : (n : ℕ) (s t : St) (x : Fallible Node) → head (s .left) is K.Ampersand ≡ false → head (s .left) is K.Star ≡ true → parse n Unary (advance (λ _. plain) s) ≡ gives (ok x) t
@@ -60,4 +61,3 @@ cast-turn c n s t e ty i p = rw (run, i, p) (same (loops c n (Casts (P.binary 0x
     same : (r : Res (Ans Node)) → after r (λ a u. gives a u) ≡ r
     same (gives a u) = refl
     same (refused k) = refl
-    same stuck = refl

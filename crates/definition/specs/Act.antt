@@ -4,18 +4,10 @@ use mathlib.Core.List.{List, [], _∷_, _++_}
 use Prim.Native.Nat.{ℕ, zero, suc, _+_}
 use lib.Dec.{ltb}
 use lib.ListN.{length}
-use Rattle.definition.specs.Bytes.{Place, Rec, Err}
+use Rattle.definition.specs.Source.{Place}
+use Rattle.definition.specs.Node.{Rec}
+use Rattle.definition.specs.Fallible.{Err, Fallible, Ans, ok, fatal}
 use Rattle.definition.specs.Token.{Tok, head, tail}
-
--- `Fallible<T>`: a value with the errors that it reports
-pub record Fallible (A : Type 0) : Type 0 where
-  pub item : A
-  pub errors : List Err
-
--- `Fallible<MaybeFatal<T>>`
-pub data Ans (A : Type 0) : Type 0 where
-  ok : Fallible A → Ans A
-  fatal : List Err → Ans A
 
 -- what a node of the tree is to the functions above it: its place, and its records, children first
 pub record Node : Type 0 where
@@ -64,10 +56,9 @@ Left (Casts e) = Ans Node
 Left (Suffixes e) = Ans Node
 Left (Modifiers w) = Words
 
--- What a token is to the reading: a grouping parenthesis; a comma directly before the end of its list; an array's size; `distinct` or `internal`; `type` behind these words; or none of these
+-- What a token is to the reading: a grouping parenthesis; a comma directly before the end of its list; an array's size; or none of these
 pub data Role : Type 0 where
-  plain group final size word : Role
-  alias : Words → Role
+  plain group final size : Role
 
 -- What a function does next
 pub data Act (A : Type 0) : Type 0 where
@@ -78,7 +69,7 @@ pub data Act (A : Type 0) : Type 0 where
   if_then_else_ : Bool → Act A → Act A → Act A
   call : Goal → (Ans Node → Act A) → Act A  -- a call of one of the four
   loop : (l : Loop) → (Left l → Act A) → Act A  -- a loop, or its next turn
-  refuse : ℕ → Act A  -- where the Rust panics
+  panic : Act A  -- where the Rust panics
 
 infix 10 if_then_else_
 abbrev pub next-as : {A : Type 0} → Role → (Tok → Act A) → Act A
@@ -96,7 +87,7 @@ make e m >>= f = make e (m >>= f)
 if_then_else_ b m n >>= f = if b then (m >>= f) else (n >>= f)
 call g k >>= f = call g (λ a. k a >>= f)
 loop l k >>= f = loop l (λ a. k a >>= f)
-refuse n >>= f = refuse n
+panic >>= f = panic
 
 -- `m()?`: a fatal answer is returned, with its own errors only
 abbrev pub or-return : {A B : Type 0} → (Fallible A → Act (Ans B)) → Ans A → Act (Ans B)
@@ -128,16 +119,14 @@ advance r s = record { left = tail (s .left); read = s .read ++ now-read r (s .l
 abbrev pub push : Err → St → St
 push e s = record { left = s .left; read = s .read; full = s .full ++ (e ∷ []) }
 
--- an answer and the state after it; or a refusal; `stuck` is met by no script
+-- an answer and the state after it, or a refusal
 pub data Res (A : Type 0) : Type 0 where
   gives : A → St → Res A
   refused : ℕ → Res A
-  stuck : Res A
 
 abbrev pub after : {A B : Type 0} → Res A → (A → St → Res B) → Res B
 after (gives a s) f = f a s
 after (refused n) f = refused n
-after stuck f = stuck
 
 -- carry an act out, given what calls and loops answer
 unfoldable pub run : {A : Type 0} → (Goal → St → Res (Ans Node)) → ((l : Loop) → St → Res (Left l)) → Act A → St → Res A
@@ -148,4 +137,4 @@ run c o (make e m) s = elim (ltb (length (s .full)) 255) [ true ↦ run c o m (p
 run c o (if_then_else_ b m n) s = elim b [ true ↦ run c o m s | false ↦ run c o n s ]
 run c o (call g k) s = after (c g s) (λ a s′. run c o (k a) s′)
 run c o (loop l k) s = after (o l s) (λ a s′. run c o (k a) s′)
-run c o (refuse n) s = refused n
+run c o panic s = refused 11

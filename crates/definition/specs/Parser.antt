@@ -7,10 +7,12 @@ use lib.Dec.{leb, ltb}
 use lib.ListN.{length}
 use Rattle.definition.specs.Ascii.{ascii}
 use Rattle.definition.specs.Kind as K
-use Rattle.definition.specs.Bytes.{Place, nowhere, Rec, Err, Num, byte, two, eight}
-use Rattle.definition.specs.Utf8.{pick}
+use Rattle.definition.specs.Source.{Place, nowhere}
+use Rattle.definition.specs.Node.{Rec, Num, byte, two, eight}
+use Rattle.definition.specs.Fallible.{Err, Fallible, Ans, ok, fatal}
+use Rattle.definition.specs.Choice.{pick}
 use Rattle.definition.specs.Token.{Tok, _is_, number, dashed}
-use Rattle.definition.specs.Act.{Fallible, Ans, ok, fatal, Node, Items, Goal, Statement, Expression, Unary, Type', Listed, Parameters, Arguments, StructFields, ArrayValues, StructValues, Level, BitOr, BitXor, BitAnd, Shift, AddSub, Mul, Words, Loop, Module, Body, ListOf, Operators, Casts, Suffixes, Modifiers, Left, Role, plain, group, final, size, word, alias, Act, done, peek, take, make, if_then_else_, call, loop, refuse, next, next-as, _>>=_, _>>?_, St, Res, refused, stuck, run}
+use Rattle.definition.specs.Act.{Node, Items, Goal, Statement, Expression, Unary, Type', Listed, Parameters, Arguments, StructFields, ArrayValues, StructValues, Level, BitOr, BitXor, BitAnd, Shift, AddSub, Mul, Words, Loop, Module, Body, ListOf, Operators, Casts, Suffixes, Modifiers, Left, Role, plain, group, final, size, Act, done, peek, take, make, if_then_else_, call, loop, panic, next, next-as, _>>=_, _>>?_, St, Res, refused, run}
 
 -- ---- answers
 
@@ -219,7 +221,7 @@ suffixes-turn e =
     peek λ t.
     if t is K.Dot then
     (next λ op. next λ n.
-    if n is K.End then refuse 11 else
+    if n is K.End then panic else
     if n is K.Identifier then loop (Suffixes (wrap 0x29 (op .place) (n .text) e)) done else
     (let x = error 4 (n .place) 0 0 in make x (good (e .item) (e .errors ++ (x ∷ []))))) else
     if t is K.DotStar then (next λ op. loop (Suffixes (wrap 0x28 (op .place) [] e)) done) else
@@ -464,17 +466,17 @@ parse-function-definition =
 unfoldable pub modifiers-turn : Words → Act Words
 modifiers-turn w =
     peek λ t.
-    if t is K.KwDistinct then (next-as word λ _. loop (Modifiers (record { distinct = 1; internal = w .internal })) done) else
-    if t is K.KwInternal then (next-as word λ _. loop (Modifiers (record { distinct = w .distinct; internal = 2 })) done) else
+    if t is K.KwDistinct then (next λ _. loop (Modifiers (record { distinct = 1; internal = w .internal })) done) else
+    if t is K.KwInternal then (next λ _. loop (Modifiers (record { distinct = w .distinct; internal = 2 })) done) else
     done w
 
 unfoldable pub parse-type-alias : Act (Ans Node)
 parse-type-alias =
     peek λ t.
     loop (Modifiers (record { distinct = 0; internal = 0 })) λ w.
-    expect-as (alias w) K.KwType >>? λ _.
+    expect K.KwType >>? λ _.
     next λ n.
-    if n is K.End then refuse 11 else
+    if n is K.End then panic else
     if not (n is K.Identifier) then raise (error 16 (n .place) 0 0) else
     (expect K.Equals >>? λ _.
     parse-type >>? λ ty.
@@ -486,7 +488,7 @@ parse-use =
     peek λ t.
     expect K.KwUse >>? λ _.
     next λ n.
-    if n is K.End then refuse 11 else
+    if n is K.End then panic else
     if not (n is K.String) then raise (error 17 (n .place) 0 0) else
     (expect K.Semicolon >>? λ _.
     good (node [] 0x52 (t .place) [] (n .text)) [])
@@ -527,12 +529,12 @@ turn (Casts e) = casts-turn e
 turn (Suffixes e) = suffixes-turn e
 turn (Modifiers w) = modifiers-turn w
 
--- a loop, for at most n turns
+-- A loop, for at most n turns. Each turn reads a token, so a turn for each token left and two more are enough: `refused 0` is met by no script (proofs/Total.antt).
 unfoldable pub loops : (Goal → St → Res (Ans Node)) → ℕ → (l : Loop) → St → Res (Left l)
-loops c zero l s = stuck
+loops c zero l s = refused 0
 loops c (suc n) l s = run c (λ m t. loops c n m t) (turn l) s
 
--- one of the four functions, with n more calls of them allowed; each turn of a loop reads a token, so a turn for each token left and two more are enough
+-- one of the four functions, where n more calls of them may be opened
 unfoldable pub parse : ℕ → Goal → St → Res (Ans Node)
 parse zero g s = refused 10
 parse (suc n) g s = run (λ h t. parse n h t) (λ l t. loops (λ h u. parse n h u) (suc (suc (length (t .left)))) l t) (rule g) s

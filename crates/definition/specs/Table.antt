@@ -1,52 +1,99 @@
--- The scripts of the scope that are proved, in one table: what Tokenise gives of each, and what the whole operation gives. Assumes nothing.
+-- The ten starred lines of the scope in one table: of each script what Tokenise gives, where the line speaks of tokens, and what the whole operation gives. Assumes nothing.
 use mathlib.Core.Path.{_≡_, refl}
+use mathlib.Core.Bool.{true, false}
 use mathlib.Core.List.{List, [], _∷_, map}
-use mathlib.Core.Option.{none, some}
-use Prim.Native.Nat.{ℕ}
+use mathlib.Core.Option.{Option, none, some}
+use Prim.Native.Nat.{ℕ, _+_, _*_}
+use Prim.Native.Char.{code}
+use Prim.Native.String.{String}
+use Prim.Native.String as S
+use lib.Dec.{eqb}
+use lib.ListN.{take, replicate}
 use Rattle.definition.specs.Ascii.{ascii}
-use Rattle.definition.specs.Kind as K
-use Rattle.definition.specs.Bytes.{Err}
-use Rattle.definition.specs.Token.{Tok}
-use Rattle.definition.specs.Utf8.{characters}
-use Rattle.definition.specs.Tokenizer.{Tokens, tokens, stuck, tokenize, token-error}
-use Rattle.definition.specs.Reader.{whole, Outcome, file, refused}
+use Rattle.definition.specs.Token.{digit}
+use Rattle.definition.specs.Operations.{Tokenised, tokenise, Written, whole}
 
-pub record Answer : Type 0 where
-  pub tokenised : Tokens
-  pub outcome : Outcome
+-- ---- how a row is written
+
+-- bytes in hexadecimal, two digits each; spaces count for nothing
+hex-from : Option ℕ → String → List ℕ
+hex-from h S.[] = []
+hex-from none (S._∷_ c s) = elim (eqb (code c) 32) [ true ↦ hex-from none s | false ↦ hex-from (some (digit (code c))) s ]
+hex-from (some h) (S._∷_ c s) = (h * 16 + digit (code c)) ∷ hex-from none s
+
+-- decimal numbers, one space between two
+decimal-from : ℕ → String → List ℕ
+decimal-from n S.[] = n ∷ []
+decimal-from n (S._∷_ c s) = elim (eqb (code c) 32) [ true ↦ n ∷ decimal-from 0 s | false ↦ decimal-from (n * 10 + digit (code c)) s ]
+
+-- the records, the errors and the text, as far as they are counted
+pub record Lists : Type 0 where
+  pub number : ℕ
+  pub toks : List ℕ
+  pub errs : List ℕ
+  pub text : List ℕ
+
+-- the file's bytes
+pub record File : Type 0 where
+  pub number : ℕ
+  pub bytes : List ℕ
 
 pub record Row : Type 0 where
   pub script : List ℕ
-  pub answer : Answer
+  pub tokens : Option Lists
+  pub file : File
 
-abbrev row : List ℕ → Tokens → Outcome → Row
-row s t o = record { script = s; answer = record { tokenised = t; outcome = o } }
+lists : Tokenised → Lists
+lists t = record { number = t .number; toks = take (8 * t .tokens) (t .toks); errs = take (4 * t .errors) (t .errs); text = take (t .bytes) (t .text) }
 
--- a token at a line and a column
-abbrev tok : ℕ → ℕ → ℕ → List ℕ → ℕ → Tok
-tok k l c text base = record { kind = k; place = record { line = l; column = c }; text = text; base = base }
+file : Written → File
+file w = record { number = w .number; bytes = take (w .bytes) (w .file) }
 
-abbrev tokenised : List ℕ → Tokens
-tokenised s = elim (characters s) [ none ↦ stuck | some cs ↦ tokenize cs ]
+-- what the definitions give in place of a row's answers, on slices of the least length
+pub answered : Row → Row
+answered r = record {
+  script = r .script;
+  tokens = elim (r .tokens) [ none ↦ none | some t ↦ some (lists (tokenise (r .script) (replicate 16384 1) (replicate 1024 1) (replicate 16384 1))) ];
+  file = file (whole (r .script) (replicate 65536 1));
+}
 
-pub answer : List ℕ → Answer
-answer s = record { tokenised = tokenised s; outcome = whole s }
+row : String → Option Lists → File → Row
+row s t f = record { script = ascii s; tokens = t; file = f }
+
+tokens : String → String → Option Lists
+tokens ws text = some (record { number = 0; toks = decimal-from 0 ws; errs = []; text = ascii text })
+
+token-errors : String → Option Lists
+token-errors es = some (record { number = 0; toks = []; errs = decimal-from 0 es; text = [] })
+
+tree : String → File
+tree bs = record { number = 0; bytes = hex-from none bs }
+
+refused : ℕ → File
+refused n = record { number = n; bytes = [] }
+
+-- ---- the table
 
 pub table : List Row
 table =
-    row (ascii "var x: T;") (tokens (tok K.KwVar 1 1 ([]) 0 ∷ tok K.Identifier 1 5 (ascii "x") 0 ∷ tok K.Colon 1 6 ([]) 0 ∷ tok K.Identifier 1 8 (ascii "T") 0 ∷ tok K.Semicolon 1 9 ([]) 0 ∷ []) ([])) (file (16 ∷ 0 ∷ 5 ∷ 0 ∷ 1 ∷ 0 ∷ 8 ∷ 84 ∷ 51 ∷ 0 ∷ 0 ∷ 83 ∷ 0 ∷ 5 ∷ 0 ∷ 1 ∷ 0 ∷ 1 ∷ 120 ∷ 95 ∷ 0 ∷ 2 ∷ 0 ∷ 1 ∷ [])) ∷
-    row (ascii "fn f (){c(w -1);}") (tokens (tok K.KwFn 1 1 ([]) 0 ∷ tok K.Identifier 1 4 (ascii "f") 0 ∷ tok K.LParen 1 6 ([]) 0 ∷ tok K.RParen 1 7 ([]) 0 ∷ tok K.LBrace 1 8 ([]) 0 ∷ tok K.Identifier 1 9 (ascii "c") 0 ∷ tok K.LParen 1 10 ([]) 0 ∷ tok K.Identifier 1 11 (ascii "w") 0 ∷ tok K.Integer 1 13 (ascii "-1") 10 ∷ tok K.RParen 1 15 ([]) 0 ∷ tok K.Semicolon 1 16 ([]) 0 ∷ tok K.RBrace 1 17 ([]) 0 ∷ []) ([])) (file (17 ∷ 0 ∷ 4 ∷ 0 ∷ 1 ∷ 0 ∷ 1 ∷ 32 ∷ 0 ∷ 5 ∷ 0 ∷ 1 ∷ 0 ∷ 9 ∷ 99 ∷ 32 ∷ 0 ∷ 5 ∷ 0 ∷ 1 ∷ 0 ∷ 11 ∷ 119 ∷ 36 ∷ 0 ∷ 6 ∷ 0 ∷ 1 ∷ 0 ∷ 9 ∷ 0 ∷ 1 ∷ 65 ∷ 0 ∷ 4 ∷ 0 ∷ 1 ∷ 0 ∷ 9 ∷ 64 ∷ 0 ∷ 6 ∷ 0 ∷ 1 ∷ 0 ∷ 1 ∷ 0 ∷ 1 ∷ 80 ∷ 0 ∷ 8 ∷ 0 ∷ 1 ∷ 0 ∷ 1 ∷ 0 ∷ 0 ∷ 0 ∷ 102 ∷ 95 ∷ 0 ∷ 2 ∷ 0 ∷ 1 ∷ 97 ∷ 0 ∷ 7 ∷ 15 ∷ 0 ∷ 1 ∷ 0 ∷ 13 ∷ 0 ∷ 2 ∷ [])) ∷
-    row (ascii "fn f") (tokens (tok K.KwFn 1 1 ([]) 0 ∷ tok K.Identifier 1 4 (ascii "f") 0 ∷ []) ([])) (file (17 ∷ 0 ∷ 4 ∷ 0 ∷ 1 ∷ 0 ∷ 1 ∷ 64 ∷ 0 ∷ 6 ∷ 0 ∷ 1 ∷ 0 ∷ 1 ∷ 0 ∷ 0 ∷ 80 ∷ 0 ∷ 8 ∷ 0 ∷ 1 ∷ 0 ∷ 1 ∷ 0 ∷ 0 ∷ 0 ∷ 102 ∷ 95 ∷ 0 ∷ 2 ∷ 0 ∷ 1 ∷ 96 ∷ 0 ∷ 7 ∷ 3 ∷ 0 ∷ 0 ∷ 0 ∷ 0 ∷ 39 ∷ 0 ∷ 96 ∷ 0 ∷ 7 ∷ 3 ∷ 0 ∷ 0 ∷ 0 ∷ 0 ∷ 41 ∷ 0 ∷ 96 ∷ 0 ∷ 7 ∷ 14 ∷ 0 ∷ 0 ∷ 0 ∷ 0 ∷ 0 ∷ 0 ∷ 97 ∷ 0 ∷ 7 ∷ 3 ∷ 0 ∷ 0 ∷ 0 ∷ 0 ∷ 41 ∷ 0 ∷ 97 ∷ 0 ∷ 7 ∷ 14 ∷ 0 ∷ 0 ∷ 0 ∷ 0 ∷ 0 ∷ 0 ∷ 97 ∷ 0 ∷ 7 ∷ 3 ∷ 0 ∷ 0 ∷ 0 ∷ 0 ∷ 39 ∷ 0 ∷ [])) ∷
-    row (ascii "fn g (){f()();}") (tokens (tok K.KwFn 1 1 ([]) 0 ∷ tok K.Identifier 1 4 (ascii "g") 0 ∷ tok K.LParen 1 6 ([]) 0 ∷ tok K.RParen 1 7 ([]) 0 ∷ tok K.LBrace 1 8 ([]) 0 ∷ tok K.Identifier 1 9 (ascii "f") 0 ∷ tok K.LParen 1 10 ([]) 0 ∷ tok K.RParen 1 11 ([]) 0 ∷ tok K.LParen 1 12 ([]) 0 ∷ tok K.RParen 1 13 ([]) 0 ∷ tok K.Semicolon 1 14 ([]) 0 ∷ tok K.RBrace 1 15 ([]) 0 ∷ []) ([])) (file (17 ∷ 0 ∷ 4 ∷ 0 ∷ 1 ∷ 0 ∷ 1 ∷ 64 ∷ 0 ∷ 6 ∷ 0 ∷ 1 ∷ 0 ∷ 1 ∷ 0 ∷ 0 ∷ 80 ∷ 0 ∷ 8 ∷ 0 ∷ 1 ∷ 0 ∷ 1 ∷ 0 ∷ 0 ∷ 0 ∷ 103 ∷ 95 ∷ 0 ∷ 2 ∷ 0 ∷ 1 ∷ 96 ∷ 0 ∷ 7 ∷ 2 ∷ 0 ∷ 1 ∷ 0 ∷ 12 ∷ 50 ∷ 41 ∷ 96 ∷ 0 ∷ 7 ∷ 7 ∷ 0 ∷ 1 ∷ 0 ∷ 13 ∷ 0 ∷ 42 ∷ 96 ∷ 0 ∷ 7 ∷ 7 ∷ 0 ∷ 1 ∷ 0 ∷ 14 ∷ 0 ∷ 50 ∷ 97 ∷ 0 ∷ 7 ∷ 2 ∷ 0 ∷ 1 ∷ 0 ∷ 12 ∷ 50 ∷ 41 ∷ 97 ∷ 0 ∷ 7 ∷ 7 ∷ 0 ∷ 1 ∷ 0 ∷ 13 ∷ 0 ∷ 42 ∷ 97 ∷ 0 ∷ 7 ∷ 7 ∷ 0 ∷ 1 ∷ 0 ∷ 14 ∷ 0 ∷ 50 ∷ [])) ∷
-    row (ascii "a -bc") (tokens (tok K.Identifier 1 1 (ascii "a") 0 ∷ tok K.Minus 1 3 ([]) 0 ∷ tok K.Identifier 1 5 (ascii "c") 0 ∷ []) ([])) (file (95 ∷ 0 ∷ 2 ∷ 0 ∷ 0 ∷ 96 ∷ 0 ∷ 7 ∷ 1 ∷ 0 ∷ 1 ∷ 0 ∷ 1 ∷ 0 ∷ 1 ∷ 96 ∷ 0 ∷ 7 ∷ 1 ∷ 0 ∷ 1 ∷ 0 ∷ 3 ∷ 0 ∷ 23 ∷ 96 ∷ 0 ∷ 7 ∷ 1 ∷ 0 ∷ 1 ∷ 0 ∷ 5 ∷ 0 ∷ 1 ∷ 97 ∷ 0 ∷ 7 ∷ 1 ∷ 0 ∷ 1 ∷ 0 ∷ 1 ∷ 0 ∷ 1 ∷ 97 ∷ 0 ∷ 7 ∷ 1 ∷ 0 ∷ 1 ∷ 0 ∷ 3 ∷ 0 ∷ 23 ∷ 97 ∷ 0 ∷ 7 ∷ 1 ∷ 0 ∷ 1 ∷ 0 ∷ 5 ∷ 0 ∷ 1 ∷ [])) ∷
-    row (ascii "0x") (tokens (tok K.Integer 1 1 (ascii "0") 16 ∷ []) ([])) (file (95 ∷ 0 ∷ 2 ∷ 0 ∷ 0 ∷ 96 ∷ 0 ∷ 7 ∷ 1 ∷ 0 ∷ 1 ∷ 0 ∷ 1 ∷ 0 ∷ 2 ∷ 97 ∷ 0 ∷ 7 ∷ 1 ∷ 0 ∷ 1 ∷ 0 ∷ 1 ∷ 0 ∷ 2 ∷ [])) ∷
-    row (ascii "0b2") (tokens (tok K.Integer 1 1 (ascii "0") 2 ∷ tok K.Integer 1 3 (ascii "2") 10 ∷ []) ([])) (file (95 ∷ 0 ∷ 2 ∷ 0 ∷ 0 ∷ 96 ∷ 0 ∷ 7 ∷ 1 ∷ 0 ∷ 1 ∷ 0 ∷ 1 ∷ 0 ∷ 2 ∷ 96 ∷ 0 ∷ 7 ∷ 1 ∷ 0 ∷ 1 ∷ 0 ∷ 3 ∷ 0 ∷ 2 ∷ 97 ∷ 0 ∷ 7 ∷ 1 ∷ 0 ∷ 1 ∷ 0 ∷ 1 ∷ 0 ∷ 2 ∷ 97 ∷ 0 ∷ 7 ∷ 1 ∷ 0 ∷ 1 ∷ 0 ∷ 3 ∷ 0 ∷ 2 ∷ [])) ∷
-    row (ascii "\"a\\\"") (tokens ([]) (token-error 1 (record { line = 1; column = 1 }) ∷ token-error 2 (record { line = 1; column = 1 }) ∷ [])) (refused 9) ∷
-    row (ascii "-") (Tokens.refused 5) (refused 5) ∷
-    row (ascii "type") (tokens (tok K.KwType 1 1 ([]) 0 ∷ []) ([])) (refused 11) ∷
-    row (ascii "") (tokens ([]) ([])) (refused 9) ∷
+    row "var x: T;" none (tree "10 0005 0001 0008 54  33 0000  53 0005 0001 0001 78  5F 0002 0001") ∷
+    row "fn f (){c(w -1);}" none
+    (tree "11 0004 0001 0001  20 0005 0001 0009 63  20 0005 0001 000B 77  24 0006 0001 0009 0001  41 0004 0001 0009  40 0006 0001 0001 0001  50 0008 0001 0001 00 0000 66  5F 0002 0001  61 0007 0F 0001 000D 00 02") ∷
+    row "fn f" none
+    (tree "11 0004 0001 0001  40 0006 0001 0001 0000  50 0008 0001 0001 00 0000 66  5F 0002 0001  60 0007 03 0000 0000 27 00  60 0007 03 0000 0000 29 00  60 0007 0E 0000 0000 00 00  61 0007 03 0000 0000 29 00  61 0007 0E 0000 0000 00 00  61 0007 03 0000 0000 27 00") ∷
+    row "fn g (){f()();}" none
+    (tree "11 0004 0001 0001  40 0006 0001 0001 0000  50 0008 0001 0001 00 0000 67  5F 0002 0001  60 0007 02 0001 000C 32 29  60 0007 07 0001 000D 00 2A  60 0007 07 0001 000E 00 32  61 0007 02 0001 000C 32 29  61 0007 07 0001 000D 00 2A  61 0007 07 0001 000E 00 32") ∷
+    row "a -bc" (tokens "1 1 1 0 1 0 0 0 23 1 3 0 0 0 0 0 1 1 5 1 1 0 0 0" "ac")
+    (tree "5F 0002 0000  60 0007 01 0001 0001 00 01  60 0007 01 0001 0003 00 17  60 0007 01 0001 0005 00 01  61 0007 01 0001 0001 00 01  61 0007 01 0001 0003 00 17  61 0007 01 0001 0005 00 01") ∷
+    row "0x" (tokens "2 1 1 0 1 16 0 0" "0") (tree "5F 0002 0000  60 0007 01 0001 0001 00 02  61 0007 01 0001 0001 00 02") ∷
+    row "0b2" (tokens "2 1 1 0 1 2 0 0 2 1 3 1 1 10 0 0" "02")
+    (tree "5F 0002 0000  60 0007 01 0001 0001 00 02  60 0007 01 0001 0003 00 02  61 0007 01 0001 0001 00 02  61 0007 01 0001 0003 00 02") ∷
+    row "\"a\\\"" (token-errors "1 1 1 0 2 1 1 0") (refused 9) ∷
+    row "-" none (refused 5) ∷
+    row "type" none (refused 11) ∷
+    row "" none (refused 9) ∷
     []
 
-pub holds : map (λ r. answer (r .script)) table ≡ map (λ r. r .answer) table
-unfolding table answer whole characters tokenize ascii
+pub holds : map answered table ≡ table
+unfolding hex-from decimal-from lists file answered row tokens token-errors tree refused table tokenise whole ascii
 holds = refl

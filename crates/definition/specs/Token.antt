@@ -1,10 +1,13 @@
--- A token, and how a number's text is read. Assumes nothing.
+-- A token, and the value of a number's text. Assumes nothing.
 use mathlib.Core.Bool.{Bool, true, false}
 use mathlib.Core.List.{List, [], _∷_}
 use Prim.Native.Nat.{ℕ, zero, suc, _+_, _*_, _-_}
-use lib.Dec.{eqb, ltb, leb}
-use Rattle.definition.specs.Bytes.{Place, nowhere}
+use lib.Dec.{eqb, leb}
+use Rattle.definition.specs.Ascii.{char}
+use Rattle.definition.specs.Source.{Place, nowhere}
+use Rattle.definition.specs.Kind as K
 
+-- `Token`: the text is that of the four kinds that have one, the base that of an Integer
 pub record Tok : Type 0 where
   pub kind : ℕ
   pub place : Place
@@ -13,7 +16,7 @@ pub record Tok : Type 0 where
 
 -- what `peek` and `next` give where no token is left
 abbrev pub end-token : Tok
-end-token = record { kind = 0; place = nowhere; text = []; base = 0 }
+end-token = record { kind = K.End; place = nowhere; text = []; base = 0 }
 
 infix 50 _is_
 abbrev pub _is_ : Tok → ℕ → Bool
@@ -27,10 +30,11 @@ abbrev pub tail : List Tok → List Tok
 tail [] = []
 tail (t ∷ ts) = ts
 
--- the value of a digit: 0 to 9, a to z, A to Z
+-- the value of a digit: 0 to 9, A to Z, a to z
 abbrev pub digit : ℕ → ℕ
-digit c = elim (leb c 57) [ true ↦ c - 48 | false ↦ elim (leb c 90) [ true ↦ c - 55 | false ↦ c - 87 ] ]
+digit c = elim (leb c (char "9")) [ true ↦ c - char "0" | false ↦ elim (leb c (char "Z")) [ true ↦ c - 55 | false ↦ c - 87 ] ]
 
+-- digits read in a base, behind those of the value n
 unfoldable pub number : ℕ → ℕ → List ℕ → ℕ
 number base n [] = n
 number base n (c ∷ cs) = number base (n * base + digit c) cs
@@ -38,4 +42,4 @@ number base n (c ∷ cs) = number base (n * base + digit c) cs
 -- the text begins with a dash
 abbrev pub dashed : List ℕ → Bool
 dashed [] = false
-dashed (c ∷ cs) = eqb c 45
+dashed (c ∷ cs) = eqb c (char "-")

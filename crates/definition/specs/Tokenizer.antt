@@ -1,54 +1,45 @@
--- The tokenizer, as `tokenize` of `tokenizer.rs` goes: one turn of its loop after the other. Assumes nothing.
-use mathlib.Core.Bool.{Bool, true, false, _&&_, _||_, not}
+-- `tokenize` of `tokenizer.rs`, one turn of its loop after the other. Assumes nothing.
+use mathlib.Core.Bool.{Bool, true, false, _&&_, _||_}
 use mathlib.Core.List.{List, [], _∷_, _++_}
 use Prim.Native.Nat.{ℕ, zero, suc, _+_}
+use Prim.Native.String as S
 use lib.Dec.{eqb, ltb, leb}
-use lib.ListN.{length}
-use Rattle.definition.specs.Ascii.{ascii}
+use lib.ListN.{length, replicate}
+use Rattle.definition.specs.Ascii.{ascii, char}
+use Rattle.definition.specs.Choice.{_⇒_, pick, first}
+use Rattle.definition.specs.Classes.{is-white, is-digit, is-letter, is-word, is-digit-of}
+use Rattle.definition.specs.Source.{Place, Ch}
+use Rattle.definition.specs.Fallible.{Err}
 use Rattle.definition.specs.Kind as K
-use Rattle.definition.specs.Bytes.{Place, Err}
 use Rattle.definition.specs.Token.{Tok}
-use Rattle.definition.specs.Utf8.{Ch, Case, _⇒_, pick, first}
 
--- ---- classes of characters; all are asked of characters below 128 alone
+-- ---- the fixed spellings; 0 where the bytes are none of them
 
-abbrev pub within : ℕ → ℕ → ℕ → Bool
-within lo hi c = leb lo c && leb c hi
-
-abbrev pub is-white : ℕ → Bool
-is-white c = within 9 13 c || eqb c 32
-
-abbrev pub is-digit : ℕ → Bool
-is-digit c = within 48 57 c
-
-abbrev pub is-letter : ℕ → Bool
-is-letter c = within 65 90 c || within 97 122 c || eqb c 95
-
-abbrev pub is-digit-of : ℕ → ℕ → Bool
-is-digit-of base c = pick (eqb base 2) (within 48 49 c) (pick (eqb base 10) (is-digit c) (is-digit c || within 65 70 c || within 97 102 c))
-
--- ---- tables: symbols of two characters, of one, and keywords
-
+-- symbols of two characters
 unfoldable pub pair : ℕ → ℕ → ℕ
 unfolding first
 pair c d =
     first
-    ((both 60 60 ⇒ K.LeftShift) ∷ (both 60 45 ⇒ K.LArrow) ∷ (both 60 61 ⇒ K.LAngleEquals) ∷ (both 62 62 ⇒ K.RightShift) ∷ (both 62 61 ⇒ K.RAngleEquals) ∷
-    (both 38 38 ⇒ K.DoubleAmpersand) ∷ (both 46 42 ⇒ K.DotStar) ∷ (both 61 61 ⇒ K.DoubleEquals) ∷ [])
+    ((are "<" "<" ⇒ K.LeftShift) ∷ (are "<" "-" ⇒ K.LArrow) ∷ (are "<" "=" ⇒ K.LAngleEquals) ∷ (are ">" ">" ⇒ K.RightShift) ∷ (are ">" "=" ⇒ K.RAngleEquals) ∷
+    (are "&" "&" ⇒ K.DoubleAmpersand) ∷ (are "." "*" ⇒ K.DotStar) ∷ (are "=" "=" ⇒ K.DoubleEquals) ∷ [])
     0
   where
-    both : ℕ → ℕ → Bool
-    both x y = eqb c x && eqb d y
+    are : S.String → S.String → Bool
+    are x y = eqb c (char x) && eqb d (char y)
 
+-- symbols of one character
 unfoldable pub symbol : ℕ → ℕ
 unfolding first
 symbol c =
     first
-    ((eqb c 123 ⇒ K.LBrace) ∷ (eqb c 125 ⇒ K.RBrace) ∷ (eqb c 40 ⇒ K.LParen) ∷ (eqb c 41 ⇒ K.RParen) ∷ (eqb c 91 ⇒ K.LBracket) ∷ (eqb c 93 ⇒ K.RBracket) ∷
-    (eqb c 60 ⇒ K.LAngle) ∷ (eqb c 62 ⇒ K.RAngle) ∷ (eqb c 58 ⇒ K.Colon) ∷ (eqb c 59 ⇒ K.Semicolon) ∷ (eqb c 43 ⇒ K.Plus) ∷ (eqb c 42 ⇒ K.Star) ∷
-    (eqb c 44 ⇒ K.Comma) ∷ (eqb c 38 ⇒ K.Ampersand) ∷ (eqb c 124 ⇒ K.Bar) ∷ (eqb c 94 ⇒ K.Caret) ∷ (eqb c 126 ⇒ K.Tilde) ∷ (eqb c 33 ⇒ K.Bang) ∷
-    (eqb c 46 ⇒ K.Dot) ∷ (eqb c 61 ⇒ K.Equals) ∷ (eqb c 35 ⇒ K.Hash) ∷ (eqb c 47 ⇒ K.ForwardSlash) ∷ [])
+    ((is "{" ⇒ K.LBrace) ∷ (is "}" ⇒ K.RBrace) ∷ (is "(" ⇒ K.LParen) ∷ (is ")" ⇒ K.RParen) ∷ (is "[" ⇒ K.LBracket) ∷ (is "]" ⇒ K.RBracket) ∷
+    (is "<" ⇒ K.LAngle) ∷ (is ">" ⇒ K.RAngle) ∷ (is ":" ⇒ K.Colon) ∷ (is ";" ⇒ K.Semicolon) ∷ (is "+" ⇒ K.Plus) ∷ (is "*" ⇒ K.Star) ∷
+    (is "," ⇒ K.Comma) ∷ (is "&" ⇒ K.Ampersand) ∷ (is "|" ⇒ K.Bar) ∷ (is "^" ⇒ K.Caret) ∷ (is "~" ⇒ K.Tilde) ∷ (is "!" ⇒ K.Bang) ∷
+    (is "." ⇒ K.Dot) ∷ (is "=" ⇒ K.Equals) ∷ (is "#" ⇒ K.Hash) ∷ (is "/" ⇒ K.ForwardSlash) ∷ [])
     0
+  where
+    is : S.String → Bool
+    is x = eqb c (char x)
 
 unfoldable pub same : List ℕ → List ℕ → Bool
 same [] [] = true
@@ -60,12 +51,17 @@ unfoldable pub keyword : List ℕ → ℕ
 unfolding first same ascii
 keyword w =
     first
-    ((same w (ascii "fn") ⇒ K.KwFn) ∷ (same w (ascii "var") ⇒ K.KwVar) ∷ (same w (ascii "return") ⇒ K.KwReturn) ∷ (same w (ascii "loop") ⇒ K.KwLoop) ∷
-    (same w (ascii "while") ⇒ K.KwWhile) ∷ (same w (ascii "break") ⇒ K.KwBreak) ∷ (same w (ascii "if") ⇒ K.KwIf) ∷ (same w (ascii "else") ⇒ K.KwElse) ∷
-    (same w (ascii "true") ⇒ K.KwTrue) ∷ (same w (ascii "false") ⇒ K.KwFalse) ∷ (same w (ascii "as") ⇒ K.KwAs) ∷ (same w (ascii "type") ⇒ K.KwType) ∷
-    (same w (ascii "struct") ⇒ K.KwStruct) ∷ (same w (ascii "sizeof") ⇒ K.KwSizeof) ∷ (same w (ascii "use") ⇒ K.KwUse) ∷ (same w (ascii "extern") ⇒ K.KwExtern) ∷
-    (same w (ascii "distinct") ⇒ K.KwDistinct) ∷ (same w (ascii "internal") ⇒ K.KwInternal) ∷ [])
+    ((is "fn" ⇒ K.KwFn) ∷ (is "var" ⇒ K.KwVar) ∷ (is "return" ⇒ K.KwReturn) ∷ (is "loop" ⇒ K.KwLoop) ∷ (is "while" ⇒ K.KwWhile) ∷ (is "break" ⇒ K.KwBreak) ∷
+    (is "if" ⇒ K.KwIf) ∷ (is "else" ⇒ K.KwElse) ∷ (is "true" ⇒ K.KwTrue) ∷ (is "false" ⇒ K.KwFalse) ∷ (is "as" ⇒ K.KwAs) ∷ (is "type" ⇒ K.KwType) ∷
+    (is "struct" ⇒ K.KwStruct) ∷ (is "sizeof" ⇒ K.KwSizeof) ∷ (is "use" ⇒ K.KwUse) ∷ (is "extern" ⇒ K.KwExtern) ∷ (is "distinct" ⇒ K.KwDistinct) ∷ (is "internal" ⇒ K.KwInternal) ∷ [])
     0
+  where
+    is : S.String → Bool
+    is x = same w (ascii x)
+
+-- the escapes of a string: `\r`, `\n`, `\t`
+abbrev pub escape : ℕ → ℕ
+escape c = pick (eqb c (char "r")) 13 (pick (eqb c (char "n")) 10 (pick (eqb c (char "t")) 9 0))
 
 -- ---- one turn: the characters left, the errors and then the tokens that it pushes; or a refusal
 
@@ -76,11 +72,11 @@ pub data Turn : Type 0 where
 abbrev pub nothing : List Ch → Turn
 nothing cs = goes cs [] []
 
-abbrev pub token : List Ch → ℕ → Place → Turn
-token cs k p = goes cs [] (record { kind = k; place = p; text = []; base = 0 } ∷ [])
-
 abbrev pub token-text : List Ch → ℕ → Place → List ℕ → ℕ → Turn
 token-text cs k p text base = goes cs [] (record { kind = k; place = p; text = text; base = base } ∷ [])
+
+abbrev pub token : List Ch → ℕ → Place → Turn
+token cs k p = token-text cs k p [] 0
 
 abbrev pub token-error : ℕ → Place → Err
 token-error n p = record { number = n; place = p; expected = 0; got = 0 }
@@ -94,6 +90,7 @@ abbrev pub drop-one : List Ch → List Ch
 drop-one [] = []
 drop-one (c ∷ cs) = cs
 
+-- behind `//`
 unfoldable pub comment : List Ch → List Ch
 comment [] = []
 comment (c ∷ cs) = elim (eqb (c .byte) 10) [ true ↦ cs | false ↦ comment cs ]
@@ -106,17 +103,42 @@ pub record Span : Type 0 where
 abbrev pub ahead : List ℕ → Span → Span
 ahead bs s = record { text = bs ++ s .text; rest = s .rest }
 
--- digits of a base
+-- ---- numbers
+
 unfoldable pub digits : ℕ → List Ch → Span
 digits base [] = record { text = []; rest = [] }
 digits base (c ∷ cs) = elim (is-digit-of base (c .byte)) [ true ↦ ahead (c .byte ∷ []) (digits base cs) | false ↦ record { text = []; rest = c ∷ cs } ]
 
--- the text of inline assembly, up to `}` or the end
-unfoldable pub assembly : List Ch → Span
-assembly [] = record { text = []; rest = [] }
-assembly (c ∷ cs) = elim (eqb (c .byte) 125) [ true ↦ record { text = []; rest = cs } | false ↦ ahead (c .byte ∷ c .more) (assembly cs) ]
+-- no digits left: the number is `0`
+abbrev pub or-zero : List ℕ → List ℕ
+or-zero [] = char "0" ∷ []
+or-zero (d ∷ ds) = d ∷ ds
 
--- A string behind its quote: its text, how many escapes were unknown, whether the closing quote was there
+abbrev pub integer : Place → ℕ → List ℕ → Span → Turn
+integer p base before s = token-text (s .rest) K.Integer p (or-zero (before ++ s .text)) base
+
+-- behind a dash; where it is Minus, the next character is swallowed
+unfoldable pub dash-turn : Place → List Ch → Turn
+unfolding digits
+dash-turn p [] = refused 5
+dash-turn p (c ∷ cs) =
+    elim (eqb (c .byte) (char ">")) [
+      | true ↦ token cs K.RArrow p
+      | false ↦ elim (is-digit (c .byte)) [ true ↦ integer p 10 (char "-" ∷ []) (digits 10 (c ∷ cs)) | false ↦ token cs K.Minus p ]
+    ]
+
+-- behind a `0` that opens the number, and is dropped
+unfoldable pub zero-turn : Place → List Ch → Turn
+unfolding digits
+zero-turn p cs =
+    elim (eqb (look cs) (char "x")) [
+      | true ↦ integer p 16 [] (digits 16 (drop-one cs))
+      | false ↦ elim (eqb (look cs) (char "b")) [ true ↦ integer p 2 [] (digits 2 (drop-one cs)) | false ↦ integer p 10 [] (digits 10 cs) ]
+    ]
+
+-- ---- strings
+
+-- behind the opening quote: the text, how many escapes were unknown, whether the closing quote was there
 pub record Quoted : Type 0 where
   pub text : List ℕ
   pub unknown : ℕ
@@ -132,35 +154,25 @@ one-unknown q = record { text = q .text; unknown = suc (q .unknown); closed = q 
 abbrev pub cut-off : Quoted
 cut-off = record { text = []; unknown = 0; closed = false; rest = [] }
 
--- the flag: a backslash came before
+-- the flag: a backslash stands before
 unfoldable pub quoted : Bool → List Ch → Quoted
 quoted false [] = cut-off
 quoted true [] = one-unknown cut-off
 quoted false (c ∷ cs) =
-    elim (eqb (c .byte) 34) [
+    elim (eqb (c .byte) (char "\"")) [
       | true ↦ record { text = []; unknown = 0; closed = true; rest = cs }
-      | false ↦ elim (eqb (c .byte) 92) [ true ↦ quoted true cs | false ↦ quoted-ahead (c .byte ∷ c .more) (quoted false cs) ]
+      | false ↦ elim (eqb (c .byte) (char "\\")) [ true ↦ quoted true cs | false ↦ quoted-ahead (c .byte ∷ c .more) (quoted false cs) ]
     ]
-quoted true (c ∷ cs) =
-    elim (eqb (c .byte) 114) [
-      | true ↦ quoted-ahead (13 ∷ []) (quoted false cs)
-      | false ↦ elim (eqb (c .byte) 110) [
-        | true ↦ quoted-ahead (10 ∷ []) (quoted false cs)
-        | false ↦ elim (eqb (c .byte) 116) [ true ↦ quoted-ahead (9 ∷ []) (quoted false cs) | false ↦ one-unknown (quoted false cs) ]
-      ]
-    ]
-
-unfoldable pub copies : ℕ → Err → List Err
-copies zero e = []
-copies (suc n) e = e ∷ copies n e
+quoted true (c ∷ cs) = elim (escape (c .byte)) [ zero ↦ one-unknown (quoted false cs) | suc e ↦ quoted-ahead (suc e ∷ []) (quoted false cs) ]
 
 unfoldable pub string-turn : Place → Quoted → Turn
-unfolding copies
 string-turn p q =
     elim (q .closed) [
-      | true ↦ goes (q .rest) (copies (q .unknown) (token-error 1 p)) (record { kind = K.String; place = p; text = q .text; base = 0 } ∷ [])
-      | false ↦ goes (q .rest) (copies (q .unknown) (token-error 1 p) ++ (token-error 2 p ∷ [])) []
+      | true ↦ goes (q .rest) (replicate (q .unknown) (token-error 1 p)) (record { kind = K.String; place = p; text = q .text; base = 0 } ∷ [])
+      | false ↦ goes (q .rest) (replicate (q .unknown) (token-error 1 p) ++ (token-error 2 p ∷ [])) []
     ]
+
+-- ---- words
 
 -- what runs over characters and may meet one above 127
 pub data Run : Type 0 where
@@ -177,19 +189,25 @@ word [] = ends (record { text = []; rest = [] })
 word (c ∷ cs) =
     elim (ltb 127 (c .byte)) [
       | true ↦ foreign
-      | false ↦ elim (is-letter (c .byte) || is-digit (c .byte)) [ true ↦ run-ahead (c .byte ∷ []) (word cs) | false ↦ ends (record { text = []; rest = c ∷ cs }) ]
+      | false ↦ elim (is-word (c .byte)) [ true ↦ run-ahead (c .byte ∷ []) (word cs) | false ↦ ends (record { text = []; rest = c ∷ cs }) ]
     ]
 
+-- white space behind `asm`
 unfoldable pub white : List Ch → Run
 white [] = ends (record { text = []; rest = [] })
 white (c ∷ cs) = elim (ltb 127 (c .byte)) [ true ↦ foreign | false ↦ elim (is-white (c .byte)) [ true ↦ white cs | false ↦ ends (record { text = []; rest = c ∷ cs }) ] ]
+
+-- the text of inline assembly, up to `}` or the end
+unfoldable pub assembly : List Ch → Span
+assembly [] = record { text = []; rest = [] }
+assembly (c ∷ cs) = elim (eqb (c .byte) (char "}")) [ true ↦ record { text = []; rest = cs } | false ↦ ahead (c .byte ∷ c .more) (assembly cs) ]
 
 -- behind `asm` and white space: what comes is `{`, or is consumed
 unfoldable pub assembly-turn : Place → Run → Turn
 unfolding assembly
 assembly-turn p foreign = refused 4
 assembly-turn p (ends s) =
-    elim (eqb (look (s .rest)) 123) [
+    elim (eqb (look (s .rest)) (char "{")) [
       | true ↦ let a = assembly (drop-one (s .rest)) in token-text (a .rest) K.InlineAssemblyFragment p (a .text) 0
       | false ↦ goes (drop-one (s .rest)) (token-error 3 p ∷ []) []
     ]
@@ -203,34 +221,9 @@ word-turn p (ends s) =
       | false ↦ elim (keyword (s .text)) [ zero ↦ token-text (s .rest) K.Identifier p (s .text) 0 | suc k ↦ token (s .rest) (suc k) p ]
     ]
 
--- what an Integer's text is where no digit is left of it
-abbrev pub or-zero : List ℕ → List ℕ
-or-zero [] = 48 ∷ []
-or-zero (d ∷ ds) = d ∷ ds
+-- ---- the turn
 
-abbrev pub integer : Place → ℕ → List ℕ → Span → Turn
-integer p base before s = token-text (s .rest) K.Integer p (or-zero (before ++ s .text)) base
-
--- behind a dash
-unfoldable pub dash-turn : Place → List Ch → Turn
-unfolding digits
-dash-turn p [] = refused 5
-dash-turn p (c ∷ cs) =
-    elim (eqb (c .byte) 62) [
-      | true ↦ token cs K.RArrow p
-      | false ↦ elim (is-digit (c .byte)) [ true ↦ integer p 10 (45 ∷ []) (digits 10 (c ∷ cs)) | false ↦ token cs K.Minus p ]
-    ]
-
--- behind a `0` that opens the number
-unfoldable pub zero-turn : Place → List Ch → Turn
-unfolding digits
-zero-turn p cs =
-    elim (eqb (look cs) 120) [
-      | true ↦ integer p 16 [] (digits 16 (drop-one cs))
-      | false ↦ elim (eqb (look cs) 98) [ true ↦ integer p 2 [] (digits 2 (drop-one cs)) | false ↦ integer p 10 [] (digits 10 cs) ]
-    ]
-
--- what a character begins
+-- what a character begins, by the one behind it
 pub data Class : Type 0 where
   Foreign White Comment Pair Symbol Quote Word Dash Zero Digit Unknown : Class
 
@@ -238,8 +231,8 @@ unfoldable pub class : ℕ → ℕ → Class
 unfolding first pair symbol
 class c d =
     first
-    ((ltb 127 c ⇒ Foreign) ∷ (is-white c ⇒ White) ∷ ((eqb c 47 && eqb d 47) ⇒ Comment) ∷ (ltb 0 (pair c d) ⇒ Pair) ∷ (ltb 0 (symbol c) ⇒ Symbol) ∷ (eqb c 34 ⇒ Quote) ∷
-    (is-letter c ⇒ Word) ∷ (eqb c 45 ⇒ Dash) ∷ (eqb c 48 ⇒ Zero) ∷ (is-digit c ⇒ Digit) ∷ [])
+    ((ltb 127 c ⇒ Foreign) ∷ (is-white c ⇒ White) ∷ ((eqb c (char "/") && eqb d (char "/")) ⇒ Comment) ∷ (ltb 0 (pair c d) ⇒ Pair) ∷ (ltb 0 (symbol c) ⇒ Symbol) ∷
+    (eqb c (char "\"") ⇒ Quote) ∷ (is-letter c ⇒ Word) ∷ (eqb c (char "-") ⇒ Dash) ∷ (eqb c (char "0") ⇒ Zero) ∷ (is-digit c ⇒ Digit) ∷ [])
     Unknown
 
 unfoldable pub turn : Ch → List Ch → Turn
@@ -264,21 +257,26 @@ turn c cs =
 pub data Tokens : Type 0 where
   tokens : List Tok → List Err → Tokens
   refused : ℕ → Tokens
-  stuck : Tokens
 
-unfoldable pub tokenize-from : ℕ → List Ch → List Tok → List Err → Tokens
+-- At most `most` tokens and 255 errors, in at most n turns. Each turn passes a character, so a turn for each and one more are enough: `refused 0` is met by no script (proofs/Tokens.antt).
+unfoldable pub tokenize-from : ℕ → ℕ → List Ch → List Tok → List Err → Tokens
 unfolding turn
-tokenize-from zero cs ts es = stuck
-tokenize-from (suc n) [] ts es = tokens ts es
-tokenize-from (suc n) (c ∷ cs) ts es =
+tokenize-from most zero cs ts es = refused 0
+tokenize-from most (suc n) [] ts es = tokens ts es
+tokenize-from most (suc n) (c ∷ cs) ts es =
     elim (turn c cs) [
       | refused k ↦ refused k
-      | goes cs′ es′ ts′ ↦ elim (leb (length (es ++ es′)) 255) [
+      | goes cs′ es′ ts′ ↦ elim (leb (length es + length es′) 255) [
         | false ↦ refused 7
-        | true ↦ elim (leb (length (ts ++ ts′)) 2048) [ false ↦ refused 6 | true ↦ tokenize-from n cs′ (ts ++ ts′) (es ++ es′) ]
+        | true ↦ elim (leb (length ts + length ts′) most) [ false ↦ refused 6 | true ↦ tokenize-from most n cs′ (ts ++ ts′) (es ++ es′) ]
       ]
     ]
 
-unfoldable pub tokenize : List Ch → Tokens
+-- where at most so many tokens are allowed
+unfoldable pub tokenize-within : ℕ → List Ch → Tokens
 unfolding tokenize-from
-tokenize cs = tokenize-from (suc (length cs)) cs [] []
+tokenize-within most cs = tokenize-from most (suc (length cs)) cs [] []
+
+unfoldable pub tokenize : List Ch → Tokens
+unfolding tokenize-within
+tokenize cs = tokenize-within 2048 cs

@@ -5,7 +5,7 @@ use Prim.Native.Nat.{ℕ, suc, _+_, _≤_, _<_}
 use native.Mathlib.Numerals.{add-one}
 use lib.ListN.{length, take, set, length-map}
 use lib.Seq.{take-suc-set, length-take-le}
-use Rattle.definition.specs.Bytes.{Err}
+use Rattle.definition.specs.Fallible.{Err}
 use Rattle.fallible.specs.Rep.{unpack, errs}
 
 -- the front up to n, stored at n: one more

@@ -10,9 +10,11 @@ use lib.ListN.{length, take, drop, getD, length-drop}
 use lib.Seq.{length-take-le}
 use borrow.Author.Tests.{eq-eqb, ne-eqb, lt-ltb, le-ltb}
 use Rattle.definition.specs.Kind as K
-use Rattle.definition.specs.Bytes.{Place, Rec, Err, recs-bytes}
+use Rattle.definition.specs.Source.{Place}
+use Rattle.definition.specs.Node.{Rec, recs-bytes}
+use Rattle.definition.specs.Fallible.{Err, Fallible, Ans, ok, fatal}
 use Rattle.definition.specs.Token.{Tok, head, tail, _is_, end-token}
-use Rattle.definition.specs.Act.{Fallible, Ans, ok, fatal, Node, Goal, Loop, Left, Role, plain, Act, done, make, Consumed, St, Res, gives, refused, run, advance, push, now-read}
+use Rattle.definition.specs.Act.{Node, Goal, Loop, Left, Role, plain, Act, done, make, Consumed, St, Res, gives, refused, run, advance, push, now-read}
 use Rattle.definition.specs.Parser as P
 use Rattle.fallible.specs.declared.State.{State}
 use Rattle.fallible.specs.declared.Front.{Front}

@@ -4,9 +4,11 @@ use mathlib.Core.Bool.{Bool, true, false}
 use mathlib.Core.List.{List, [], _∷_, _++_, map}
 use Prim.Native.Nat.{ℕ, zero, suc, min, _+_, _*_, _-_, _/_, _%_, _<_, _≤_}
 use lib.ListN.{length, take, drop, getD}
-use Rattle.definition.specs.Bytes.{Place, Rec, Err, recs-bytes}
+use Rattle.definition.specs.Source.{Place}
+use Rattle.definition.specs.Node.{Rec, recs-bytes}
+use Rattle.definition.specs.Fallible.{Err, Fallible, Ans, ok, fatal}
 use Rattle.definition.specs.Token.{Tok, head, tail}
-use Rattle.definition.specs.Act.{Fallible, Ans, ok, fatal, Node, Items, Goal, Loop, Left, Role, Consumed, St, Res, gives, refused, run}
+use Rattle.definition.specs.Act.{Node, Items, Goal, Loop, Left, Role, Consumed, St, Res, gives, refused, run}
 use Rattle.definition.specs.Parser as P
 use Rattle.fallible.specs.declared.State.{State}
 use Rattle.fallible.specs.declared.Front.{Front}

@@ -7,7 +7,7 @@ use native.Mathlib.Nat.{add-zero}
 use native.Mathlib.Omega.{arith}
 use lib.ListN.{length, take, drop, getD, set, length-set, length-drop, length-append}
 use lib.Seq.{take-suc-set, take-suc, getD-drop, length-take-le}
-use Rattle.definition.specs.Bytes.{u16, u64, byte, two, eight, rec-bytes, nums-bytes}
+use Rattle.definition.specs.Node.{u16, u64, byte, two, eight, rec-bytes, nums-bytes}
 use Rattle.node.specs.Put.{Grew, Copying, Wrote, opened, made, placeless}
 
 -- one byte

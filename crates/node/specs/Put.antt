@@ -6,7 +6,8 @@ use mathlib.Core.List.{List, [], _∷_, _++_}
 use Prim.Native.Nat.{ℕ, zero, suc, _+_, _*_, _-_, _<_, _≤_}
 use lib.Dec.{eqb}
 use lib.ListN.{length, take, drop, getD}
-use Rattle.definition.specs.Bytes.{Place, Num, byte, two, eight, Rec, u16, rec-bytes}
+use Rattle.definition.specs.Source.{Place}
+use Rattle.definition.specs.Node.{Num, byte, two, eight, Rec, u16, rec-bytes}
 
 -- behind what stands up to p, the bytes bs are written; they are k, and end at q
 pub record Grew (o : List ℕ) (p : ℕ) (bs : List ℕ) (k : ℕ) (o′ : List ℕ) (q : ℕ) : Type 0 where

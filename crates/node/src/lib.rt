@@ -3,7 +3,7 @@ ghost use mathlib.Core.Path.{_≡_};
 ghost use mathlib.Core.List.{List, [], _∷_, _++_};
 ghost use Prim.Native.Nat.{ℕ, _+_, _*_, _-_, _/_, _%_, _<_, _≤_};
 ghost use lib.ListN.{length, take, drop, getD};
-ghost use Rattle.definition.specs.Bytes.{u16, u64, byte, two, eight};
+ghost use Rattle.definition.specs.Node.{u16, u64, byte, two, eight};
 ghost use Rattle.node.specs.Put.{Grew, Wrote, Room, opened, made, placeless};
 
 pub fn one(file: &mut [u8], pos: usize, b: u8) -> usize

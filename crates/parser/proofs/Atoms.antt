@@ -11,9 +11,11 @@ use lib.Dec.{ltb, eqb}
 use lib.Seq.{take-append-le, take-all, take-take, length-take-le}
 use types.Run.{OneOf}
 use denote.Enum.Declared.{tagOf}
-use Rattle.definition.specs.Bytes.{Place, Rec, Num, byte, two, eight, Err, rec-bytes, recs-bytes}
+use Rattle.definition.specs.Source.{Place}
+use Rattle.definition.specs.Node.{Rec, Num, byte, two, eight, rec-bytes, recs-bytes}
+use Rattle.definition.specs.Fallible.{Err, Fallible, Ans, ok, fatal}
 use Rattle.definition.specs.Token.{Tok, head, tail, number}
-use Rattle.definition.specs.Act.{Fallible, Ans, ok, fatal, Node, Items, Goal, Type', Listed, Parameters, StructFields, Loop, ListOf, Left, Role, plain, size, Act, done, loop, call, make, Consumed, St, Res, gives, refused, stuck, after, run, advance, push, now-read, or-return, _>>=_, _>>?_}
+use Rattle.definition.specs.Act.{Node, Items, Goal, Type', Listed, Parameters, StructFields, Loop, ListOf, Left, Role, plain, size, Act, done, loop, call, make, Consumed, St, Res, gives, refused, after, run, advance, push, now-read, or-return, _>>=_, _>>?_}
 use Rattle.definition.specs.Parser as P
 use Rattle.definition.specs.Go.{go, turns}
 use Rattle.definition.proofs.Flat.{go-loop, go-call, go-rule, go-bind}
@@ -32,7 +34,7 @@ use Rattle.parser.specs.Post.{AskedBare, unfit, name-of, typed-recs, cal
 use Rattle.parser.proofs.Steps.{recs-append, put, expected, is-good, cut-stops, within, raised, go-same, raised-went, raised-on, wrote, bare-tree, bare-errs, say, good-of, stops, goes, down, none-left, not-done, done-le, errs-take}
 use Rattle.definition.specs.Ascii.{ascii}
 use Rattle.definition.specs.Parser.{parse}
-use Rattle.definition.specs.Utf8.{pick}
+use Rattle.definition.specs.Choice.{pick}
 use Rattle.definition.specs.Kind as K
 use borrow.Author.Tests.{eq-eqb, ne-eqb, lt-ltb, le-ltb}
 use Rattle.parser.specs.declared.Item.{Item}

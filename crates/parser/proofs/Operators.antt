@@ -6,7 +6,8 @@ use Prim.Native.Nat.{ℕ, zero, suc, _+_, _-_, _≤_, _<_}
 use native.Mathlib.Omega.{arith}
 use borrow.Author.Tests.{eq-eqb, ne-eqb}
 use Rattle.definition.specs.Token.{Tok}
-use Rattle.definition.specs.Act.{Ans, Node, Act, run}
+use Rattle.definition.specs.Fallible.{Ans}
+use Rattle.definition.specs.Act.{Node, Act, run}
 use Rattle.definition.specs.Act as A
 use Rattle.definition.specs.Parser as P
 use Rattle.parser.specs.declared.Level.{Level}

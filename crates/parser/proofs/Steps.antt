@@ -11,9 +11,11 @@ use lib.Seq.{take-take, take-append-le, length-take-le}
 use borrow.Author.Tests.{eq-eqb, ne-eqb, lt-ltb, le-ltb}
 use types.Run.{OneOf}
 use denote.Enum.Declared.{tagOf}
-use Rattle.definition.specs.Bytes.{Place, Rec, Num, Err, rec-bytes, recs-bytes}
+use Rattle.definition.specs.Source.{Place}
+use Rattle.definition.specs.Node.{Rec, Num, rec-bytes, recs-bytes}
+use Rattle.definition.specs.Fallible.{Err, Fallible, Ans, ok, fatal}
 use Rattle.definition.specs.Token.{Tok, head, tail}
-use Rattle.definition.specs.Act.{Fallible, Ans, ok, fatal, Node, Goal, Type', Loop, Left, Role, plain, Act, done, call, make, Consumed, St, Res, gives, refused, stuck, after, run, advance, push, now-read, or-return, _>>=_, _>>?_}
+use Rattle.definition.specs.Act.{Node, Goal, Type', Loop, Left, Role, plain, Act, done, call, make, Consumed, St, Res, gives, refused, after, run, advance, push, now-read, or-return, _>>=_, _>>?_}
 use Rattle.definition.specs.Parser as P
 use Rattle.definition.specs.Parser.{parse, rule}
 use Rattle.definition.specs.Go.{go, turns}

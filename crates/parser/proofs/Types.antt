@@ -10,9 +10,11 @@ use lib.ListN.{length, take, drop, length-append}
 use lib.Seq.{take-append-le, take-all, length-take-le}
 use types.Run.{OneOf}
 use denote.Enum.Declared.{tagOf}
-use Rattle.definition.specs.Bytes.{Place, Rec, Num, byte, two, eight, Err, rec-bytes, recs-bytes}
+use Rattle.definition.specs.Source.{Place}
+use Rattle.definition.specs.Node.{Rec, Num, byte, two, eight, rec-bytes, recs-bytes}
+use Rattle.definition.specs.Fallible.{Err, Fallible, Ans, ok, fatal}
 use Rattle.definition.specs.Token.{Tok, head, tail, number}
-use Rattle.definition.specs.Act.{Fallible, Ans, ok, fatal, Node, Items, Goal, Type', Listed, StructFields, Loop, Left, Role, plain, size, Act, done, call, make, Consumed, St, Res, gives, refused, stuck, after, run, advance, push, now-read, or-return, _>>=_, _>>?_}
+use Rattle.definition.specs.Act.{Node, Items, Goal, Type', Listed, StructFields, Loop, Left, Role, plain, size, Act, done, call, make, Consumed, St, Res, gives, refused, after, run, advance, push, now-read, or-return, _>>=_, _>>?_}
 use Rattle.definition.specs.Parser as P
 use Rattle.definition.specs.Go.{go, turns}
 use Rattle.definition.proofs.Flat.{go-loop, go-call, go-rule, go-bind}

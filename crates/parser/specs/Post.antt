@@ -5,12 +5,14 @@ use mathlib.Core.List.{List, [], _∷_, _++_}
 use Prim.Native.Nat.{ℕ, zero, suc, min, _+_, _*_, _-_, _^_, _<_, _≤_}
 use lib.ListN.{length, take, drop}
 use Rattle.definition.specs.Ascii.{ascii}
-use Rattle.definition.specs.Utf8.{pick}
+use Rattle.definition.specs.Choice.{pick}
 use Rattle.definition.specs.Kind as K
-use Rattle.definition.specs.Bytes.{Place, Rec, Err, recs-bytes, rec-bytes}
+use Rattle.definition.specs.Source.{Place}
+use Rattle.definition.specs.Node.{Rec, recs-bytes, rec-bytes}
+use Rattle.definition.specs.Fallible.{Err, Fallible, Ans, ok, fatal}
 use Rattle.definition.specs.Token.{Tok, head, tail, dashed, number}
 use lib.Dec.{eqb, ltb}
-use Rattle.definition.specs.Act.{Fallible, Ans, ok, fatal, Node, Items, Goal, Listed, Parameters, StructFields, Loop, ListOf, Casts, after, or-return, Left, Role, Consumed, Act, done, loop, St, Res, gives, refused, run}
+use Rattle.definition.specs.Act.{Node, Items, Goal, Listed, Parameters, StructFields, Loop, ListOf, Casts, after, or-return, Left, Role, Consumed, Act, done, loop, St, Res, gives, refused, run}
 use Rattle.definition.specs.Parser as P
 use Rattle.definition.specs.Act as A
 use Rattle.parser.specs.declared.Level.{Level}

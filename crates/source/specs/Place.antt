@@ -6,8 +6,8 @@ use mathlib.Core.Option.{Option, none, some}
 use Prim.Native.Nat.{ℕ, zero, suc, _+_, _-_, _<_, _≤_}
 use lib.Dec.{eqb, ltb, leb}
 use lib.ListN.{length, getD, take, drop}
-use Rattle.definition.specs.Bytes.{Place}
-use Rattle.definition.specs.Utf8.{Ch, Lead, single, with-more, wrong, lead, pick, after, decode, fresh, characters}
+use Rattle.definition.specs.Source.{Place, Ch, Lead, single, with-more, wrong, lead, after, decode, fresh, characters}
+use Rattle.definition.specs.Choice.{pick}
 use Rattle.source.specs.declared.Need.{Need}
 use Rattle.source.specs.declared.Cursor.{Cursor}
 

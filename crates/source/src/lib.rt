@@ -2,7 +2,7 @@
 ghost use mathlib.Core.Path.{_≡_};
 ghost use Prim.Native.Nat.{_+_, _<_, _≤_};
 ghost use lib.ListN.{length, getD};
-ghost use Rattle.definition.specs.Utf8.{lead};
+ghost use Rattle.definition.specs.Source.{lead};
 ghost use Rattle.source.specs.Place.{needOf, nextNeed, more, utf8, Stands, Stepped};
 
 // What a byte must be: how many are missing of a character (0 between two, 9 where the bytes are wrong), and the next one's bounds.

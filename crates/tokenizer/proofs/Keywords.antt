@@ -4,7 +4,7 @@ use mathlib.Core.Bool.{Bool, true, false}
 use mathlib.Core.List.{List, [], _∷_}
 use Prim.Native.Nat.{ℕ}
 use native.Mathlib.Omega.{arith}
-use Rattle.definition.specs.Utf8.{pick, first}
+use Rattle.definition.specs.Choice.{pick, first}
 use Rattle.definition.specs.Ascii.{ascii}
 use Rattle.definition.specs.Tokenizer.{keyword, same}
 

@@ -9,8 +9,10 @@ use borrow.Author.Tests.{leb-true, leb-false, lt-ltb, le-ltb, le-leb, lt-leb, eq
 use lib.Dec.{eqb, ltb, leb}
 use lib.ListN.{length, getD, take, drop, set, length-append, length-take, length-drop, length-set, drop-of-length-le}
 use lib.Seq.{take-suc, take-suc-set, drop-cons, getD-drop, length-take-le}
-use Rattle.definition.specs.Utf8.{Ch, lead, pick}
-use Rattle.definition.specs.Tokenizer.{Span, ahead, is-white, is-letter, is-digit, is-digit-of, comment, digits, assembly}
+use Rattle.definition.specs.Source.{Ch, lead}
+use Rattle.definition.specs.Choice.{pick}
+use Rattle.definition.specs.Classes.{is-white, is-letter, is-digit, is-digit-of}
+use Rattle.definition.specs.Tokenizer.{Span, ahead, comment, digits, assembly}
 use Rattle.definition.specs.Tokenizer as Z
 use Rattle.source.specs.declared.Cursor.{Cursor}
 use Rattle.source.specs.Place.{Stands, Stepped, rest, char, more}

@@ -7,9 +7,10 @@ use Prim.Native.Nat.{ℕ, zero, suc, _+_, _-_, _*_, _<_, _≤_}
 use native.Mathlib.Omega.{arith}
 use borrow.Author.Tests.{ne-eqb}
 use lib.ListN.{length, getD}
-use Rattle.definition.specs.Bytes.{Place, Err}
+use Rattle.definition.specs.Source.{Place, Ch}
+use Rattle.definition.specs.Fallible.{Err}
 use Rattle.definition.specs.Token.{Tok}
-use Rattle.definition.specs.Utf8.{Ch, pick}
+use Rattle.definition.specs.Choice.{pick}
 use Rattle.definition.specs.Tokenizer.{Turn, goes, refused, copies, Class, Foreign, White, Comment, Pair, Symbol, Quote, Word, Dash, Zero, Digit, Unknown}
 use Rattle.definition.specs.Tokenizer as Z
 use Rattle.source.specs.declared.Cursor.{Cursor}

@@ -9,8 +9,9 @@ use borrow.Author.Tests.{leb-true, lt-ltb, le-ltb, le-leb, lt-leb, eq-eqb, ne-eq
 use lib.Dec.{eqb, ltb, leb}
 use lib.ListN.{length, getD, take, drop, length-drop, drop-of-length-le}
 use lib.Seq.{drop-cons}
-use Rattle.definition.specs.Utf8.{pick}
+use Rattle.definition.specs.Choice.{pick}
 use Rattle.definition.specs.Token.{dashed}
+use Rattle.definition.specs.Classes as C
 use Rattle.definition.specs.Tokenizer as Z
 use Rattle.source.specs.Place.{utf8}
 use Rattle.tokenizer.specs.declared.Part.{Part}
@@ -34,14 +35,14 @@ pub dg-start : {p : List ℕ} {from base : ℕ} → from < length p → Digiting
 dg-start h = record { some = h; high = omega arith; is = refl }
 
 module _ {p : List ℕ} {from base i : ℕ} (q : Digiting p from base i) where
-  pub dg-more : i < length p → Z.is-digit-of base (getD p i 0) ≡ true → Digiting p from base (i + 1)
+  pub dg-more : i < length p → C.is-digit-of base (getD p i 0) ≡ true → Digiting p from base (i + 1)
   unfolding all-digits
   dg-more h e = record { some = q .some; high = omega arith; is = rw add-one (ap (λ (t : Bool). t && all-digits base (drop (suc i) p)) (sym e) ∙ rw (drop-cons p i 0 h) at (q .is)) }
 
   whole : some-digits base (drop from p) ≡ all-digits base (drop from p)
   whole = ap (λ (t : Bool). t && all-digits base (drop from p)) (lt-ltb 0 (length (drop from p)) (omega (arith, length-drop from p, q .some)))
 
-  pub dg-fail : i < length p → Z.is-digit-of base (getD p i 0) ≡ false → false ≡ some-digits base (drop from p)
+  pub dg-fail : i < length p → C.is-digit-of base (getD p i 0) ≡ false → false ≡ some-digits base (drop from p)
   unfolding all-digits
   dg-fail h e = sym (ap (λ (t : Bool). t && all-digits base (drop (suc i) p)) e) ∙ rw (drop-cons p i 0 h) at (q .is) ∙ sym whole
 
@@ -116,10 +117,10 @@ unfoldable l5 : List ℕ → List ℕ → ℕ → List ℕ
 l5 T X at = pick (base-ok (getD T (8 * at) 0) (getD T (8 * at + 5) 0)) (l6 T X at) []
 
 unfoldable l4 : List ℕ → List ℕ → ℕ → List ℕ
-l4 T X at = pick (Z.within 1 16384 (getD T (8 * at + 2) 0)) (l5 T X at) []
+l4 T X at = pick (C.between 1 16384 (getD T (8 * at + 2) 0)) (l5 T X at) []
 
 unfoldable l3 : List ℕ → List ℕ → ℕ → List ℕ
-l3 T X at = pick (Z.within 1 16384 (getD T (8 * at + 1) 0)) (l4 T X at) []
+l3 T X at = pick (C.between 1 16384 (getD T (8 * at + 1) 0)) (l4 T X at) []
 
 unfoldable l2 : List ℕ → List ℕ → ℕ → List ℕ
 l2 T X at = pick (texted (getD T (8 * at) 0)) (l3 T X at) []
@@ -148,21 +149,21 @@ module _ (T X : List ℕ) (at : ℕ) where
   unfolding l2
   no2 e = pick-no (texted (getD T (8 * at) 0)) (l3 T X at) [] (e)
 
-  go3 : Z.within 1 16384 (getD T (8 * at + 1) 0) ≡ true → l3 T X at ≡ l4 T X at
+  go3 : C.between 1 16384 (getD T (8 * at + 1) 0) ≡ true → l3 T X at ≡ l4 T X at
   unfolding l3
-  go3 e = pick-yes (Z.within 1 16384 (getD T (8 * at + 1) 0)) (l4 T X at) [] (e)
+  go3 e = pick-yes (C.between 1 16384 (getD T (8 * at + 1) 0)) (l4 T X at) [] (e)
 
-  no3 : Z.within 1 16384 (getD T (8 * at + 1) 0) ≡ false → l3 T X at ≡ []
+  no3 : C.between 1 16384 (getD T (8 * at + 1) 0) ≡ false → l3 T X at ≡ []
   unfolding l3
-  no3 e = pick-no (Z.within 1 16384 (getD T (8 * at + 1) 0)) (l4 T X at) [] (e)
+  no3 e = pick-no (C.between 1 16384 (getD T (8 * at + 1) 0)) (l4 T X at) [] (e)
 
-  go4 : Z.within 1 16384 (getD T (8 * at + 2) 0) ≡ true → l4 T X at ≡ l5 T X at
+  go4 : C.between 1 16384 (getD T (8 * at + 2) 0) ≡ true → l4 T X at ≡ l5 T X at
   unfolding l4
-  go4 e = pick-yes (Z.within 1 16384 (getD T (8 * at + 2) 0)) (l5 T X at) [] (e)
+  go4 e = pick-yes (C.between 1 16384 (getD T (8 * at + 2) 0)) (l5 T X at) [] (e)
 
-  no4 : Z.within 1 16384 (getD T (8 * at + 2) 0) ≡ false → l4 T X at ≡ []
+  no4 : C.between 1 16384 (getD T (8 * at + 2) 0) ≡ false → l4 T X at ≡ []
   unfolding l4
-  no4 e = pick-no (Z.within 1 16384 (getD T (8 * at + 2) 0)) (l5 T X at) [] (e)
+  no4 e = pick-no (C.between 1 16384 (getD T (8 * at + 2) 0)) (l5 T X at) [] (e)
 
   go5 : base-ok (getD T (8 * at) 0) (getD T (8 * at + 5) 0) ≡ true → l5 T X at ≡ l6 T X at
   unfolding l5
@@ -226,33 +227,33 @@ module _ (T X : List ℕ) (at : ℕ) where
   pub tx2 : (e1 : leb (length T / 8) at ≡ false) (e2 : texted (getD T (8 * at) 0) ≡ false) → Parted X (text-of T X at) (record { start = 0; end = 0 })
   tx2 e1 e2 = nothing-there (all-levels ∙ go1 e1 ∙ no2 e2)
 
-  pub tx3 : (e1 : leb (length T / 8) at ≡ false) (e2 : texted (getD T (8 * at) 0) ≡ true) (e3 : Z.within 1 16384 (getD T (8 * at + 1) 0) ≡ false) → Parted X (text-of T X at) (record { start = 0; end = 0 })
+  pub tx3 : (e1 : leb (length T / 8) at ≡ false) (e2 : texted (getD T (8 * at) 0) ≡ true) (e3 : C.between 1 16384 (getD T (8 * at + 1) 0) ≡ false) → Parted X (text-of T X at) (record { start = 0; end = 0 })
   tx3 e1 e2 e3 = nothing-there (all-levels ∙ go1 e1 ∙ go2 e2 ∙ no3 e3)
 
-  pub tx4 : (e1 : leb (length T / 8) at ≡ false) (e2 : texted (getD T (8 * at) 0) ≡ true) (e3 : Z.within 1 16384 (getD T (8 * at + 1) 0) ≡ true) (e4 : Z.within 1 16384 (getD T (8 * at + 2) 0) ≡ false) → Parted X (text-of T X at) (record { start = 0; end = 0 })
+  pub tx4 : (e1 : leb (length T / 8) at ≡ false) (e2 : texted (getD T (8 * at) 0) ≡ true) (e3 : C.between 1 16384 (getD T (8 * at + 1) 0) ≡ true) (e4 : C.between 1 16384 (getD T (8 * at + 2) 0) ≡ false) → Parted X (text-of T X at) (record { start = 0; end = 0 })
   tx4 e1 e2 e3 e4 = nothing-there (all-levels ∙ go1 e1 ∙ go2 e2 ∙ go3 e3 ∙ no4 e4)
 
-  pub tx5 : (e1 : leb (length T / 8) at ≡ false) (e2 : texted (getD T (8 * at) 0) ≡ true) (e3 : Z.within 1 16384 (getD T (8 * at + 1) 0) ≡ true) (e4 : Z.within 1 16384 (getD T (8 * at + 2) 0) ≡ true) (e5 : base-ok (getD T (8 * at) 0) (getD T (8 * at + 5) 0) ≡ false) → Parted X (text-of T X at) (record { start = 0; end = 0 })
+  pub tx5 : (e1 : leb (length T / 8) at ≡ false) (e2 : texted (getD T (8 * at) 0) ≡ true) (e3 : C.between 1 16384 (getD T (8 * at + 1) 0) ≡ true) (e4 : C.between 1 16384 (getD T (8 * at + 2) 0) ≡ true) (e5 : base-ok (getD T (8 * at) 0) (getD T (8 * at + 5) 0) ≡ false) → Parted X (text-of T X at) (record { start = 0; end = 0 })
   tx5 e1 e2 e3 e4 e5 = nothing-there (all-levels ∙ go1 e1 ∙ go2 e2 ∙ go3 e3 ∙ go4 e4 ∙ no5 e5)
 
-  pub tx6 : (e1 : leb (length T / 8) at ≡ false) (e2 : texted (getD T (8 * at) 0) ≡ true) (e3 : Z.within 1 16384 (getD T (8 * at + 1) 0) ≡ true) (e4 : Z.within 1 16384 (getD T (8 * at + 2) 0) ≡ true) (e5 : base-ok (getD T (8 * at) 0) (getD T (8 * at + 5) 0) ≡ true) (e6 : eqb (getD T (8 * at + 6) 0) 0 ≡ false) → Parted X (text-of T X at) (record { start = 0; end = 0 })
+  pub tx6 : (e1 : leb (length T / 8) at ≡ false) (e2 : texted (getD T (8 * at) 0) ≡ true) (e3 : C.between 1 16384 (getD T (8 * at + 1) 0) ≡ true) (e4 : C.between 1 16384 (getD T (8 * at + 2) 0) ≡ true) (e5 : base-ok (getD T (8 * at) 0) (getD T (8 * at + 5) 0) ≡ true) (e6 : eqb (getD T (8 * at + 6) 0) 0 ≡ false) → Parted X (text-of T X at) (record { start = 0; end = 0 })
   tx6 e1 e2 e3 e4 e5 e6 = nothing-there (all-levels ∙ go1 e1 ∙ go2 e2 ∙ go3 e3 ∙ go4 e4 ∙ go5 e5 ∙ no6 e6)
 
-  pub tx7 : (e1 : leb (length T / 8) at ≡ false) (e2 : texted (getD T (8 * at) 0) ≡ true) (e3 : Z.within 1 16384 (getD T (8 * at + 1) 0) ≡ true) (e4 : Z.within 1 16384 (getD T (8 * at + 2) 0) ≡ true) (e5 : base-ok (getD T (8 * at) 0) (getD T (8 * at + 5) 0) ≡ true) (e6 : eqb (getD T (8 * at + 6) 0) 0 ≡ true) (e7 : eqb (getD T (8 * at + 7) 0) 0 ≡ false) → Parted X (text-of T X at) (record { start = 0; end = 0 })
+  pub tx7 : (e1 : leb (length T / 8) at ≡ false) (e2 : texted (getD T (8 * at) 0) ≡ true) (e3 : C.between 1 16384 (getD T (8 * at + 1) 0) ≡ true) (e4 : C.between 1 16384 (getD T (8 * at + 2) 0) ≡ true) (e5 : base-ok (getD T (8 * at) 0) (getD T (8 * at + 5) 0) ≡ true) (e6 : eqb (getD T (8 * at + 6) 0) 0 ≡ true) (e7 : eqb (getD T (8 * at + 7) 0) 0 ≡ false) → Parted X (text-of T X at) (record { start = 0; end = 0 })
   tx7 e1 e2 e3 e4 e5 e6 e7 = nothing-there (all-levels ∙ go1 e1 ∙ go2 e2 ∙ go3 e3 ∙ go4 e4 ∙ go5 e5 ∙ go6 e6 ∙ no7 e7)
 
-  pub tx8 : (e1 : leb (length T / 8) at ≡ false) (e2 : texted (getD T (8 * at) 0) ≡ true) (e3 : Z.within 1 16384 (getD T (8 * at + 1) 0) ≡ true) (e4 : Z.within 1 16384 (getD T (8 * at + 2) 0) ≡ true) (e5 : base-ok (getD T (8 * at) 0) (getD T (8 * at + 5) 0) ≡ true) (e6 : eqb (getD T (8 * at + 6) 0) 0 ≡ true) (e7 : eqb (getD T (8 * at + 7) 0) 0 ≡ true) (e8 : leb (getD T (8 * at + 3) 0 + getD T (8 * at + 4) 0) 16384 ≡ false) → Parted X (text-of T X at) (record { start = 0; end = 0 })
+  pub tx8 : (e1 : leb (length T / 8) at ≡ false) (e2 : texted (getD T (8 * at) 0) ≡ true) (e3 : C.between 1 16384 (getD T (8 * at + 1) 0) ≡ true) (e4 : C.between 1 16384 (getD T (8 * at + 2) 0) ≡ true) (e5 : base-ok (getD T (8 * at) 0) (getD T (8 * at + 5) 0) ≡ true) (e6 : eqb (getD T (8 * at + 6) 0) 0 ≡ true) (e7 : eqb (getD T (8 * at + 7) 0) 0 ≡ true) (e8 : leb (getD T (8 * at + 3) 0 + getD T (8 * at + 4) 0) 16384 ≡ false) → Parted X (text-of T X at) (record { start = 0; end = 0 })
   tx8 e1 e2 e3 e4 e5 e6 e7 e8 = nothing-there (all-levels ∙ go1 e1 ∙ go2 e2 ∙ go3 e3 ∙ go4 e4 ∙ go5 e5 ∙ go6 e6 ∙ go7 e7 ∙ no8 e8)
 
-  pub tx9 : (e1 : leb (length T / 8) at ≡ false) (e2 : texted (getD T (8 * at) 0) ≡ true) (e3 : Z.within 1 16384 (getD T (8 * at + 1) 0) ≡ true) (e4 : Z.within 1 16384 (getD T (8 * at + 2) 0) ≡ true) (e5 : base-ok (getD T (8 * at) 0) (getD T (8 * at + 5) 0) ≡ true) (e6 : eqb (getD T (8 * at + 6) 0) 0 ≡ true) (e7 : eqb (getD T (8 * at + 7) 0) 0 ≡ true) (e8 : leb (getD T (8 * at + 3) 0 + getD T (8 * at + 4) 0) 16384 ≡ true) (e9 : leb (getD T (8 * at + 3) 0 + getD T (8 * at + 4) 0) (length X) ≡ false) → Parted X (text-of T X at) (record { start = 0; end = 0 })
+  pub tx9 : (e1 : leb (length T / 8) at ≡ false) (e2 : texted (getD T (8 * at) 0) ≡ true) (e3 : C.between 1 16384 (getD T (8 * at + 1) 0) ≡ true) (e4 : C.between 1 16384 (getD T (8 * at + 2) 0) ≡ true) (e5 : base-ok (getD T (8 * at) 0) (getD T (8 * at + 5) 0) ≡ true) (e6 : eqb (getD T (8 * at + 6) 0) 0 ≡ true) (e7 : eqb (getD T (8 * at + 7) 0) 0 ≡ true) (e8 : leb (getD T (8 * at + 3) 0 + getD T (8 * at + 4) 0) 16384 ≡ true) (e9 : leb (getD T (8 * at + 3) 0 + getD T (8 * at + 4) 0) (length X) ≡ false) → Parted X (text-of T X at) (record { start = 0; end = 0 })
   tx9 e1 e2 e3 e4 e5 e6 e7 e8 e9 = nothing-there (all-levels ∙ go1 e1 ∙ go2 e2 ∙ go3 e3 ∙ go4 e4 ∙ go5 e5 ∙ go6 e6 ∙ go7 e7 ∙ go8 e8 ∙ no9 e9)
 
-  pub tx10 : (e1 : leb (length T / 8) at ≡ false) (e2 : texted (getD T (8 * at) 0) ≡ true) (e3 : Z.within 1 16384 (getD T (8 * at + 1) 0) ≡ true) (e4 : Z.within 1 16384 (getD T (8 * at + 2) 0) ≡ true) (e5 : base-ok (getD T (8 * at) 0) (getD T (8 * at + 5) 0) ≡ true) (e6 : eqb (getD T (8 * at + 6) 0) 0 ≡ true) (e7 : eqb (getD T (8 * at + 7) 0) 0 ≡ true) (e8 : leb (getD T (8 * at + 3) 0 + getD T (8 * at + 4) 0) 16384 ≡ true) (e9 : leb (getD T (8 * at + 3) 0 + getD T (8 * at + 4) 0) (length X) ≡ true) (e10 : utf8 (sliced T X at) ≡ false) → Parted X (text-of T X at) (record { start = 0; end = 0 })
+  pub tx10 : (e1 : leb (length T / 8) at ≡ false) (e2 : texted (getD T (8 * at) 0) ≡ true) (e3 : C.between 1 16384 (getD T (8 * at + 1) 0) ≡ true) (e4 : C.between 1 16384 (getD T (8 * at + 2) 0) ≡ true) (e5 : base-ok (getD T (8 * at) 0) (getD T (8 * at + 5) 0) ≡ true) (e6 : eqb (getD T (8 * at + 6) 0) 0 ≡ true) (e7 : eqb (getD T (8 * at + 7) 0) 0 ≡ true) (e8 : leb (getD T (8 * at + 3) 0 + getD T (8 * at + 4) 0) 16384 ≡ true) (e9 : leb (getD T (8 * at + 3) 0 + getD T (8 * at + 4) 0) (length X) ≡ true) (e10 : utf8 (sliced T X at) ≡ false) → Parted X (text-of T X at) (record { start = 0; end = 0 })
   tx10 e1 e2 e3 e4 e5 e6 e7 e8 e9 e10 = nothing-there (all-levels ∙ go1 e1 ∙ go2 e2 ∙ go3 e3 ∙ go4 e4 ∙ go5 e5 ∙ go6 e6 ∙ go7 e7 ∙ go8 e8 ∙ go9 e9 ∙ no10 e10)
 
-  pub tx11 : (e1 : leb (length T / 8) at ≡ false) (e2 : texted (getD T (8 * at) 0) ≡ true) (e3 : Z.within 1 16384 (getD T (8 * at + 1) 0) ≡ true) (e4 : Z.within 1 16384 (getD T (8 * at + 2) 0) ≡ true) (e5 : base-ok (getD T (8 * at) 0) (getD T (8 * at + 5) 0) ≡ true) (e6 : eqb (getD T (8 * at + 6) 0) 0 ≡ true) (e7 : eqb (getD T (8 * at + 7) 0) 0 ≡ true) (e8 : leb (getD T (8 * at + 3) 0 + getD T (8 * at + 4) 0) 16384 ≡ true) (e9 : leb (getD T (8 * at + 3) 0 + getD T (8 * at + 4) 0) (length X) ≡ true) (e10 : utf8 (sliced T X at) ≡ true) (e11 : number-ok (getD T (8 * at) 0) (getD T (8 * at + 5) 0) (sliced T X at) ≡ false) → Parted X (text-of T X at) (record { start = 0; end = 0 })
+  pub tx11 : (e1 : leb (length T / 8) at ≡ false) (e2 : texted (getD T (8 * at) 0) ≡ true) (e3 : C.between 1 16384 (getD T (8 * at + 1) 0) ≡ true) (e4 : C.between 1 16384 (getD T (8 * at + 2) 0) ≡ true) (e5 : base-ok (getD T (8 * at) 0) (getD T (8 * at + 5) 0) ≡ true) (e6 : eqb (getD T (8 * at + 6) 0) 0 ≡ true) (e7 : eqb (getD T (8 * at + 7) 0) 0 ≡ true) (e8 : leb (getD T (8 * at + 3) 0 + getD T (8 * at + 4) 0) 16384 ≡ true) (e9 : leb (getD T (8 * at + 3) 0 + getD T (8 * at + 4) 0) (length X) ≡ true) (e10 : utf8 (sliced T X at) ≡ true) (e11 : number-ok (getD T (8 * at) 0) (getD T (8 * at + 5) 0) (sliced T X at) ≡ false) → Parted X (text-of T X at) (record { start = 0; end = 0 })
   tx11 e1 e2 e3 e4 e5 e6 e7 e8 e9 e10 e11 = nothing-there (all-levels ∙ go1 e1 ∙ go2 e2 ∙ go3 e3 ∙ go4 e4 ∙ go5 e5 ∙ go6 e6 ∙ go7 e7 ∙ go8 e8 ∙ go9 e9 ∙ go10 e10 ∙ no11 e11)
 
-  pub tx12 : (e1 : leb (length T / 8) at ≡ false) (e2 : texted (getD T (8 * at) 0) ≡ true) (e3 : Z.within 1 16384 (getD T (8 * at + 1) 0) ≡ true) (e4 : Z.within 1 16384 (getD T (8 * at + 2) 0) ≡ true) (e5 : base-ok (getD T (8 * at) 0) (getD T (8 * at + 5) 0) ≡ true) (e6 : eqb (getD T (8 * at + 6) 0) 0 ≡ true) (e7 : eqb (getD T (8 * at + 7) 0) 0 ≡ true) (e8 : leb (getD T (8 * at + 3) 0 + getD T (8 * at + 4) 0) 16384 ≡ true) (e9 : leb (getD T (8 * at + 3) 0 + getD T (8 * at + 4) 0) (length X) ≡ true) (e10 : utf8 (sliced T X at) ≡ true) (e11 : number-ok (getD T (8 * at) 0) (getD T (8 * at + 5) 0) (sliced T X at) ≡ true) → Parted X (text-of T X at) (record { start = getD T (8 * at + 3) 0; end = getD T (8 * at + 3) 0 + getD T (8 * at + 4) 0 })
+  pub tx12 : (e1 : leb (length T / 8) at ≡ false) (e2 : texted (getD T (8 * at) 0) ≡ true) (e3 : C.between 1 16384 (getD T (8 * at + 1) 0) ≡ true) (e4 : C.between 1 16384 (getD T (8 * at + 2) 0) ≡ true) (e5 : base-ok (getD T (8 * at) 0) (getD T (8 * at + 5) 0) ≡ true) (e6 : eqb (getD T (8 * at + 6) 0) 0 ≡ true) (e7 : eqb (getD T (8 * at + 7) 0) 0 ≡ true) (e8 : leb (getD T (8 * at + 3) 0 + getD T (8 * at + 4) 0) 16384 ≡ true) (e9 : leb (getD T (8 * at + 3) 0 + getD T (8 * at + 4) 0) (length X) ≡ true) (e10 : utf8 (sliced T X at) ≡ true) (e11 : number-ok (getD T (8 * at) 0) (getD T (8 * at + 5) 0) (sliced T X at) ≡ true) → Parted X (text-of T X at) (record { start = getD T (8 * at + 3) 0; end = getD T (8 * at + 3) 0 + getD T (8 * at + 4) 0 })
   unfolding l12
   tx12 e1 e2 e3 e4 e5 e6 e7 e8 e9 e10 e11 = record { low = omega arith; high = omega (arith, leb-true (getD T (8 * at + 3) 0 + getD T (8 * at + 4) 0) (length X) e9); is = sym (all-levels ∙ go1 e1 ∙ go2 e2 ∙ go3 e3 ∙ go4 e4 ∙ go5 e5 ∙ go6 e6 ∙ go7 e7 ∙ go8 e8 ∙ go9 e9 ∙ go10 e10 ∙ go11 e11 ∙ sliced-is T X at) }

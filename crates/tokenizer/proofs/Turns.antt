@@ -10,10 +10,12 @@ use borrow.Author.Tests.{ltb-true, ltb-false, leb-true, leb-false, lt-ltb, le-lt
 use lib.Dec.{eqb, ltb, leb}
 use lib.ListN.{length, getD, take, drop, set, length-append, length-take, length-drop}
 use lib.Seq.{take-add, drop-at, take-take, take-append-le, length-take-le}
-use Rattle.definition.specs.Bytes.{Place, Err}
+use Rattle.definition.specs.Source.{Place, Ch, lead}
+use Rattle.definition.specs.Fallible.{Err}
 use Rattle.definition.specs.Token.{Tok}
-use Rattle.definition.specs.Utf8.{Ch, lead, pick}
+use Rattle.definition.specs.Choice.{pick}
 use Rattle.definition.specs.Tokenizer.{Span, Turn, goes, refused, copies}
+use Rattle.definition.specs.Classes as C
 use Rattle.definition.specs.Tokenizer as Z
 use Rattle.source.specs.declared.Cursor.{Cursor}
 use Rattle.source.specs.Place.{Stands, Stepped, rest, char, more}
@@ -359,11 +361,11 @@ dash-arrow : (p : Place) (c : Ch) (cs : List Ch) → c .byte ≡ 62 → Z.dash-t
 unfolding Z.dash-turn
 dash-arrow p c cs e = rw (eq-eqb _ _ e, Z.dash-turn)
 
-dash-digit : (p : Place) (c : Ch) (cs : List Ch) → (c .byte ≡ 62 → ⊥) → Z.is-digit (c .byte) ≡ true → Z.dash-turn p (c ∷ cs) ≡ Z.integer p 10 (45 ∷ []) (Z.digits 10 (c ∷ cs))
+dash-digit : (p : Place) (c : Ch) (cs : List Ch) → (c .byte ≡ 62 → ⊥) → C.is-digit (c .byte) ≡ true → Z.dash-turn p (c ∷ cs) ≡ Z.integer p 10 (45 ∷ []) (Z.digits 10 (c ∷ cs))
 unfolding Z.dash-turn
 dash-digit p c cs e f = rw (ne-eqb _ _ e, f, Z.dash-turn)
 
-dash-minus : (p : Place) (c : Ch) (cs : List Ch) → (c .byte ≡ 62 → ⊥) → Z.is-digit (c .byte) ≡ false → Z.dash-turn p (c ∷ cs) ≡ Z.token cs 23 p
+dash-minus : (p : Place) (c : Ch) (cs : List Ch) → (c .byte ≡ 62 → ⊥) → C.is-digit (c .byte) ≡ false → Z.dash-turn p (c ∷ cs) ≡ Z.token cs 23 p
 unfolding Z.dash-turn
 dash-minus p c cs e f = rw (ne-eqb _ _ e, f, Z.dash-turn)
 
@@ -378,10 +380,10 @@ module _ {s : List ℕ} {st : State} {T X : List ℕ} {l c : ℕ} {r : State} {T
   pub dt-arrow : {d : Cursor} → Few st → st .text ≤ st .cursor .at → Stepped s (st .cursor) d → getD s (st .cursor .at) 0 ≡ 62 → TokPushed T (at-cursor st d) (51 ∷ l ∷ c ∷ 0 ∷ 0 ∷ 0 ∷ 0 ∷ 0 ∷ []) T′ r → (E : List ℕ) → Turned (Z.dash-turn (spot l c) (rest s (st .cursor))) s st T E X r T′ E X
   dt-arrow {d} w h z e g E = plain-law w h (record { stands = z .stands; is = refl; forward = omega (arith, z .wide); shorter = omega (arith, ap length (z .chars)) }) (ap (Z.dash-turn (spot l c)) (z .chars) ∙ dash-arrow _ _ _ e) refl g
 
-  pub dt-minus : {d : Cursor} → Few st → st .text ≤ st .cursor .at → Stepped s (st .cursor) d → (getD s (st .cursor .at) 0 ≡ 62 → ⊥) → Z.is-digit (getD s (st .cursor .at) 0) ≡ false → TokPushed T (at-cursor st d) (23 ∷ l ∷ c ∷ 0 ∷ 0 ∷ 0 ∷ 0 ∷ 0 ∷ []) T′ r → (E : List ℕ) → Turned (Z.dash-turn (spot l c) (rest s (st .cursor))) s st T E X r T′ E X
+  pub dt-minus : {d : Cursor} → Few st → st .text ≤ st .cursor .at → Stepped s (st .cursor) d → (getD s (st .cursor .at) 0 ≡ 62 → ⊥) → C.is-digit (getD s (st .cursor .at) 0) ≡ false → TokPushed T (at-cursor st d) (23 ∷ l ∷ c ∷ 0 ∷ 0 ∷ 0 ∷ 0 ∷ 0 ∷ []) T′ r → (E : List ℕ) → Turned (Z.dash-turn (spot l c) (rest s (st .cursor))) s st T E X r T′ E X
   dt-minus {d} w h z e f g E = plain-law w h (record { stands = z .stands; is = refl; forward = omega (arith, z .wide); shorter = omega (arith, ap length (z .chars)) }) (ap (Z.dash-turn (spot l c)) (z .chars) ∙ dash-minus _ _ _ e f) refl g
 
-  pub dt-digit : {X′ : List ℕ} {d : Cursor} → Stepped s (st .cursor) d → (getD s (st .cursor .at) 0 ≡ 62 → ⊥) → Z.is-digit (getD s (st .cursor .at) 0) ≡ true → ((E : List ℕ) → Turned (Z.integer (spot l c) 10 (45 ∷ []) (Z.digits 10 (rest s (st .cursor)))) s st T E X r T′ E X′) → (E : List ℕ) → Turned (Z.dash-turn (spot l c) (rest s (st .cursor))) s st T E X r T′ E X′
+  pub dt-digit : {X′ : List ℕ} {d : Cursor} → Stepped s (st .cursor) d → (getD s (st .cursor .at) 0 ≡ 62 → ⊥) → C.is-digit (getD s (st .cursor .at) 0) ≡ true → ((E : List ℕ) → Turned (Z.integer (spot l c) 10 (45 ∷ []) (Z.digits 10 (rest s (st .cursor)))) s st T E X r T′ E X′) → (E : List ℕ) → Turned (Z.dash-turn (spot l c) (rest s (st .cursor))) s st T E X r T′ E X′
   dt-digit z e f g E = tn-same (ap (Z.dash-turn (spot l c)) (z .chars) ∙ dash-digit _ _ _ e f ∙ ap (λ (cs : List Ch). Z.integer (spot l c) 10 (45 ∷ []) (Z.digits 10 cs)) (sym (z .chars))) (g E)
 
 -- ---- runs that may meet a character above 127
@@ -390,7 +392,7 @@ abbrev run-of : Bool → Span → Z.Run
 run-of true s = Z.foreign
 run-of false s = Z.ends s
 
-above-white : (b : ℕ) → 127 < b → Z.is-white b ≡ false
+above-white : (b : ℕ) → 127 < b → C.is-white b ≡ false
 above-white b h = simp (le-leb 9 b (omega arith), lt-leb b 13 (omega arith), ne-eqb b 32 (λ e. omega arith))
 
 above-word : (b : ℕ) → 127 < b → wordly b ≡ false
@@ -399,9 +401,9 @@ above-word b h = simp (le-leb 65 b (omega arith), lt-leb b 90 (omega arith), le-
 white-runs : (cs : List Ch) → Z.white cs ≡ run-of (ltb 127 (Z.look (blanks cs))) (record { text = []; rest = blanks cs })
 unfolding Z.white blanks
 white-runs [] = refl
-white-runs (c ∷ cs) = go (white-runs cs) (ltb 127 (c .byte)) refl (Z.is-white (c .byte)) refl
+white-runs (c ∷ cs) = go (white-runs cs) (ltb 127 (c .byte)) refl (C.is-white (c .byte)) refl
   where
-    go : Z.white cs ≡ run-of (ltb 127 (Z.look (blanks cs))) (record { text = []; rest = blanks cs }) → (t : Bool) → ltb 127 (c .byte) ≡ t → (u : Bool) → Z.is-white (c .byte) ≡ u →
+    go : Z.white cs ≡ run-of (ltb 127 (Z.look (blanks cs))) (record { text = []; rest = blanks cs }) → (t : Bool) → ltb 127 (c .byte) ≡ t → (u : Bool) → C.is-white (c .byte) ≡ u →
         (elim t as (λ _. Z.Run) [ true ↦ Z.foreign | false ↦ elim u as (λ _. Z.Run) [ true ↦ Z.white cs | false ↦ Z.ends (record { text = []; rest = c ∷ cs }) ] ])
         ≡ run-of (ltb 127 (Z.look (elim u as (λ _. List Ch) [ true ↦ blanks cs | false ↦ c ∷ cs ]))) (record { text = []; rest = elim u as (λ _. List Ch) [ true ↦ blanks cs | false ↦ c ∷ cs ] })
     go ih true e true f = absurd (let z : true ≡ false = sym f ∙ above-white (c .byte) (ltb-true _ _ e) in let y : _≡_ {A = ℕ} 0 1 = cc in omega arith)

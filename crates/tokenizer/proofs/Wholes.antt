@@ -11,9 +11,10 @@ use borrow.Author.Tests.{lt-ltb, le-ltb, le-leb, lt-leb}
 use lib.Dec.{eqb, ltb, leb}
 use lib.ListN.{length, getD, take, drop, set, replicate, length-append, length-take, length-drop, length-set, length-replicate, replicate-append-replicate, drop-of-length-le, take-append-drop}
 use lib.Seq.{drop-cons, set-at, length-take-le, take-all}
-use Rattle.definition.specs.Bytes.{Place, Err}
+use Rattle.definition.specs.Source.{Place, Ch, characters, decode, fresh}
+use Rattle.definition.specs.Fallible.{Err}
 use Rattle.definition.specs.Token.{Tok}
-use Rattle.definition.specs.Utf8.{Ch, pick, characters, decode, fresh}
+use Rattle.definition.specs.Choice.{pick}
 use Rattle.definition.specs.Tokenizer.{Turn, goes}
 use Rattle.definition.specs.Tokenizer as Z
 use Rattle.source.specs.declared.Cursor.{Cursor}

@@ -5,8 +5,11 @@ use mathlib.Core.List.{List, [], _∷_, _++_}
 use Prim.Native.Nat.{ℕ, zero, suc, _+_, _-_, _<_, _≤_}
 use lib.Dec.{eqb, ltb, leb}
 use lib.ListN.{length, getD, take, drop}
-use Rattle.definition.specs.Utf8.{Ch, first, _⇒_, pick}
-use Rattle.definition.specs.Tokenizer.{Span, ahead, Class, is-letter, is-digit, is-white, Foreign, White, Comment, Pair, Symbol, Quote, Word, Dash, Zero, Digit, Unknown}
+use Rattle.definition.specs.Source.{Ch}
+use Rattle.definition.specs.Choice.{first, _⇒_, pick}
+use Rattle.definition.specs.Classes.{is-letter, is-digit, is-white}
+use Rattle.definition.specs.Tokenizer.{Span, ahead, Class, Foreign, White, Comment, Pair, Symbol, Quote, Word, Dash, Zero, Digit, Unknown}
+use Rattle.definition.specs.Classes as C
 use Rattle.definition.specs.Tokenizer as Z
 use Rattle.source.specs.Place.{Stands, rest}
 use Rattle.source.specs.declared.Cursor.{Cursor}
@@ -19,7 +22,7 @@ cls k =
     (pick (eqb k 6) Word (pick (eqb k 7) Dash (pick (eqb k 8) Zero (pick (eqb k 9) Digit Unknown)))))))))
 
 abbrev pub hex : ℕ → Bool
-hex c = is-digit c || Z.within 65 70 c || Z.within 97 102 c
+hex c = is-digit c || C.between 65 70 c || C.between 97 102 c
 
 abbrev pub wordly : ℕ → Bool
 wordly c = is-letter c || is-digit c

@@ -5,8 +5,9 @@ use mathlib.Core.List.{List, [], _∷_, _++_}
 use Prim.Native.Nat.{ℕ, zero, suc, _+_, _-_, _*_, _/_, _<_, _≤_}
 use lib.Dec.{eqb, ltb, leb}
 use lib.ListN.{length, getD, take, drop}
-use Rattle.definition.specs.Utf8.{pick}
+use Rattle.definition.specs.Choice.{pick}
 use Rattle.definition.specs.Token.{dashed}
+use Rattle.definition.specs.Classes as C
 use Rattle.definition.specs.Tokenizer as Z
 use Rattle.source.specs.Place.{utf8}
 use Rattle.tokenizer.specs.declared.Part.{Part}
@@ -17,7 +18,7 @@ base-ok k b = pick (eqb k 2) (eqb b 2 || eqb b 10 || eqb b 16) (eqb b 0)
 
 unfoldable pub all-digits : ℕ → List ℕ → Bool
 all-digits base [] = true
-all-digits base (c ∷ cs) = Z.is-digit-of base c && all-digits base cs
+all-digits base (c ∷ cs) = C.is-digit-of base c && all-digits base cs
 
 abbrev pub some-digits : ℕ → List ℕ → Bool
 some-digits base ds = ltb 0 (length ds) && all-digits base ds
@@ -34,8 +35,8 @@ unfoldable pub text-of : List ℕ → List ℕ → ℕ → List ℕ
 text-of T X at =
     pick (leb (length T / 8) at) []
     (pick (texted (getD T (8 * at) 0))
-    (pick (Z.within 1 16384 (getD T (8 * at + 1) 0))
-    (pick (Z.within 1 16384 (getD T (8 * at + 2) 0))
+    (pick (C.between 1 16384 (getD T (8 * at + 1) 0))
+    (pick (C.between 1 16384 (getD T (8 * at + 2) 0))
     (pick (base-ok (getD T (8 * at) 0) (getD T (8 * at + 5) 0))
     (pick (eqb (getD T (8 * at + 6) 0) 0)
     (pick (eqb (getD T (8 * at + 7) 0) 0)

@@ -5,7 +5,7 @@ use mathlib.Core.Option.{Option, none, some}
 use Prim.Native.Nat.{ℕ}
 use Prim.Native.String.{String}
 use Rattle.definition.specs.Ascii.{ascii}
-use Rattle.definition.specs.Utf8.{Ch, characters}
+use Rattle.definition.specs.Source.{Ch, characters}
 use Rattle.definition.specs.Tokenizer as Z
 use Rattle.tokenizer.specs.Turn.{words, texts, err-words}
 

@@ -6,9 +6,10 @@ use mathlib.Core.List.{List, [], _∷_, _++_}
 use Prim.Native.Nat.{ℕ, zero, suc, _+_, _-_, _*_, _<_, _≤_}
 use lib.Dec.{eqb, ltb, leb}
 use lib.ListN.{length, getD, take, drop}
-use Rattle.definition.specs.Bytes.{Place, Err}
+use Rattle.definition.specs.Source.{Place, Ch}
+use Rattle.definition.specs.Fallible.{Err}
 use Rattle.definition.specs.Token.{Tok}
-use Rattle.definition.specs.Utf8.{Ch, pick}
+use Rattle.definition.specs.Choice.{pick}
 use Rattle.definition.specs.Tokenizer.{Turn, goes, refused, copies, token-error, turn}
 use Rattle.source.specs.Place.{Stands, rest}
 use Rattle.source.specs.declared.Cursor.{Cursor}

@@ -7,9 +7,10 @@ use mathlib.Core.Option.{Option, none, some}
 use Prim.Native.Nat.{ℕ, _+_, _-_, _*_, _<_, _≤_}
 use lib.Dec.{eqb, ltb, leb}
 use lib.ListN.{length, take, replicate}
-use Rattle.definition.specs.Bytes.{Err}
+use Rattle.definition.specs.Fallible.{Err}
 use Rattle.definition.specs.Token.{Tok}
-use Rattle.definition.specs.Utf8.{Ch, pick, characters}
+use Rattle.definition.specs.Source.{Ch, characters}
+use Rattle.definition.specs.Choice.{pick}
 use Rattle.definition.specs.Tokenizer as Z
 use Rattle.source.specs.Place.{Stands, rest}
 use Rattle.tokenizer.specs.declared.State.{State}

@@ -7,10 +7,11 @@ ghost use mathlib.Core.Path.{_≡_};
 ghost use mathlib.Core.List.{List, [], _∷_, _++_};
 ghost use Prim.Native.Nat.{ℕ, _+_, _*_, _-_, _<_, _≤_};
 ghost use lib.ListN.{length, getD, take, drop, replicate};
+ghost use Rattle.definition.specs.Classes as C;
 ghost use Rattle.definition.specs.Tokenizer as Z;
 ghost use Rattle.source.specs.Place.{Stands, rest, origin};
 ghost use Rattle.tokenizer.specs.Scan.{cls, hex, wordly, slashed, Wrote, Asks, Spanned, Passes, Passed, letters, blanks, escaped, QuotedAs};
-ghost use Rattle.definition.specs.Bytes.{Place};
+ghost use Rattle.definition.specs.Source.{Place};
 ghost use Rattle.definition.specs.Token.{Tok};
 ghost use Rattle.tokenizer.specs.Turn.{texted, words, err-words, texts, spot, tok-words, at-cursor, at-text, ErrPushed, TokPushed, Few, Turned, Taken, turn-of};
 ghost use Rattle.tokenizer.specs.Whole.{Ran, Cleared, out, tokenised};
@@ -19,7 +20,7 @@ ghost use Rattle.tokenizer.specs.Text.{base-ok, some-digits, number-ok, 
 // ---- classes of characters
 
 fn is_white(c: u8) -> bool
-    ensures { λ r. ⌜ r ≡ Z.is-white c ⌝ }
+    ensures { λ r. ⌜ r ≡ C.is-white c ⌝ }
 {
     if c < 9 {
         return false;
@@ -31,7 +32,7 @@ fn is_white(c: u8) -> bool
 }
 
 fn is_digit(c: u8) -> bool
-    ensures { λ r. ⌜ r ≡ Z.is-digit c ⌝ }
+    ensures { λ r. ⌜ r ≡ C.is-digit c ⌝ }
 {
     if c < 48 {
         return false;
@@ -40,7 +41,7 @@ fn is_digit(c: u8) -> bool
 }
 
 fn is_letter(c: u8) -> bool
-    ensures { λ r. ⌜ r ≡ Z.is-letter c ⌝ }
+    ensures { λ r. ⌜ r ≡ C.is-letter c ⌝ }
 {
     if c < 65 {
         return false;
@@ -61,7 +62,7 @@ fn is_letter(c: u8) -> bool
 }
 
 fn is_binary(c: u8) -> bool
-    ensures { λ r. ⌜ r ≡ Z.within 48 49 c ⌝ }
+    ensures { λ r. ⌜ r ≡ C.between 48 49 c ⌝ }
 {
     if c < 48 {
         return false;
@@ -91,7 +92,7 @@ fn is_hex(c: u8) -> bool
 }
 
 fn is_digit_of(base: u32, c: u8) -> bool
-    ensures { λ r. ⌜ r ≡ Z.is-digit-of base c ⌝ }
+    ensures { λ r. ⌜ r ≡ C.is-digit-of base c ⌝ }
 {
     if base == 2 {
         return is_binary(c);
@@ -1189,7 +1190,7 @@ pub fn tokenize(script: &[u8], tokens: &mut [u32], errors: &mut [u32], text: &mu
 
 // A line or a column of a record.
 fn in_bounds(x: u32) -> bool
-    ensures { λ r. ⌜ r ≡ Z.within 1 16384 x ⌝ }
+    ensures { λ r. ⌜ r ≡ C.between 1 16384 x ⌝ }
 {
     if x < 1 {
         return false;

@@ -1,6 +1,7 @@
 use borrow.Author.Needs.{needs}
 use native.Mathlib.Omega.{arith}
-use Rattle.definition.specs.Utf8.{lead, first}
+use Rattle.definition.specs.Source.{lead}
+use Rattle.definition.specs.Choice.{first}
 use borrow.Author.Tests.{lt-ltb, le-ltb, eq-eqb, ne-eqb}
 use Rattle.source.proofs.lead_need.Statement.{statement}
 use Rattle.source.proofs.lead_need.Tie as tie

@@ -1,7 +1,7 @@
 use native.Mathlib.Omega.{arith}
 use mathlib.Core.Path.{sym, _∙_}
 use borrow.Author.Tests.{lt-ltb, le-ltb, le-leb, lt-leb, eq-eqb, ne-eqb}
-use Rattle.definition.specs.Utf8.{first}
+use Rattle.definition.specs.Choice.{first}
 use Rattle.definition.specs.Tokenizer as Z
 use borrow.Author.Needs.{needs}
 use Rattle.tokenizer.proofs.class.Statement.{statement}

@@ -1,6 +1,6 @@
 use borrow.Author.Needs.{needs}
 use native.Mathlib.Omega.{arith}
-use Rattle.definition.specs.Utf8.{first}
+use Rattle.definition.specs.Choice.{first}
 use Rattle.definition.specs.Tokenizer.{symbol, pair, class, keyword, same}
 use borrow.Author.Tests.{lt-ltb, le-ltb, le-leb, lt-leb, eq-eqb, ne-eqb}
 use Rattle.tokenizer.proofs.pair.Statement.{statement}

@@ -1,0 +1,125 @@
+-- The operations: for all that is handed in, the number, the counts and each slice at exit. Token text stands in Records.antt. Assumes nothing.
+use mathlib.Core.Bool.{Bool, true, false, _&&_}
+use mathlib.Core.List.{List, [], _∷_, _++_}
+use mathlib.Core.Option.{Option, none, some}
+use Prim.Native.Nat.{ℕ, zero, suc, _*_, _-_}
+use lib.Dec.{ltb, leb}
+use lib.ListN.{length, replicate}
+use Rattle.definition.specs.Source.{Ch, nowhere, characters}
+use Rattle.definition.specs.Node.{u16, field, recs-bytes}
+use Rattle.definition.specs.Fallible.{Err, errs-bytes}
+use Rattle.definition.specs.Token.{Tok}
+use Rattle.definition.specs.Tokenizer as Z
+use Rattle.definition.specs.Tokenizer.{tokenize}
+use Rattle.definition.specs.Act as A
+use Rattle.definition.specs.Act.{Items}
+use Rattle.definition.specs.Parser.{parse-module}
+use Rattle.definition.specs.Records.{tokens-words, tokens-text, errors-words, tokens-of, errors-of}
+
+-- a slice of n words or bytes: what is written, then zeros
+abbrev pub filled : ℕ → List ℕ → List ℕ
+filled n xs = xs ++ replicate (n - length xs) 0
+
+-- ---- Tokenise
+
+-- the number, the counts of tokens, token errors and text bytes, and the three slices
+pub record Tokenised : Type 0 where
+  pub number : ℕ
+  pub tokens : ℕ
+  pub errors : ℕ
+  pub bytes : ℕ
+  pub toks : List ℕ
+  pub errs : List ℕ
+  pub text : List ℕ
+
+abbrev pub untouched : ℕ → List ℕ → List ℕ → List ℕ → Tokenised
+untouched k T E X = record { number = k; tokens = 0; errors = 0; bytes = 0; toks = T; errs = E; text = X }
+
+abbrev pub tokenised : List ℕ → List ℕ → List ℕ → Z.Tokens → Tokenised
+tokenised T E X (Z.tokens ts es) = record { number = 0; tokens = length ts; errors = length es; bytes = length (tokens-text ts); toks = filled (length T) (tokens-words 0 ts); errs = filled (length E) (errors-words es); text = filled (length X) (tokens-text ts) }
+tokenised T E X (Z.refused k) = record { number = k; tokens = 0; errors = 0; bytes = 0; toks = filled (length T) []; errs = filled (length E) []; text = filled (length X) [] }
+
+unfoldable pub tokenise : List ℕ → List ℕ → List ℕ → List ℕ → Tokenised
+unfolding characters tokenize tokens-words tokens-text errors-words
+tokenise s T E X =
+    elim (ltb 16384 (length s)) [
+      | true ↦ untouched 1 T E X
+      | false ↦ elim (characters s) [
+        | none ↦ untouched 2 T E X
+        | some cs ↦ elim (leb 16384 (length T) && leb 1024 (length E) && leb 16384 (length X)) [ true ↦ tokenised T E X (tokenize cs) | false ↦ untouched 3 T E X ]
+      ]
+    ]
+
+-- ---- Read
+
+pub data Outcome : Type 0 where
+  file : List ℕ → Outcome
+  refused : ℕ → Outcome
+
+-- the tree, the token errors, the reported errors, the full list
+unfoldable pub file-bytes : List Err → Items → List Err → List ℕ
+unfolding recs-bytes errs-bytes
+file-bytes es i full = recs-bytes (i .recs) ++ field 0x5F (u16 (i .count)) ++ errs-bytes 0x62 es ++ errs-bytes 0x60 (i .errors) ++ errs-bytes 0x61 full
+
+unfoldable pub read-tokens : List Tok → List Err → Outcome
+unfolding parse-module file-bytes
+read-tokens [] es = refused 9
+read-tokens (t ∷ ts) es = elim (parse-module (t ∷ ts)) [ A.gives i s ↦ file (file-bytes es i (s .full)) | A.refused n ↦ refused n ]
+
+-- the number, the count of file bytes, and the file slice
+pub record Written : Type 0 where
+  pub number : ℕ
+  pub bytes : ℕ
+  pub file : List ℕ
+
+-- refused before any work
+abbrev pub kept : ℕ → List ℕ → Written
+kept n o = record { number = n; bytes = 0; file = o }
+
+abbrev pub written : List ℕ → Outcome → Written
+written o (file f) = record { number = 0; bytes = length f; file = filled (length o) f }
+written o (refused n) = record { number = n; bytes = 0; file = filled (length o) [] }
+
+-- what is handed in, if it is there and each record is good
+pub record Handed : Type 0 where
+  pub tokens : List Tok
+  pub errors : List Err
+
+abbrev pub both : Option (List Tok) → Option (List Err) → Option Handed
+both none es = none
+both (some ts) none = none
+both (some ts) (some es) = some (record { tokens = ts; errors = es })
+
+unfoldable pub handed : List ℕ → ℕ → List ℕ → ℕ → List ℕ → Option Handed
+unfolding tokens-of errors-of
+handed T n E m X =
+    elim (leb n 2048 && leb m 255 && leb (8 * n) (length T) && leb (4 * m) (length E)) [ true ↦ both (tokens-of T X nowhere 0 0 n) (errors-of E 0 m) | false ↦ none ]
+
+-- with no tokens the slice is still untouched
+abbrev pub read-handed : List ℕ → List Tok → List Err → Written
+read-handed o [] es = kept 9 o
+read-handed o (t ∷ ts) es = written o (read-tokens (t ∷ ts) es)
+
+-- the token slice and its count, the error slice and its count, the text slice, the file slice
+unfoldable pub read : List ℕ → ℕ → List ℕ → ℕ → List ℕ → List ℕ → Written
+unfolding handed read-tokens
+read T n E m X o =
+    elim (ltb (length o) 65536) [
+      | true ↦ kept 3 o
+      | false ↦ elim (handed T n E m X) [ none ↦ kept 8 o | some h ↦ read-handed o (h .tokens) (h .errors) ]
+    ]
+
+-- ---- the whole operation
+
+abbrev pub read-tokenised : Z.Tokens → Outcome
+read-tokenised (Z.tokens ts es) = read-tokens ts es
+read-tokenised (Z.refused n) = refused n
+
+-- the script, the file slice
+unfoldable pub whole : List ℕ → List ℕ → Written
+unfolding characters tokenize read-tokens
+whole s o =
+    elim (ltb 16384 (length s)) [
+      | true ↦ kept 1 o
+      | false ↦ elim (characters s) [ none ↦ kept 2 o | some cs ↦ elim (ltb (length o) 65536) [ true ↦ kept 3 o | false ↦ written o (read-tokenised (tokenize cs)) ] ]
+    ]

@@ -1,0 +1,90 @@
+-- `source.rs`, and what Rust's `str` gives it: places, UTF-8 (RFC 3629), and a script's characters with their places. Assumes nothing.
+use mathlib.Core.Bool.{Bool, true, false, _&&_}
+use mathlib.Core.List.{List, [], _∷_, _++_}
+use mathlib.Core.Option.{Option, none, some}
+use Prim.Native.Nat.{ℕ, zero, suc, pred}
+use lib.Dec.{eqb, ltb, leb}
+use Rattle.definition.specs.Choice.{_⇒_, pick, first}
+
+-- ---- places
+
+-- `SourceLocation`: line and column, both from 1
+pub record Place : Type 0 where
+  pub line : ℕ
+  pub column : ℕ
+
+-- `SourceLocation::stub()`, the place of an error at the end of the input
+abbrev pub nowhere : Place
+nowhere = record { line = 0; column = 0 }
+
+-- the place behind the character that begins with the byte b; a newline belongs to the line it ends
+abbrev pub after : ℕ → Place → Place
+after b p = pick (eqb b 10) (record { line = suc (p .line); column = 1 }) (record { line = p .line; column = suc (p .column) })
+
+-- ---- characters
+
+-- A character: its first byte, which is above 127 just where the character is, its other bytes, its place
+pub record Ch : Type 0 where
+  pub byte : ℕ
+  pub more : List ℕ
+  pub place : Place
+
+-- What a first byte asks for: how many more bytes, and the bounds of the next of them; those behind that are 128 to 191
+pub data Lead : Type 0 where
+  single : Lead
+  with-more : ℕ → ℕ → ℕ → Lead
+  wrong : Lead
+
+unfoldable pub lead : ℕ → Lead
+unfolding first
+lead b =
+    first
+    ((ltb b 0x80 ⇒ single) ∷ (ltb b 0xC2 ⇒ wrong) ∷ (ltb b 0xE0 ⇒ with-more 1 0x80 0xBF) ∷ (eqb b 0xE0 ⇒ with-more 2 0xA0 0xBF) ∷ (eqb b 0xED ⇒ with-more 2 0x80 0x9F) ∷
+    (ltb b 0xF0 ⇒ with-more 2 0x80 0xBF) ∷ (eqb b 0xF0 ⇒ with-more 3 0x90 0xBF) ∷ (ltb b 0xF4 ⇒ with-more 3 0x80 0xBF) ∷ (eqb b 0xF4 ⇒ with-more 3 0x80 0x8F) ∷ [])
+    wrong
+
+-- Between two characters; or within one: its first byte, those read since, how many are missing, the bounds of the next
+pub data Pending : Type 0 where
+  fresh : Pending
+  within : ℕ → List ℕ → ℕ → ℕ → ℕ → Pending
+
+abbrev pub and-then : Ch → Option (List Ch) → Option (List Ch)
+and-then c none = none
+and-then c (some cs) = some (c ∷ cs)
+
+-- the characters that the bytes are, the next one at the place p
+unfoldable pub decode : Pending → Place → List ℕ → Option (List Ch)
+unfolding lead
+decode fresh p [] = some []
+decode (within l m n lo hi) p [] = none
+decode fresh p (b ∷ bs) =
+    elim (lead b) [
+      | single ↦ and-then (record { byte = b; more = []; place = p }) (decode fresh (after b p) bs)
+      | with-more n lo hi ↦ decode (within b [] n lo hi) p bs
+      | wrong ↦ none
+    ]
+decode (within l m n lo hi) p (b ∷ bs) =
+    elim (leb lo b && leb b hi) [
+      | true ↦ elim (leb n 1) [
+        | true ↦ and-then (record { byte = l; more = m ++ (b ∷ []); place = p }) (decode fresh (after l p) bs)
+        | false ↦ decode (within l (m ++ (b ∷ [])) (pred n) 0x80 0xBF) p bs
+      ]
+      | false ↦ none
+    ]
+
+-- where a script starts
+abbrev pub start : Place
+start = record { line = 1; column = 1 }
+
+-- `add_locations` of a script's characters, if the script is UTF-8
+unfoldable pub characters : List ℕ → Option (List Ch)
+unfolding decode
+characters bs = decode fresh start bs
+
+abbrev pub is-some : {A : Type 0} → Option A → Bool
+is-some none = false
+is-some (some a) = true
+
+unfoldable pub utf8 : List ℕ → Bool
+unfolding characters
+utf8 bs = is-some (characters bs)

@@ -1,0 +1,24 @@
+// The numbers of refusals.
+pub const SCRIPT_LENGTH: u32 = 1;
+
+pub const NOT_UTF8: u32 = 2;
+
+pub const SLICE_LENGTH: u32 = 3;
+
+pub const FOREIGN_CHARACTER: u32 = 4;
+
+pub const MINUS_AT_END: u32 = 5;
+
+pub const TOKENS: u32 = 6;
+
+pub const TOKEN_ERRORS: u32 = 7;
+
+pub const BAD_RECORD: u32 = 8;
+
+pub const NO_TOKENS: u32 = 9;
+
+pub const NESTING: u32 = 10;
+
+pub const END_AFTER_WORD: u32 = 11;
+
+pub const ERRORS: u32 = 12;
