@@ -21,7 +21,7 @@ use Rattle.definition.specs.Act as A
 use Rattle.definition.specs.Act.{Items, Res}
 use Rattle.definition.specs.Parser.{parse-module}
 use Rattle.definition.specs.Operations.{Outcome, file, refused, file-bytes, read-tokens}
-use Rattle.definition.proofs.Tests.{between-bounds}
+use Rattle.definition.proofs.Tests.{passed, between-bounds}
 use Rattle.definition.proofs.Characters.{Spelt, spelt}
 use Rattle.definition.proofs.Total.{Moves, module-moves}
 use Rattle.definition.proofs.Tokens.{TokensOf, script-tokens}
@@ -60,12 +60,12 @@ columns-count-characters s cs e = spelt-places cs 1 1 s (spelt s cs e)
 
 -- a script's characters are refused with 4 to 7
 pub tokenize-refuses : (s : List ℕ) (cs : List Ch) → length s ≤ 16384 → characters s ≡ some cs → (n : ℕ) → tokenize cs ≡ Z.refused n → (4 ≤ n) × (n ≤ 7)
-tokenize-refuses s cs h e n r = between-bounds 4 7 n (subst TokensOf r (script-tokens s cs h e))
+tokenize-refuses s cs h e n r = between-bounds 4 7 n (passed _ (subst TokensOf r (script-tokens s cs h e)))
 
 -- tokens are refused with 10 to 12
 pub read-refuses : (t : Tok) (ts : List Tok) (es : List Err) (n : ℕ) → read-tokens (t ∷ ts) es ≡ refused n → (10 ≤ n) × (n ≤ 12)
 unfolding read-tokens
-read-refuses t ts es n e = between-bounds 10 12 n (go (parse-module (t ∷ ts)) (module-moves (t ∷ ts)) e)
+read-refuses t ts es n e = between-bounds 10 12 n (passed _ (go (parse-module (t ∷ ts)) (module-moves (t ∷ ts)) e))
   where
     go : (r : Res Items) → Moves r → elim r as (λ _. Outcome) [ A.gives i s ↦ file (file-bytes es i (s .full)) | A.refused m ↦ refused m ] ≡ refused n → T (between 10 12 n)
     go (A.gives i s) m q = absurd (let z : _≡_ {A = ℕ} 0 1 = cc in omega arith)
