@@ -2,14 +2,11 @@
 use mathlib.Core.Path.{_≡_, refl, sym, ap, _∙_, subst}
 use mathlib.Core.Bool.{Bool, true, false, _&&_}
 use mathlib.Core.Option.{Option, none, some}
-use mathlib.Core.List.{List, [], _∷_, _++_, map}
-use Prim.Native.Nat.{ℕ, zero, suc, _+_, _≤_, _<_, pred}
-use native.Mathlib.Omega.{arith}
+use mathlib.Core.List.{List, [], _∷_, _++_}
+use Prim.Native.Nat.{ℕ, _<_, pred}
 use borrow.Author.Tests.{lt-ltb}
-use lib.Dec.{eqb, ltb, leb}
-use lib.ListN.{length, length-append}
+use lib.Dec.{leb}
 use lib.Seq.{append-snoc}
-use Rattle.definition.specs.Choice.{pick, first}
 use Rattle.definition.specs.Source.{Place, Ch, Lead, single, with-more, wrong, lead, after, Pending, fresh, within, and-then, decode, start, characters, is-some, utf8}
 
 -- ---- the bytes of a character

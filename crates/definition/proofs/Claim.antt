@@ -25,8 +25,7 @@ use Rattle.definition.proofs.Later.{toks}
 use Rattle.definition.proofs.Strip.{Norm, symbol, named, integer, sized, is-named, spelling, norm, strip}
 use Rattle.definition.proofs.Fit.{AllFit, clean-fit}
 use Rattle.definition.proofs.Inject.{same-tree, Both}
-use Rattle.definition.proofs.Formed.{Textless}
-use Rattle.definition.proofs.Tokens.{AllTextless}
+use Rattle.definition.proofs.Tokens.{Textless, AllTextless}
 use Rattle.definition.proofs.Accepted.{Accepted, accepted}
 use Rattle.definition.proofs.Room.{all-read, light}
 use Rattle.definition.proofs.Fields.{tree-of-file, entries-of-file}

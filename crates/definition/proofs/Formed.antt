@@ -1,14 +1,13 @@
 -- What is known of a token's kind, base and text: the rules of its record that ask for no other record and no place. Assumes nothing.
-use mathlib.Core.Path.{_≡_, refl, sym, ap, _∙_, subst}
+use mathlib.Core.Path.{_≡_, refl, sym, _∙_}
 use mathlib.Core.Bool.{Bool, true, false, _&&_, _||_}
-use mathlib.Core.List.{List, [], _∷_, _++_}
-use Prim.Native.Nat.{ℕ, zero, suc, _+_, _≤_, _<_}
+use mathlib.Core.List.{List, [], _∷_}
+use Prim.Native.Nat.{ℕ, _≤_, _<_}
 use native.Mathlib.Omega.{arith}
 use borrow.Author.Tests.{ne-eqb, lt-ltb, eqb-true, ltb-true}
-use lib.Dec.{eqb, ltb, leb}
+use lib.Dec.{eqb, ltb}
 use lib.ListN.{length}
-use Rattle.definition.specs.Ascii.{ascii}
-use Rattle.definition.specs.Choice.{pick, first}
+use Rattle.definition.specs.Choice.{pick}
 use Rattle.definition.specs.Classes as C
 use Rattle.definition.specs.Classes.{between}
 use Rattle.definition.specs.Kind as K
@@ -16,7 +15,7 @@ use Rattle.definition.specs.Source.{Place, Ch, utf8}
 use Rattle.definition.specs.Token.{Tok}
 use Rattle.definition.specs.Records.{has-text, base-fits, all-digits, integer-text}
 use Rattle.definition.specs.Tokenizer as Z
-use Rattle.definition.specs.Tokenizer.{Class, Foreign, White, Comment, Pair, Symbol, Quote, Word, Dash, Zero, Digit, Unknown, digits, ahead, Span}
+use Rattle.definition.specs.Tokenizer.{Class, Foreign, White, Comment, Pair, Symbol, Quote, Word, Dash, Zero, Digit, Unknown, digits, Span}
 use Rattle.definition.proofs.Tests.{clash, both-true, parts-true, and-false, either-true, between-bounds, chosen, picked}
 use Rattle.definition.proofs.Characters.{Utf8, utf8-none, utf8-byte, utf8-true}
 
@@ -24,6 +23,7 @@ use Rattle.definition.proofs.Characters.{Utf8, utf8-none, utf8-byte, ut
 abbrev pub Textless : Tok → Type 0
 Textless t = has-text (t .kind) ≡ false → t .text ≡ []
 
+-- each rule of a record, as far as it asks for kind, base and text
 pub record Formed (t : Tok) : Type 0 where
   pub low : 1 ≤ t .kind
   pub high : t .kind ≤ 54

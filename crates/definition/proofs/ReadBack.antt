@@ -1,26 +1,24 @@
 -- What Tokenise writes, Read takes: the records of a script's tokens and token errors pass Read's test, and are those tokens and errors again. Assumes nothing.
 use mathlib.Core.Path.{_≡_, refl, sym, ap, ap₂, _∙_, subst}
-use mathlib.Core.Bool.{Bool, true, false, _&&_, _||_}
+use mathlib.Core.Bool.{Bool, true, false, _&&_}
 use mathlib.Core.Option.{Option, none, some}
 use mathlib.Core.List.{List, [], _∷_, _++_, append-assoc}
-use Prim.Native.Nat.{ℕ, zero, suc, _+_, _*_, _-_, _≤_, _<_}
+use Prim.Native.Nat.{ℕ, suc, _+_, _*_, _≤_}
 use native.Mathlib.Omega.{arith}
 use borrow.Author.Tests.{le-leb}
-use lib.Dec.{eqb, ltb, leb}
-use lib.ListN.{length, take, drop, getD, replicate, length-append}
-use lib.Seq.{take-at, drop-at, getD-at, getD-append-add}
+use lib.Dec.{eqb, leb}
+use lib.ListN.{length, take, drop, getD, length-append}
+use lib.Seq.{take-at, drop-at, getD-append-add}
 use Rattle.definition.specs.Choice.{pick}
 use Rattle.definition.specs.Classes.{between}
 use Rattle.definition.specs.Source.{Place, Ch, nowhere, utf8, characters}
 use Rattle.definition.specs.Fallible.{Err}
-use Rattle.definition.specs.Kind as K
 use Rattle.definition.specs.Token.{Tok}
-use Rattle.definition.specs.Records.{has-text, token-words, tokens-words, tokens-text, errors-words, TokenWords, words-at, part, text-fits, good-alone, good-behind, place-of, text-end, token-of, token-before, tokens-of, ErrorWords, error-at, good-error, error-of, error-before, errors-of, integer-text, base-fits, comes-after}
+use Rattle.definition.specs.Records.{has-text, token-words, tokens-words, tokens-text, errors-words, TokenWords, words-at, part, text-fits, good-alone, good-behind, place-of, text-end, token-of, token-before, tokens-of, ErrorWords, error-at, good-error, error-of, error-before, errors-of}
 use Rattle.definition.specs.Tokenizer as Z
 use Rattle.definition.specs.Tokenizer.{tokenize}
 use Rattle.definition.specs.Operations.{filled, Handed, both, handed}
 use Rattle.definition.proofs.Tests.{both-true, between-true, All}
-use Rattle.definition.proofs.Formed.{Formed}
 use Rattle.definition.proofs.Tokens.{Placed, Good, Fault, Behind, texts, Made, TokensOf, script-tokens}
 
 -- ---- records in a slice
@@ -48,12 +46,29 @@ error-behind before ws i l = λ x. record { number = word-behind before ws (4 * 
 regroup : (before xs ys rest : List ℕ) → before ++ ((xs ++ ys) ++ rest) ≡ (before ++ xs) ++ (ys ++ rest)
 regroup before xs ys rest = simp append-assoc
 
+tokens-length : (n : ℕ) (ts : List Tok) → length (tokens-words n ts) ≡ 8 * length ts
+unfolding tokens-words
+tokens-length n [] = refl
+tokens-length n (t ∷ ts) = omega (arith, tokens-length (n + length (t .text)) ts)
+
+errors-length : (es : List Err) → length (errors-words es) ≡ 4 * length es
+unfolding errors-words
+errors-length [] = refl
+errors-length (e ∷ es) = omega (arith, errors-length es)
+
 -- ---- one token
 
 -- the record of a token whose text has n bytes before it
 abbrev words : ℕ → Tok → TokenWords
 words n t = record { kind = t .kind; line = t .place .line; column = t .place .column; start = pick (has-text (t .kind)) n 0; size = length (t .text); base = t .base; seventh = 0; eighth = 0 }
 
+line-fits : (p : Place) → Placed 1 p → between 1 16384 (p .line) ≡ true
+line-fits p h = between-true (h .line-low) (omega arith)
+
+column-fits : (p : Place) → Placed 1 p → between 1 16384 (p .column) ≡ true
+column-fits p h = between-true (h .column-low) (omega arith)
+
+-- in the text slice, behind n bytes
 module _ (t : Tok) (g : Good t) (text before rest : List ℕ) (n : ℕ) (e : text ≡ before ++ (t .text ++ rest)) (l : length before ≡ n) (m : n + length (t .text) ≤ 16384) where
   part-is : part text (words n t) ≡ t .text
   part-is = go (has-text (t .kind)) (g .formed .textless)
@@ -75,16 +90,8 @@ module _ (t : Tok) (g : Good t) (text before rest : List ℕ) (n : ℕ) (e : tex
   alone : good-alone text (words n t) ≡ true
   unfolding good-alone
   alone =
-      both-true (both-true (both-true (both-true (both-true (both-true (both-true kind line) column) (g .formed .base)) refl) refl) fits) (rw part-is (g .formed .integer))
-    where
-      kind : between 1 54 (t .kind) ≡ true
-      kind = between-true (g .formed .low) (g .formed .high)
-
-      line : between 1 16384 (t .place .line) ≡ true
-      line = between-true (g .placed .line-low) (omega (arith, g .placed))
-
-      column : between 1 16384 (t .place .column) ≡ true
-      column = between-true (g .placed .column-low) (omega (arith, g .placed))
+      both-true (both-true (both-true (both-true (both-true (both-true (both-true (between-true (g .formed .low) (g .formed .high)) (line-fits (t .place) (g .placed))) (column-fits (t .place) (g .placed))) (g .formed .base)) refl) refl) fits)
+      (rw part-is (g .formed .integer))
 
   token-is : token-of text (words n t) ≡ t
   token-is = ap (λ (x : List ℕ). record { kind = t .kind; place = t .place; text = x; base = t .base }) part-is
@@ -103,36 +110,28 @@ text-ends t n e h = go (has-text (t .kind))
     go true = omega arith
     go false = omega arith
 
--- ---- all of them
+-- ---- all tokens
 
-step : (ws text : List ℕ) (p : Place) (e i m : ℕ) (w : TokenWords) → words-at ws i ≡ w → good-alone text w ≡ true → good-behind p e w ≡ true → tokens-of ws text p e i (suc m) ≡ token-before (token-of text w) (tokens-of ws text (place-of w) (text-end e w) (suc i) m)
+-- a record that is read and good
+token-step : (ws text : List ℕ) (p : Place) (e i m : ℕ) (w : TokenWords) → words-at ws i ≡ w → good-alone text w ≡ true → good-behind p e w ≡ true → tokens-of ws text p e i (suc m) ≡ token-before (token-of text w) (tokens-of ws text (place-of w) (text-end e w) (suc i) m)
 unfolding tokens-of
-step ws text p e i m w q a b = subst (λ (w : TokenWords). good-alone text w ≡ true → good-behind p e w ≡ true → tokens-of ws text p e i (suc m) ≡ token-before (token-of text w) (tokens-of ws text (place-of w) (text-end e w) (suc i) m)) q (λ a b. rw (tokens-of, both-true a b)) a b
+token-step ws text p e i m w q a b = subst (λ (w : TokenWords). good-alone text w ≡ true → good-behind p e w ≡ true → tokens-of ws text p e i (suc m) ≡ token-before (token-of text w) (tokens-of ws text (place-of w) (text-end e w) (suc i) m)) q (λ a b. rw (tokens-of, both-true a b)) a b
 
+-- The tokens of records from the i-th on, and texts behind n bytes: those that were written. The former token's place is p, its text ends at e.
 module _ (ws text : List ℕ) where
   tokens-back : (ts : List Tok) (p : Place) (e n i : ℕ) (before rest before′ rest′ : List ℕ) → ws ≡ before ++ (tokens-words n ts ++ rest) → length before ≡ 8 * i → text ≡ before′ ++ (tokens-text ts ++ rest′) → length before′ ≡ n → e ≤ n → n + texts ts ≤ 16384 → Behind p ts → All Good ts
       → tokens-of ws text p e i (length ts) ≡ some ts
   unfolding tokens-of tokens-words tokens-text
   tokens-back [] p e n i before rest before′ rest′ w l x k h m b g = refl
   tokens-back (t ∷ ts) p e n i before rest before′ rest′ w l x k h m b g =
-      step ws text p e i (length ts) (words n t) (ap (λ (y : List ℕ). words-at y i) w ∙ token-behind before (tokens-words n (t ∷ ts) ++ rest) i l) (alone t (g .0) text before′ (tokens-text ts ++ rest′) n here k (omega arith)) (both-true (b .0) (text-behind t n e h))
+      token-step ws text p e i (length ts) (words n t) (ap (λ (y : List ℕ). words-at y i) w ∙ token-behind before (tokens-words n (t ∷ ts) ++ rest) i l) (alone t (g .0) text before′ (tokens-text ts ++ rest′) n here k (omega arith)) (both-true (b .0) (text-behind t n e h))
       ∙ ap₂ token-before (token-is t (g .0) text before′ (tokens-text ts ++ rest′) n here k (omega arith))
       (tokens-back ts (t .place) (text-end e (words n t)) (n + length (t .text)) (suc i) (before ++ token-words n t) rest (before′ ++ t .text) rest′ (w ∙ regroup before (token-words n t) (tokens-words (n + length (t .text)) ts) rest) (simp length-append (omega arith)) (x ∙ regroup before′ (t .text) (tokens-text ts) rest′) (simp length-append (omega arith)) (text-ends t n e h) (omega arith) (b .1) (g .1))
     where
       here : text ≡ before′ ++ (t .text ++ (tokens-text ts ++ rest′))
       here = x ∙ ap (λ (y : List ℕ). before′ ++ y) (append-assoc (t .text) (tokens-text ts) rest′)
 
-tokens-length : (n : ℕ) (ts : List Tok) → length (tokens-words n ts) ≡ 8 * length ts
-unfolding tokens-words
-tokens-length n [] = refl
-tokens-length n (t ∷ ts) = omega (arith, tokens-length (n + length (t .text)) ts)
-
-errors-length : (es : List Err) → length (errors-words es) ≡ 4 * length es
-unfolding errors-words
-errors-length [] = refl
-errors-length (e ∷ es) = omega (arith, errors-length es)
-
--- ---- errors
+-- ---- all errors
 
 error-step : (ws : List ℕ) (i m : ℕ) (w : ErrorWords) → error-at ws i ≡ w → good-error w ≡ true → errors-of ws i (suc m) ≡ error-before (error-of w) (errors-of ws (suc i) m)
 unfolding errors-of
@@ -143,7 +142,7 @@ unfolding errors-of errors-words
 errors-back ws [] i before rest w l f = refl
 errors-back ws (e ∷ es) i before rest w l f =
     error-step ws i (length es) (record { number = e .number; line = e .place .line; column = e .place .column; fourth = 0 }) (ap (λ (y : List ℕ). error-at y i) w ∙ error-behind before (errors-words (e ∷ es) ++ rest) i l)
-    (both-true (both-true (both-true (between-true (f .0 .low) (f .0 .high)) (between-true (f .0 .placed .line-low) (omega (arith, f .0 .placed)))) (between-true (f .0 .placed .column-low) (omega (arith, f .0 .placed)))) refl)
+    (both-true (both-true (both-true (between-true (f .0 .low) (f .0 .high)) (line-fits (e .place) (f .0 .placed))) (column-fits (e .place) (f .0 .placed))) refl)
     ∙ ap₂ error-before same (errors-back ws es (suc i) (before ++ words′) rest (w ∙ regroup before words′ (errors-words es) rest) (simp length-append (omega arith)) (f .1))
   where
     words′ : List ℕ

@@ -1,11 +1,11 @@
 -- The tokens and token errors of a script: each is well formed, the tokens stand one behind the other, and all fit their records. Assumes nothing.
-use mathlib.Core.Path.{_≡_, refl, sym, ap, _∙_, subst}
+use mathlib.Core.Path.{_≡_, refl, sym, ap, subst}
 use mathlib.Core.Bool.{Bool, true, false, _&&_, _||_}
-use mathlib.Core.Option.{Option, none, some}
+use mathlib.Core.Option.{some}
 use mathlib.Core.List.{List, [], _∷_, _++_}
-use Prim.Native.Nat.{ℕ, zero, suc, _+_, _*_, _≤_, _<_, max}
+use Prim.Native.Nat.{ℕ, zero, suc, _+_, _*_, _≤_, _<_}
 use native.Mathlib.Omega.{arith}
-use borrow.Author.Tests.{ltb-false, leb-true, eqb-true, eqb-false, eq-eqb, lt-ltb}
+use borrow.Author.Tests.{ltb-false, leb-true, eqb-true, eq-eqb, lt-ltb}
 use lib.Dec.{eqb, ltb, leb, T}
 use lib.ListN.{length, length-append, replicate}
 use Rattle.definition.specs.Ascii.{ascii}
@@ -15,15 +15,16 @@ use Rattle.definition.specs.Kind as K
 use Rattle.definition.specs.Source.{Place, Ch, after, nowhere, start, characters}
 use Rattle.definition.specs.Fallible.{Err}
 use Rattle.definition.specs.Token.{Tok}
-use Rattle.definition.specs.Records.{all-digits, base-fits, comes-after}
+use Rattle.definition.specs.Records.{base-fits, comes-after}
 use Rattle.definition.specs.Tokenizer as Z
-use Rattle.definition.specs.Tokenizer.{Turn, goes, refused, Span, ahead, Quoted, Run, ends, foreign, Class, Foreign, White, Comment, Pair, Symbol, Quote, Word, Dash, Zero, Digit, Unknown, Tokens, tokens, turn, tokenize, tokenize-from, comment, digits, assembly, quoted, word, white, look, drop-one}
+use Rattle.definition.specs.Tokenizer.{Turn, goes, refused, Span, Quoted, Run, ends, foreign, Class, Foreign, White, Comment, Pair, Symbol, Quote, Word, Dash, Zero, Digit, Unknown, Tokens, tokens, turn, tokenize, tokenize-from, comment, digits, assembly, quoted, word, white, look, drop-one}
 use Rattle.definition.proofs.Unparse.{same-place}
 use Rattle.definition.proofs.Shown.{Apart, Distinct}
-use Rattle.definition.proofs.Fit.{SmallTok, AllSmall}
+use Rattle.definition.proofs.Fit.{AllSmall}
 use Rattle.definition.proofs.Tests.{both-true, chosen, counted, All, all-append, all-replicate, all-map}
 use Rattle.definition.proofs.Characters.{spelling, Whole, Spelt, spelt, Utf8, utf8-none, utf8-char, utf8-byte}
-use Rattle.definition.proofs.Formed.{Textless, Formed, Plain, plain-formed, pair-plain, symbol-plain, keyword-plain, Classed, is-foreign, is-white, is-comment, is-pair, is-symbol, is-quote, is-word, is-dash, is-zero, is-digit, is-unknown, classed, text-formed, Numeral, dash-numeral, numeral, or-zero-numeral, integer-formed, digits-all, digit-first}
+pub use Rattle.definition.proofs.Formed.{Textless}
+use Rattle.definition.proofs.Formed.{Formed, Plain, plain-formed, pair-plain, symbol-plain, keyword-plain, Classed, is-foreign, is-white, is-comment, is-pair, is-symbol, is-quote, is-word, is-dash, is-zero, is-digit, is-unknown, classed, text-formed, Numeral, dash-numeral, numeral, or-zero-numeral, integer-formed, digits-all, digit-first}
 
 -- ---- a script's characters
 
@@ -487,8 +488,14 @@ tokens-from (suc n) [] ts es k f c b h m w = record {
 }
 tokens-from (suc n) (x ∷ cs) ts es k f c b h m w =
     go (turn x cs) (turned x cs (key (x .place)) (c .3))
-    (λ cs′ ts′ es′ t z y. tokens-from n cs′ (ts ++ ts′) (es ++ es′) (key (x .place)) (omega (arith, t .ran .fewer)) (t .ran .keeps (key (x .place)) (c .3)) (omega (arith, texts-append ts ts′, t .ran .size, one-text (x .place) (bytes cs′) (bytes (x ∷ cs)) ts′ (omega (arith, t .ran .size)) (t .token))) (have-more (x .place) (bytes cs′) (bytes (x ∷ cs)) k ts ts′ es es′ h (c .0) (c .1) (omega arith) (t .token) (t .errors)) (rw length-append z) (rw length-append y))
+    (λ cs′ ts′ es′ t z y. tokens-from n cs′ (ts ++ ts′) (es ++ es′) (key (x .place)) (omega (arith, t .ran .fewer)) (t .ran .keeps (key (x .place)) (c .3)) (fits cs′ ts′ es′ t) (more cs′ ts′ es′ t) (rw length-append z) (rw length-append y))
   where
+    fits : (cs′ : List Ch) (ts′ : List Tok) (es′ : List Err) → Turned x cs cs′ es′ ts′ → texts (ts ++ ts′) + bytes cs′ ≤ 16384
+    fits cs′ ts′ es′ t = omega (arith, texts-append ts ts′, one-text (x .place) (bytes cs′) (bytes (x ∷ cs)) ts′ (omega (arith, t .ran .size)) (t .token))
+
+    more : (cs′ : List Ch) (ts′ : List Tok) (es′ : List Err) → Turned x cs cs′ es′ ts′ → Have (key (x .place)) (ts ++ ts′) (es ++ es′)
+    more cs′ ts′ es′ t = have-more (x .place) (bytes cs′) (bytes (x ∷ cs)) k ts ts′ es es′ h (c .0) (c .1) (omega arith) (t .token) (t .errors)
+
     go : (t : Turn) → TurnOf x cs t → ((cs′ : List Ch) (ts′ : List Tok) (es′ : List Err) → Turned x cs cs′ es′ ts′ → length ts + length ts′ ≤ 2048 → length es + length es′ ≤ 255 → TokensOf (tokenize-from 2048 n cs′ (ts ++ ts′) (es ++ es′)))
         → TokensOf (elim t as (λ _. Tokens) [ refused j ↦ Tokens.refused j | goes cs′ es′ ts′ ↦ elim (leb (length es + length es′) 255) as (λ _. Tokens) [ false ↦ Tokens.refused 7 | true ↦ elim (leb (length ts + length ts′) 2048) as (λ _. Tokens) [ false ↦ Tokens.refused 6 | true ↦ tokenize-from 2048 n cs′ (ts ++ ts′) (es ++ es′) ] ] ])
     go (refused j) p f = p
