@@ -6,7 +6,7 @@ use mathlib.Core.List.{List, [], _∷_, _++_}
 use Prim.Native.Nat.{ℕ, zero, suc, _+_, _*_, _≤_, _<_}
 use native.Mathlib.Omega.{arith}
 use borrow.Author.Tests.{ltb-false, leb-true, eqb-true, eq-eqb, lt-ltb}
-use lib.Dec.{eqb, ltb, leb, T}
+use lib.Dec.{eqb, ltb, leb, T, lit<}
 use lib.ListN.{length, length-append, replicate}
 use Rattle.definition.specs.Ascii.{ascii}
 use Rattle.definition.specs.Choice.{pick}
@@ -21,7 +21,7 @@ use Rattle.definition.specs.Tokenizer.{Turn, goes, refused, Span, Quoted
 use Rattle.definition.proofs.Unparse.{same-place}
 use Rattle.definition.proofs.Shown.{Apart, Distinct}
 use Rattle.definition.proofs.Fit.{AllSmall}
-use Rattle.definition.proofs.Tests.{both-true, chosen, counted, All, all-append, all-replicate, all-map}
+use Rattle.definition.proofs.Tests.{both-true, chosen, picked, counted, All, all-append, all-replicate, all-map}
 use Rattle.definition.proofs.Characters.{spelling, Whole, Spelt, spelt, Utf8, utf8-none, utf8-char, utf8-byte}
 pub use Rattle.definition.proofs.Formed.{Textless}
 use Rattle.definition.proofs.Formed.{Formed, Plain, plain-formed, pair-plain, symbol-plain, keyword-plain, Classed, is-foreign, is-white, is-comment, is-pair, is-symbol, is-quote, is-word, is-dash, is-zero, is-digit, is-unknown, classed, text-formed, Numeral, dash-numeral, numeral, or-zero-numeral, integer-formed, digits-all, digit-first}
@@ -42,6 +42,7 @@ pub record Placed (n : ℕ) (p : Place) : Type 0 where
 placed-less : (m n : ℕ) (p : Place) → m ≤ n → Placed n p → Placed m p
 placed-less m n p h r = omega arith
 
+-- each behind the former, the first behind the key k, at places that records may have, and whole
 abbrev Chars : ℕ → List Ch → Type 0
 Chars k [] = Unit {0}
 Chars k (c ∷ cs) = (k < key (c .place)) × Placed 1 (c .place) × Whole c × Chars (key (c .place)) cs
@@ -58,18 +59,10 @@ chars-tail : (k : ℕ) (c : Ch) (cs : List Ch) → Chars k (c ∷ cs) → Chars 
 chars-tail k c cs p = chars-weaken (key (c .place)) k cs (omega (arith, p .0)) (p .3)
 
 further : (b : ℕ) (p : Place) → Placed 1 p → key p < key (after b p)
-further b p h = go (eqb b 10)
-  where
-    go : (x : Bool) → key p < key (pick {A = Place} x (record { line = suc (p .line); column = 1 }) (record { line = p .line; column = suc (p .column) }))
-    go true = omega arith
-    go false = omega arith
+further b p h = picked (λ (q : Place). key p < key q) (eqb b 10) _ _ (λ _. omega arith) (omega arith)
 
 placed-after : (b n : ℕ) (p : Place) → Placed (suc n) p → Placed n (after b p)
-placed-after b n p h = go (eqb b 10)
-  where
-    go : (x : Bool) → Placed n (pick x (record { line = suc (p .line); column = 1 }) (record { line = p .line; column = suc (p .column) }))
-    go true = omega arith
-    go false = omega arith
+placed-after b n p h = picked (Placed n) (eqb b 10) _ _ (λ _. omega arith) (omega arith)
 
 spelt-bytes : (cs : List Ch) (p : Place) (bs : List ℕ) → Spelt p bs cs → bytes cs ≡ length bs
 spelt-bytes [] p bs s = omega (arith, ap length s)
@@ -107,6 +100,9 @@ ran-one c cs = record { keeps = λ k p. chars-tail k c cs p; size = omega arith;
 ran-drop : (cs : List Ch) → Ran cs (drop-one cs) 0
 ran-drop [] = ran-none []
 ran-drop (c ∷ cs) = ran-one c cs
+
+ran-less : {xs ys : List Ch} {n : ℕ} → Ran xs ys n → Ran xs ys 0
+ran-less p = record { keeps = p .keeps; size = omega (arith, p .size); fewer = p .fewer }
 
 -- what is passed over first counts for no text
 ran-trans : {xs ys zs : List Ch} {m n : ℕ} → Ran xs ys m → Ran ys zs n → Ran xs zs n
@@ -162,14 +158,11 @@ assembly-spans (c ∷ cs) = chosen (SpanOf (c ∷ cs)) (eqb (c .byte) 125) _ _ (
 abbrev QuotedOf : List Ch → Quoted → Type 0
 QuotedOf cs q = Spans cs (q .text) (q .rest)
 
+pick-low : (b : Bool) (m n : ℕ) → m < 128 → n < 128 → pick b m n < 128
+pick-low b m n h k = picked (λ (x : ℕ). x < 128) b m n (λ _. h) k
+
 escape-low : (c : ℕ) → Z.escape c < 128
-escape-low c = go (eqb c 114) (eqb c 110) (eqb c 116)
-  where
-    go : (r n t : Bool) → pick r 13 (pick n 10 (pick t 9 0)) < 128
-    go true n t = omega arith
-    go false true t = omega arith
-    go false false true = omega arith
-    go false false false = omega arith
+escape-low c = search (pick-low, lit<) depth 10
 
 quoted-spans : (f : Bool) (cs : List Ch) → QuotedOf cs (quoted f cs)
 unfolding quoted
@@ -248,12 +241,12 @@ TurnOf c cs (goes rest es ts) = Turned c cs rest es ts
 TurnOf c cs (refused n) = T (C.between 4 7 n)
 
 module _ (c : Ch) (cs : List Ch) where
-  -- a turn that makes a token of n bytes; one that makes none, and one error
+  -- a turn that makes a token, its text of one byte more than are passed at most; one that makes none
   gives-token : (rest : List Ch) (n : ℕ) (es : List Err) (t : Tok) → Ran cs rest n → t .place ≡ c .place → length (t .text) ≤ 1 + n → Formed t → All (ErrorAt (c .place)) es → Turned c cs rest es (t ∷ [])
-  gives-token rest n es t r e l f a = record { ran = record { keeps = r .keeps; size = omega (arith, r .size); fewer = r .fewer }; token = record { place = e; size = omega (arith, r .size); formed = f }; errors = a }
+  gives-token rest n es t r e l f a = record { ran = ran-less r; token = record { place = e; size = omega (arith, r .size); formed = f }; errors = a }
 
   gives-none : (rest : List Ch) (n : ℕ) (es : List Err) → Ran cs rest n → All (ErrorAt (c .place)) es → Turned c cs rest es []
-  gives-none rest n es r a = record { ran = record { keeps = r .keeps; size = omega (arith, r .size); fewer = r .fewer }; token = tt; errors = a }
+  gives-none rest n es r a = record { ran = ran-less r; token = tt; errors = a }
 
   plain-turned : (rest : List Ch) (n k : ℕ) → Ran cs rest n → Formed (record { kind = k; place = c .place; text = []; base = 0 }) → TurnOf c cs (Z.token rest k (c .place))
   plain-turned rest n k r f = gives-token rest n [] _ r refl (omega arith) f tt
