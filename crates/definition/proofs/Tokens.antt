@@ -1,32 +1,51 @@
--- The tokens of a script have places of their own, and fit their records. Assumes nothing.
-use mathlib.Core.Path.{_≡_, refl, sym, ap, _∙_, subst}
-use mathlib.Core.Bool.{Bool, true, false, not, _&&_, _||_}
-use mathlib.Core.Option.{Option, none, some}
-use mathlib.Core.List.{List, [], _∷_, _++_, append-nil}
-use Prim.Native.Nat.{ℕ, zero, suc, _+_, _*_, _≤_, _<_, pred, max}
+-- The tokens and token errors of a script: each is well formed, the tokens stand one behind the other, and all fit their records. Assumes nothing.
+use mathlib.Core.Path.{_≡_, refl, sym, ap, subst}
+use mathlib.Core.Bool.{Bool, true, false, _&&_, _||_}
+use mathlib.Core.Option.{some}
+use mathlib.Core.List.{List, [], _∷_, _++_}
+use Prim.Native.Nat.{ℕ, zero, suc, _+_, _*_, _≤_, _<_}
 use native.Mathlib.Omega.{arith}
-use lib.Dec.{eqb, ltb, leb, T, eqb→eq, leb→le, ltb→lt}
-use lib.ListN.{length, length-append}
+use borrow.Author.Tests.{ltb-false, leb-true, eqb-true, eq-eqb, lt-ltb}
+use lib.Dec.{eqb, ltb, leb, T, lit<}
+use lib.ListN.{length, length-append, replicate}
 use Rattle.definition.specs.Ascii.{ascii}
+use Rattle.definition.specs.Choice.{pick}
+use Rattle.definition.specs.Classes as C
 use Rattle.definition.specs.Kind as K
-use Rattle.definition.specs.Source.{Place, Ch, Lead, single, with-more, wrong, lead, after, Pending, fresh, within, and-then, decode, characters}
+use Rattle.definition.specs.Source.{Place, Ch, after, nowhere, start, characters}
 use Rattle.definition.specs.Fallible.{Err}
 use Rattle.definition.specs.Token.{Tok}
-use Rattle.definition.specs.Records.{has-text}
-use Rattle.definition.specs.Choice.{pick, first}
-use Rattle.definition.specs.Classes as C
+use Rattle.definition.specs.Records.{base-fits, comes-after}
 use Rattle.definition.specs.Tokenizer as Z
-use Rattle.definition.specs.Tokenizer.{Turn, goes, refused, Span, ahead, Quoted, Run, ends, foreign, Class, Foreign, White, Comment, Pair, Symbol, Quote, Word, Dash, Zero, Digit, Unknown, Tokens, tokens, turn, tokenize, tokenize-from, comment, digits, assembly, quoted, word, white, look, drop-one}
+use Rattle.definition.specs.Tokenizer.{Turn, goes, refused, Span, Quoted, Run, ends, foreign, Class, Foreign, White, Comment, Pair, Symbol, Quote, Word, Dash, Zero, Digit, Unknown, Tokens, tokens, turn, tokenize, tokenize-from, comment, digits, assembly, quoted, word, white, look, drop-one}
 use Rattle.definition.proofs.Unparse.{same-place}
 use Rattle.definition.proofs.Shown.{Apart, Distinct}
-use Rattle.definition.proofs.Fit.{SmallTok, AllSmall, Small}
+use Rattle.definition.proofs.Fit.{AllSmall}
+use Rattle.definition.proofs.Tests.{both-true, chosen, picked, counted, All, all-append, all-replicate, all-map}
+use Rattle.definition.proofs.Characters.{spelling, Whole, Spelt, spelt, Utf8, utf8-none, utf8-char, utf8-byte}
+pub use Rattle.definition.proofs.Formed.{Textless}
+use Rattle.definition.proofs.Formed.{Formed, Plain, plain-formed, pair-plain, symbol-plain, keyword-plain, Classed, is-foreign, is-white, is-comment, is-pair, is-symbol, is-quote, is-word, is-dash, is-zero, is-digit, is-unknown, classed, text-formed, Numeral, dash-numeral, numeral, or-zero-numeral, integer-formed, digits-all, digit-first}
 
+-- ---- a script's characters
+
+-- places in order
 abbrev key : Place → ℕ
 key p = p .line * 65536 + p .column
 
+-- from the place on, n lines and n columns are left up to 16,384
+pub record Placed (n : ℕ) (p : Place) : Type 0 where
+  pub line-low : 1 ≤ p .line
+  pub line-high : p .line + n ≤ 16385
+  pub column-low : 1 ≤ p .column
+  pub column-high : p .column + n ≤ 16385
+
+placed-less : (m n : ℕ) (p : Place) → m ≤ n → Placed n p → Placed m p
+placed-less m n p h r = omega arith
+
+-- each behind the former, the first behind the key k, at places that records may have, and whole
 abbrev Chars : ℕ → List Ch → Type 0
 Chars k [] = Unit {0}
-Chars k (c ∷ cs) = (k < key (c .place)) × (c .place .line < 65536) × (c .place .column < 65536) × Chars (key (c .place)) cs
+Chars k (c ∷ cs) = (k < key (c .place)) × Placed 1 (c .place) × Whole c × Chars (key (c .place)) cs
 
 abbrev bytes : List Ch → ℕ
 bytes [] = 0
@@ -39,83 +58,30 @@ chars-weaken k j (c ∷ cs) h p = (omega (arith, p .0), p .1, p .2, p .3)
 chars-tail : (k : ℕ) (c : Ch) (cs : List Ch) → Chars k (c ∷ cs) → Chars k cs
 chars-tail k c cs p = chars-weaken (key (c .place)) k cs (omega (arith, p .0)) (p .3)
 
--- ---- a script's characters
+further : (b : ℕ) (p : Place) → Placed 1 p → key p < key (after b p)
+further b p h = picked (λ (q : Place). key p < key q) (eqb b 10) _ _ (λ _. omega arith) (omega arith)
 
-record Decoded (k n : ℕ) (cs : List Ch) : Type 0 where
-  chars : Chars k cs
-  size : bytes cs ≤ n
+placed-after : (b n : ℕ) (p : Place) → Placed (suc n) p → Placed n (after b p)
+placed-after b n p h = picked (Placed n) (eqb b 10) _ _ (λ _. omega arith) (omega arith)
 
-abbrev DecodedOf : ℕ → ℕ → Option (List Ch) → Type 0
-DecodedOf k n none = Unit {0}
-DecodedOf k n (some cs) = Decoded k n cs
+spelt-bytes : (cs : List Ch) (p : Place) (bs : List ℕ) → Spelt p bs cs → bytes cs ≡ length bs
+spelt-bytes [] p bs s = omega (arith, ap length s)
+spelt-bytes (c ∷ cs) p bs s = omega (arith, simp length-append at (ap length (s .2)), spelt-bytes cs (after (c .byte) p) (s .0) (s .4))
 
-first-then : (k n m : ℕ) (c : Ch) (o : Option (List Ch)) → k < key (c .place) → c .place .line < 65536 → c .place .column < 65536 → 1 + length (c .more) + m ≤ n → DecodedOf (key (c .place)) m o → DecodedOf k n (and-then c o)
-first-then k n m c none h a b s d = tt
-first-then k n m c (some cs) h a b s d = record { chars = (h, a, b, d .chars); size = omega (arith, d .size) }
+spelt-chars : (cs : List Ch) (p : Place) (bs : List ℕ) (k : ℕ) → k < key p → Placed (length bs) p → Spelt p bs cs → Chars k cs
+spelt-chars [] p bs k h r s = tt
+spelt-chars (c ∷ cs) p bs k h r s =
+    let n : length bs ≡ 1 + length (c .more) + length (s .0) = omega (arith, simp length-append at (ap length (s .2))) in
+    let r′ : Placed (suc (length (s .0))) p = placed-less (suc (length (s .0))) (length bs) p (omega arith) r in
+    let o : Placed 1 p = placed-less 1 (length bs) p (omega arith) r in
+    subst (λ (q : Place). (k < key q) × Placed 1 q × Whole c × Chars (key q) cs) (sym (s .1)) (h, o, s .3, spelt-chars cs (after (c .byte) p) (s .0) (key p) (further (c .byte) p o) (placed-after (c .byte) (length (s .0)) p r′) (s .4))
 
-by-lead : (k n : ℕ) (x : Lead) (o : Option (List Ch)) (f : ℕ → ℕ → ℕ → Option (List Ch)) → DecodedOf k n o → ((m lo hi : ℕ) → DecodedOf k n (f m lo hi)) → DecodedOf k n (elim x as (λ _. Option (List Ch)) [ single ↦ o | with-more m lo hi ↦ f m lo hi | wrong ↦ none ])
-by-lead k n single o f p q = p
-by-lead k n (with-more m lo hi) o f p q = q m lo hi
-by-lead k n wrong o f p q = tt
+record Script (cs : List Ch) : Type 0 where
+  chars : Chars 0 cs
+  size : bytes cs ≤ 16384
 
-by-test : (k n : ℕ) (b : Bool) (o q : Option (List Ch)) → DecodedOf k n o → DecodedOf k n q → DecodedOf k n (elim b as (λ _. Option (List Ch)) [ true ↦ o | false ↦ q ])
-by-test k n true o q p r = p
-by-test k n false o q p r = r
-
-record Next (b : ℕ) (p : Place) (left : ℕ) : Type 0 where
-  further : key p < key (after b p)
-  line : after b p .line + left ≤ 60000
-  column : after b p .column + left ≤ 60000
-
-next-place : (b : ℕ) (p : Place) (left : ℕ) → p .line + suc left ≤ 60000 → p .column + suc left ≤ 60000 → Next b p left
-next-place b p left h k = go (eqb b 10)
-  where
-    go : (x : Bool) → Next b p left
-    go x = record { further = further (eqb b 10); line = line (eqb b 10); column = column (eqb b 10) }
-      where
-        further : (x : Bool) → key p < key (pick {A = Place} x (record { line = suc (p .line); column = 1 }) (record { line = p .line; column = suc (p .column) }))
-        further true = omega arith
-        further false = omega arith
-
-        line : (x : Bool) → pick {A = Place} x (record { line = suc (p .line); column = 1 }) (record { line = p .line; column = suc (p .column) }) .line + left ≤ 60000
-        line true = omega arith
-        line false = omega arith
-
-        column : (x : Bool) → pick {A = Place} x (record { line = suc (p .line); column = 1 }) (record { line = p .line; column = suc (p .column) }) .column + left ≤ 60000
-        column true = omega arith
-        column false = omega arith
-
-decoded-as : (k n m : ℕ) → n ≡ m → (o : Option (List Ch)) → DecodedOf k n o → DecodedOf k m o
-decoded-as k n m e o d = subst (λ (x : ℕ). DecodedOf k x o) e d
-
--- the bytes of a character that are read
-abbrev held : Pending → ℕ
-held fresh = 0
-held (within l m n lo hi) = 1 + length m
-
-decoded : (bs : List ℕ) (w : Pending) (p : Place) (k : ℕ) → k < key p → p .line + length bs ≤ 60000 → p .column + length bs ≤ 60000 → DecodedOf k (held w + length bs) (decode w p bs)
-unfolding decode
-decoded [] fresh p k h a b = record { chars = tt; size = omega arith }
-decoded [] (within l m n lo hi) p k h a b = tt
-decoded (x ∷ bs) fresh p k h a b =
-    let z : Next x p (length bs) = next-place x p (length bs) a b in
-    by-lead k (0 + length (x ∷ bs)) (lead x) _ _ (first-then k (0 + length (x ∷ bs)) (length bs) (record { byte = x; more = []; place = p }) (decode fresh (after x p) bs) h (omega arith) (omega arith) (omega arith) (decoded-as (key p) (0 + length bs) (length bs) (omega arith) (decode fresh (after x p) bs) (decoded bs fresh (after x p) (key p) (z .further) (z .line) (z .column))))
-    (λ n lo hi. decoded-as k (1 + 0 + length bs) (0 + length (x ∷ bs)) (omega arith) (decode (within x [] n lo hi) p bs) (decoded bs (within x [] n lo hi) p k h (omega arith) (omega arith)))
-decoded (x ∷ bs) (within l m n lo hi) p k h a b =
-    let z : Next l p (length bs) = next-place l p (length bs) a b in
-    by-test k (1 + length m + length (x ∷ bs)) (leb lo x && leb x hi) _ _
-    (by-test k (1 + length m + length (x ∷ bs)) (leb n 1) _ _
-    (first-then k (1 + length m + length (x ∷ bs)) (length bs) (record { byte = l; more = m ++ (x ∷ []); place = p }) (decode fresh (after l p) bs) h (omega arith) (omega arith) (omega (arith, length-append m (x ∷ []))) (decoded-as (key p) (0 + length bs) (length bs) (omega arith) (decode fresh (after l p) bs) (decoded bs fresh (after l p) (key p) (z .further) (z .line) (z .column))))
-    (decoded-as k (1 + length (m ++ (x ∷ [])) + length bs) (1 + length m + length (x ∷ bs)) (omega (arith, length-append m (x ∷ []))) (decode (within l (m ++ (x ∷ [])) (pred n) 128 191) p bs) (decoded bs (within l (m ++ (x ∷ [])) (pred n) 128 191) p k h (omega arith) (omega arith))))
-    tt
-
-script : (bs : List ℕ) → length bs ≤ 16384 → DecodedOf 0 16384 (characters bs)
-unfolding characters
-script bs h = enough (decode fresh (record { line = 1; column = 1 }) bs) (decoded bs fresh (record { line = 1; column = 1 }) 0 (omega arith) (omega arith) (omega arith))
-  where
-    enough : (o : Option (List Ch)) → DecodedOf 0 (0 + length bs) o → DecodedOf 0 16384 o
-    enough none d = tt
-    enough (some cs) d = record { chars = d .chars; size = omega (arith, d .size) }
+script : (bs : List ℕ) (cs : List Ch) → length bs ≤ 16384 → characters bs ≡ some cs → Script cs
+script bs cs h e = record { chars = spelt-chars cs start bs 0 (omega arith) (omega arith) (spelt bs cs e); size = omega (arith, spelt-bytes cs start bs (spelt bs cs e)) }
 
 -- ---- what each part of the tokenizer leaves
 
@@ -135,212 +101,215 @@ ran-drop : (cs : List Ch) → Ran cs (drop-one cs) 0
 ran-drop [] = ran-none []
 ran-drop (c ∷ cs) = ran-one c cs
 
-ran-trans : {xs ys zs : List Ch} {m n : ℕ} → Ran xs ys m → Ran ys zs n → Ran xs zs (m + n)
+ran-less : {xs ys : List Ch} {n : ℕ} → Ran xs ys n → Ran xs ys 0
+ran-less p = record { keeps = p .keeps; size = omega (arith, p .size); fewer = p .fewer }
+
+-- what is passed over first counts for no text
+ran-trans : {xs ys zs : List Ch} {m n : ℕ} → Ran xs ys m → Ran ys zs n → Ran xs zs n
 ran-trans p q = record { keeps = λ k h. q .keeps k (p .keeps k h); size = omega (arith, p .size, q .size); fewer = omega (arith, p .fewer, q .fewer) }
 
-ran-char : (c : Ch) (cs rest : List Ch) (n m : ℕ) → m ≤ 1 + length (c .more) → Ran cs rest n → Ran (c ∷ cs) rest (m + n)
-ran-char c cs rest n m h p = record { keeps = λ k q. p .keeps k (chars-tail k c cs q); size = omega (arith, p .size); fewer = omega (arith, p .fewer) }
-
-ran-as : {xs ys : List Ch} {m n : ℕ} → Ran xs ys m → n ≤ m → Ran xs ys n
-ran-as p h = record { keeps = p .keeps; size = omega (arith, p .size); fewer = p .fewer }
+-- m bytes of the first character, and n behind it
+ran-char : (c : Ch) (cs rest : List Ch) (n m l : ℕ) → m ≤ 1 + length (c .more) → l ≤ m + n → Ran cs rest n → Ran (c ∷ cs) rest l
+ran-char c cs rest n m l h k p = record { keeps = λ j q. p .keeps j (chars-tail j c cs q); size = omega (arith, p .size); fewer = omega (arith, p .fewer) }
 
 comment-ran : (cs : List Ch) → Ran cs (comment cs) 0
 unfolding comment
 comment-ran [] = ran-none []
-comment-ran (c ∷ cs) = go (eqb (c .byte) 10) (comment-ran cs)
-  where
-    go : (b : Bool) → Ran cs (comment cs) 0 → Ran (c ∷ cs) (elim b as (λ _. List Ch) [ true ↦ cs | false ↦ comment cs ]) 0
-    go true p = ran-one c cs
-    go false p = ran-as (ran-char c cs (comment cs) 0 0 (omega arith) p) (omega arith)
+comment-ran (c ∷ cs) = chosen (λ (rest : List Ch). Ran (c ∷ cs) rest 0) (eqb (c .byte) 10) _ _ (λ _. ran-one c cs) (λ _. ran-char c cs (comment cs) 0 0 0 (omega arith) (omega arith) (comment-ran cs))
 
-abbrev SpanRan : List Ch → Span → Type 0
-SpanRan cs s = Ran cs (s .rest) (length (s .text))
+-- a text of characters that are whole is UTF-8
+record Spans (cs : List Ch) (text : List ℕ) (rest : List Ch) : Type 0 where
+  ran : Ran cs rest (length text)
+  utf8 : (k : ℕ) → Chars k cs → Utf8 text
 
-digits-ran : (base : ℕ) (cs : List Ch) → SpanRan cs (digits base cs)
+abbrev SpanOf : List Ch → Span → Type 0
+SpanOf cs s = Spans cs (s .text) (s .rest)
+
+spans-none : (cs rest : List Ch) → Ran cs rest 0 → Spans cs [] rest
+spans-none cs rest r = record { ran = r; utf8 = λ _ _. utf8-none }
+
+-- a character that is passed over, one whose bytes all are text, and one that is a byte of text
+spans-skip : (c : Ch) (cs : List Ch) (text : List ℕ) (rest : List Ch) → Spans cs text rest → Spans (c ∷ cs) text rest
+spans-skip c cs text rest s = record { ran = ran-char c cs rest (length text) 0 (length text) (omega arith) (omega arith) (s .ran); utf8 = λ k h. s .utf8 (key (c .place)) (h .3) }
+
+spans-char : (c : Ch) (cs : List Ch) (text : List ℕ) (rest : List Ch) → Spans cs text rest → Spans (c ∷ cs) (spelling c ++ text) rest
+spans-char c cs text rest s = record {
+  ran = ran-char c cs rest (length text) (1 + length (c .more)) (length (spelling c ++ text)) (omega arith) (omega (arith, length-append (c .more) text)) (s .ran);
+  utf8 = λ k h. utf8-char c text (h .2) (s .utf8 (key (c .place)) (h .3));
+}
+
+spans-byte : (b : ℕ) (c : Ch) (cs : List Ch) (text : List ℕ) (rest : List Ch) → b < 128 → Spans cs text rest → Spans (c ∷ cs) (b ∷ text) rest
+spans-byte b c cs text rest l s = record { ran = ran-char c cs rest (length text) 1 (length (b ∷ text)) (omega arith) (omega arith) (s .ran); utf8 = λ k h. utf8-byte b text l (s .utf8 (key (c .place)) (h .3)) }
+
+digits-ran : (base : ℕ) (cs : List Ch) → Ran cs (digits base cs .rest) (length (digits base cs .text))
 unfolding digits
 digits-ran base [] = ran-none []
-digits-ran base (c ∷ cs) = go (C.is-digit-of base (c .byte)) (digits-ran base cs)
-  where
-    go : (b : Bool) → SpanRan cs (digits base cs) → SpanRan (c ∷ cs) (elim b as (λ _. Span) [ true ↦ ahead (c .byte ∷ []) (digits base cs) | false ↦ record { text = []; rest = c ∷ cs } ])
-    go true p = ran-as (ran-char c cs (digits base cs .rest) (length (digits base cs .text)) 1 (omega arith) p) (omega arith)
-    go false p = ran-none (c ∷ cs)
+digits-ran base (c ∷ cs) = chosen (λ (s : Span). Ran (c ∷ cs) (s .rest) (length (s .text))) (C.is-digit-of base (c .byte)) _ _ (λ _. ran-char c cs _ _ 1 _ (omega arith) (omega arith) (digits-ran base cs)) (λ _. ran-none (c ∷ cs))
 
-assembly-ran : (cs : List Ch) → SpanRan cs (assembly cs)
+digits-some : (c : Ch) (cs : List Ch) → C.is-digit (c .byte) ≡ true → 0 < length (digits 10 (c ∷ cs) .text)
+unfolding digits
+digits-some c cs e = rw (digits, e) (omega arith)
+
+assembly-spans : (cs : List Ch) → SpanOf cs (assembly cs)
 unfolding assembly
-assembly-ran [] = ran-none []
-assembly-ran (c ∷ cs) = go (eqb (c .byte) 125) (assembly-ran cs)
-  where
-    go : (b : Bool) → SpanRan cs (assembly cs) → SpanRan (c ∷ cs) (elim b as (λ _. Span) [ true ↦ record { text = []; rest = cs } | false ↦ ahead (c .byte ∷ c .more) (assembly cs) ])
-    go true p = ran-one c cs
-    go false p = ran-as (ran-char c cs (assembly cs .rest) (length (assembly cs .text)) (1 + length (c .more)) (omega arith) p) (omega (arith, length-append (c .more) (assembly cs .text)))
+assembly-spans [] = spans-none [] [] (ran-none [])
+assembly-spans (c ∷ cs) = chosen (SpanOf (c ∷ cs)) (eqb (c .byte) 125) _ _ (λ _. spans-none (c ∷ cs) cs (ran-one c cs)) (λ _. spans-char c cs _ _ (assembly-spans cs))
 
-abbrev QuotedRan : List Ch → Quoted → Type 0
-QuotedRan cs q = Ran cs (q .rest) (length (q .text))
+abbrev QuotedOf : List Ch → Quoted → Type 0
+QuotedOf cs q = Spans cs (q .text) (q .rest)
 
-by-quoted : (cs : List Ch) (b : Bool) (x y : Quoted) → QuotedRan cs x → QuotedRan cs y → QuotedRan cs (elim b as (λ _. Quoted) [ true ↦ x | false ↦ y ])
-by-quoted cs true x y p q = p
-by-quoted cs false x y p q = q
+pick-low : (b : Bool) (m n : ℕ) → m < 128 → n < 128 → pick b m n < 128
+pick-low b m n h k = picked (λ (x : ℕ). x < 128) b m n (λ _. h) k
 
-by-escape : (cs : List Ch) (k : ℕ) (x : Quoted) (f : ℕ → Quoted) → QuotedRan cs x → ((e : ℕ) → QuotedRan cs (f e)) → QuotedRan cs (elim k as (λ _. Quoted) [ zero ↦ x | suc e ↦ f e ])
-by-escape cs zero x f p q = p
-by-escape cs (suc e) x f p q = q e
+escape-low : (c : ℕ) → Z.escape c < 128
+escape-low c = search (pick-low, lit<) depth 10
 
-quoted-ran : (f : Bool) (cs : List Ch) → QuotedRan cs (quoted f cs)
+quoted-spans : (f : Bool) (cs : List Ch) → QuotedOf cs (quoted f cs)
 unfolding quoted
-quoted-ran false [] = ran-none []
-quoted-ran true [] = ran-none []
-quoted-ran false (c ∷ cs) =
-    by-quoted (c ∷ cs) (eqb (c .byte) 34) _ _ (ran-one c cs)
-    (by-quoted (c ∷ cs) (eqb (c .byte) 92) _ _ (ran-as (ran-char c cs _ _ 0 (omega arith) (quoted-ran true cs)) (omega arith))
-    (ran-as (ran-char c cs _ _ (1 + length (c .more)) (omega arith) (quoted-ran false cs)) (omega (arith, length-append (c .more) (quoted false cs .text)))))
-quoted-ran true (c ∷ cs) =
-    by-escape (c ∷ cs) (Z.escape (c .byte)) _ _ (ran-as (ran-char c cs _ _ 0 (omega arith) (quoted-ran false cs)) (omega arith))
-    (λ e. ran-as (ran-char c cs _ _ 1 (omega arith) (quoted-ran false cs)) (omega arith))
+quoted-spans false [] = spans-none [] [] (ran-none [])
+quoted-spans true [] = spans-none [] [] (ran-none [])
+quoted-spans false (c ∷ cs) =
+    chosen (QuotedOf (c ∷ cs)) (eqb (c .byte) 34) _ _ (λ _. spans-none (c ∷ cs) cs (ran-one c cs))
+    (λ _. chosen (QuotedOf (c ∷ cs)) (eqb (c .byte) 92) _ _ (λ _. spans-skip c cs _ _ (quoted-spans true cs)) (λ _. spans-char c cs _ _ (quoted-spans false cs)))
+quoted-spans true (c ∷ cs) = counted (QuotedOf (c ∷ cs)) (Z.escape (c .byte)) _ _ (spans-skip c cs _ _ (quoted-spans false cs)) (λ e z. spans-byte (suc e) c cs _ _ (omega (arith, escape-low (c .byte))) (quoted-spans false cs))
 
-abbrev RunRan : List Ch → Run → Type 0
-RunRan cs (ends s) = SpanRan cs s
-RunRan cs foreign = Unit {0}
+abbrev RunOf : List Ch → Run → Type 0
+RunOf cs (ends s) = SpanOf cs s
+RunOf cs foreign = Unit {0}
 
-by-run : (cs : List Ch) (b : Bool) (x y : Run) → RunRan cs x → RunRan cs y → RunRan cs (elim b as (λ _. Run) [ true ↦ x | false ↦ y ])
-by-run cs true x y p q = p
-by-run cs false x y p q = q
+run-byte : (c : Ch) (cs : List Ch) (r : Run) → c .byte < 128 → RunOf cs r → RunOf (c ∷ cs) (Z.run-ahead (c .byte ∷ []) r)
+run-byte c cs (ends s) l p = spans-byte (c .byte) c cs (s .text) (s .rest) l p
+run-byte c cs foreign l p = tt
 
-run-char : (c : Ch) (cs : List Ch) (r : Run) → RunRan cs r → RunRan (c ∷ cs) (Z.run-ahead (c .byte ∷ []) r)
-run-char c cs (ends s) p = ran-as (ran-char c cs (s .rest) (length (s .text)) 1 (omega arith) p) (omega arith)
-run-char c cs foreign p = tt
-
-run-skip : (c : Ch) (cs : List Ch) (r : Run) → RunRan cs r → RunRan (c ∷ cs) r
-run-skip c cs (ends s) p = ran-as (ran-char c cs (s .rest) (length (s .text)) 0 (omega arith) p) (omega arith)
+run-skip : (c : Ch) (cs : List Ch) (r : Run) → RunOf cs r → RunOf (c ∷ cs) r
+run-skip c cs (ends s) p = spans-skip c cs (s .text) (s .rest) p
 run-skip c cs foreign p = tt
 
-word-ran : (cs : List Ch) → RunRan cs (word cs)
+-- behind characters that are passed over
+run-behind : (cs rest : List Ch) (n : ℕ) (r : Run) → Ran cs rest n → RunOf rest r → RunOf cs r
+run-behind cs rest n (ends s) p q = record { ran = ran-trans p (q .ran); utf8 = λ k h. q .utf8 k (p .keeps k h) }
+run-behind cs rest n foreign p q = tt
+
+word-spans : (cs : List Ch) → RunOf cs (word cs)
 unfolding word
-word-ran [] = ran-none []
-word-ran (c ∷ cs) = by-run (c ∷ cs) (ltb 127 (c .byte)) _ _ tt (by-run (c ∷ cs) (C.is-letter (c .byte) || C.is-digit (c .byte)) _ _ (run-char c cs (word cs) (word-ran cs)) (ran-none (c ∷ cs)))
+word-spans [] = spans-none [] [] (ran-none [])
+word-spans (c ∷ cs) =
+    chosen (RunOf (c ∷ cs)) (ltb 127 (c .byte)) _ _ (λ _. tt)
+    (λ l. chosen (RunOf (c ∷ cs)) (C.is-word (c .byte)) _ _ (λ _. run-byte c cs (word cs) (omega (arith, ltb-false 127 (c .byte) l)) (word-spans cs)) (λ _. spans-none (c ∷ cs) (c ∷ cs) (ran-none (c ∷ cs))))
 
-white-ran : (cs : List Ch) → RunRan cs (white cs)
+white-spans : (cs : List Ch) → RunOf cs (white cs)
 unfolding white
-white-ran [] = ran-none []
-white-ran (c ∷ cs) = by-run (c ∷ cs) (ltb 127 (c .byte)) _ _ tt (by-run (c ∷ cs) (C.is-white (c .byte)) _ _ (run-skip c cs (white cs) (white-ran cs)) (ran-none (c ∷ cs)))
+white-spans [] = spans-none [] [] (ran-none [])
+white-spans (c ∷ cs) =
+    chosen (RunOf (c ∷ cs)) (ltb 127 (c .byte)) _ _ (λ _. tt) (λ _. chosen (RunOf (c ∷ cs)) (C.is-white (c .byte)) _ _ (λ _. run-skip c cs (white cs) (white-spans cs)) (λ _. spans-none (c ∷ cs) (c ∷ cs) (ran-none (c ∷ cs))))
 
--- ---- one turn: at most one token, at the place of its first character
+-- ---- one turn: at most one token, and errors, at the place of its first character
 
--- a kind with no text has none
-abbrev pub Textless : Tok → Type 0
-Textless t = has-text (t .kind) ≡ false → t .text ≡ []
-
-clash : {A : Type 0} → true ≡ false → A
-clash e = let z : _≡_ {A = ℕ} 0 1 = cc in absurd (omega arith)
+-- a token at the place p, where of n bytes at most r are left behind its text
+record New (p : Place) (r n : ℕ) (t : Tok) : Type 0 where
+  place : t .place ≡ p
+  size : length (t .text) + r ≤ n
+  formed : Formed t
 
 abbrev OneToken : Place → ℕ → ℕ → List Tok → Type 0
 OneToken p r n [] = Unit {0}
-OneToken p r n (t ∷ []) = (t .place ≡ p) × (length (t .text) + r ≤ n) × (0 < t .kind) × Textless t
+OneToken p r n (t ∷ []) = New p r n t
 OneToken p r n (t ∷ u ∷ us) = ⊥
 
-record Turned (c : Ch) (cs rest : List Ch) (ts : List Tok) : Type 0 where
-  keeps : (k : ℕ) → Chars k cs → Chars k rest
-  size : bytes rest ≤ bytes cs
-  fewer : length rest ≤ length cs
-  token : OneToken (c .place) (bytes rest) (bytes (c ∷ cs)) ts
+-- a token error at the place p
+record ErrorAt (p : Place) (e : Err) : Type 0 where
+  place : e .place ≡ p
+  low : 1 ≤ e .number
+  high : e .number ≤ 4
+  expected : e .expected ≡ 0
+  got : e .got ≡ 0
 
-abbrev TurnOf : Ch → List Ch → Turn → Type 0
-TurnOf c cs (goes rest es ts) = Turned c cs rest ts
-TurnOf c cs (refused n) = T (C.between 4 7 n)
+error-at : (n : ℕ) (p : Place) → 1 ≤ n → n ≤ 4 → ErrorAt p (Z.token-error n p)
+error-at n p l h = record { place = refl; low = l; high = h; expected = refl; got = refl }
 
-by-turn : (c : Ch) (cs : List Ch) (b : Bool) (x y : Turn) → TurnOf c cs x → TurnOf c cs y → TurnOf c cs (elim b as (λ _. Turn) [ true ↦ x | false ↦ y ])
-by-turn c cs true x y p q = p
-by-turn c cs false x y p q = q
-
-made : (c : Ch) (cs rest : List Ch) (n : ℕ) (ts : List Tok) → Ran cs rest n → OneToken (c .place) (bytes rest) (bytes (c ∷ cs)) ts → Turned c cs rest ts
-made c cs rest n ts p t = record { keeps = p .keeps; size = omega (arith, p .size); fewer = p .fewer; token = t }
-
-or-zero-length : (xs : List ℕ) → length (Z.or-zero xs) ≡ max 1 (length xs)
+or-zero-length : (xs : List ℕ) → length (Z.or-zero xs) ≤ 1 + length xs
 or-zero-length [] = omega arith
 or-zero-length (x ∷ xs) = omega arith
 
--- the kinds of symbols are not 0
-class-pair : (a b c d e f g h i j : Bool) → pick a Foreign (pick b White (pick c Comment (pick d Pair (pick e Symbol (pick f Quote (pick g Word (pick h Dash (pick i Zero (pick j Digit Unknown))))))))) ≡ Pair → T d
-class-pair true b c d e f g h i j q = absurd (let z : _≡_ {A = ℕ} 0 1 = cc in omega arith)
-class-pair false true c d e f g h i j q = absurd (let z : _≡_ {A = ℕ} 0 1 = cc in omega arith)
-class-pair false false true d e f g h i j q = absurd (let z : _≡_ {A = ℕ} 0 1 = cc in omega arith)
-class-pair false false false true e f g h i j q = tt
-class-pair false false false false true f g h i j q = absurd (let z : _≡_ {A = ℕ} 0 1 = cc in omega arith)
-class-pair false false false false false true g h i j q = absurd (let z : _≡_ {A = ℕ} 0 1 = cc in omega arith)
-class-pair false false false false false false true h i j q = absurd (let z : _≡_ {A = ℕ} 0 1 = cc in omega arith)
-class-pair false false false false false false false true i j q = absurd (let z : _≡_ {A = ℕ} 0 1 = cc in omega arith)
-class-pair false false false false false false false false true j q = absurd (let z : _≡_ {A = ℕ} 0 1 = cc in omega arith)
-class-pair false false false false false false false false false true q = absurd (let z : _≡_ {A = ℕ} 0 1 = cc in omega arith)
-class-pair false false false false false false false false false false q = absurd (let z : _≡_ {A = ℕ} 0 1 = cc in omega arith)
+record Turned (c : Ch) (cs rest : List Ch) (es : List Err) (ts : List Tok) : Type 0 where
+  ran : Ran cs rest 0
+  token : OneToken (c .place) (bytes rest) (bytes (c ∷ cs)) ts
+  errors : All (ErrorAt (c .place)) es
 
-class-symbol : (a b c d e f g h i j : Bool) → pick a Foreign (pick b White (pick c Comment (pick d Pair (pick e Symbol (pick f Quote (pick g Word (pick h Dash (pick i Zero (pick j Digit Unknown))))))))) ≡ Symbol → T e
-class-symbol true b c d e f g h i j q = absurd (let z : _≡_ {A = ℕ} 0 1 = cc in omega arith)
-class-symbol false true c d e f g h i j q = absurd (let z : _≡_ {A = ℕ} 0 1 = cc in omega arith)
-class-symbol false false true d e f g h i j q = absurd (let z : _≡_ {A = ℕ} 0 1 = cc in omega arith)
-class-symbol false false false true e f g h i j q = absurd (let z : _≡_ {A = ℕ} 0 1 = cc in omega arith)
-class-symbol false false false false true f g h i j q = tt
-class-symbol false false false false false true g h i j q = absurd (let z : _≡_ {A = ℕ} 0 1 = cc in omega arith)
-class-symbol false false false false false false true h i j q = absurd (let z : _≡_ {A = ℕ} 0 1 = cc in omega arith)
-class-symbol false false false false false false false true i j q = absurd (let z : _≡_ {A = ℕ} 0 1 = cc in omega arith)
-class-symbol false false false false false false false false true j q = absurd (let z : _≡_ {A = ℕ} 0 1 = cc in omega arith)
-class-symbol false false false false false false false false false true q = absurd (let z : _≡_ {A = ℕ} 0 1 = cc in omega arith)
-class-symbol false false false false false false false false false false q = absurd (let z : _≡_ {A = ℕ} 0 1 = cc in omega arith)
+abbrev TurnOf : Ch → List Ch → Turn → Type 0
+TurnOf c cs (goes rest es ts) = Turned c cs rest es ts
+TurnOf c cs (refused n) = T (C.between 4 7 n)
 
-pair-kind : (c d : ℕ) → Z.class c d ≡ Pair → 0 < Z.pair c d
-unfolding Z.class first
-pair-kind c d e = ltb→lt 0 (Z.pair c d) (class-pair (ltb 127 c) (C.is-white c) (eqb c 47 && eqb d 47) (ltb 0 (Z.pair c d)) (ltb 0 (Z.symbol c)) (eqb c 34) (C.is-letter c) (eqb c 45) (eqb c 48) (C.is-digit c) e)
+module _ (c : Ch) (cs : List Ch) where
+  -- a turn that makes a token, its text of one byte more than are passed at most; one that makes none
+  gives-token : (rest : List Ch) (n : ℕ) (es : List Err) (t : Tok) → Ran cs rest n → t .place ≡ c .place → length (t .text) ≤ 1 + n → Formed t → All (ErrorAt (c .place)) es → Turned c cs rest es (t ∷ [])
+  gives-token rest n es t r e l f a = record { ran = ran-less r; token = record { place = e; size = omega (arith, r .size); formed = f }; errors = a }
 
-symbol-kind : (c d : ℕ) → Z.class c d ≡ Symbol → 0 < Z.symbol c
-unfolding Z.class first
-symbol-kind c d e = ltb→lt 0 (Z.symbol c) (class-symbol (ltb 127 c) (C.is-white c) (eqb c 47 && eqb d 47) (ltb 0 (Z.pair c d)) (ltb 0 (Z.symbol c)) (eqb c 34) (C.is-letter c) (eqb c 45) (eqb c 48) (C.is-digit c) e)
+  gives-none : (rest : List Ch) (n : ℕ) (es : List Err) → Ran cs rest n → All (ErrorAt (c .place)) es → Turned c cs rest es []
+  gives-none rest n es r a = record { ran = ran-less r; token = tt; errors = a }
 
-string-turned : (c : Ch) (cs : List Ch) (q : Quoted) → QuotedRan cs q → TurnOf c cs (Z.string-turn (c .place) q)
-unfolding Z.string-turn
-string-turned c cs q p = by-turn c cs (q .closed) _ _ (made c cs (q .rest) (length (q .text)) _ p (refl, omega (arith, p .size), omega arith, λ e. clash e)) (made c cs (q .rest) (length (q .text)) [] p tt)
+  plain-turned : (rest : List Ch) (n k : ℕ) → Ran cs rest n → Formed (record { kind = k; place = c .place; text = []; base = 0 }) → TurnOf c cs (Z.token rest k (c .place))
+  plain-turned rest n k r f = gives-token rest n [] _ r refl (omega arith) f tt
 
-assembly-turned : (c : Ch) (cs : List Ch) (r : Run) → RunRan cs r → TurnOf c cs (Z.assembly-turn (c .place) r)
-unfolding Z.assembly-turn
-assembly-turned c cs foreign p = tt
-assembly-turned c cs (ends s) p =
-    by-turn c cs (eqb (look (s .rest)) 123) _ _ (made c cs _ _ _ (ran-trans p (ran-trans (ran-drop (s .rest)) (assembly-ran (drop-one (s .rest))))) (refl, omega (arith, p .size, ran-drop (s .rest) .size, assembly-ran (drop-one (s .rest)) .size), omega arith, λ e. clash e))
-    (made c cs _ _ [] (ran-trans p (ran-drop (s .rest))) tt)
+  string-turned : (k : ℕ) → Chars k cs → (q : Quoted) → QuotedOf cs q → TurnOf c cs (Z.string-turn (c .place) q)
+  unfolding Z.string-turn
+  string-turned k h q p =
+      chosen (TurnOf c cs) (q .closed) _ _ (λ _. gives-token (q .rest) (length (q .text)) _ _ (p .ran) refl (omega arith) (text-formed K.String (c .place) (q .text) refl refl (omega arith) (omega arith) (p .utf8 k h)) unknown)
+      (λ _. gives-none (q .rest) (length (q .text)) _ (p .ran) (all-append (ErrorAt (c .place)) (replicate (q .unknown) (Z.token-error 1 (c .place))) (Z.token-error 2 (c .place) ∷ []) unknown (error-at 2 (c .place) (omega arith) (omega arith), tt)))
+    where
+      unknown : All (ErrorAt (c .place)) (replicate (q .unknown) (Z.token-error 1 (c .place)))
+      unknown = all-replicate (ErrorAt (c .place)) (q .unknown) (Z.token-error 1 (c .place)) (error-at 1 (c .place) (omega arith) (omega arith))
 
-skipped : (cs rest : List Ch) (n : ℕ) (r : Run) → Ran cs rest n → RunRan rest r → RunRan cs r
-skipped cs rest n (ends s) p q = ran-as (ran-trans p q) (omega arith)
-skipped cs rest n foreign p q = tt
+  assembly-turned : (k : ℕ) → Chars k cs → (r : Run) → RunOf cs r → TurnOf c cs (Z.assembly-turn (c .place) r)
+  unfolding Z.assembly-turn
+  assembly-turned k h foreign p = tt
+  assembly-turned k h (ends s) p =
+      chosen (TurnOf c cs) (eqb (look (s .rest)) 123) _ _
+      (λ _. gives-token (a .rest) (length (a .text)) [] _ (ran-trans behind (b .ran)) refl (omega arith) (text-formed K.InlineAssemblyFragment (c .place) (a .text) refl refl (omega arith) (omega arith) (b .utf8 k (behind .keeps k h))) tt)
+      (λ _. gives-none (drop-one (s .rest)) 0 _ behind (error-at 3 (c .place) (omega arith) (omega arith), tt))
+    where
+      a : Span
+      a = assembly (drop-one (s .rest))
 
-by-keyword : (c : Ch) (cs : List Ch) (k : ℕ) (x : Turn) (f : ℕ → Turn) → TurnOf c cs x → ((j : ℕ) → TurnOf c cs (f j)) → TurnOf c cs (elim k as (λ _. Turn) [ zero ↦ x | suc j ↦ f j ])
-by-keyword c cs zero x f p q = p
-by-keyword c cs (suc j) x f p q = q j
+      b : SpanOf (drop-one (s .rest)) a
+      b = assembly-spans (drop-one (s .rest))
 
-word-turned : (c : Ch) (cs : List Ch) (r : Run) → RunRan cs r → TurnOf c cs (Z.word-turn (c .place) (Z.run-ahead (c .byte ∷ []) r))
-unfolding Z.word-turn
-word-turned c cs foreign p = tt
-word-turned c cs (ends s) p =
-    by-turn c cs (Z.same (c .byte ∷ s .text) (ascii "asm")) _ _ (assembly-turned c cs (white (s .rest)) (skipped cs (s .rest) (length (s .text)) (white (s .rest)) p (white-ran (s .rest))))
-    (by-keyword c cs (Z.keyword (c .byte ∷ s .text)) _ _ (made c cs (s .rest) (length (s .text)) _ p (refl, omega (arith, p .size), omega arith, λ e. clash e)) (λ j. made c cs (s .rest) (length (s .text)) _ p (refl, omega (arith, p .size), omega arith, λ _. refl)))
+      behind : Ran cs (drop-one (s .rest)) 0
+      behind = ran-trans (p .ran) (ran-drop (s .rest))
 
-integer-turned : (c : Ch) (cs : List Ch) (base : ℕ) (before : List ℕ) (rest : List Ch) (s : Span) → length before ≤ 1 → Ran cs rest 0 → SpanRan rest s → TurnOf c cs (Z.integer (c .place) base before s)
-integer-turned c cs base before rest s h p q = made c cs (s .rest) _ _ (ran-trans p q) (refl, omega (arith, or-zero-length (before ++ s .text), length-append before (s .text), p .size, q .size), omega arith, λ e. clash e)
+  word-turned : (k : ℕ) → Chars k cs → c .byte < 128 → (r : Run) → RunOf cs r → TurnOf c cs (Z.word-turn (c .place) (Z.run-ahead (c .byte ∷ []) r))
+  unfolding Z.word-turn
+  word-turned k h l foreign p = tt
+  word-turned k h l (ends s) p =
+      chosen (TurnOf c cs) (Z.same (c .byte ∷ s .text) (ascii "asm")) _ _ (λ _. assembly-turned k h (white (s .rest)) (run-behind cs (s .rest) (length (s .text)) (white (s .rest)) (p .ran) (white-spans (s .rest))))
+      (λ _. counted (TurnOf c cs) (Z.keyword (c .byte ∷ s .text)) _ _ (gives-token (s .rest) (length (s .text)) [] _ (p .ran) refl (omega arith) (text-formed K.Identifier (c .place) (c .byte ∷ s .text) refl refl (omega arith) (omega arith) (utf8-byte (c .byte) (s .text) l (p .utf8 k h))) tt)
+      (λ j e. plain-turned (s .rest) (length (s .text)) (suc j) (p .ran) (plain-formed (suc j) (c .place) (subst Plain e (keyword-plain (c .byte ∷ s .text))) (omega arith))))
+
+  integer-turned : (base : ℕ) (text : List ℕ) (rest : List Ch) (n : ℕ) → base-fits 2 base ≡ true → Ran cs rest n → length text ≤ 1 + n → Numeral base text → TurnOf c cs (Z.token-text rest K.Integer (c .place) text base)
+  integer-turned base text rest n b r l t = gives-token rest n [] _ r refl l (integer-formed base (c .place) text b t) tt
+
+  -- of digits behind a prefix that is no text
+  based-turned : (base : ℕ) (rest : List Ch) → base-fits 2 base ≡ true → C.is-digit-of base 48 ≡ true → Ran cs rest 0 → TurnOf c cs (Z.integer (c .place) base [] (digits base rest))
+  based-turned base rest b z r = integer-turned base _ (digits base rest .rest) _ b (ran-trans r (digits-ran base rest)) (omega (arith, or-zero-length (digits base rest .text))) (or-zero-numeral base (digits base rest .text) z (digits-all base rest))
+
+  zero-turned : TurnOf c cs (Z.zero-turn (c .place) cs)
+  unfolding Z.zero-turn
+  zero-turned =
+      chosen (TurnOf c cs) (eqb (look cs) 120) _ _ (λ _. based-turned 16 (drop-one cs) refl refl (ran-drop cs)) (λ _. chosen (TurnOf c cs) (eqb (look cs) 98) _ _ (λ _. based-turned 2 (drop-one cs) refl refl (ran-drop cs)) (λ _. based-turned 10 cs refl refl (ran-none cs)))
 
 dash-turned : (c : Ch) (cs : List Ch) → TurnOf c cs (Z.dash-turn (c .place) cs)
 unfolding Z.dash-turn
 dash-turned c [] = tt
 dash-turned c (d ∷ cs) =
-    by-turn c (d ∷ cs) (eqb (d .byte) 62) _ _ (made c (d ∷ cs) cs 0 _ (ran-one d cs) (refl, omega arith, omega arith, λ _. refl))
-    (by-turn c (d ∷ cs) (C.is-digit (d .byte)) _ _ (integer-turned c (d ∷ cs) 10 (45 ∷ []) (d ∷ cs) (digits 10 (d ∷ cs)) (omega arith) (ran-none (d ∷ cs)) (digits-ran 10 (d ∷ cs))) (made c (d ∷ cs) cs 0 _ (ran-one d cs) (refl, omega arith, omega arith, λ _. refl)))
+    chosen (TurnOf c (d ∷ cs)) (eqb (d .byte) 62) _ _ (λ _. plain-turned c (d ∷ cs) cs 0 K.RArrow (ran-one d cs) (plain-formed K.RArrow (c .place) (record { plain = refl }) (omega arith)))
+    (λ _. chosen (TurnOf c (d ∷ cs)) (C.is-digit (d .byte)) _ _ (λ e. integer-turned c (d ∷ cs) 10 (45 ∷ digits 10 (d ∷ cs) .text) (digits 10 (d ∷ cs) .rest) _ refl (digits-ran 10 (d ∷ cs)) (omega arith) (dash-numeral (digits 10 (d ∷ cs) .text) (digits-all 10 (d ∷ cs)) (digits-some d cs e)))
+    (λ _. plain-turned c (d ∷ cs) cs 0 K.Minus (ran-one d cs) (plain-formed K.Minus (c .place) (record { plain = refl }) (omega arith))))
 
-zero-turned : (c : Ch) (cs : List Ch) → TurnOf c cs (Z.zero-turn (c .place) cs)
-unfolding Z.zero-turn
-zero-turned c cs =
-    by-turn c cs (eqb (look cs) 120) _ _ (integer-turned c cs 16 [] (drop-one cs) (digits 16 (drop-one cs)) (omega arith) (ran-drop cs) (digits-ran 16 (drop-one cs)))
-    (by-turn c cs (eqb (look cs) 98) _ _ (integer-turned c cs 2 [] (drop-one cs) (digits 2 (drop-one cs)) (omega arith) (ran-drop cs) (digits-ran 2 (drop-one cs)))
-    (integer-turned c cs 10 [] cs (digits 10 cs) (omega arith) (ran-none cs) (digits-ran 10 cs)))
-
-turned : (c : Ch) (cs : List Ch) → TurnOf c cs (turn c cs)
+turned : (c : Ch) (cs : List Ch) (k : ℕ) → Chars k cs → TurnOf c cs (turn c cs)
 unfolding turn
-turned c cs = go (Z.class (c .byte) (look cs)) refl
+turned c cs k h = go (Z.class (c .byte) (look cs)) (classed (c .byte) (look cs))
   where
-    go : (x : Class) → Z.class (c .byte) (look cs) ≡ x → TurnOf c cs (elim x as (λ _. Turn) [
+    go : (x : Class) → Classed (c .byte) (look cs) x → TurnOf c cs (elim x as (λ _. Turn) [
       | Foreign ↦ refused 4
       | White ↦ Z.nothing cs
       | Comment ↦ Z.nothing (comment (drop-one cs))
@@ -353,42 +322,54 @@ turned c cs = go (Z.class (c .byte) (look cs)) refl
       | Digit ↦ Z.integer (c .place) 10 (c .byte ∷ []) (digits 10 cs)
       | Unknown ↦ goes cs (Z.token-error 4 (c .place) ∷ []) []
     ])
-    go Foreign e = tt
-    go White e = made c cs cs 0 [] (ran-none cs) tt
-    go Comment e = made c cs _ _ [] (ran-trans (ran-drop cs) (comment-ran (drop-one cs))) tt
-    go Pair e = made c cs (drop-one cs) 0 _ (ran-drop cs) (refl, omega (arith, ran-drop cs .size), pair-kind (c .byte) (look cs) e, λ _. refl)
-    go Symbol e = made c cs cs 0 _ (ran-none cs) (refl, omega arith, symbol-kind (c .byte) (look cs) e, λ _. refl)
-    go Quote e = string-turned c cs (quoted false cs) (quoted-ran false cs)
-    go Word e = word-turned c cs (word cs) (word-ran cs)
-    go Dash e = dash-turned c cs
-    go Zero e = zero-turned c cs
-    go Digit e = integer-turned c cs 10 (c .byte ∷ []) cs (digits 10 cs) (omega arith) (ran-none cs) (digits-ran 10 cs)
-    go Unknown e = made c cs cs 0 [] (ran-none cs) tt
+    go x is-foreign = tt
+    go x is-white = gives-none c cs cs 0 [] (ran-none cs) tt
+    go x is-comment = gives-none c cs (comment (drop-one cs)) 0 [] (ran-trans (ran-drop cs) (comment-ran (drop-one cs))) tt
+    go x (is-pair l) = plain-turned c cs (drop-one cs) 0 (Z.pair (c .byte) (look cs)) (ran-drop cs) (plain-formed (Z.pair (c .byte) (look cs)) (c .place) (pair-plain (c .byte) (look cs)) l)
+    go x (is-symbol l) = plain-turned c cs cs 0 (Z.symbol (c .byte)) (ran-none cs) (plain-formed (Z.symbol (c .byte)) (c .place) (symbol-plain (c .byte)) l)
+    go x is-quote = string-turned c cs k h (quoted false cs) (quoted-spans false cs)
+    go x (is-word l) = word-turned c cs k h l (word cs) (word-spans cs)
+    go x is-dash = dash-turned c cs
+    go x is-zero = zero-turned c cs
+    go x (is-digit e) = integer-turned c cs 10 (c .byte ∷ digits 10 cs .text) (digits 10 cs .rest) (length (digits 10 cs .text)) refl (digits-ran 10 cs) (omega arith) (numeral 10 (c .byte ∷ digits 10 cs .text) (digit-first (c .byte) (digits 10 cs .text) e (digits-all 10 cs)) (omega arith))
+    go x is-unknown = gives-none c cs cs 0 _ (ran-none cs) (error-at 4 (c .place) (omega arith) (omega arith), tt)
 
 -- ---- all the tokens
 
--- the tokens so far: none after key k, no two at one place, all small
-abbrev Upto : ℕ → List Tok → Type 0
-Upto k [] = Unit {0}
-Upto k (t ∷ ts) = (key (t .place) ≤ k) × Upto k ts
+-- each behind the former, from the key j to the key k
+abbrev Rising : ℕ → List Tok → ℕ → Type 0
+Rising j [] k = j ≤ k
+Rising j (t ∷ ts) k = (j < key (t .place)) × Rising (key (t .place)) ts k
+
+rising-append : (j k l : ℕ) (ts us : List Tok) → Rising j ts k → Rising k us l → Rising j (ts ++ us) l
+rising-append j k l [] [] r q = omega arith
+rising-append j k l [] (u ∷ us) r q = (omega (arith, q .0), q .1)
+rising-append j k l (t ∷ ts) us r q = (r .0, rising-append (key (t .place)) k l ts us (r .1) q)
+
+pub record Good (t : Tok) : Type 0 where
+  pub formed : Formed t
+  pub placed : Placed 1 (t .place)
+  pub short : length (t .text) ≤ 16384
+
+pub record Fault (e : Err) : Type 0 where
+  pub low : 1 ≤ e .number
+  pub high : e .number ≤ 4
+  pub placed : Placed 1 (e .place)
+  pub expected : e .expected ≡ 0
+  pub got : e .got ≡ 0
 
 -- none is the end
 abbrev pub Kinds : List Tok → Type 0
-Kinds [] = Unit {0}
-Kinds (t ∷ ts) = (0 < t .kind) × Kinds ts
+Kinds ts = All (λ t. 0 < t .kind) ts
 
 -- those with no text have none
 abbrev pub AllTextless : List Tok → Type 0
-AllTextless [] = Unit {0}
-AllTextless (t ∷ ts) = Textless t × AllTextless ts
+AllTextless ts = All Textless ts
 
-textless-snoc : (ts : List Tok) (t : Tok) → AllTextless ts → Textless t → AllTextless (ts ++ (t ∷ []))
-textless-snoc [] t k h = (h, tt)
-textless-snoc (x ∷ ts) t k h = (k .0, textless-snoc ts t (k .1) h)
-
-kinds-snoc : (ts : List Tok) (t : Tok) → Kinds ts → 0 < t .kind → Kinds (ts ++ (t ∷ []))
-kinds-snoc [] t k h = (h, tt)
-kinds-snoc (x ∷ ts) t k h = (k .0, kinds-snoc ts t (k .1) h)
+-- each token comes behind the former, the first behind the place p
+abbrev pub Behind : Place → List Tok → Type 0
+Behind p [] = Unit {0}
+Behind p (t ∷ ts) = (comes-after p (t .place .line) (t .place .column) ≡ true) × Behind (t .place) ts
 
 abbrev pub texts : List Tok → ℕ
 texts [] = 0
@@ -398,52 +379,44 @@ texts-append : (xs ys : List Tok) → texts (xs ++ ys) ≡ texts xs + texts ys
 texts-append [] ys = omega arith
 texts-append (x ∷ xs) ys = omega (arith, texts-append xs ys)
 
-record Have (k : ℕ) (ts : List Tok) : Type 0 where
-  upto : Upto k ts
-  distinct : Distinct ts
-  small : AllSmall ts
-  kinds : Kinds ts
-  textless : AllTextless ts
+-- ---- what follows for a list of tokens
 
-upto-weaken : (k j : ℕ) (ts : List Tok) → k ≤ j → Upto k ts → Upto j ts
-upto-weaken k j [] h p = tt
-upto-weaken k j (t ∷ ts) h p = (omega (arith, p .0), upto-weaken k j ts h (p .1))
+later-place : (p q : Place) → p .column < 65536 → q .column < 65536 → key p < key q → comes-after p (q .line) (q .column) ≡ true
+later-place p q a b h = go (ltb (p .line) (q .line)) refl
+  where
+    go : (x : Bool) → ltb (p .line) (q .line) ≡ x → x || (eqb (p .line) (q .line) && ltb (p .column) (q .column)) ≡ true
+    go true e = refl
+    go false e = let l : q .line ≤ p .line = ltb-false _ _ e in both-true (eq-eqb (p .line) (q .line) (omega arith)) (lt-ltb (p .column) (q .column) (omega arith))
 
-upto-snoc : (k : ℕ) (ts : List Tok) (t : Tok) → Upto k ts → key (t .place) ≤ k → Upto k (ts ++ (t ∷ []))
-upto-snoc k [] t p h = (h, tt)
-upto-snoc k (x ∷ ts) t p h = (p .0, upto-snoc k ts t (p .1) h)
+behind : (p : Place) (ts : List Tok) (k : ℕ) → p .column < 65536 → Rising (key p) ts k → All Good ts → Behind p ts
+behind p [] k h r g = tt
+behind p (t ∷ ts) k h r g = (later-place p (t .place) h (omega (arith, g .0 .placed)) (r .0), behind (t .place) ts k (omega (arith, g .0 .placed)) (r .1) (g .1))
 
 differ : (p q : Place) → key p < key q → same-place p q ≡ false
-differ p q h = go (eqb (p .line) (q .line)) (eqb (p .column) (q .column)) (λ t. eqb→eq (p .line) (q .line) t) (λ t. eqb→eq (p .column) (q .column) t)
+differ p q h = go (eqb (p .line) (q .line)) (eqb (p .column) (q .column)) (eqb-true (p .line) (q .line)) (eqb-true (p .column) (q .column))
   where
-    go : (a b : Bool) → (T a → p .line ≡ q .line) → (T b → p .column ≡ q .column) → a && b ≡ false
-    go true true f g = absurd (omega (arith, f tt, g tt))
+    go : (a b : Bool) → (a ≡ true → p .line ≡ q .line) → (b ≡ true → p .column ≡ q .column) → a && b ≡ false
+    go true true f g = absurd (omega (arith, f refl, g refl))
     go true false f g = refl
     go false b f g = refl
 
-apart-snoc : (p : Place) (ts : List Tok) (t : Tok) → Apart p ts → same-place p (t .place) ≡ false → Apart p (ts ++ (t ∷ []))
-apart-snoc p [] t a h = (h, tt)
-apart-snoc p (x ∷ ts) t a h = (a .0, apart-snoc p ts t (a .1) h)
+apart : (p : Place) (ts : List Tok) (j k : ℕ) → key p ≤ j → Rising j ts k → Apart p ts
+apart p [] j k h r = tt
+apart p (t ∷ ts) j k h r = (differ p (t .place) (omega (arith, r .0)), apart p ts (key (t .place)) k (omega (arith, r .0)) (r .1))
 
-distinct-snoc : (k : ℕ) (ts : List Tok) (t : Tok) → Upto k ts → k < key (t .place) → Distinct ts → Distinct (ts ++ (t ∷ []))
-distinct-snoc k [] t u h d = (tt, tt)
-distinct-snoc k (x ∷ ts) t u h d = (apart-snoc (x .place) ts t (d .0) (differ (x .place) (t .place) (omega (arith, u .0))), distinct-snoc k ts t (u .1) h (d .1))
+distinct : (ts : List Tok) (j k : ℕ) → Rising j ts k → Distinct ts
+distinct [] j k r = tt
+distinct (t ∷ ts) j k r = (apart (t .place) ts (key (t .place)) k (omega arith) (r .1), distinct ts (key (t .place)) k (r .1))
 
-small-snoc : (ts : List Tok) (t : Tok) → AllSmall ts → SmallTok t → AllSmall (ts ++ (t ∷ []))
-small-snoc [] t a h = (h, tt)
-small-snoc (x ∷ ts) t a h = (a .0, small-snoc ts t (a .1) h)
-
-have-more : (k r n : ℕ) (p : Place) (ts us : List Tok) → Have k ts → k < key p → p .line < 65536 → p .column < 65536 → n ≤ 60000 → OneToken p r n us → Have (key p) (ts ++ us)
-have-more k r n p ts [] h a b c m o = rw append-nil (record { upto = upto-weaken k (key p) ts (omega arith) (h .upto); distinct = h .distinct; small = h .small; kinds = h .kinds; textless = h .textless })
-have-more k r n p ts (t ∷ []) h a b c m o =
-    let e : key (t .place) ≡ key p = ap key (o .0) in
-    let l : t .place .line ≡ p .line = ap (λ (q : Place). q .line) (o .0) in
-    let r′ : t .place .column ≡ p .column = ap (λ (q : Place). q .column) (o .0) in
-    record { upto = upto-snoc (key p) ts t (upto-weaken k (key p) ts (omega arith) (h .upto)) (omega arith); distinct = distinct-snoc k ts t (h .upto) (omega arith) (h .distinct); small = small-snoc ts t (h .small) (omega (arith, l, r′, o .1)); kinds = kinds-snoc ts t (h .kinds) (o .2); textless = textless-snoc ts t (h .textless) (o .3) }
-have-more k r n p ts (t ∷ u ∷ us) h a b c m o = absurd o
+small : (ts : List Tok) → All Good ts → AllSmall ts
+small [] g = tt
+small (t ∷ ts) g = (omega (arith, g .0), small ts (g .1))
 
 -- what is known of the tokens and errors of a script
 pub record Made (ts : List Tok) (es : List Err) : Type 0 where
+  pub good : All Good ts
+  pub behind : Behind nowhere ts
+  pub faults : All Fault es
   pub distinct : Distinct ts
   pub small : AllSmall ts
   pub kinds : Kinds ts
@@ -457,32 +430,72 @@ abbrev pub TokensOf : Tokens → Type 0
 TokensOf (tokens ts es) = Made ts es
 TokensOf (refused n) = T (C.between 4 7 n)
 
-tokens-from : (n : ℕ) (cs : List Ch) (ts : List Tok) (es : List Err) (k : ℕ) → length cs < n → Chars k cs → texts ts + bytes cs ≤ 16384 → Have k ts → length ts ≤ 2048 → length es ≤ 255 → TokensOf (tokenize-from 2048 n cs ts es)
+-- ---- the loop
+
+-- what the turns up to the key k have made
+record Have (k : ℕ) (ts : List Tok) (es : List Err) : Type 0 where
+  rising : Rising 0 ts k
+  good : All Good ts
+  faults : All Fault es
+
+module _ (p : Place) (r n : ℕ) where
+  one-rising : (k : ℕ) (us : List Tok) → k < key p → OneToken p r n us → Rising k us (key p)
+  one-rising k [] h o = omega arith
+  one-rising k (t ∷ []) h o = let e : key (t .place) ≡ key p = ap key (o .place) in (omega arith, omega arith)
+  one-rising k (t ∷ u ∷ us) h o = absurd o
+
+  one-good : (us : List Tok) → Placed 1 p → n ≤ 16384 → OneToken p r n us → All Good us
+  one-good [] h m o = tt
+  one-good (t ∷ []) h m o = (record { formed = o .formed; placed = subst (Placed 1) (sym (o .place)) h; short = omega (arith, o .size) }, tt)
+  one-good (t ∷ u ∷ us) h m o = absurd o
+
+  one-text : (us : List Tok) → r ≤ n → OneToken p r n us → texts us + r ≤ n
+  one-text [] h o = omega arith
+  one-text (t ∷ []) h o = omega (arith, o .size)
+  one-text (t ∷ u ∷ us) h o = absurd o
+
+  fault : Placed 1 p → (e : Err) → ErrorAt p e → Fault e
+  fault h e a = record { low = a .low; high = a .high; placed = subst (Placed 1) (sym (a .place)) h; expected = a .expected; got = a .got }
+
+  have-more : (k : ℕ) (ts us : List Tok) (es fs : List Err) → Have k ts es → k < key p → Placed 1 p → n ≤ 16384 → OneToken p r n us → All (ErrorAt p) fs → Have (key p) (ts ++ us) (es ++ fs)
+  have-more k ts us es fs h a b m o e = record {
+    rising = rising-append 0 k (key p) ts us (h .rising) (one-rising k us a o);
+    good = all-append Good ts us (h .good) (one-good us b m o);
+    faults = all-append Fault es fs (h .faults) (all-map (ErrorAt p) Fault (fault b) fs e);
+  }
+
+tokens-from : (n : ℕ) (cs : List Ch) (ts : List Tok) (es : List Err) (k : ℕ) → length cs < n → Chars k cs → texts ts + bytes cs ≤ 16384 → Have k ts es → length ts ≤ 2048 → length es ≤ 255 → TokensOf (tokenize-from 2048 n cs ts es)
 unfolding tokenize-from
 tokens-from zero cs ts es k f c b h m w = absurd (omega arith)
-tokens-from (suc n) [] ts es k f c b h m w = record { distinct = h .distinct; small = h .small; kinds = h .kinds; textless = h .textless; text = omega arith; tokens = m; errors = w }
-tokens-from (suc n) (x ∷ cs) ts es k f c b h m w = go (turn x cs) (turned x cs) (λ cs′ ts′ es′ t z y. tokens-from n cs′ (ts ++ ts′) (es ++ es′) (key (x .place)) (omega (arith, t .fewer)) (t .keeps (key (x .place)) (c .3)) (grown ts′ cs′ t) (have-more k (bytes cs′) (bytes (x ∷ cs)) (x .place) ts ts′ h (c .0) (c .1) (c .2) (omega arith) (t .token)) (rw length-append z) (rw length-append y))
+tokens-from (suc n) [] ts es k f c b h m w = record {
+  good = h .good;
+  behind = behind nowhere ts k (omega arith) (h .rising) (h .good);
+  faults = h .faults;
+  distinct = distinct ts 0 k (h .rising);
+  small = small ts (h .good);
+  kinds = all-map Good (λ t. 0 < t .kind) (λ t g. g .formed .low) ts (h .good);
+  textless = all-map Good Textless (λ t g. g .formed .textless) ts (h .good);
+  text = omega arith;
+  tokens = m;
+  errors = w;
+}
+tokens-from (suc n) (x ∷ cs) ts es k f c b h m w =
+    go (turn x cs) (turned x cs (key (x .place)) (c .3))
+    (λ cs′ ts′ es′ t z y. tokens-from n cs′ (ts ++ ts′) (es ++ es′) (key (x .place)) (omega (arith, t .ran .fewer)) (t .ran .keeps (key (x .place)) (c .3)) (fits cs′ ts′ es′ t) (more cs′ ts′ es′ t) (rw length-append z) (rw length-append y))
   where
-    one : (ts′ : List Tok) (r : ℕ) → r ≤ bytes cs → OneToken (x .place) r (bytes (x ∷ cs)) ts′ → texts ts′ + r ≤ bytes (x ∷ cs)
-    one [] r h o = omega arith
-    one (t ∷ []) r h o = omega (arith, o .1)
-    one (t ∷ u ∷ us) r h o = absurd o
+    fits : (cs′ : List Ch) (ts′ : List Tok) (es′ : List Err) → Turned x cs cs′ es′ ts′ → texts (ts ++ ts′) + bytes cs′ ≤ 16384
+    fits cs′ ts′ es′ t = omega (arith, texts-append ts ts′, one-text (x .place) (bytes cs′) (bytes (x ∷ cs)) ts′ (omega (arith, t .ran .size)) (t .token))
 
-    grown : (ts′ : List Tok) (cs′ : List Ch) → Turned x cs cs′ ts′ → texts (ts ++ ts′) + bytes cs′ ≤ 16384
-    grown ts′ cs′ t = omega (arith, texts-append ts ts′, one ts′ (bytes cs′) (t .size) (t .token))
+    more : (cs′ : List Ch) (ts′ : List Tok) (es′ : List Err) → Turned x cs cs′ es′ ts′ → Have (key (x .place)) (ts ++ ts′) (es ++ es′)
+    more cs′ ts′ es′ t = have-more (x .place) (bytes cs′) (bytes (x ∷ cs)) k ts ts′ es es′ h (c .0) (c .1) (omega arith) (t .token) (t .errors)
 
-    go : (t : Turn) → TurnOf x cs t → ((cs′ : List Ch) (ts′ : List Tok) (es′ : List Err) → Turned x cs cs′ ts′ → length ts + length ts′ ≤ 2048 → length es + length es′ ≤ 255 → TokensOf (tokenize-from 2048 n cs′ (ts ++ ts′) (es ++ es′)))
+    go : (t : Turn) → TurnOf x cs t → ((cs′ : List Ch) (ts′ : List Tok) (es′ : List Err) → Turned x cs cs′ es′ ts′ → length ts + length ts′ ≤ 2048 → length es + length es′ ≤ 255 → TokensOf (tokenize-from 2048 n cs′ (ts ++ ts′) (es ++ es′)))
         → TokensOf (elim t as (λ _. Tokens) [ refused j ↦ Tokens.refused j | goes cs′ es′ ts′ ↦ elim (leb (length es + length es′) 255) as (λ _. Tokens) [ false ↦ Tokens.refused 7 | true ↦ elim (leb (length ts + length ts′) 2048) as (λ _. Tokens) [ false ↦ Tokens.refused 6 | true ↦ tokenize-from 2048 n cs′ (ts ++ ts′) (es ++ es′) ] ] ])
     go (refused j) p f = p
-    go (goes cs′ es′ ts′) p f = limits (leb (length es + length es′) 255) (leb (length ts + length ts′) 2048) (λ y z. f cs′ ts′ es′ p (leb→le (length ts + length ts′) 2048 z) (leb→le (length es + length es′) 255 y))
-      where
-        limits : (a b : Bool) → (T a → T b → TokensOf (tokenize-from 2048 n cs′ (ts ++ ts′) (es ++ es′))) → TokensOf (elim a as (λ _. Tokens) [ false ↦ Tokens.refused 7 | true ↦ elim b as (λ _. Tokens) [ false ↦ Tokens.refused 6 | true ↦ tokenize-from 2048 n cs′ (ts ++ ts′) (es ++ es′) ] ])
-        limits false b q = tt
-        limits true false q = tt
-        limits true true q = q tt tt
+    go (goes cs′ es′ ts′) p f = chosen TokensOf (leb (length es + length es′) 255) _ _ (λ y. chosen TokensOf (leb (length ts + length ts′) 2048) _ _ (λ z. f cs′ ts′ es′ p (leb-true _ _ z) (leb-true _ _ y)) (λ _. tt)) (λ _. tt)
 
 pub script-tokens : (bs : List ℕ) (cs : List Ch) → length bs ≤ 16384 → characters bs ≡ some cs → TokensOf (tokenize cs)
 unfolding tokenize
 script-tokens bs cs h e =
-    let d : Decoded 0 16384 cs = subst (DecodedOf 0 16384) e (script bs h) in
-    tokens-from (suc (length cs)) cs [] [] 0 (omega arith) (d .chars) (omega (arith, d .size)) (record { upto = tt; distinct = tt; small = tt; kinds = tt; textless = tt }) (omega arith) (omega arith)
+    let d : Script cs = script bs cs h e in
+    tokens-from (suc (length cs)) cs [] [] 0 (omega arith) (d .chars) (omega (arith, d .size)) (record { rising = omega arith; good = tt; faults = tt }) (omega arith) (omega arith)

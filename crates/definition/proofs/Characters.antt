@@ -1,0 +1,105 @@
+-- A script's characters: each one's bytes are it at any place and before any bytes. So of their places, and of UTF-8. Assumes nothing.
+use mathlib.Core.Path.{_≡_, refl, sym, ap, _∙_, subst}
+use mathlib.Core.Bool.{Bool, true, false, _&&_}
+use mathlib.Core.Option.{Option, none, some}
+use mathlib.Core.List.{List, [], _∷_, _++_}
+use Prim.Native.Nat.{ℕ, _<_, pred}
+use borrow.Author.Tests.{lt-ltb}
+use lib.Dec.{leb}
+use lib.Seq.{append-snoc}
+use Rattle.definition.specs.Source.{Place, Ch, Lead, single, with-more, wrong, lead, after, Pending, fresh, within, and-then, decode, start, characters, is-some, utf8}
+
+-- ---- the bytes of a character
+
+abbrev pub spelling : Ch → List ℕ
+spelling c = c .byte ∷ c .more
+
+abbrev pub at : Place → Ch → Ch
+at p c = record { byte = c .byte; more = c .more; place = p }
+
+-- the character's bytes give it, wherever they stand and whatever is behind
+abbrev pub Whole : Ch → Type 0
+Whole c = (p : Place) (bs : List ℕ) → decode fresh p (spelling c ++ bs) ≡ and-then (at p c) (decode fresh (after (c .byte) p) bs)
+
+-- the bytes are those of the characters, the first of them at the place p
+abbrev pub Spelt : Place → List ℕ → List Ch → Type 0
+Spelt p bs [] = bs ≡ []
+Spelt p bs (c ∷ cs) = (rest : List ℕ) × (c .place ≡ p) × (bs ≡ spelling c ++ rest) × Whole c × Spelt (after (c .byte) p) rest cs
+
+abbrev SpeltOf : Place → List ℕ → Option (List Ch) → Type 0
+SpeltOf p bs none = Unit {0}
+SpeltOf p bs (some cs) = Spelt p bs cs
+
+-- the bytes read of a character that is not yet whole
+abbrev held : Pending → List ℕ
+held fresh = []
+held (within l m n lo hi) = l ∷ m
+
+abbrev Reached : Pending → Type 0
+Reached w = (p : Place) (bs : List ℕ) → decode fresh p (held w ++ bs) ≡ decode w p bs
+
+spelt-char : (p : Place) (c : Ch) (bs rest : List ℕ) (o : Option (List Ch)) → bs ≡ spelling c ++ rest → Whole c → SpeltOf (after (c .byte) p) rest o → SpeltOf p bs (and-then (at p c) o)
+spelt-char p c bs rest none e w s = tt
+spelt-char p c bs rest (some cs) e w s = (rest, refl, e, w, s)
+
+spelt-from : (bs : List ℕ) (w : Pending) (p : Place) → Reached w → SpeltOf p (held w ++ bs) (decode w p bs)
+unfolding decode
+spelt-from [] fresh p r = refl
+spelt-from [] (within l m n lo hi) p r = tt
+spelt-from (b ∷ bs) fresh p r = go (lead b) refl (λ w q. spelt-from bs w p q) (spelt-from bs fresh (after b p) (λ _ _. refl))
+  where
+    go : (x : Lead) → lead b ≡ x → ((w : Pending) → Reached w → SpeltOf p (held w ++ bs) (decode w p bs)) → SpeltOf (after b p) bs (decode fresh (after b p) bs)
+        → SpeltOf p (b ∷ bs) (elim x as (λ _. Option (List Ch)) [ single ↦ and-then (record { byte = b; more = []; place = p }) (decode fresh (after b p) bs) | with-more n lo hi ↦ decode (within b [] n lo hi) p bs | wrong ↦ none ])
+    go single e f s = spelt-char p (record { byte = b; more = []; place = p }) (b ∷ bs) bs (decode fresh (after b p) bs) refl (λ q cs. rw (decode, e)) s
+    go (with-more n lo hi) e f s = f (within b [] n lo hi) (λ q cs. rw (decode, e))
+    go wrong e f s = tt
+spelt-from (b ∷ bs) (within l m n lo hi) p r = go (leb lo b && leb b hi) refl (leb n 1) refl (spelt-from bs (within l (m ++ (b ∷ [])) (pred n) 0x80 0xBF) p) (spelt-from bs fresh (after l p) (λ _ _. refl))
+  where
+    c : Ch
+    c = record { byte = l; more = m ++ (b ∷ []); place = p }
+
+    -- one byte more of it
+    more : (bs′ : List ℕ) → (l ∷ m ++ (b ∷ [])) ++ bs′ ≡ (l ∷ m) ++ (b ∷ bs′)
+    more bs′ = ap (λ (x : List ℕ). l ∷ x) (append-snoc m b bs′)
+
+    go : (x : Bool) → leb lo b && leb b hi ≡ x → (y : Bool) → leb n 1 ≡ y
+        → (Reached (within l (m ++ (b ∷ [])) (pred n) 0x80 0xBF) → SpeltOf p ((l ∷ m ++ (b ∷ [])) ++ bs) (decode (within l (m ++ (b ∷ [])) (pred n) 0x80 0xBF) p bs)) → SpeltOf (after l p) bs (decode fresh (after l p) bs)
+        → SpeltOf p ((l ∷ m) ++ (b ∷ bs)) (elim x as (λ _. Option (List Ch)) [
+          | true ↦ elim y as (λ _. Option (List Ch)) [ true ↦ and-then c (decode fresh (after l p) bs) | false ↦ decode (within l (m ++ (b ∷ [])) (pred n) 0x80 0xBF) p bs ]
+          | false ↦ none
+        ])
+    go true e true d f s = spelt-char p c ((l ∷ m) ++ (b ∷ bs)) bs (decode fresh (after l p) bs) (sym (more bs)) (λ q bs′. ap (decode fresh q) (more bs′) ∙ r q (b ∷ bs′) ∙ rw (decode, e, d)) s
+    go true e false d f s = subst (λ (x : List ℕ). SpeltOf p x (decode (within l (m ++ (b ∷ [])) (pred n) 0x80 0xBF) p bs)) (more bs) (f (λ q bs′. ap (decode fresh q) (more bs′) ∙ r q (b ∷ bs′) ∙ rw (decode, e, d)))
+    go false e y d f s = tt
+
+pub spelt : (bs : List ℕ) (cs : List Ch) → characters bs ≡ some cs → Spelt start bs cs
+unfolding characters
+spelt bs cs e = subst (SpeltOf start bs) e (spelt-from bs fresh start (λ _ _. refl))
+
+-- ---- UTF-8, wherever the bytes stand
+
+abbrev pub Utf8 : List ℕ → Type 0
+Utf8 bs = (p : Place) → is-some (decode fresh p bs) ≡ true
+
+pub utf8-none : Utf8 []
+unfolding decode
+utf8-none p = refl
+
+-- a character before UTF-8
+pub utf8-char : (c : Ch) (bs : List ℕ) → Whole c → Utf8 bs → Utf8 (spelling c ++ bs)
+utf8-char c bs w u p = rw (w p bs) (there (decode fresh (after (c .byte) p) bs) (u (after (c .byte) p)))
+  where
+    there : (o : Option (List Ch)) → is-some o ≡ true → is-some (and-then (at p c) o) ≡ true
+    there none e = e
+    there (some cs) e = refl
+
+single-whole : (b : ℕ) (p : Place) → b < 128 → Whole (record { byte = b; more = []; place = p })
+unfolding decode lead
+single-whole b p h q bs = rw (decode, lead, lt-ltb b 128 h)
+
+pub utf8-byte : (b : ℕ) (bs : List ℕ) → b < 128 → Utf8 bs → Utf8 (b ∷ bs)
+utf8-byte b bs h u = utf8-char (record { byte = b; more = []; place = start }) bs (single-whole b start h) u
+
+pub utf8-true : (bs : List ℕ) → Utf8 bs → utf8 bs ≡ true
+unfolding utf8
+utf8-true bs u = u start

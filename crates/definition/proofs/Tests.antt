@@ -1,0 +1,80 @@
+-- Tests joined by `&&` and `||`, the bounds of `between`, what holds of an answer that a test chooses, and of all entries of a list. Assumes nothing.
+use mathlib.Core.Path.{_≡_, refl}
+use mathlib.Core.Bool.{Bool, true, false, _&&_, _||_}
+use mathlib.Core.List.{List, [], _∷_, _++_}
+use Prim.Native.Nat.{ℕ, zero, suc, _≤_}
+use native.Mathlib.Omega.{arith}
+use borrow.Author.Tests.{leb-true, le-leb}
+use lib.Dec.{leb, T}
+use lib.ListN.{replicate}
+use Rattle.definition.specs.Choice.{pick}
+use Rattle.definition.specs.Classes.{between}
+
+pub clash : {A : Type 0} → true ≡ false → A
+clash e = let z : _≡_ {A = ℕ} 0 1 = cc in absurd (omega arith)
+
+pub both-true : {a b : Bool} → a ≡ true → b ≡ true → a && b ≡ true
+both-true {a} {b} p q = rw (p, q)
+
+pub left-true : (a b : Bool) → a && b ≡ true → a ≡ true
+left-true true b e = refl
+left-true false b e = e
+
+pub right-true : (a b : Bool) → a && b ≡ true → b ≡ true
+right-true true b e = e
+right-true false b e = clash (cc)
+
+-- from both
+pub parts-true : {A : Type 0} (a b : Bool) → a && b ≡ true → (a ≡ true → b ≡ true → A) → A
+parts-true a b e f = f (left-true a b e) (right-true a b e)
+
+pub and-false : (a b : Bool) → b ≡ false → a && b ≡ false
+and-false true b e = e
+and-false false b e = refl
+
+-- from either side of a choice
+pub either-true : {A : Type 0} (a b : Bool) → (a ≡ true → A) → (b ≡ true → A) → a || b ≡ true → A
+either-true true b f g e = f refl
+either-true false b f g e = g e
+
+pub passed : (a : Bool) → T a → a ≡ true
+passed true t = refl
+
+pub between-bounds : (lo hi n : ℕ) → between lo hi n ≡ true → (lo ≤ n) × (n ≤ hi)
+between-bounds lo hi n e = parts-true (leb lo n) (leb n hi) e λ p q. (leb-true lo n p, leb-true n hi q)
+
+pub between-true : {lo hi n : ℕ} → lo ≤ n → n ≤ hi → between lo hi n ≡ true
+between-true {lo} {hi} {n} p q = both-true (le-leb lo n p) (le-leb n hi q)
+
+-- ---- what holds of each answer holds of the one chosen
+
+module _ {A : Type 0} (P : A → Type 0) where
+  pub chosen : (b : Bool) (x y : A) → (b ≡ true → P x) → (b ≡ false → P y) → P (elim b as (λ _. A) [ true ↦ x | false ↦ y ])
+  chosen true x y p q = p refl
+  chosen false x y p q = q refl
+
+  pub picked : (b : Bool) (x y : A) → (b ≡ true → P x) → P y → P (pick b x y)
+  picked true x y p q = p refl
+  picked false x y p q = q
+
+  pub counted : (k : ℕ) (x : A) (f : ℕ → A) → P x → ((n : ℕ) → k ≡ suc n → P (f n)) → P (elim k as (λ _. A) [ zero ↦ x | suc n ↦ f n ])
+  counted zero x f p q = p
+  counted (suc n) x f p q = q n refl
+
+-- ---- what holds of each entry of a list
+
+abbrev pub All : {A : Type 0} → (A → Type 0) → List A → Type 0
+All P [] = Unit {0}
+All P (x ∷ xs) = P x × All P xs
+
+pub all-append : {A : Type 0} (P : A → Type 0) (xs ys : List A) → All P xs → All P ys → All P (xs ++ ys)
+all-append P [] ys a b = b
+all-append P (x ∷ xs) ys a b = (a .0, all-append P xs ys (a .1) b)
+
+pub all-replicate : {A : Type 0} (P : A → Type 0) (n : ℕ) (x : A) → P x → All P (replicate n x)
+all-replicate P zero x p = tt
+all-replicate P (suc n) x p = (p, all-replicate P n x p)
+
+pub all-map : {A : Type 0} (P Q : A → Type 0) → ((x : A) → P x → Q x) → (xs : List A) → All P xs → All Q xs
+all-map P Q f [] a = tt
+all-map P Q f (x ∷ xs) a = (f x (a .0), all-map P Q f xs (a .1))
