@@ -3,7 +3,8 @@
 use crate::random::Random;
 use crate::{damage, fixed, grammar};
 
-pub const NAMES: &str = "valid damaged soup bytes utf8 boundary paper sequences";
+const NAMES: &str = "valid damaged soup bytes utf8 boundary limit-length limit-places limit-tokens limit-errors \
+                     limit-entries limit-nesting limit-sizes paper sequences";
 
 /// What `coverage` runs, and any command that is given no class.
 pub const DEFAULT: [&str; 8] =
@@ -30,7 +31,11 @@ fn class(word: &str) -> Result<Class, String> {
     if !NAMES.split(' ').any(|known| known == name) {
         return Err(format!("no class is named {name}; there are: {NAMES}"));
     }
-    let standard = if name == "sequences" { 2 } else { 1000 };
+    let standard = match name.as_str() {
+        "sequences" => 2,
+        "utf8" => 128,
+        _ => 1000,
+    };
     let count = number(parts.next(), standard)? as usize;
     let seed = number(parts.next(), 1)?;
     Ok(Class { word: word.to_owned(), name, count, seed })
@@ -42,10 +47,13 @@ fn number(part: Option<&str>, otherwise: u64) -> Result<u64, String> {
 
 /// Gives each script of a class.
 pub fn scripts(class: &Class, each: &mut dyn FnMut(&[u8])) {
+    if let Some((_, part)) = fixed::LIMITS.iter().find(|(name, _)| *name == class.name) {
+        return part(each);
+    }
     let generate: fn(&mut Random) -> Vec<u8> = match class.name.as_str() {
         "paper" => return fixed::PAPER.iter().for_each(|script| each(script.as_bytes())),
         "boundary" => return fixed::boundary(each),
-        "utf8" => return damage::utf8(each),
+        "utf8" => return damage::utf8(class.count, each),
         "sequences" => return damage::sequences(class.count, each),
         "valid" => valid,
         "damaged" => damage::damaged,

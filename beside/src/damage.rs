@@ -149,28 +149,36 @@ fn piece(random: &mut Random) -> Vec<u8> {
     piece
 }
 
-/// Every first byte above 127 with the bytes at the bounds behind it, in a string.
-pub fn utf8(each: &mut dyn FnMut(&[u8])) {
+/// First bytes at the bounds of their groups.
+const FIRST: [u8; 20] = [
+    0x80, 0xBF, 0xC0, 0xC1, 0xC2, 0xDF, 0xE0, 0xE1, 0xEC, 0xED, 0xEE, 0xEF, 0xF0, 0xF1, 0xF3, 0xF4, 0xF5, 0xF7,
+    0xF8, 0xFF,
+];
+
+/// First bytes above 127, those at bounds first, with the bytes at the bounds behind them, in a string.
+pub fn utf8(count: usize, each: &mut dyn FnMut(&[u8])) {
     const SECOND: [u8; 8] = [0x7F, 0x80, 0x8F, 0x90, 0x9F, 0xA0, 0xBF, 0xC0];
-    const LATER: [u8; 4] = [0x7F, 0x80, 0xBF, 0xC0];
-    for first in 0x80..=0xFF {
+    const LATER: [u8; 4] = [0x80, 0xBF, 0x7F, 0xC0];
+    let others = (0x80..=0xFF).filter(|byte| !FIRST.contains(byte));
+    for first in FIRST.into_iter().chain(others).take(count) {
         quoted(&[first], each);
         for second in SECOND {
             quoted(&[first, second], each);
+            each(&[b'a', first, second]);
             for third in LATER {
                 quoted(&[first, second, third], each);
+            }
+            for third in &LATER[..2] {
                 for fourth in LATER {
-                    quoted(&[first, second, third, fourth], each);
+                    quoted(&[first, second, *third, fourth], each);
                 }
             }
         }
     }
 }
 
-/// As a string between tokens, and bare at the end.
 fn quoted(bytes: &[u8], each: &mut dyn FnMut(&[u8])) {
     each(&[b"use \"", bytes, b"\";"].concat());
-    each(&[b"var ", bytes].concat());
 }
 
 /// All sequences of lexemes up to a length, and those up to two of them in two other places.

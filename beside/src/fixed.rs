@@ -84,15 +84,24 @@ fn times(part: &str, count: usize) -> String {
     part.repeat(count)
 }
 
+/// Gives the scripts of a part to a function.
+type Part = fn(&mut dyn FnMut(&[u8]));
+
 /// The scripts at the limits that document 01 names: one short, exact, one over.
+pub const LIMITS: [(&str, Part); 7] = [
+    ("limit-length", script_length),
+    ("limit-places", places),
+    ("limit-tokens", token_count),
+    ("limit-errors", token_errors),
+    ("limit-entries", full_entries),
+    ("limit-nesting", nesting),
+    ("limit-sizes", array_sizes),
+];
+
 pub fn boundary(each: &mut dyn FnMut(&[u8])) {
-    script_length(each);
-    places(each);
-    token_count(each);
-    token_errors(each);
-    full_entries(each);
-    nesting(each);
-    array_sizes(each);
+    for (_, part) in LIMITS {
+        part(each);
+    }
 }
 
 fn script_length(each: &mut dyn FnMut(&[u8])) {

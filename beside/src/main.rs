@@ -5,6 +5,7 @@ mod classes;
 mod compare;
 mod coverage;
 mod damage;
+mod facts;
 mod fixed;
 mod grammar;
 mod lists;
@@ -17,6 +18,7 @@ const USAGE: &str = "usage: beside coverage CLASS..
        beside program PROGRAM CLASS..
        beside lib CLASS..
        beside list tokens|files CLASS..
+       beside definitions COUNT LONGEST CLASS..
        beside show < SCRIPT";
 
 fn main() {
@@ -46,6 +48,11 @@ fn run() -> Result<bool, String> {
             let mut out = io::BufWriter::new(io::stdout().lock());
             lists::write(sort, &classes::parse(&words[2..])?, &mut out)?;
             out.flush().expect("the list can't be written");
+            Ok(true)
+        }
+        ["definitions", count, longest, ..] => {
+            let number = |word: &str| word.parse().map_err(|_| format!("{word} is no number"));
+            facts::print(number(count)?, number(longest)?, &classes::parse(&words[3..])?);
             Ok(true)
         }
         ["show"] => Ok(show_answer()),
