@@ -1,6 +1,7 @@
 //! Runs beside the Rust: see README.md.
 
 mod ask;
+mod claims;
 mod classes;
 mod compare;
 mod coverage;
@@ -15,6 +16,7 @@ mod show;
 use std::io::{self, Read, Write};
 
 const USAGE: &str = "usage: beside coverage CLASS..
+       beside claims CLASS..
        beside program PROGRAM CLASS..
        beside lib CLASS..
        beside list tokens|files CLASS..
@@ -42,6 +44,7 @@ fn run() -> Result<bool, String> {
     let names: Vec<&str> = words.iter().map(String::as_str).collect();
     match names.as_slice() {
         ["coverage", ..] => Ok(coverage::run(&classes::parse(&words[1..])?)),
+        ["claims", ..] => Ok(claims::run(&classes::parse(&words[1..])?)),
         ["program", program, ..] => Ok(compare::program(program, &classes::parse(&words[2..])?)),
         ["lib", ..] => Ok(compare::library(&classes::parse(&words[1..])?)),
         ["list", sort, ..] => {
