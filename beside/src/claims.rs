@@ -4,10 +4,7 @@ use crate::ask;
 use crate::classes::{self, Class};
 use crate::compare::Tally;
 use crate::show;
-use formats::{Token, TokenError, Tokens};
-
-/// A field of the tree file: tag and body.
-type Field<'a> = (u8, &'a [u8]);
+use formats::{Field, Token, TokenError, Tokens};
 
 /// Prints the scripts of which a statement is wrong; whether there are none.
 pub fn run(classes: &[Class]) -> bool {
@@ -26,7 +23,7 @@ pub fn run(classes: &[Class]) -> bool {
 }
 
 fn broken(records: &Tokens, file: &[u8]) -> Vec<String> {
-    let fields = fields(file);
+    let (fields, rest) = formats::fields(file);
     let errors = |tag: u8| fields.iter().filter(move |(t, _)| *t == tag).map(|(_, body)| *body).collect::<Vec<_>>();
     let (reported, full) = (errors(0x60), errors(0x61));
     let tree = fields.iter().filter(|(tag, _)| *tag < 0x60).count();
@@ -37,21 +34,10 @@ fn broken(records: &Tokens, file: &[u8]) -> Vec<String> {
         ("an error has 0:0 or not, against its number", full.iter().all(|e| place_fits(e))),
         ("an error has kinds or not, against its number", full.iter().all(|e| kinds_fit(e))),
         ("a reported error is not in the full list", within(&reported, &full)),
-        ("the fields are not in order", in_order(&fields)),
+        ("the fields are not in order", rest.is_empty() && in_order(&fields)),
         ("a record of the tree has the place 0:0", fields.iter().all(placed)),
     ];
     statements.iter().filter(|(_, holds)| !holds).map(|(text, _)| text.to_string()).collect()
-}
-
-fn fields(file: &[u8]) -> Vec<Field<'_>> {
-    let mut fields = Vec::new();
-    let mut rest = file;
-    while let [tag, high, low, behind @ ..] = rest {
-        let (body, after) = behind.split_at(*high as usize * 256 + *low as usize);
-        fields.push((*tag, body));
-        rest = after;
-    }
-    fields
 }
 
 /// Read's tests of token records.

@@ -66,16 +66,14 @@ fn found_in(script: &[u8]) -> Vec<(&'static str, u32)> {
     }
     match answer.whole {
         Err(number) => found.push((REFUSAL, number as u32)),
-        Ok(file) => fields(&file, &mut found),
+        Ok(file) => in_file(&file, &mut found),
     }
     found
 }
 
-fn fields(file: &[u8], found: &mut Vec<(&'static str, u32)>) {
-    let mut rest = file;
-    while let [tag, high, low, behind @ ..] = rest {
-        let (body, after) = behind.split_at(*high as usize * 256 + *low as usize);
-        found.push((TAG, *tag as u32));
+fn in_file(file: &[u8], found: &mut Vec<(&'static str, u32)>) {
+    for (tag, body) in formats::fields(file).0 {
+        found.push((TAG, tag as u32));
         match tag {
             0x62 => found.push((TOKEN_ERROR, body[0] as u32)),
             0x60 => found.push((REPORTED, body[0] as u32)),
@@ -88,7 +86,6 @@ fn fields(file: &[u8], found: &mut Vec<(&'static str, u32)>) {
             0x2E => found.push((OPERATOR, 16 + body[4] as u32)),
             _ => (),
         }
-        rest = after;
     }
 }
 

@@ -52,20 +52,38 @@ answer s = record { tokenised = tokenised s; outcome = whole s }
 /// The facts that the checker unfolds in each proof.
 const UNFOLDED: &str = "answer whole characters tokenize";
 
-/// Rows under one fact.
+/// How many rows and how many bytes of scripts one fact has at most; a single row may have more bytes.
 const ROWS: usize = 10;
+const BYTES: usize = 1000;
 
 /// Writes the module with so many rows, taken in turn from the classes: no script twice, none longer.
 pub fn print(count: usize, longest: usize, classes: &[Class]) {
     let chosen = chosen(count, longest, classes);
     println!("{OPENING}");
-    for (at, rows) in chosen.chunks(ROWS).enumerate() {
+    for (at, rows) in facts(&chosen).into_iter().enumerate() {
         let rows: Vec<String> = rows.iter().map(|script| row(script, &ask::answer(script))).collect();
         println!("pub table-{at} : List Row\ntable-{at} =\n{}    []\n", rows.concat());
         println!("pub holds-{at} : map (λ r. answer (r .script)) table-{at} ≡ map (λ r. r .answer) table-{at}");
         println!("unfolding table-{at} {UNFOLDED}\nholds-{at} = refl\n");
     }
     eprintln!("{} rows; by number: {}", chosen.len(), by_number(&chosen));
+}
+
+/// The scripts of each fact.
+fn facts(scripts: &[Vec<u8>]) -> Vec<Vec<&[u8]>> {
+    let mut facts: Vec<Vec<&[u8]>> = Vec::new();
+    let mut bytes = 0;
+    for script in scripts {
+        bytes += script.len();
+        match facts.last_mut() {
+            Some(fact) if fact.len() < ROWS && bytes <= BYTES => fact.push(script),
+            _ => {
+                facts.push(vec![script]);
+                bytes = script.len();
+            }
+        }
+    }
+    facts
 }
 
 fn chosen(count: usize, longest: usize, classes: &[Class]) -> Vec<Vec<u8>> {

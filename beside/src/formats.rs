@@ -62,3 +62,22 @@ pub fn kind_number(debug: &str) -> u8 {
         None => panic!("no kind is spelt {debug:?}"),
     }
 }
+
+/// A field of a tree file: tag and body.
+pub type Field<'a> = (u8, &'a [u8]);
+
+/// The whole fields at the start of some bytes, and what is left behind them. No tag is 0.
+pub fn fields(file: &[u8]) -> (Vec<Field<'_>>, &[u8]) {
+    let mut fields = Vec::new();
+    let mut rest = file;
+    while let [tag @ 1..=255, high, low, behind @ ..] = rest {
+        let length = *high as usize * 256 + *low as usize;
+        if behind.len() < length {
+            break;
+        }
+        let (body, after) = behind.split_at(length);
+        fields.push((*tag, body));
+        rest = after;
+    }
+    (fields, rest)
+}

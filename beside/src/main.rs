@@ -20,6 +20,7 @@ const USAGE: &str = "usage: beside coverage CLASS..
        beside program PROGRAM CLASS..
        beside lib CLASS..
        beside list tokens|files CLASS..
+       beside case tokens|files NUMBER < LIST
        beside definitions COUNT LONGEST CLASS..
        beside show < SCRIPT";
 
@@ -53,8 +54,11 @@ fn run() -> Result<bool, String> {
             out.flush().expect("the list can't be written");
             Ok(true)
         }
+        ["case", sort @ ("tokens" | "files"), at] => {
+            lists::print_case(sort, number(at)?, &input())?;
+            Ok(true)
+        }
         ["definitions", count, longest, ..] => {
-            let number = |word: &str| word.parse().map_err(|_| format!("{word} is no number"));
             facts::print(number(count)?, number(longest)?, &classes::parse(&words[3..])?);
             Ok(true)
         }
@@ -63,11 +67,19 @@ fn run() -> Result<bool, String> {
     }
 }
 
+fn number(word: &str) -> Result<usize, String> {
+    word.parse().map_err(|_| format!("{word} is no number"))
+}
+
+fn input() -> Vec<u8> {
+    let mut bytes = Vec::new();
+    io::stdin().read_to_end(&mut bytes).expect("standard input can't be read");
+    bytes
+}
+
 /// Prints both answers to the script on standard input.
 fn show_answer() -> bool {
-    let mut script = Vec::new();
-    io::stdin().read_to_end(&mut script).expect("the script can't be read");
-    let answer = ask::answer(&script);
+    let answer = ask::answer(&input());
     for line in show::tokenised(&answer.tokenised).iter().chain(&show::whole(&answer.whole)) {
         println!("{line}");
     }

@@ -22,20 +22,12 @@ pub fn whole(answer: &Result<Vec<u8>, u8>) -> Vec<String> {
 
 /// The fields of a file; zeros behind them are counted.
 pub fn fields(file: &[u8]) -> Vec<String> {
-    let mut lines = Vec::new();
-    let mut rest = file;
-    while !rest.is_empty() {
-        if rest.iter().all(|byte| *byte == 0) {
-            lines.push(format!("{} zeros", rest.len()));
-            break;
-        }
-        let length = rest.get(1..3).map_or(usize::MAX, |two| two[0] as usize * 256 + two[1] as usize);
-        if length == usize::MAX || rest.len() < 3 + length {
-            lines.push(format!("cut short: {}", hex(&rest[..rest.len().min(60)])));
-            break;
-        }
-        lines.push(field(rest[0], &rest[3..3 + length]));
-        rest = &rest[3 + length..];
+    let (fields, rest) = formats::fields(file);
+    let mut lines: Vec<String> = fields.iter().map(|(tag, body)| field(*tag, body)).collect();
+    if rest.iter().any(|byte| *byte != 0) {
+        lines.push(format!("no field: {}", hex(&rest[..rest.len().min(60)])));
+    } else if !rest.is_empty() {
+        lines.push(format!("{} zeros", rest.len()));
     }
     lines
 }
