@@ -1,0 +1,43 @@
+//! The oracle's answer to any bytes, confirmed by the unchanged build.
+
+use crate::show;
+use formats::{Answer, PANIC, SCRIPT_LIMIT};
+
+pub fn answer(script: &[u8]) -> Answer {
+    if script.len() > SCRIPT_LIMIT {
+        return Answer { tokenised: Err(1), whole: Err(1) };
+    }
+    let Ok(text) = std::str::from_utf8(script) else {
+        return Answer { tokenised: Err(2), whole: Err(2) };
+    };
+    let answer = marked::answer(text);
+    if !confirmed(text, &answer) {
+        eprintln!("the marked copy and the unchanged build differ on {}", show::script(script));
+        std::process::exit(3);
+    }
+    answer
+}
+
+/// Whether the unchanged build gives the same, or panics where a refusal stands for a panic.
+fn confirmed(text: &str, answer: &Answer) -> bool {
+    match answer.whole {
+        Ok(_) | Err(9) => plain::answer(text) == *answer,
+        Err(5) => plain::tokenised(text) == Err(PANIC),
+        Err(11) => {
+            let unchanged = plain::answer(text);
+            unchanged.tokenised == answer.tokenised && unchanged.whole == Err(PANIC)
+        }
+        Err(10) | Err(12) => plain::tokenised(text) == answer.tokenised,
+        Err(number) => [4, 6, 7].contains(&number),
+    }
+}
+
+/// Keeps the panics that the oracle's steps may meet from being printed.
+pub fn hide_expected_panics() {
+    let print = std::panic::take_hook();
+    std::panic::set_hook(Box::new(move |panic| {
+        if !marked::marks::is_quiet() && !plain::marks::is_quiet() {
+            print(panic);
+        }
+    }));
+}

@@ -1,0 +1,171 @@
+//! The comparisons, and what they print.
+
+use crate::ask;
+use crate::classes::{self, Class};
+use crate::show;
+use std::io::{Read, Write};
+use std::process::{Command, Stdio};
+
+const SHOWN: usize = 5;
+
+#[derive(Default)]
+pub struct Tally {
+    agree: usize,
+    differ: usize,
+}
+
+impl Tally {
+    /// Counts a script; the lines are made where the answers differ and it is one of the first.
+    pub fn count(&mut self, script: &[u8], same: bool, lines: impl FnOnce() -> (Vec<String>, Vec<String>)) {
+        if same {
+            self.agree += 1;
+            return;
+        }
+        self.differ += 1;
+        if self.differ <= SHOWN {
+            let (expected, got) = lines();
+            println!("differs: {}", show::script(script));
+            print_both(&expected, &got);
+        }
+    }
+
+    /// Prints the last line; whether all agree.
+    pub fn end(self) -> bool {
+        println!("{} agree, {} differ", self.agree, self.differ);
+        self.differ == 0
+    }
+}
+
+/// Both answers, from some lines before the first that differ.
+fn print_both(expected: &[String], got: &[String]) {
+    let first = (0..).find(|&at| expected.get(at) != got.get(at) || at >= expected.len()).unwrap();
+    let from = first.saturating_sub(3);
+    for (name, lines) in [("the Rust", expected), ("compared", got)] {
+        println!("  {name}, {} lines, from line {}:", lines.len(), from + 1);
+        for (at, line) in lines.iter().enumerate().skip(from).take(12) {
+            println!("  {} {line}", if at == first { ">" } else { " " });
+        }
+    }
+}
+
+/// Runs a program once for each script: what it writes is the file, or 7F 00 01 and the number.
+pub fn program(path: &str, classes: &[Class]) -> bool {
+    let mut tally = Tally::default();
+    for class in classes {
+        classes::scripts(class, &mut |script| {
+            let answer = ask::answer(script).whole;
+            let expected = answer.unwrap_or_else(|number| vec![0x7F, 0, 1, number]);
+            let got = output(path, script);
+            tally.count(script, expected == got, || (show::fields(&expected), show::fields(&got)));
+        });
+    }
+    tally.end()
+}
+
+fn output(path: &str, script: &[u8]) -> Vec<u8> {
+    let mut child = Command::new(path)
+        .stdin(Stdio::piped())
+        .stdout(Stdio::piped())
+        .spawn()
+        .unwrap_or_else(|e| panic!("{path} can't be run: {e}"));
+    // a program may end before it has read all
+    let _ = child.stdin.take().unwrap().write_all(script);
+    let mut bytes = Vec::new();
+    child.stdout.take().unwrap().read_to_end(&mut bytes).expect("the program's output can't be read");
+    let _ = child.wait();
+    bytes
+}
+
+/// Runs the linked library on each script.
+#[cfg(library)]
+pub fn library(classes: &[Class]) -> bool {
+    let mut tally = Tally::default();
+    let mut turn = 0;
+    for class in classes {
+        classes::scripts(class, &mut |script| {
+            turn += 1;
+            for length in linked::slice_lengths(turn) {
+                let expected = linked::expected(script, length);
+                let got = linked::call(script, length);
+                tally.count(script, expected == got, || (linked::lines(&expected), linked::lines(&got)));
+            }
+        });
+    }
+    tally.end()
+}
+
+#[cfg(not(library))]
+pub fn library(_: &[Class]) -> bool {
+    eprintln!("no library is linked: beside/build SRC LIBRARY");
+    false
+}
+
+#[cfg(library)]
+mod linked {
+    use crate::{ask, show};
+    use formats::FILE_SIZE;
+
+    extern "C" {
+        fn dn_read(script: *const u8, script_len: usize, file: *mut u8, file_len: usize, bytes: *mut usize) -> u32;
+    }
+
+    const FILLER: u8 = 0xA5;
+    /// Bytes behind the slice that must not change.
+    const BEHIND: usize = 64;
+
+    #[derive(PartialEq)]
+    pub struct Result {
+        number: u32,
+        bytes: usize,
+        /// the file slice and the bytes behind it
+        memory: Vec<u8>,
+    }
+
+    /// The exact slice for each script, a shorter and a longer one now and then.
+    pub fn slice_lengths(turn: usize) -> Vec<usize> {
+        match turn % 16 {
+            0 => vec![FILE_SIZE, FILE_SIZE - 1],
+            8 => vec![FILE_SIZE, 70_000],
+            15 if turn % 160 == 15 => vec![FILE_SIZE, 0],
+            _ => vec![FILE_SIZE],
+        }
+    }
+
+    pub fn call(script: &[u8], length: usize) -> Result {
+        let mut memory = vec![FILLER; length + BEHIND];
+        let mut bytes = usize::MAX;
+        let number = unsafe { dn_read(script.as_ptr(), script.len(), memory.as_mut_ptr(), length, &mut bytes) };
+        Result { number, bytes, memory }
+    }
+
+    pub fn expected(script: &[u8], length: usize) -> Result {
+        let mut memory = vec![FILLER; length + BEHIND];
+        let answer = match ask::answer(script).whole {
+            Err(number @ (1 | 2)) => return Result { number: number as u32, bytes: 0, memory },
+            _ if length < FILE_SIZE => return Result { number: 3, bytes: 0, memory },
+            answer => answer,
+        };
+        memory[..length].fill(0);
+        match answer {
+            Err(number) => Result { number: number as u32, bytes: 0, memory },
+            Ok(file) => {
+                memory[..file.len()].copy_from_slice(&file);
+                Result { number: 0, bytes: file.len(), memory }
+            }
+        }
+    }
+
+    pub fn lines(result: &Result) -> Vec<String> {
+        let (slice, behind) = result.memory.split_at(result.memory.len() - BEHIND);
+        let mut lines = vec![
+            format!("number {}, {} bytes, a slice of {}", result.number, result.bytes, slice.len()),
+            format!("behind the slice: {}", if behind.iter().all(|b| *b == FILLER) { "untouched" } else { "changed" }),
+        ];
+        if slice.iter().all(|byte| *byte == FILLER) {
+            lines.push("the slice is untouched".to_owned());
+        } else {
+            lines.extend(show::fields(slice));
+        }
+        lines
+    }
+}

@@ -1,0 +1,117 @@
+//! Which refusals, errors, kinds and tags a set of classes meets.
+
+use crate::ask;
+use crate::classes::{self, Class};
+use crate::show;
+use formats::KINDS;
+use std::collections::BTreeMap;
+
+/// How many scripts have it at least once, by sort and number.
+#[derive(Default)]
+struct Met(BTreeMap<(&'static str, u32), usize>);
+
+impl Met {
+    fn add(&mut self, found: &[(&'static str, u32)]) {
+        let mut found = found.to_vec();
+        found.sort();
+        found.dedup();
+        for key in found {
+            *self.0.entry(key).or_default() += 1;
+        }
+    }
+
+    /// Prints one sort; whether nothing is missing.
+    fn print(&self, sort: &'static str, wanted: &[u32], name: impl Fn(u32) -> String) -> bool {
+        println!("{sort}:");
+        let mut complete = true;
+        for number in wanted {
+            let count = self.0.get(&(sort, *number)).copied().unwrap_or(0);
+            complete &= count > 0;
+            println!("  {:<28}{}", name(*number), if count > 0 { count.to_string() } else { "MISSING".to_owned() });
+        }
+        complete
+    }
+}
+
+pub fn run(classes: &[Class]) -> bool {
+    let mut met = Met::default();
+    for class in classes {
+        let (mut scripts, mut clean) = (0, 0);
+        classes::scripts(class, &mut |script| {
+            let found = found_in(script);
+            scripts += 1;
+            clean += !found.iter().any(|(sort, _)| *sort != TAG && *sort != OPERATOR && *sort != KIND) as usize;
+            met.add(&found);
+        });
+        println!("{}: {scripts} scripts, {clean} of them accepted with no error of any sort", class.word);
+    }
+    print(&met)
+}
+
+const REFUSAL: &str = "refusals of the whole operation (3 and 8 are of slices)";
+const TOKEN_ERROR: &str = "token errors (62)";
+const REPORTED: &str = "reported errors (60)";
+const FULL: &str = "full list (61)";
+const EXPECTED: &str = "expected kinds";
+const GOT: &str = "kinds met in errors";
+const TAG: &str = "tags";
+const KIND: &str = "kinds of tokens";
+const OPERATOR: &str = "operators (2D from 0, 2E from 16)";
+
+fn found_in(script: &[u8]) -> Vec<(&'static str, u32)> {
+    let answer = ask::answer(script);
+    let mut found = Vec::new();
+    if let Ok(records) = &answer.tokenised {
+        found.extend(records.tokens.iter().map(|token| (KIND, token[0])));
+    }
+    match answer.whole {
+        Err(number) => found.push((REFUSAL, number as u32)),
+        Ok(file) => in_file(&file, &mut found),
+    }
+    found
+}
+
+fn in_file(file: &[u8], found: &mut Vec<(&'static str, u32)>) {
+    for (tag, body) in formats::fields(file).0 {
+        found.push((TAG, tag as u32));
+        match tag {
+            0x62 => found.push((TOKEN_ERROR, body[0] as u32)),
+            0x60 => found.push((REPORTED, body[0] as u32)),
+            0x61 => {
+                found.push((FULL, body[0] as u32));
+                found.push((EXPECTED, body[5] as u32));
+                found.push((GOT, body[6] as u32));
+            }
+            0x2D => found.push((OPERATOR, body[4] as u32)),
+            0x2E => found.push((OPERATOR, 16 + body[4] as u32)),
+            _ => (),
+        }
+    }
+}
+
+fn print(met: &Met) -> bool {
+    let plain = |number: u32| number.to_string();
+    let kind = |number: u32| match number {
+        0 => "none".to_owned(),
+        number => format!("{number} {}", KINDS[number as usize - 1]),
+    };
+    let tags: Vec<u32> = show::TAGS.iter().map(|(tag, _)| *tag as u32).filter(|tag| *tag != 0x7F).collect();
+    let numbers = |from: u32, to: u32| (from..=to).collect::<Vec<_>>();
+    // the other kinds are expected only where they were seen before, or never
+    let expected = [0, 4, 15, 26, 38, 39, 41, 42, 44, 49, 50];
+    let operators = [numbers(0, 7), numbers(16, 20)].concat();
+    let complete = [
+        met.print(REFUSAL, &[1, 2, 4, 5, 6, 7, 9, 10, 11, 12], plain),
+        met.print(TOKEN_ERROR, &numbers(1, 4), plain),
+        met.print(REPORTED, &numbers(1, 19), plain),
+        met.print(FULL, &numbers(1, 19), plain),
+        met.print(TAG, &tags, |tag| format!("{tag:02X} {}", show::tag_name(tag as u8))),
+        met.print(KIND, &numbers(1, 54), kind),
+        met.print(OPERATOR, &operators, plain),
+        met.print(EXPECTED, &expected, kind),
+        met.print(GOT, &numbers(0, 54), kind),
+    ];
+    let all = complete.iter().all(|one| *one);
+    println!("{}", if all { "nothing is missing" } else { "something is missing" });
+    all
+}

@@ -1,0 +1,83 @@
+//! What the oracle answers, in the formats of document 01.
+
+/// Eight words: kind, line, column, text start, text length, base, 0, 0.
+pub type Token = [u32; 8];
+
+/// Four words: number, line, column, 0.
+pub type TokenError = [u32; 4];
+
+/// What Tokenise gives of an accepted script.
+#[derive(Clone, Default, Debug, PartialEq, Eq)]
+pub struct Tokens {
+    pub tokens: Vec<Token>,
+    pub errors: Vec<TokenError>,
+    pub text: Vec<u8>,
+}
+
+/// An error of the parser: number, line, column, expected kind, kind met.
+#[derive(Clone, Copy, Debug, PartialEq, Eq)]
+pub struct Error {
+    pub number: u8,
+    pub place: Place,
+    pub expected: u8,
+    pub got: u8,
+}
+
+#[derive(Clone, Copy, Debug, PartialEq, Eq)]
+pub struct Place {
+    pub line: u32,
+    pub column: u32,
+}
+
+/// Tokenise's answer and the whole operation's; a number is a refusal.
+#[derive(Clone, Debug, PartialEq, Eq)]
+pub struct Answer {
+    pub tokenised: Result<Tokens, u8>,
+    pub whole: Result<Vec<u8>, u8>,
+}
+
+/// Stands for a panic of the Rust that no refusal names.
+pub const PANIC: u8 = 255;
+
+pub const SCRIPT_LIMIT: usize = 16_384;
+pub const FILE_SIZE: usize = 65_536;
+
+/// The spelling of the kinds in the Rust, from kind 1 on.
+pub const KINDS: [&str; 54] = [
+    "Identifier", "Integer", "String", "KwFn", "KwVar", "KwReturn", "KwLoop", "KwWhile", "KwBreak",
+    "KwIf", "KwElse", "KwTrue", "KwFalse", "KwAs", "KwType", "KwStruct", "KwSizeof", "KwUse",
+    "KwExtern", "KwDistinct", "KwInternal", "Plus", "Minus", "Star", "ForwardSlash", "Equals",
+    "DoubleEquals", "Ampersand", "DoubleAmpersand", "Bar", "Caret", "Tilde", "Bang", "Dot",
+    "DotStar", "LeftShift", "RightShift", "Hash", "LBrace", "RBrace", "LParen", "RParen",
+    "LBracket", "RBracket", "LAngle", "LAngleEquals", "RAngle", "RAngleEquals", "Colon",
+    "Semicolon", "RArrow", "LArrow", "Comma", "InlineAssemblyFragment",
+];
+
+/// The number of a kind from its Debug spelling, with or without a text behind it.
+pub fn kind_number(debug: &str) -> u8 {
+    let end = debug.find(|c: char| !c.is_ascii_alphabetic()).unwrap_or(debug.len());
+    let name = &debug[..end];
+    match KINDS.iter().position(|k| *k == name) {
+        Some(at) => at as u8 + 1,
+        None => panic!("no kind is spelt {debug:?}"),
+    }
+}
+
+/// A field of a tree file: tag and body.
+pub type Field<'a> = (u8, &'a [u8]);
+
+/// The whole fields at the start of some bytes, and what is left behind them. No tag is 0.
+pub fn fields(file: &[u8]) -> (Vec<Field<'_>>, &[u8]) {
+    let mut fields = Vec::new();
+    let mut rest = file;
+    while let [tag @ 1..=255, high, low, behind @ ..] = rest {
+        let length = *high as usize * 256 + *low as usize;
+        if behind.len() < length {
+            break;
+        }
+        let (body, after) = behind.split_at(length);
+        fields.push((*tag, body));
+        rest = after;
+    }
+    (fields, rest)
+}

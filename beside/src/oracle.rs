@@ -1,0 +1,84 @@
+//! The root of a crate around the five Rust files. It is compiled twice: around the unchanged files,
+//! and with `--cfg marked` around the copy that `mark.rs` makes.
+#![feature(try_trait_v2, never_type, type_changing_struct_update)]
+#![allow(warnings)]
+
+pub mod encode;
+pub mod fallible;
+pub mod marks;
+pub mod node;
+pub mod parser;
+pub mod source;
+pub mod tokenizer;
+
+/// The macro that the five files expect: an error type with a description and a place.
+#[macro_export]
+macro_rules! frontend_error {
+    ($name:ident, $what:literal) => {
+        #[derive(Debug, Clone)]
+        pub struct $name {
+            pub description: String,
+            pub loc: $crate::source::SourceLocation,
+        }
+
+        impl $name {
+            pub fn new(description: &str, loc: $crate::source::SourceLocation) -> Self {
+                $crate::marks::made($what, description, &loc);
+                $name { description: description.to_owned(), loc }
+            }
+        }
+
+        impl std::fmt::Display for $name {
+            fn fmt(&self, f: &mut std::fmt::Formatter<'_>) -> std::fmt::Result {
+                write!(f, "{}: {} error: {}", self.loc.describe(), $what, self.description)
+            }
+        }
+
+        impl std::error::Error for $name {}
+    };
+}
+
+use formats::{Answer, Tokens, PANIC};
+use std::panic::{catch_unwind, AssertUnwindSafe};
+
+/// Tokenise's answer to a script that is UTF-8 and not too long.
+pub fn tokenised(script: &str) -> Result<Tokens, u8> {
+    tokenise(script).map(|(_, records)| records)
+}
+
+fn tokenise(script: &str) -> Result<(Vec<tokenizer::Token>, Tokens), u8> {
+    let input = source::SourceInputType::buffer();
+    let (tokens, errors) = caught(|| tokenizer::tokenize(script, input))?;
+    let records = encode::tokens(&tokens, &errors);
+    Ok((tokens, records))
+}
+
+/// Both answers to such a script.
+pub fn answer(script: &str) -> Answer {
+    match tokenise(script) {
+        Err(number) => Answer { tokenised: Err(number), whole: Err(number) },
+        Ok((tokens, records)) => {
+            let whole = if tokens.is_empty() { Err(9) } else { read(tokens, &records) };
+            Answer { tokenised: Ok(records), whole }
+        }
+    }
+}
+
+fn read(tokens: Vec<tokenizer::Token>, records: &Tokens) -> Result<Vec<u8>, u8> {
+    marks::begin();
+    let result = caught(|| parser::Parser::new(tokens.into_iter().peekable()).parse_module())?;
+    let reported: Vec<_> =
+        result.errors().iter().map(|e| encode::error(&e.description, &e.loc)).collect();
+    Ok(encode::file(&result.ignore_errors(), &records.errors, &reported, &marks::full_list()))
+}
+
+/// Runs steps of the Rust: what they give, or the refusal that they met.
+fn caught<T>(steps: impl FnOnce() -> T) -> Result<T, u8> {
+    marks::quiet(true);
+    let result = catch_unwind(AssertUnwindSafe(steps));
+    marks::quiet(false);
+    result.map_err(|panic| match panic.downcast_ref::<marks::Refusal>() {
+        Some(refusal) => refusal.0,
+        None => PANIC,
+    })
+}
