@@ -6,7 +6,7 @@ use native.Mathlib.Numerals.{add-one}
 use lib.ListN.{length, take, set, length-map}
 use lib.Seq.{take-suc-set, length-take-le}
 use Rattle.definition.specs.Fallible.{Err}
-use Rattle.fallible.specs.Rep.{unpack, errs}
+use Rattle.fallible.specs.Lists.{unpack, errs}
 
 -- the front up to n, stored at n: one more
 pub grown : (l : List ℕ) (n n′ e : ℕ) → n < length l → n′ ≡ n + 1 → take n′ (set l n e) ≡ take n l ++ (e ∷ [])

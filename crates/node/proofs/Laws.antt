@@ -1,14 +1,15 @@
 -- Laws of a list whose front grows by stores. Assumes nothing.
 use mathlib.Core.Path.{_≡_, refl, sym, ap, _∙_}
+use mathlib.Core.Option.{none, some}
 use mathlib.Core.List.{List, [], _∷_, _++_, append-assoc, append-nil}
-use Prim.Native.Nat.{ℕ, suc, _+_, _≤_, _<_}
+use Prim.Native.Nat.{ℕ, suc, _+_, _/_, _≤_, _<_}
 use native.Mathlib.Numerals.{add-one}
-use native.Mathlib.Nat.{add-zero}
+use native.Mathlib.Nat.{add-zero, div-div-eq-div-mul}
 use native.Mathlib.Omega.{arith}
 use lib.ListN.{length, take, drop, getD, set, length-set, length-drop, length-append}
 use lib.Seq.{take-suc-set, take-suc, getD-drop, length-take-le}
-use Rattle.definition.specs.Node.{u16, u64, byte, two, eight, rec-bytes, nums-bytes}
-use Rattle.node.specs.Put.{Grew, Copying, Wrote, opened, made, placeless}
+use Rattle.definition.specs.Node.{u16, u64, Num, rec-bytes, nums-bytes}
+use Rattle.node.specs.Put.{Grew, Copying, Wrote, placed}
 
 -- one byte
 pub grew-one : {o : List ℕ} {p b : ℕ} → p < length o → Grew o p (b ∷ []) 1 (set o p b) (p + 1)
@@ -41,24 +42,28 @@ copy-start {o} {p = p} h g = record { room = h; part = g; upto = omega arith; sa
 pub copy-end : {o₀ o x : List ℕ} {p st len i : ℕ} → Copying o₀ x p st len o i → len ≤ i → Grew o₀ p (take len (drop st x)) len o (p + len)
 copy-end {x = x} {st = st} {len = len} {i = i} k h = let e : i ≡ len = omega arith in record { end = refl; size = part-length x st len (k .part); is = rw e at (k .is) }
 
-module _ {o o1 o2 t : List ℕ} {pos tag line column len q r : ℕ} where
-  pub is-rec0 : Grew o pos (opened tag (4 + len) line column) 7 o1 q → Grew o1 q t len o2 r → Wrote o pos (made tag line column [] t) (7 + len) o2 r
-  unfolding rec-bytes nums-bytes
-  is-rec0 a b = record { end = omega arith; is = let e : 4 + len ≡ suc (suc (suc (suc (length t)))) = omega arith in rw e at (then a b .is) }
+pub nothing : (o : List ℕ) (p : ℕ) → Grew o p [] 0 o p
+nothing o p = record { end = omega arith; size = refl; is = sym (append-nil (take p o)) }
 
-  pub is-rec1 : {o′ : List ℕ} {q′ n : ℕ} → Grew o pos (opened tag (5 + len) line column) 7 o1 q → Grew o1 q (n ∷ []) 1 o′ q′ → Grew o′ q′ t len o2 r → Wrote o pos (made tag line column (byte n ∷ []) t) (8 + len) o2 r
-  unfolding rec-bytes nums-bytes
-  is-rec1 a b d = record { end = omega arith; is = let e : 5 + len ≡ suc (suc (suc (suc (suc (length t))))) = omega arith in rw e at (then (then a b) d .is) }
+-- eight bytes are four times two
+pub eight-twos : (n : ℕ) → u64 n ≡ u16 (n / 281474976710656) ++ (u16 (n / 4294967296) ++ (u16 (n / 65536) ++ u16 n))
+eight-twos n = rw (div-div-eq-div-mul n 281474976710656 256, div-div-eq-div-mul n 4294967296 256, div-div-eq-div-mul n 65536 256)
 
-module _ {o o1 o2 : List ℕ} {pos tag line column n q r : ℕ} where
-  pub is-rec2 : Grew o pos (opened tag 6 line column) 7 o1 q → Grew o1 q (u16 n) 2 o2 r → Wrote o pos (made tag line column (two n ∷ []) []) 9 o2 r
-  unfolding rec-bytes nums-bytes
-  is-rec2 a b = record { end = omega arith; is = then a b .is }
+-- ---- records
 
-  pub is-rec8 : Grew o pos (opened tag 12 line column) 7 o1 q → Grew o1 q (u64 n) 8 o2 r → Wrote o pos (made tag line column (eight n ∷ []) []) 15 o2 r
-  unfolding rec-bytes nums-bytes
-  is-rec8 a b = record { end = omega arith; is = then a b .is }
+module _ {o o1 o2 o3 t : List ℕ} {ns : List Num} {pos k len p q r tag : ℕ} where
+  pub is-record : {line column : ℕ} → Grew o pos (placed tag (4 + k + len) line column) 7 o1 p → Grew o1 p (nums-bytes ns) k o2 q → Grew o2 q t len o3 r
+      → Wrote o pos (record { tag = tag; place = some (record { line = line; column = column }); numbers = ns; text = t }) (7 + k + len) o3 r
+  unfolding rec-bytes
+  is-record a b d = record {
+    end = omega arith;
+    is = let e : 4 + k + len ≡ suc (suc (suc (suc (length (nums-bytes ns ++ t))))) = simp length-append (omega (arith, b .size, d .size)) in (rw e at (then a (then b d) .is));
+  }
 
-pub is-bare : {o o1 o2 t b1 : List ℕ} {pos tag len q r q1 : ℕ} → Grew o pos (tag ∷ []) 1 b1 q1 → Grew b1 q1 (u16 len) 2 o1 q → Grew o1 q t len o2 r → Wrote o pos (placeless tag t) (3 + len) o2 r
-unfolding rec-bytes nums-bytes
-is-bare e a b = record { end = omega arith; is = rw (← b .size) at (then (then e a) b .is) }
+  pub is-bare : {o0 : List ℕ} {u : ℕ} → Grew o pos (tag ∷ []) 1 o0 u → Grew o0 u (u16 (k + len)) 2 o1 p → Grew o1 p (nums-bytes ns) k o2 q → Grew o2 q t len o3 r
+      → Wrote o pos (record { tag = tag; place = none; numbers = ns; text = t }) (3 + k + len) o3 r
+  unfolding rec-bytes
+  is-bare a b d f = record {
+    end = omega arith;
+    is = let e : k + len ≡ length (nums-bytes ns ++ t) = simp length-append (omega (arith, d .size, f .size)) in (rw e at (then (then a b) (then d f) .is));
+  }

@@ -1,13 +1,13 @@
 -- What writing into the file slice does. Assumes nothing.
 use mathlib.Core.Path.{_≡_}
-use mathlib.Core.Bool.{Bool, true, false}
-use mathlib.Core.Option.{Option, none, some}
+use mathlib.Core.Option.{none, some}
 use mathlib.Core.List.{List, [], _∷_, _++_}
-use Prim.Native.Nat.{ℕ, zero, suc, _+_, _*_, _-_, _<_, _≤_}
-use lib.Dec.{eqb}
-use lib.ListN.{length, take, drop, getD}
-use Rattle.definition.specs.Source.{Place}
+use Prim.Native.Nat.{ℕ, _+_, _≤_}
+use lib.ListN.{length, take, drop}
 use Rattle.definition.specs.Node.{Num, byte, two, eight, Rec, u16, rec-bytes}
+use Rattle.node.specs.declared.Numbers.{Numbers}
+use Rattle.node.specs.declared.Numbers.the-variants.{None, Byte, Two, Eight, ByteTwo}
+use Rattle.node.specs.declared.Record.{Record}
 
 -- behind what stands up to p, the bytes bs are written; they are k, and end at q
 pub record Grew (o : List ℕ) (p : ℕ) (bs : List ℕ) (k : ℕ) (o′ : List ℕ) (q : ℕ) : Type 0 where
@@ -20,15 +20,37 @@ pub record Room (o x : List ℕ) (p k start len : ℕ) : Type 0 where
   pub room : p + k ≤ length o
   pub part : start + len ≤ length x
 
+-- the numbers, and how many bytes they are
+abbrev pub nums-of : Numbers → List Num
+nums-of None = []
+nums-of (Byte b) = byte b ∷ []
+nums-of (Two n) = two n ∷ []
+nums-of (Eight n) = eight n ∷ []
+nums-of (ByteTwo b n) = byte b ∷ two n ∷ []
+
+abbrev pub width-of : Numbers → ℕ
+width-of None = 0
+width-of (Byte b) = 1
+width-of (Two n) = 2
+width-of (Eight n) = 8
+width-of (ByteTwo b n) = 3
+
 -- the front of a record: its tag, the length of its body, its place
-abbrev pub opened : ℕ → ℕ → ℕ → ℕ → List ℕ
-opened tag size line column = tag ∷ (u16 size ++ (u16 line ++ u16 column))
+abbrev pub placed : ℕ → ℕ → ℕ → ℕ → List ℕ
+placed tag size line column = tag ∷ (u16 size ++ (u16 line ++ u16 column))
 
-abbrev pub made : ℕ → ℕ → ℕ → List Num → List ℕ → Rec
-made tag line column ns text = record { tag = tag; place = some (record { line = line; column = column }); numbers = ns; text = text }
+-- the record of the definition, and its length
+abbrev pub rec-of : List ℕ → Record → Rec
+rec-of x r = record { tag = r .tag; place = some (record { line = r .line; column = r .column }); numbers = nums-of (r .numbers); text = take (r .len) (drop (r .start) x) }
 
-abbrev pub placeless : ℕ → List ℕ → Rec
-placeless tag text = record { tag = tag; place = none; numbers = []; text = text }
+abbrev pub size-of : Record → ℕ
+size-of r = 7 + width-of (r .numbers) + r .len
+
+abbrev pub bare-of : ℕ → Numbers → List ℕ → Rec
+bare-of tag numbers t = record { tag = tag; place = none; numbers = nums-of numbers; text = t }
+
+abbrev pub bare-size : Numbers → ℕ → ℕ
+bare-size numbers len = 3 + width-of numbers + len
 
 -- behind what stands up to p, the record r is written, of k bytes
 pub record Wrote (o : List ℕ) (p : ℕ) (r : Rec) (k : ℕ) (o′ : List ℕ) (q : ℕ) : Type 0 where

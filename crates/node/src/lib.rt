@@ -1,12 +1,31 @@
-// Writing a record of the tree into the file slice. Each function answers where the record goes on.
+// node.rs: the records of the tree, written as fields into the lent file slice. Each function answers where the next byte goes.
 ghost use mathlib.Core.Path.{_≡_};
 ghost use mathlib.Core.List.{List, [], _∷_, _++_};
-ghost use Prim.Native.Nat.{ℕ, _+_, _*_, _-_, _/_, _%_, _<_, _≤_};
-ghost use lib.ListN.{length, take, drop, getD};
-ghost use Rattle.definition.specs.Node.{u16, u64, byte, two, eight};
-ghost use Rattle.node.specs.Put.{Grew, Wrote, Room, opened, made, placeless};
+ghost use Prim.Native.Nat.{ℕ, _+_, _<_, _≤_};
+ghost use lib.ListN.{length, take, drop};
+ghost use Rattle.definition.specs.Node.{u16, u64, nums-bytes};
+ghost use Rattle.node.specs.Put.{Grew, Room, nums-of, width-of, placed, Wrote, rec-of, size-of, bare-of, bare-size};
 
-pub fn one(file: &mut [u8], pos: usize, b: u8) -> usize
+// The numbers of a record: none, one byte, two bytes, eight bytes, or one byte and two.
+pub enum Numbers {
+    None,
+    Byte(u8),
+    Two(usize),
+    Eight(usize),
+    ByteTwo(u8, usize),
+}
+
+// A record with a place; its text is a part of a text slice.
+pub struct Record {
+    pub tag: u8,
+    pub line: usize,
+    pub column: usize,
+    pub numbers: Numbers,
+    pub start: usize,
+    pub len: usize,
+}
+
+fn put(file: &mut [u8], pos: usize, b: u8) -> usize
     requires { ⌜ pos < length (now file) ⌝ }
     ensures { λ r. ⌜ Grew (now (file .entry)) pos (b ∷ []) 1 (now (file .exit)) r ⌝ }
 {
@@ -14,30 +33,54 @@ pub fn one(file: &mut [u8], pos: usize, b: u8) -> usize
     pos + 1
 }
 
-pub fn two(file: &mut [u8], pos: usize, n: usize) -> usize
+fn put_two(file: &mut [u8], pos: usize, n: usize) -> usize
     requires { ⌜ pos + 2 ≤ length (now file) ⌝ }
     ensures { λ r. ⌜ Grew (now (file .entry)) pos (u16 n) 2 (now (file .exit)) r ⌝ }
 {
-    let p = one(file, pos, (n / 256 % 256) as u8);
-    one(file, p, (n % 256) as u8)
+    let p = put(file, pos, (n / 256 % 256) as u8);
+    put(file, p, (n % 256) as u8)
 }
 
-pub fn eight(file: &mut [u8], pos: usize, n: usize) -> usize
+fn put_eight(file: &mut [u8], pos: usize, n: usize) -> usize
     requires { ⌜ pos + 8 ≤ length (now file) ⌝ }
     ensures { λ r. ⌜ Grew (now (file .entry)) pos (u64 n) 8 (now (file .exit)) r ⌝ }
 {
-    let p1 = one(file, pos, (n / 72057594037927936 % 256) as u8);
-    let p2 = one(file, p1, (n / 281474976710656 % 256) as u8);
-    let p3 = one(file, p2, (n / 1099511627776 % 256) as u8);
-    let p4 = one(file, p3, (n / 4294967296 % 256) as u8);
-    let p5 = one(file, p4, (n / 16777216 % 256) as u8);
-    let p6 = one(file, p5, (n / 65536 % 256) as u8);
-    let p7 = one(file, p6, (n / 256 % 256) as u8);
-    one(file, p7, (n % 256) as u8)
+    let p = put_two(file, pos, n / 0x1_0000_0000_0000);
+    let p = put_two(file, p, n / 0x1_0000_0000);
+    let p = put_two(file, p, n / 0x1_0000);
+    put_two(file, p, n)
 }
 
-// A part of the text.
-pub fn part(file: &mut [u8], text: &[u8], pos: usize, start: usize, len: usize) -> usize
+fn put_numbers(file: &mut [u8], pos: usize, numbers: Numbers) -> usize
+    requires { ⌜ pos + 8 ≤ length (now file) ⌝ }
+    ensures { λ r. ⌜ Grew (now (file .entry)) pos (nums-bytes (nums-of numbers)) (width-of numbers) (now (file .exit)) r ⌝ }
+{
+    match numbers {
+        Numbers::None => pos,
+        Numbers::Byte(b) => put(file, pos, b),
+        Numbers::Two(n) => put_two(file, pos, n),
+        Numbers::Eight(n) => put_eight(file, pos, n),
+        Numbers::ByteTwo(b, n) => {
+            let p = put(file, pos, b);
+            put_two(file, p, n)
+        }
+    }
+}
+
+fn width(numbers: Numbers) -> usize
+    ensures { λ r. ⌜ (r ≡ width-of numbers) × (r ≤ 8) ⌝ }
+{
+    match numbers {
+        Numbers::None => 0,
+        Numbers::Byte(_) => 1,
+        Numbers::Two(_) => 2,
+        Numbers::Eight(_) => 8,
+        Numbers::ByteTwo(_, _) => 3,
+    }
+}
+
+// A part of a text slice.
+fn put_part(file: &mut [u8], text: &[u8], pos: usize, start: usize, len: usize) -> usize
     requires { ⌜ Room (now file) (now text) pos len start len ⌝ }
     ensures { λ r. ⌜ Grew (now (file .entry)) pos (take len (drop start (now (text .entry)))) len (now (file .exit)) r ⌝ }
 {
@@ -49,86 +92,50 @@ pub fn part(file: &mut [u8], text: &[u8], pos: usize, start: usize, len: usize) 
     pos + len
 }
 
-// The front of a record with a place, whose body has so many bytes.
-pub fn opening(
-    file: &mut [u8],
-    pos: usize,
-    tag: u8,
-    size: usize,
-    line: usize,
-    column: usize,
-) -> usize
+// The front of a record with a place, whose body has `size` bytes.
+fn opening(file: &mut [u8], pos: usize, tag: u8, size: usize, line: usize, column: usize) -> usize
     requires { ⌜ pos + 7 ≤ length (now file) ⌝ }
-    ensures { λ r. ⌜ Grew (now (file .entry)) pos (opened tag size line column) 7 (now (file .exit)) r ⌝ }
+    ensures { λ r. ⌜ Grew (now (file .entry)) pos (placed tag size line column) 7 (now (file .exit)) r ⌝ }
 {
-    let a = one(file, pos, tag);
-    let b = two(file, a, size);
-    let c = two(file, b, line);
-    two(file, c, column)
+    let p = put(file, pos, tag);
+    let p = put_two(file, p, size);
+    let p = put_two(file, p, line);
+    put_two(file, p, column)
 }
 
-// A record with a place and a part of the text.
-pub fn rec0(
+// A record with a place.
+pub fn write_record(file: &mut [u8], text: &[u8], pos: usize, r: Record) -> usize
+    requires { ⌜ Room (now file) (now text) pos (16 + r .len) (r .start) (r .len) ⌝ }
+    ensures { λ q. ⌜ Wrote (now (file .entry)) pos (rec-of (now (text .entry)) r) (size-of r) (now (file .exit)) q ⌝ }
+{
+    let numbers = r.numbers;
+    let p = opening(
+        file,
+        pos,
+        r.tag,
+        4 + width(numbers) + r.len,
+        r.line,
+        r.column,
+    );
+    let p = put_numbers(file, p, numbers);
+    put_part(file, text, p, r.start, r.len)
+}
+
+// A record with no place.
+pub fn write_bare(
     file: &mut [u8],
     text: &[u8],
     pos: usize,
     tag: u8,
-    line: usize,
-    column: usize,
+    numbers: Numbers,
     start: usize,
     len: usize,
 ) -> usize
-    requires { ⌜ Room (now file) (now text) pos (7 + len) start len ⌝ }
-    ensures { λ r. ⌜ Wrote (now (file .entry)) pos (made tag line column [] (take len (drop start (now (text .entry))))) (7 + len) (now (file .exit)) r ⌝ }
+    requires { ⌜ Room (now file) (now text) pos (16 + len) start len ⌝ }
+    ensures { λ q. ⌜ Wrote (now (file .entry)) pos (bare-of tag numbers (take len (drop start (now (text .entry))))) (bare-size numbers len) (now (file .exit)) q ⌝ }
 {
-    let a = opening(file, pos, tag, 4 + len, line, column);
-    part(file, text, a, start, len)
-}
-
-// The same with a number in one byte.
-pub fn rec1(
-    file: &mut [u8],
-    text: &[u8],
-    pos: usize,
-    tag: u8,
-    line: usize,
-    column: usize,
-    n: u8,
-    start: usize,
-    len: usize,
-) -> usize
-    requires { ⌜ Room (now file) (now text) pos (8 + len) start len ⌝ }
-    ensures { λ r. ⌜ Wrote (now (file .entry)) pos (made tag line column (byte n ∷ []) (take len (drop start (now (text .entry))))) (8 + len) (now (file .exit)) r ⌝ }
-{
-    let a = opening(file, pos, tag, 5 + len, line, column);
-    let b = one(file, a, n);
-    part(file, text, b, start, len)
-}
-
-// A record with a place and a number in two bytes.
-pub fn rec2(file: &mut [u8], pos: usize, tag: u8, line: usize, column: usize, n: usize) -> usize
-    requires { ⌜ pos + 9 ≤ length (now file) ⌝ }
-    ensures { λ r. ⌜ Wrote (now (file .entry)) pos (made tag line column (two n ∷ []) []) 9 (now (file .exit)) r ⌝ }
-{
-    let a = opening(file, pos, tag, 6, line, column);
-    two(file, a, n)
-}
-
-// A record with a place and a number in eight bytes.
-pub fn rec8(file: &mut [u8], pos: usize, tag: u8, line: usize, column: usize, n: usize) -> usize
-    requires { ⌜ pos + 15 ≤ length (now file) ⌝ }
-    ensures { λ r. ⌜ Wrote (now (file .entry)) pos (made tag line column (eight n ∷ []) []) 15 (now (file .exit)) r ⌝ }
-{
-    let a = opening(file, pos, tag, 12, line, column);
-    eight(file, a, n)
-}
-
-// A record with no place, and a part of the text.
-pub fn bare(file: &mut [u8], text: &[u8], pos: usize, tag: u8, start: usize, len: usize) -> usize
-    requires { ⌜ Room (now file) (now text) pos (3 + len) start len ⌝ }
-    ensures { λ r. ⌜ Wrote (now (file .entry)) pos (placeless tag (take len (drop start (now (text .entry))))) (3 + len) (now (file .exit)) r ⌝ }
-{
-    let a = one(file, pos, tag);
-    let b = two(file, a, len);
-    part(file, text, b, start, len)
+    let p = put(file, pos, tag);
+    let p = put_two(file, p, width(numbers) + len);
+    let p = put_numbers(file, p, numbers);
+    put_part(file, text, p, start, len)
 }

@@ -1,0 +1,16 @@
+-- Errors as entries of one number each, and the lists that are the front of a slice. Assumes nothing.
+use mathlib.Core.List.{List, map}
+use Prim.Native.Nat.{ℕ, _/_, _%_}
+use lib.ListN.{take}
+use Rattle.definition.specs.Fallible.{Err}
+
+abbrev pub error-at : ℕ → ℕ → ℕ → ℕ → ℕ → Err
+error-at number line column expected got = record { number = number; place = record { line = line; column = column }; expected = expected; got = got }
+
+-- an entry: one byte of number, two of line, two of column, one of each kind
+unfoldable pub unpack : ℕ → Err
+unpack e = error-at (e / 281474976710656) (e / 4294967296 % 65536) (e / 65536 % 65536) (e / 256 % 256) (e % 256)
+
+-- the first n errors of a slice
+unfoldable pub errs : List ℕ → ℕ → List Err
+errs l n = map (λ e. unpack e) (take n l)

@@ -1,0 +1,4 @@
+pub mod Tokens
+pub mod Moves
+pub mod Answers
+pub mod OneToken

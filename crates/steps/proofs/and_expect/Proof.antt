@@ -1,0 +1,16 @@
+use Rattle.steps.proofs.OneToken.{expected-stop, expected-on}
+use borrow.Author.Needs.{needs}
+use Rattle.steps.proofs.and_expect.Statement.{statement}
+use Rattle.steps.proofs.and_expect.Tie as tie
+
+pub and-expect-spec : {M : Type 1} → statement M
+and-expect-spec =
+    tie.close
+    (tie.spec
+    (λ c. search needs)
+    (λ c. expected-stop (c .before .before .before .before .before .pre .0) (c .match .keys2))
+    (λ c κs. search needs)
+    (λ c κs. search needs)
+    (λ c. search needs)
+    (λ c. search needs)
+    (λ c. expected-on (c .before .before .before .before .before .before .before .before .before .before .before .before .before .before .before .before .before .before .before .pre .0) (c .before .before .before .before .before .before .before .before .before .before .before .before .before .enum-told .given .1) (c .before .before .before .before .before .before .before .before .before .expect .ensures) (c .before .before .before .abandon .ensures)))

@@ -1,0 +1,178 @@
+-- How an answer of the code stands for an answer of the definition. Assumes nothing.
+use mathlib.Core.Path.{_≡_}
+use mathlib.Core.List.{List, [], _∷_, _++_}
+use Prim.Native.Nat.{ℕ, min, _+_, _*_, _<_, _≤_}
+use lib.ListN.{length, take}
+use Rattle.definition.specs.Source.{Place}
+use Rattle.definition.specs.Node.{Rec, recs-bytes}
+use Rattle.definition.specs.Fallible.{Err, Fallible, Ans, ok, fatal}
+use Rattle.definition.specs.Token.{Tok, head}
+use Rattle.definition.specs.Act.{Act, done, Consumed, Items, Node, Role, St, Res, gives, refused, after, or-return, _>>?_}
+use Rattle.definition.specs.Parser as P
+use Rattle.definition.specs.Go.{go}
+use Rattle.node.specs.Put.{Wrote, rec-of, size-of}
+use Rattle.node.specs.declared.Record.{Record}
+use Rattle.fallible.specs.declared.State.{State}
+use Rattle.fallible.specs.declared.How.{How}
+use Rattle.fallible.specs.declared.How.the-variants.{Done, Fatal, Refused}
+use Rattle.fallible.specs.declared.Answer.{Answer}
+use Rattle.fallible.specs.Lists.{errs}
+use Rattle.fallible.specs.Answers.{Abandoned}
+use Rattle.steps.specs.Tokens.{rest, budget, Held}
+
+-- ---- states
+
+abbrev pub st-of : List ℕ → List ℕ → ℕ → List ℕ → List Consumed → State → St
+st-of w x n f rd s = record { left = rest w x n (s .at); read = rd; full = errs f (s .full) }
+
+-- what each function asks of a state; one that writes asks for room
+pub record Asks (w x : List ℕ) (n : ℕ) (r f : List ℕ) (s : State) : Type 0 where
+  pub held : Held w x n
+  pub at : s .at ≤ n
+  pub reported : s .reported ≤ s .full
+  pub few : s .full ≤ 255
+  pub reps : 256 ≤ length r
+  pub fulls : 256 ≤ length f
+
+pub record Asked (w x : List ℕ) (n : ℕ) (o r f : List ℕ) (s : State) : Type 0 where
+  pub asks : Asks w x n r f s
+  pub room : s .pos + budget w x n (s .at) + 16 ≤ length o
+
+-- the numbers from one state to a later one, of a construct that began at i and j
+pub record Moved (w x : List ℕ) (n i j : ℕ) (s s′ : State) : Type 0 where
+  pub at : s .at ≤ s′ .at
+  pub end : s′ .at ≤ n
+  pub pos : i ≤ s′ .pos
+  pub room : s′ .pos + budget w x n (s′ .at) ≤ s .pos + budget w x n (s .at)
+  pub reported : j ≤ s′ .reported
+  pub less : s′ .reported + s .full ≤ s .reported + s′ .full
+  pub full : s .full ≤ s′ .full
+  pub few : s′ .full ≤ 255
+
+-- ---- answers
+
+-- Of an item: its records, and what it is by the answer's two numbers.
+pub record View (A : Type 0) : Type 1 where
+  pub recs : A → List Rec
+  pub fine : ℕ → ℕ → A → Type 0
+
+-- an answer q of the definition that is there: behind T stand the records rs that the construct has before and the item's, behind E the errors es and the item's
+pub record Good {A : Type 0} (K : View A) (T : List ℕ) (E : List Err) (rs : List Rec) (es : List Err) (w x : List ℕ) (n : ℕ) (o r f : List ℕ) (a : Answer) (q : Res (Ans A)) : Type 0 where
+  pub item : A
+  pub errors : List Err
+  pub read : List Consumed
+  pub is : q ≡ gives (ok (record { item = item; errors = errors })) (st-of w x n f read (a .state))
+  pub tree : take (a .state .pos) o ≡ T ++ recs-bytes (rs ++ K .recs item)
+  pub rep : errs r (a .state .reported) ≡ E ++ (es ++ errors)
+  pub holds : K .fine (a .line) (a .column) item
+
+-- a fatal one: only its errors stand, behind E
+pub record Bad {A : Type 0} (T : List ℕ) (E : List Err) (w x : List ℕ) (n : ℕ) (o r f : List ℕ) (a : Answer) (q : Res (Ans A)) : Type 0 where
+  pub errors : List Err
+  pub read : List Consumed
+  pub is : q ≡ gives (fatal errors) (st-of w x n f read (a .state))
+  pub tree : take (a .state .pos) o ≡ T
+  pub rep : errs r (a .state .reported) ≡ E ++ errors
+
+abbrev pub ShowsOf : How → {A : Type 0} → View A → List ℕ → List Err → List Rec → List Err → List ℕ → List ℕ → ℕ → List ℕ → List ℕ → List ℕ → Answer → Res (Ans A) → Type 0
+ShowsOf Done K T E rs es w x n o r f a q = Good K T E rs es w x n o r f a q
+ShowsOf Fatal K T E rs es w x n o r f a q = Bad T E w x n o r f a q
+ShowsOf (Refused m) K T E rs es w x n o r f a q = q ≡ refused m
+
+-- the answer a of the code is the answer q of the definition
+pub record Shows {A : Type 0} (K : View A) (T : List ℕ) (E : List Err) (rs : List Rec) (es : List Err) (w x : List ℕ) (n : ℕ) (o r f : List ℕ) (a : Answer) (q : Res (Ans A)) : Type 0 where
+  pub told : ShowsOf (a .how) K T E rs es w x n o r f a q
+
+-- 1 where the answer is there, as a number
+abbrev pub done-of : How → ℕ
+done-of Done = 1
+done-of Fatal = 0
+done-of (Refused m) = 0
+
+-- ---- items
+
+-- a node, with its place
+abbrev pub node : View Node
+node = record { recs = λ y. y .recs; fine = λ l c y. y .place ≡ record { line = l; column = c } }
+
+-- a token, with its place
+abbrev pub token : Tok → View Tok
+token t = record { recs = λ y. []; fine = λ l c y. (y ≡ t) × (t .place ≡ record { line = l; column = c }) }
+
+-- a typed identifier, of the name
+abbrev pub typed : List ℕ → View P.Typed
+typed name = record { recs = λ y. y .type; fine = λ l c y. y .name ≡ name }
+
+-- the items of a list, and how many
+abbrev pub items : View Items
+items = record { recs = λ y. y .recs; fine = λ l c y. y .count ≡ l }
+
+-- ---- functions
+
+-- a function that reads: what it shows of the act m, where d more calls may be opened
+pub record Reads {A : Type 0} (K : View A) (w x : List ℕ) (n d : ℕ) (m : Act (Ans A)) (o r f : List ℕ) (s : State) (o′ r′ f′ : List ℕ) (a : Answer) : Type 0 where
+  pub moved : Moved w x n (s .pos) (s .reported) s (a .state)
+  pub on : s .at + min (head (rest w x n (s .at)) .kind) 1 ≤ a .state .at
+  pub is : (rd : List Consumed) → Shows K (take (s .pos) o) (errs r (s .reported)) [] [] w x n o′ r′ f′ a (go d m (st-of w x n f rd s))
+
+-- a function from an answer a to an answer y, in a construct that began at i and j: what it shows of what follows
+pub record Goes {A B : Type 0} (K : View A) (L : View B) (w x : List ℕ) (n d : ℕ) (k : Fallible A → Act (Ans B)) (i j : ℕ) (o r f : List ℕ) (a : Answer) (o′ r′ f′ : List ℕ) (y : Answer) : Type 0 where
+  pub moved : Moved w x n i j (a .state) (y .state)
+  pub is : (T : List ℕ) (E : List Err) (q : Res (Ans A)) → length T ≡ i → length E ≡ j → Shows K T E [] [] w x n o r f a q → Shows L T E [] [] w x n o′ r′ f′ y (after q (λ z S. go d (or-return k z) S))
+
+pub record GoesOn (w x : List ℕ) (n : ℕ) (o r f : List ℕ) (a : Answer) (i j : ℕ) : Type 0 where
+  pub asked : Asked w x n o r f (a .state)
+  pub pos : i ≤ a .state .pos
+  pub reported : j ≤ a .state .reported
+
+-- ---- `expect`
+
+-- `m` is a function of the parser that reads one token: in any role, whatever calls and loops answer
+pub record Expects (w x : List ℕ) (n : ℕ) (m : Role → Act (Ans Tok)) (r f : List ℕ) (s : State) (r′ f′ : List ℕ) (a : Answer) : Type 0 where
+  pub moved : Moved w x n (s .pos) (s .reported) s (a .state)
+  pub pos : a .state .pos ≡ s .pos
+  pub on : s .at + min (head (rest w x n (s .at)) .kind) 1 ≤ a .state .at
+  pub pays : budget w x n (a .state .at) + 16 * done-of (a .how) ≤ budget w x n (s .at)
+  pub kept : a .how ≡ Done → (a .state .reported ≡ s .reported) × (errs r′ (a .state .reported) ≡ errs r (s .reported))
+  pub is : (role : Role) (d : ℕ) (rd : List Consumed) (o : List ℕ) → Shows (token (head (rest w x n (s .at)))) (take (s .pos) o) (errs r (s .reported)) [] [] w x n o r′ f′ a (go d (m role) (st-of w x n f rd s))
+
+-- what a function asks of an answer, of a construct that began at i and j
+pub record Follows (w x : List ℕ) (n : ℕ) (r f : List ℕ) (a : Answer) (i j : ℕ) : Type 0 where
+  pub asks : Asks w x n r f (a .state)
+  pub pos : i ≤ a .state .pos
+  pub reported : j ≤ a .state .reported
+
+-- `expect` behind an answer, of a construct that began at i and j: b is its answer, c what `?` leaves of it
+pub record Followed (w x : List ℕ) (n k i j : ℕ) (r f : List ℕ) (a : Answer) (r′ f′ : List ℕ) (y : Answer) : Type 0 where
+  pub b : Answer
+  pub c : Answer
+  pub between : List ℕ
+  pub expects : Expects w x n (λ role. P.expect-as role k) r f (a .state) between f′ b
+  pub abandoned : Abandoned between b i j (a .state .reported) r′ c
+  pub is : y ≡ record { how = c .how; state = c .state; line = a .line; column = a .column }
+
+abbrev pub ExpectedOf : How → List ℕ → List ℕ → ℕ → ℕ → ℕ → ℕ → List ℕ → List ℕ → Answer → List ℕ → List ℕ → Answer → Type 0
+ExpectedOf Done w x n k i j r f a r′ f′ y = Followed w x n k i j r f a r′ f′ y
+ExpectedOf Fatal w x n k i j r f a r′ f′ y = (y ≡ a) × ((r′ ≡ r) × (f′ ≡ f))
+ExpectedOf (Refused m) w x n k i j r f a r′ f′ y = (y ≡ a) × ((r′ ≡ r) × (f′ ≡ f))
+
+pub record Expected (w x : List ℕ) (n k i j : ℕ) (r f : List ℕ) (a : Answer) (r′ f′ : List ℕ) (y : Answer) : Type 0 where
+  pub moved : Moved w x n i j (a .state) (y .state)
+  pub high : y .state .pos ≤ a .state .pos
+  pub pays : budget w x n (y .state .at) + 16 * done-of (y .how) ≤ budget w x n (a .state .at)
+  pub is : ExpectedOf (a .how) w x n k i j r f a r′ f′ y
+
+-- ---- a record behind an answer
+
+abbrev pub FinishedOf : How → List ℕ → List ℕ → Answer → Record → List ℕ → Answer → Type 0
+FinishedOf Done x o a v o′ y = (y .how ≡ Done) × (Wrote o (a .state .pos) (rec-of x v) (size-of v) o′ (y .state .pos) × ((y .line ≡ v .line) × (y .column ≡ v .column)))
+FinishedOf Fatal x o a v o′ y = (y ≡ a) × (o′ ≡ o)
+FinishedOf (Refused m) x o a v o′ y = (y ≡ a) × (o′ ≡ o)
+
+pub record Finished (x o : List ℕ) (a : Answer) (v : Record) (o′ : List ℕ) (y : Answer) : Type 0 where
+  pub at : y .state .at ≡ a .state .at
+  pub reported : y .state .reported ≡ a .state .reported
+  pub full : y .state .full ≡ a .state .full
+  pub low : a .state .pos ≤ y .state .pos
+  pub high : y .state .pos ≤ a .state .pos + size-of v
+  pub is : FinishedOf (a .how) x o a v o′ y

@@ -1,0 +1,64 @@
+-- The tokens that lent records stand for, and what reading one shows. Assumes nothing.
+use mathlib.Core.Path.{_≡_}
+use mathlib.Core.List.{List, [], _∷_}
+use Prim.Native.Nat.{ℕ, zero, suc, min, _+_, _*_, _-_, _<_, _≤_}
+use lib.ListN.{length, take, drop, getD}
+use Rattle.definition.specs.Token.{Tok, head, tail}
+use Rattle.definition.specs.Records.{words-at, token-of}
+use Rattle.steps.specs.declared.Front.{Front}
+
+-- the token whose record is the i-th
+abbrev pub tok-at : List ℕ → List ℕ → ℕ → Tok
+tok-at w x i = token-of x (words-at w i)
+
+unfoldable pub from : List ℕ → List ℕ → ℕ → ℕ → List Tok
+from w x i zero = []
+from w x i (suc k) = tok-at w x i ∷ from w x (i + 1) k
+
+-- those of n records from the place `at` on
+unfoldable pub rest : List ℕ → List ℕ → ℕ → ℕ → List Tok
+rest w x n at = from w x at (n - at)
+
+-- what a token pays for in the file
+abbrev pub cost : Tok → ℕ
+cost t = 16 * min (t .kind) 1 + length (t .text)
+
+unfoldable pub spend : List Tok → ℕ
+spend [] = 0
+spend (t ∷ ts) = cost t + spend ts
+
+abbrev pub budget : List ℕ → List ℕ → ℕ → ℕ → ℕ
+budget w x n at = spend (rest w x n at)
+
+-- a record that can be read
+pub record Sound (w x : List ℕ) (i : ℕ) : Type 0 where
+  pub kind : getD w (8 * i) 0 ≤ 54
+  pub line : getD w (8 * i + 1) 0 ≤ 16384
+  pub column : getD w (8 * i + 2) 0 ≤ 16384
+  pub part : getD w (8 * i + 3) 0 + getD w (8 * i + 4) 0 ≤ length x
+  pub base : getD w (8 * i + 5) 0 ≤ 16
+  pub based : getD w (8 * i) 0 ≡ 2 → 0 < getD w (8 * i + 5) 0
+
+-- n records are there, and each can be read
+pub record Held (w x : List ℕ) (n : ℕ) : Type 0 where
+  pub words : 8 * n ≤ length w
+  pub few : n ≤ 2048
+  pub each : (i : ℕ) → i < n → Sound w x i
+
+-- what `head` shows
+pub record Seen (w x : List ℕ) (n at : ℕ) (t : Front) : Type 0 where
+  pub kind : head (rest w x n at) .kind ≡ t .kind
+  pub place : head (rest w x n at) .place ≡ record { line = t .line; column = t .column }
+  pub text : head (rest w x n at) .text ≡ take (t .len) (drop (t .start) x)
+  pub base : head (rest w x n at) .base ≡ t .base
+  pub tail : tail (rest w x n at) ≡ rest w x n (t .next)
+  pub pays : budget w x n (t .next) + 16 * min (t .kind) 1 + t .len ≡ budget w x n at
+  pub on : at + min (t .kind) 1 ≤ t .next
+  pub up : at ≤ t .next
+  pub end : t .next ≤ n
+  pub part : t .start + t .len ≤ length x
+  pub kinds : t .kind ≤ 54
+  pub lines : t .line ≤ 16384
+  pub columns : t .column ≤ 16384
+  pub bases : t .base ≤ 16
+  pub based : t .kind ≡ 2 → 0 < t .base
