@@ -10,47 +10,22 @@ const OPENING: &str = "\
 -- Generated scripts, and the Rust's answers to them.
 use mathlib.Core.Path.{_≡_, refl}
 use mathlib.Core.List.{List, [], _∷_, map}
-use mathlib.Core.Option.{none, some}
+use mathlib.Core.Option.{some}
 use Prim.Native.Nat.{ℕ}
-use Rattle.definition.specs.Bytes.{Err}
-use Rattle.definition.specs.Token.{Tok}
-use Rattle.definition.specs.Utf8.{characters}
-use Rattle.definition.specs.Tokenizer.{Tokens, tokens, stuck, tokenize, token-error}
-use Rattle.definition.specs.Reader.{whole, Outcome, file, refused}
+use Rattle.definition.specs.Table.{Row, Lists, File, answered}
 
-pub record Answer : Type 0 where
-  pub tokenised : Tokens
-  pub outcome : Outcome
+abbrev lists : ℕ → List ℕ → List ℕ → List ℕ → Lists
+lists n ts es text = record { number = n; toks = ts; errs = es; text = text }
 
-pub record Row : Type 0 where
-  pub script : List ℕ
-  pub answer : Answer
+abbrev file : ℕ → List ℕ → File
+file n bytes = record { number = n; bytes = bytes }
 
-abbrev row : List ℕ → Tokens → Outcome → Row
-row s t o = record { script = s; answer = record { tokenised = t; outcome = o } }
-
-abbrev tok : ℕ → ℕ → ℕ → List ℕ → ℕ → Tok
-tok k l c text base = record { kind = k; place = record { line = l; column = c }; text = text; base = base }
-
-abbrev err : ℕ → ℕ → ℕ → Err
-err n l c = token-error n (record { line = l; column = c })
-
-abbrev tokens-refused : ℕ → Tokens
-tokens-refused n = Tokens.refused n
-
--- what is not UTF-8 is not tokenised
-abbrev no-tokens : Tokens
-no-tokens = stuck
-
-abbrev tokenised : List ℕ → Tokens
-tokenised s = elim (characters s) [ none ↦ no-tokens | some cs ↦ tokenize cs ]
-
-pub answer : List ℕ → Answer
-answer s = record { tokenised = tokenised s; outcome = whole s }
+abbrev row : List ℕ → Lists → File → Row
+row s t f = record { script = s; tokens = some t; file = f }
 ";
 
-/// The facts that the checker unfolds in each proof.
-const UNFOLDED: &str = "answer whole characters tokenize";
+/// The definitions that the checker unfolds in each proof.
+const UNFOLDED: &str = "answered";
 
 /// How many rows and how many bytes of scripts one fact has at most; a single row may have more bytes.
 const ROWS: usize = 10;
@@ -63,7 +38,7 @@ pub fn print(count: usize, longest: usize, classes: &[Class]) {
     for (at, rows) in facts(&chosen).into_iter().enumerate() {
         let rows: Vec<String> = rows.iter().map(|script| row(script, &ask::answer(script))).collect();
         println!("pub table-{at} : List Row\ntable-{at} =\n{}    []\n", rows.concat());
-        println!("pub holds-{at} : map (λ r. answer (r .script)) table-{at} ≡ map (λ r. r .answer) table-{at}");
+        println!("pub holds-{at} : map answered table-{at} ≡ table-{at}");
         println!("unfolding table-{at} {UNFOLDED}\nholds-{at} = refl\n");
     }
     eprintln!("{} rows; by number: {}", chosen.len(), by_number(&chosen));
@@ -120,29 +95,23 @@ fn by_number(scripts: &[Vec<u8>]) -> String {
 }
 
 fn row(script: &[u8], answer: &Answer) -> String {
-    let outcome = match &answer.whole {
-        Ok(file) => format!("file {}", numbers(file)),
-        Err(number) => format!("refused {number}"),
+    let file = match &answer.whole {
+        Ok(file) => format!("file 0 {}", numbers(file)),
+        Err(number) => format!("file {number} []"),
     };
     let comment = script.escape_ascii().to_string();
-    format!("    -- {comment}\n    row {} ({}) ({outcome}) ∷\n", numbers(script), tokenised(&answer.tokenised))
+    format!("    -- {comment}\n    row {} ({}) ({file}) ∷\n", numbers(script), lists(&answer.tokenised))
 }
 
-fn tokenised(answer: &Result<Tokens, u8>) -> String {
+fn lists(answer: &Result<Tokens, u8>) -> String {
     match answer {
-        Err(2) => "no-tokens".to_owned(),
-        Err(number) => format!("tokens-refused {number}"),
-        Ok(records) => {
-            let tokens = records.tokens.iter().map(|token| tok(token, &records.text)).collect();
-            let errors = records.errors.iter().map(|e| format!("err {} {} {}", e[0], e[1], e[2])).collect();
-            format!("tokens {} {}", list(tokens), list(errors))
-        }
+        Err(number) => format!("lists {number} [] [] []"),
+        Ok(records) => format!("lists 0 {} {} {}", words(&records.tokens), words(&records.errors), numbers(&records.text)),
     }
 }
 
-fn tok(token: &formats::Token, text: &[u8]) -> String {
-    let own = &text[token[3] as usize..(token[3] + token[4]) as usize];
-    format!("tok {} {} {} {} {}", token[0], token[1], token[2], numbers(own), token[5])
+fn words<const N: usize>(records: &[[u32; N]]) -> String {
+    list(records.iter().flatten().map(|word| word.to_string()).collect())
 }
 
 fn numbers(bytes: &[u8]) -> String {

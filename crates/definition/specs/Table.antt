@@ -43,14 +43,15 @@ pub record Row : Type 0 where
   pub tokens : Option Lists
   pub file : File
 
-lists : Tokenised → Lists
+abbrev pub lists : Tokenised → Lists
 lists t = record { number = t .number; toks = take (8 * t .tokens) (t .toks); errs = take (4 * t .errors) (t .errs); text = take (t .bytes) (t .text) }
 
-file : Written → File
+abbrev pub file : Written → File
 file w = record { number = w .number; bytes = take (w .bytes) (w .file) }
 
 -- what the definitions give in place of a row's answers, on slices of the least length
-pub answered : Row → Row
+unfoldable pub answered : Row → Row
+unfolding tokenise whole
 answered r = record {
   script = r .script;
   tokens = elim (r .tokens) [ none ↦ none | some t ↦ some (lists (tokenise (r .script) (replicate 16384 1) (replicate 1024 1) (replicate 16384 1))) ];
@@ -95,5 +96,5 @@ table =
     []
 
 pub holds : map answered table ≡ table
-unfolding hex-from decimal-from lists file answered row tokens token-errors tree refused table tokenise whole ascii
+unfolding hex-from decimal-from answered row tokens token-errors tree refused table ascii
 holds = refl
