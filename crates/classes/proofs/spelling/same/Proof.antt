@@ -1,0 +1,56 @@
+use borrow.Author.Needs.{needs}
+use native.Mathlib.Omega.{arith}
+use Prim.Native.Nat.{_-_}
+use lib.ListN.{length}
+use Rattle.classes.proofs.Same.{Comparing, cm-start, cm-more, cm-differ, cm-short, cm-end}
+use Rattle.classes.proofs.spelling.same.Statement.{statement}
+use Rattle.classes.proofs.spelling.same.Tie as tie
+
+abbrev Inv-loop : tie.InvT-loop
+Inv-loop a b i₀ i = Comparing a b i
+
+abbrev μ-loop : tie.MeasureT-loop
+μ-loop a b i₀ i = length a - i
+
+loop-holds : tie.Need-loop-holds Inv-loop μ-loop
+loop-holds c = cm-start
+
+returns : tie.Need-returns Inv-loop μ-loop
+returns c = cm-end (c .before .loop .inv) (c .if1 .taken)
+
+returns-2 : tie.Need-returns-2 Inv-loop μ-loop
+returns-2 c = cm-short (c .before .before .loop .inv) (c .before .if1 .left) (c .if2 .taken)
+
+shared-slice-read-if3 : tie.Need-shared-slice-read-if3 Inv-loop μ-loop
+shared-slice-read-if3 c = search needs
+
+shared-slice-read-if3-2 : tie.Need-shared-slice-read-if3-2 Inv-loop μ-loop
+shared-slice-read-if3-2 c = search needs
+
+returns-3 : tie.Need-returns-3 Inv-loop μ-loop
+returns-3 c = cm-differ (c .before .before .before .before .before .loop .inv) (c .before .before .before .before .if1 .left) (c .before .before .before .if2 .left) (c .if3 .taken)
+
+add-i : tie.Need-add-i Inv-loop μ-loop
+add-i c = search needs
+
+loop-less : tie.Need-loop-less Inv-loop μ-loop
+loop-less c = search needs
+
+loop-again : tie.Need-loop-again Inv-loop μ-loop
+loop-again c = cm-more (c .before .before .before .before .before .loop .inv) (c .before .before .before .before .if1 .left) (c .before .before .before .if2 .left) (c .if3 .left)
+
+pub same-spec : {M : Type 1} → statement M
+same-spec =
+    tie.close
+    (tie.spec
+    Inv-loop
+    μ-loop
+    loop-holds
+    returns
+    returns-2
+    shared-slice-read-if3
+    shared-slice-read-if3-2
+    returns-3
+    add-i
+    loop-less
+    loop-again)
