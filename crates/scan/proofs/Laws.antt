@@ -31,6 +31,9 @@ wrote-none {x} {n} = record { put = sym (append-nil (take n x)); count = omega a
 pub wrote-trans : {x : List ℕ} {n : ℕ} {t x′ : List ℕ} {m : ℕ} {u x″ : List ℕ} {k : ℕ} → Wrote x n t x′ m → Wrote x′ m u x″ k → Wrote x n (t ++ u) x″ k
 wrote-trans {x} {n} {t} {x′} {m} {u} a b = record { put = b .put ∙ ap (λ (l : List ℕ). l ++ u) (a .put) ∙ append-assoc (take n x) t u; count = omega (arith, a .count, b .count, length-append t u); size = b .size ∙ a .size }
 
+pub wrote-cons : {x : List ℕ} {n a : ℕ} {x′ : List ℕ} {m : ℕ} {u x″ : List ℕ} {k : ℕ} → Wrote x n (a ∷ []) x′ m → Wrote x′ m u x″ k → Wrote x n (a ∷ u) x″ k
+wrote-cons = wrote-trans
+
 pub record Copying (s : List ℕ) (from to : ℕ) (x₀ : List ℕ) (at : ℕ) (x : List ℕ) (n i : ℕ) : Type 0 where
   pub low : from ≤ i
   pub high : i ≤ to

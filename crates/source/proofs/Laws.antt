@@ -10,11 +10,11 @@ use borrow.Author.Tests.{eqb-true, eqb-false, ltb-true, ltb-false, leb-true, leb
 use lib.Dec.{eqb, ltb, leb}
 use lib.ListN.{length, getD, take, drop, length-drop, drop-of-length-le}
 use lib.Seq.{drop-cons, drop-drop, drop-length}
-use Rattle.definition.specs.Source.{Place, Ch, Lead, single, with-more, wrong, lead, after, Pending, fresh, within, and-then, decode, characters}
+use Rattle.definition.specs.Source.{Place, Ch, Lead, single, with-more, wrong, lead, after, Pending, fresh, within, and-then, decode, characters, is-some, utf8}
 use Rattle.definition.specs.Choice.{pick, first}
 use Rattle.source.specs.declared.Need.{Need}
 use Rattle.source.specs.declared.Cursor.{Cursor}
-use Rattle.source.specs.Place.{start, bad, needOf, nextNeed, ranNeed, more, placed, or-none, rest, Stands, Stepped, char, is-some, utf8}
+use Rattle.source.specs.Place.{start, bad, needOf, nextNeed, ranNeed, more, placed, or-none, rest, Stands, Stepped, char}
 
 abbrev Small : Lead → Type 0
 Small single = Unit {0}

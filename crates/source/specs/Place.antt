@@ -1,12 +1,11 @@
 -- What a byte asks for, a fold over the bytes; the characters from a cursor on. Assumes nothing.
 use mathlib.Core.Path.{_≡_}
-use mathlib.Core.Bool.{Bool, true, false, _&&_, _||_}
-use mathlib.Core.List.{List, [], _∷_, _++_}
+use mathlib.Core.List.{List, [], _∷_}
 use mathlib.Core.Option.{Option, none, some}
-use Prim.Native.Nat.{ℕ, zero, suc, _+_, _-_, _<_, _≤_}
-use lib.Dec.{eqb, ltb, leb}
+use Prim.Native.Nat.{ℕ, _+_, _-_, _≤_}
+use lib.Dec.{eqb, ltb}
 use lib.ListN.{length, getD, take, drop}
-use Rattle.definition.specs.Source.{Place, Ch, Lead, single, with-more, wrong, lead, after, decode, fresh, characters}
+use Rattle.definition.specs.Source.{Place, Ch, Lead, single, with-more, wrong, lead, decode, fresh}
 use Rattle.definition.specs.Choice.{pick}
 use Rattle.source.specs.declared.Need.{Need}
 use Rattle.source.specs.declared.Cursor.{Cursor}
@@ -66,15 +65,6 @@ pub record Stepped (s : List ℕ) (c r : Cursor) : Type 0 where
   pub chars : rest s c ≡ char s c ∷ rest s r
   pub stands : Stands s r
   pub wide : r .at ≡ more (lead (getD s (c .at) 0)) + 1 + c .at
-
-abbrev pub is-some : Option (List Ch) → Bool
-is-some none = false
-is-some (some cs) = true
-
--- the bytes are UTF-8
-unfoldable pub utf8 : List ℕ → Bool
-unfolding characters
-utf8 s = is-some (characters s)
 
 -- where a script starts
 abbrev pub origin : Cursor
