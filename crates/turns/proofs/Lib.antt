@@ -1,0 +1,6 @@
+mod Turned
+mod Numbers
+mod Textless
+mod Words
+mod Strings
+mod Taking
