@@ -1,4 +1,4 @@
-mod Turned
+pub mod Turned
 mod Numbers
 mod Textless
 mod Words

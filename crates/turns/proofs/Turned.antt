@@ -42,7 +42,7 @@ ready-wrote a w = record { asks = record { stands = a .asks .stands; small = a .
 
 -- ---- records
 
-errors-words-append : (a b : List Err) → errors-words (a ++ b) ≡ errors-words a ++ errors-words b
+pub errors-words-append : (a b : List Err) → errors-words (a ++ b) ≡ errors-words a ++ errors-words b
 unfolding errors-words
 errors-words-append [] b = refl
 errors-words-append (e ∷ a) b = ap (λ (l : List ℕ). e .number ∷ e .place .line ∷ e .place .column ∷ 0 ∷ l) (errors-words-append a b)
