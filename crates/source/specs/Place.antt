@@ -10,30 +10,34 @@ use Rattle.definition.specs.Choice.{pick}
 use Rattle.source.specs.declared.Need.{Need}
 use Rattle.source.specs.declared.Cursor.{Cursor}
 
+-- ---- what a byte asks for
+
+abbrev pub needed : ℕ → ℕ → ℕ → Need
+needed n lo hi = record { missing = n; lo = lo; hi = hi }
+
+-- between two characters
 abbrev pub start : Need
-start = record { missing = 0; lo = 128; hi = 191 }
+start = needed 0 0x80 0xBF
 
 abbrev pub bad : Need
-bad = record { missing = 9; lo = 0; hi = 0 }
+bad = needed 9 0 0
 
-abbrev pub needOf : Lead → Need
-needOf single = start
-needOf (with-more n lo hi) = record { missing = n; lo = lo; hi = hi }
-needOf wrong = bad
+abbrev pub need-of : Lead → Need
+need-of single = start
+need-of (with-more n lo hi) = needed n lo hi
+need-of wrong = bad
 
-abbrev pub nextNeed : Need → ℕ → Need
-nextNeed n b =
-    pick (eqb (n .missing) 9) n
-    (pick (eqb (n .missing) 0) (needOf (lead b))
-    (pick (ltb b (n .lo)) bad
-    (pick (ltb (n .hi) b) bad
-    (pick (eqb (n .missing) 1) start
-    (record { missing = n .missing - 1; lo = 128; hi = 191 })))))
+abbrev pub next-need : Need → ℕ → Need
+next-need n b =
+    pick (eqb (n .missing) 9) n (pick (eqb (n .missing) 0) (need-of (lead b)) (pick (ltb b (n .lo)) bad (pick (ltb (n .hi) b) bad (needed (n .missing - 1) 0x80 0xBF))))
 
-unfoldable pub ranNeed : Need → List ℕ → Need
-ranNeed n [] = n
-ranNeed n (b ∷ bs) = ranNeed (nextNeed n b) bs
+unfoldable pub ran-need : Need → List ℕ → Need
+ran-need n [] = n
+ran-need n (b ∷ bs) = ran-need (next-need n b) bs
 
+-- ---- places
+
+-- the bytes of a character behind its first
 abbrev pub more : Lead → ℕ
 more single = 0
 more (with-more n lo hi) = n
