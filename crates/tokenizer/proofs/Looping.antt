@@ -20,9 +20,9 @@ use Rattle.source.specs.Place.{Stands, rest, char, origin}
 use Rattle.source.proofs.Laws.{rest-head, rest-end}
 use Rattle.scan.specs.Scan.{Wrote, Asks}
 use Rattle.records.specs.declared.State.{State}
-use Rattle.turns.specs.Turn.{Few, Ready, bounded, Went, Onward, Taken, turn-of}
+use Rattle.turns.specs.Turn.{Few, Ready, bounded, Went}
 use Rattle.turns.proofs.Turned.{errors-words-append}
-use Rattle.tokenizer.specs.Run.{Holds, Ran}
+use Rattle.tokenizer.specs.Run.{Onward, Taken, turn-of, Holds, Ran}
 
 -- ---- the records of two lists, one behind the other
 

@@ -1,18 +1,35 @@
--- What the loop promises, and the answer of Tokenise. Assumes nothing.
+-- What the turn and the loop promise, and the answer of Tokenise. Assumes nothing.
 use mathlib.Core.Path.{_≡_}
 use mathlib.Core.Logic.{_⊎_}
-use mathlib.Core.List.{List, _++_}
-use Prim.Native.Nat.{ℕ, _-_, _*_, _≤_}
+use mathlib.Core.List.{List, [], _∷_, _++_}
+use Prim.Native.Nat.{ℕ, _-_, _*_, _<_, _≤_}
 use lib.ListN.{length, take, replicate}
 use Rattle.definition.specs.Fallible.{Err}
 use Rattle.definition.specs.Token.{Tok}
 use Rattle.definition.specs.Source.{Ch}
 use Rattle.definition.specs.Records.{tokens-words, tokens-text, errors-words}
 use Rattle.definition.specs.Operations.{Tokenised}
+use Rattle.definition.specs.Tokenizer.{Turn, goes}
 use Rattle.definition.specs.Tokenizer as Z
+use Rattle.source.specs.Place.{rest}
 use Rattle.records.specs.declared.State.{State}
-use Rattle.turns.specs.Turn.{Few}
+use Rattle.turns.specs.Turn.{Few, Went, Stopped}
 use Rattle.tokenizer.specs.declared.Tokenized.{Tokenized}
+
+-- ---- the turn
+
+-- a turn passes the character at which it begins
+pub record Onward (most : ℕ) (t : Turn) (s : List ℕ) (f : State) (T E X : List ℕ) (r : State) (T′ E′ X′ : List ℕ) : Type 0 where
+  pub went : Went most t s f (f .cursor) T E X r T′ E′ X′
+  pub strict : f .cursor .at < r .cursor .at
+  pub less : length (rest s (r .cursor)) < length (rest s (f .cursor))
+
+abbrev pub Taken : ℕ → Turn → List ℕ → State → List ℕ → List ℕ → List ℕ → State → List ℕ → List ℕ → List ℕ → Type 0
+Taken most t s f T E X r T′ E′ X′ = Onward most t s f T E X r T′ E′ X′ ⊎ Stopped most t f r
+
+abbrev pub turn-of : List Ch → Turn
+turn-of [] = goes [] [] []
+turn-of (c ∷ cs) = Z.turn c cs
 
 -- ---- the loop
 

@@ -1,16 +1,69 @@
 // Tokenise: a script's bytes to token records, token errors and text in lent slices.
+use classes::character::Class;
+use classes::class;
+use classes::spelling::pair;
+use classes::spelling::symbol;
 use definition::limit;
 use definition::refusal;
+use definition::token_error;
 use records::State;
+use scan::comment;
+use scan::look;
+use scan::skip;
 use source::Cursor;
+use source::step;
 use source::valid;
-use turns::turn;
+use turns::dash_turn;
+use turns::moved;
+use turns::number_turn;
+use turns::plain;
+use turns::refuse;
+use turns::string_turn;
+use turns::with_errors;
+use turns::word_turn;
+use turns::zero_turn;
 ghost use mathlib.Core.Path.{_≡_};
-ghost use Prim.Native.Nat.{_*_, _≤_};
+ghost use Prim.Native.Nat.{_*_, _<_, _≤_};
 ghost use lib.ListN.{length};
 ghost use Rattle.definition.specs.Operations as O;
 ghost use Rattle.source.specs.Place.{Stands, rest, origin};
-ghost use Rattle.tokenizer.specs.Run.{Ran, Cleared, answer, refusal-of};
+ghost use Rattle.turns.specs.Turn.{Ready};
+ghost use Rattle.tokenizer.specs.Run.{Taken, turn-of, Ran, Cleared, answer, refusal-of};
+
+// ---- the loop
+
+// One turn, at a character.
+fn turn(
+    most: usize,
+    s: &[u8],
+    st: State,
+    tokens: &mut [u32],
+    errors: &mut [u32],
+    text: &mut [u8],
+) -> State
+    requires { ⌜ Ready most (now s) (now tokens) (now text) st (st .cursor) × (st .cursor .at < length (now s)) × (1024 ≤ length (now errors)) ⌝ }
+    ensures { λ r. ⌜ Taken most (turn-of (rest (now (s .entry)) (st .cursor))) (now (s .entry)) st (now (tokens .entry)) (now (errors .entry)) (now (text .entry)) r (now (tokens .exit)) (now (errors .exit)) (now (text .exit)) ⌝ }
+{
+    let from = st.cursor;
+    let at = from.at;
+    let b = s[at];
+    let c = step(s, from);
+    let d = look(s, c);
+    let k = class(b, d);
+    match k {
+        Class::Foreign => refuse(st, refusal::FOREIGN_CHARACTER),
+        Class::White => moved(st, c),
+        Class::Comment => moved(st, comment(s, skip(s, c))),
+        Class::Pair => plain(most, tokens, st, skip(s, c), pair(b, d)),
+        Class::Symbol => plain(most, tokens, st, c, symbol(b)),
+        Class::Quote => string_turn(most, s, st, c, tokens, errors, text),
+        Class::Word => word_turn(most, s, st, c, b, tokens, errors, text),
+        Class::Dash => dash_turn(most, s, st, c, tokens, text),
+        Class::Zero => zero_turn(most, s, st, c, tokens, text),
+        Class::Digit => number_turn(most, s, st, c, b, tokens, text),
+        Class::Unknown => with_errors(errors, st, from, c, 1, token_error::UNKNOWN_CHARACTER),
+    }
+}
 
 // The loop: a turn at each character that is reached, until the end or a refusal.
 fn run(most: usize, s: &[u8], tokens: &mut [u32], errors: &mut [u32], text: &mut [u8]) -> State

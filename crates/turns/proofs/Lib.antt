@@ -1,6 +1,5 @@
 pub mod Turned
 mod Numbers
-mod Textless
+pub mod Textless
 mod Words
 mod Strings
-mod Taking

@@ -1,8 +1,8 @@
 -- What a turn of the tokenizer's loop does to the state and the slices. Assumes nothing.
 use mathlib.Core.Path.{_≡_}
 use mathlib.Core.Logic.{_⊎_}
-use mathlib.Core.List.{List, [], _∷_}
-use Prim.Native.Nat.{ℕ, _+_, _*_, _<_, _≤_}
+use mathlib.Core.List.{List}
+use Prim.Native.Nat.{ℕ, _+_, _*_, _≤_}
 use lib.Dec.{leb}
 use lib.ListN.{length}
 use Rattle.definition.specs.Source.{Ch}
@@ -10,7 +10,7 @@ use Rattle.definition.specs.Fallible.{Err}
 use Rattle.definition.specs.Token.{Tok}
 use Rattle.definition.specs.Choice.{pick}
 use Rattle.definition.specs.Records.{tokens-words, tokens-text, errors-words}
-use Rattle.definition.specs.Tokenizer.{Turn, goes, refused, turn}
+use Rattle.definition.specs.Tokenizer.{Turn, goes, refused}
 use Rattle.source.specs.Place.{Stands, rest}
 use Rattle.source.specs.declared.Cursor.{Cursor}
 use Rattle.scan.specs.Scan.{Wrote, Asks}
@@ -62,16 +62,3 @@ pub record Stopped (most : ℕ) (t : Turn) (f r : State) : Type 0 where
 
 abbrev pub Turned : ℕ → Turn → List ℕ → State → Cursor → List ℕ → List ℕ → List ℕ → State → List ℕ → List ℕ → List ℕ → Type 0
 Turned most t s f c T E X r T′ E′ X′ = Went most t s f c T E X r T′ E′ X′ ⊎ Stopped most t f r
-
--- a turn passes the character at which it begins
-pub record Onward (most : ℕ) (t : Turn) (s : List ℕ) (f : State) (T E X : List ℕ) (r : State) (T′ E′ X′ : List ℕ) : Type 0 where
-  pub went : Went most t s f (f .cursor) T E X r T′ E′ X′
-  pub strict : f .cursor .at < r .cursor .at
-  pub less : length (rest s (r .cursor)) < length (rest s (f .cursor))
-
-abbrev pub Taken : ℕ → Turn → List ℕ → State → List ℕ → List ℕ → List ℕ → State → List ℕ → List ℕ → List ℕ → Type 0
-Taken most t s f T E X r T′ E′ X′ = Onward most t s f T E X r T′ E′ X′ ⊎ Stopped most t f r
-
-abbrev pub turn-of : List Ch → Turn
-turn-of [] = goes [] [] []
-turn-of (c ∷ cs) = turn c cs

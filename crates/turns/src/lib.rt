@@ -1,11 +1,7 @@
-// The turns of the tokenizer's loop. A turn has the state before it, whose place is the token's, and the place `c` behind what it has read.
-use classes::character::Class;
+// The turns of the tokenizer's loop, by what they begin with. A turn has the state before it, whose place is the token's, and the place `c` behind what it has read.
 use classes::character::is_digit;
-use classes::class;
 use classes::spelling::keyword;
-use classes::spelling::pair;
 use classes::spelling::same;
-use classes::spelling::symbol;
 use definition::kind;
 use definition::refusal;
 use definition::token_error;
@@ -13,7 +9,6 @@ use records::State;
 use records::push_errors;
 use records::push_token;
 use scan::assembly;
-use scan::comment;
 use scan::digits;
 use scan::look;
 use scan::put8;
@@ -31,11 +26,11 @@ ghost use lib.ListN.{length, replicate};
 ghost use Rattle.definition.specs.Tokenizer as Z;
 ghost use Rattle.source.specs.Place.{rest, placed};
 ghost use Rattle.records.specs.Push.{ErrorsPushed, TokenPushed};
-ghost use Rattle.turns.specs.Turn.{at-cursor, at-text, Few, Ready, Turned, Taken, turn-of};
+ghost use Rattle.turns.specs.Turn.{at-cursor, at-text, Few, Ready, Turned};
 
 // ---- how a turn ends
 
-fn refuse(st: State, how: u32) -> State
+pub fn refuse(st: State, how: u32) -> State
     ensures { λ r. ⌜ r .how ≡ how ⌝ }
 {
     let cursor = st.cursor;
@@ -49,7 +44,7 @@ fn refuse(st: State, how: u32) -> State
 }
 
 // Nothing is pushed.
-fn moved(st: State, c: Cursor) -> State
+pub fn moved(st: State, c: Cursor) -> State
     ensures { λ r. ⌜ r ≡ at-cursor st c ⌝ }
 {
     State {
@@ -62,7 +57,7 @@ fn moved(st: State, c: Cursor) -> State
 }
 
 // A token with no text.
-fn plain(most: usize, tokens: &mut [u32], st: State, c: Cursor, kind: u32) -> State
+pub fn plain(most: usize, tokens: &mut [u32], st: State, c: Cursor, kind: u32) -> State
     requires { ⌜ Few most st × (8 * most ≤ length (now tokens)) ⌝ }
     ensures { λ r. ⌜ TokenPushed most (now (tokens .entry)) (at-cursor st c) (kind ∷ st .cursor .line ∷ st .cursor .column ∷ 0 ∷ 0 ∷ 0 ∷ 0 ∷ 0 ∷ []) (now (tokens .exit)) r ⌝ }
 {
@@ -113,7 +108,7 @@ fn with_text(
 }
 
 // The same error at `from`, `count` times.
-fn with_errors(
+pub fn with_errors(
     errors: &mut [u32],
     st: State,
     from: Cursor,
@@ -137,7 +132,7 @@ fn with_errors(
 // ---- numbers
 
 // Behind the first digit, or the dash before it.
-fn number_turn(
+pub fn number_turn(
     most: usize,
     s: &[u8],
     st: State,
@@ -183,7 +178,7 @@ fn based_turn(
 }
 
 // Behind a `0` that opens the number.
-fn zero_turn(
+pub fn zero_turn(
     most: usize,
     s: &[u8],
     st: State,
@@ -207,7 +202,7 @@ fn zero_turn(
 }
 
 // Behind a dash.
-fn dash_turn(
+pub fn dash_turn(
     most: usize,
     s: &[u8],
     st: State,
@@ -273,7 +268,7 @@ fn asm_turn(
 }
 
 // Behind the first letter of a word.
-fn word_turn(
+pub fn word_turn(
     most: usize,
     s: &[u8],
     st: State,
@@ -308,7 +303,7 @@ fn word_turn(
 // ---- strings
 
 // Behind a quote.
-fn string_turn(
+pub fn string_turn(
     most: usize,
     s: &[u8],
     st: State,
@@ -331,39 +326,4 @@ fn string_turn(
         return with_text(most, tokens, e, from, d, q.n, kind::STRING, 0);
     }
     with_errors(errors, e, from, d, 1, token_error::UNCLOSED_STRING)
-}
-
-// ---- the turn
-
-// One turn, at a character.
-pub fn turn(
-    most: usize,
-    s: &[u8],
-    st: State,
-    tokens: &mut [u32],
-    errors: &mut [u32],
-    text: &mut [u8],
-) -> State
-    requires { ⌜ Ready most (now s) (now tokens) (now text) st (st .cursor) × (st .cursor .at < length (now s)) × (1024 ≤ length (now errors)) ⌝ }
-    ensures { λ r. ⌜ Taken most (turn-of (rest (now (s .entry)) (st .cursor))) (now (s .entry)) st (now (tokens .entry)) (now (errors .entry)) (now (text .entry)) r (now (tokens .exit)) (now (errors .exit)) (now (text .exit)) ⌝ }
-{
-    let from = st.cursor;
-    let at = from.at;
-    let b = s[at];
-    let c = step(s, from);
-    let d = look(s, c);
-    let k = class(b, d);
-    match k {
-        Class::Foreign => refuse(st, refusal::FOREIGN_CHARACTER),
-        Class::White => moved(st, c),
-        Class::Comment => moved(st, comment(s, skip(s, c))),
-        Class::Pair => plain(most, tokens, st, skip(s, c), pair(b, d)),
-        Class::Symbol => plain(most, tokens, st, c, symbol(b)),
-        Class::Quote => string_turn(most, s, st, c, tokens, errors, text),
-        Class::Word => word_turn(most, s, st, c, b, tokens, errors, text),
-        Class::Dash => dash_turn(most, s, st, c, tokens, text),
-        Class::Zero => zero_turn(most, s, st, c, tokens, text),
-        Class::Digit => number_turn(most, s, st, c, b, tokens, text),
-        Class::Unknown => with_errors(errors, st, from, c, 1, token_error::UNKNOWN_CHARACTER),
-    }
 }

@@ -18,8 +18,9 @@ use Rattle.scan.specs.Scan.{Passed, Asks}
 use Rattle.scan.proofs.Laws.{wrote-none}
 use Rattle.records.specs.declared.State.{State}
 use Rattle.records.specs.Push.{ErrorsPushed, TokenPushed}
-use Rattle.turns.specs.Turn.{at-cursor, Ready, bounded, Turned, Taken, turn-of}
+use Rattle.turns.specs.Turn.{at-cursor, Ready, bounded, Turned}
+use Rattle.tokenizer.specs.Run.{Taken, turn-of}
 use Rattle.turns.proofs.Turned.{passed-none, passed-trans, on-text, end-nothing, end-errors, end-plain}
 
 abbrev of-class : Ch → List Ch → Z.Class → Turn
 of-class c cs x =
