@@ -61,7 +61,15 @@ fn turn(
         Class::Dash => dash_turn(most, s, st, c, tokens, text),
         Class::Zero => zero_turn(most, s, st, c, tokens, text),
         Class::Digit => number_turn(most, s, st, c, b, tokens, text),
-        Class::Unknown => with_errors(errors, st, from, c, 1, token_error::UNKNOWN_CHARACTER),
+        Class::Unknown => with_errors(
+            errors,
+            st,
+            from,
+            c,
+            st.text,
+            1,
+            token_error::UNKNOWN_CHARACTER,
+        ),
     }
 }
 

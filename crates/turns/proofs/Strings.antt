@@ -74,9 +74,9 @@ module _ {most : ℕ} {s : List ℕ} {st : State} {c : Cursor} {T E X X₁ E₁ 
         end-token (a .few) (record { passed = u .passed; tokens = z .tokens; errors = z .errors; few = omega (arith, z .errors, z .few); how = h; room = u .room; errs = z .wrote; text = u .wrote })
         (string-closed p _ (sym (u .closed) ∙ f) ∙ ap (λ (v : ℕ). goes (body s c .rest) (escapes v p) (k ∷ [])) (sym (u .unknown))) (with-words k refl (z .text) (omega (arith, u .wrote .count, z .text)) x)
 
-    pub string-open-law : {E₂ : List ℕ} {r : State} → q .closed ≡ false → ErrorsPushed E₁ (at-cursor e (q .cursor)) (replicate 1 (Z.token-error 2 p)) E₂ r → Turned most (Z.string-turn p (body s c)) s st c T E X r T E₂ X₁
+    pub string-open-law : {E₂ : List ℕ} {r : State} → q .closed ≡ false → ErrorsPushed E₁ (at-text e (q .cursor) (st .text)) (replicate 1 (Z.token-error 2 p)) E₂ r → Turned most (Z.string-turn p (body s c)) s st c T E X r T E₂ X₁
     string-open-law f x =
         let z = escapes-went in
         let l : st .text ≤ length X = omega (arith, a .asks .room, a .asks .wide, a .asks .small, a .asks .stands .inside) in
-        end-errors (a .few) (record { passed = u .passed; tokens = z .tokens; errors = z .errors; few = omega (arith, z .errors, z .few); how = h; room = rw (z .text) (omega (arith, a .asks .room, u .passed .forward)); errs = z .wrote; text = rw (z .text) (wrote-back l (u .wrote)) })
+        end-errors (a .few) (record { passed = u .passed; tokens = z .tokens; errors = z .errors; few = omega (arith, z .errors, z .few); how = h; room = omega (arith, a .asks .room, u .passed .forward); errs = z .wrote; text = wrote-back l (u .wrote) })
         (string-open p _ (sym (u .closed) ∙ f) ∙ ap (λ (v : ℕ). goes (body s c .rest) (escapes v p ++ (Z.token-error 2 p ∷ [])) []) (sym (u .unknown))) x

@@ -107,23 +107,24 @@ fn with_text(
     )
 }
 
-// The same error at `from`, `count` times.
+// The same error at `from`, `count` times, with the text up to `n`.
 pub fn with_errors(
     errors: &mut [u32],
     st: State,
     from: Cursor,
     c: Cursor,
+    n: usize,
     count: usize,
     number: u32,
 ) -> State
     requires { ⌜ (1024 ≤ length (now errors)) × (st .errors ≤ 255) × (count ≤ 16384) ⌝ }
-    ensures { λ r. ⌜ ErrorsPushed (now (errors .entry)) (at-cursor st c) (replicate count (Z.token-error number (placed from))) (now (errors .exit)) r ⌝ }
+    ensures { λ r. ⌜ ErrorsPushed (now (errors .entry)) (at-text st c n) (replicate count (Z.token-error number (placed from))) (now (errors .exit)) r ⌝ }
 {
     let on = State {
         cursor: c,
         tokens: st.tokens,
         errors: st.errors,
-        text: st.text,
+        text: n,
         how: st.how,
     };
     push_errors(errors, on, count, number, from.line, from.column)
@@ -264,7 +265,7 @@ fn asm_turn(
             0,
         );
     }
-    with_errors(errors, st, from, d, 1, token_error::NO_ASSEMBLY)
+    with_errors(errors, st, from, d, st.text, 1, token_error::NO_ASSEMBLY)
 }
 
 // Behind the first letter of a word.
@@ -316,14 +317,24 @@ pub fn string_turn(
     ensures { λ r. ⌜ Turned most (Z.string-turn (placed (st .cursor)) (Z.quoted false (rest (now (s .entry)) c))) (now (s .entry)) st c (now (tokens .entry)) (now (errors .entry)) (now (text .entry)) r (now (tokens .exit)) (now (errors .exit)) (now (text .exit)) ⌝ }
 {
     let from = st.cursor;
-    let q = quoted(s, c, text, st.text);
+    let start = st.text;
+    let q = quoted(s, c, text, start);
     let d = q.cursor;
-    let e = with_errors(errors, st, from, d, q.unknown, token_error::UNKNOWN_ESCAPE);
+    let end = q.n;
+    let e = with_errors(
+        errors,
+        st,
+        from,
+        d,
+        start,
+        q.unknown,
+        token_error::UNKNOWN_ESCAPE,
+    );
     if e.how != 0 {
         return e;
     }
     if q.closed {
-        return with_text(most, tokens, e, from, d, q.n, kind::STRING, 0);
+        return with_text(most, tokens, e, from, d, end, kind::STRING, 0);
     }
-    with_errors(errors, e, from, d, 1, token_error::UNCLOSED_STRING)
+    with_errors(errors, e, from, d, start, 1, token_error::UNCLOSED_STRING)
 }

@@ -17,7 +17,7 @@ same-length-2 : tie.Need-same-length-2
 same-length-2 c = search needs
 
 returns : tie.Need-returns
-returns c = search string-full-law
+returns c = string-full-law _ (c .before .before .before .before .before .before .before .before .before .before .before .before .before .before .before .before .pre .0) (c .before .before .before .before .before .before .before .before .before .quoted .ensures) (c .before .before .before .before .with-errors .ensures) (c .if1 .taken)
 
 with-text-requires : tie.Need-with-text-requires
 with-text-requires c κs = (escapes-few _ (c .before .before .before .before .before .before .before .before .before .before .before .before .before .before .before .before .before .before .pre .0) (c .before .before .before .before .before .before .before .before .before .before .before .quoted .ensures) (c .before .before .before .before .before .before .with-errors .ensures) (c .before .before .if1 .left), omega (arith, c .before .before .before .before .before .before .before .before .before .before .before .before .before .before .before .before .before .before .pre .0 .wide), omega (arith, escapes-went _ (c .before .before .before .before .before .before .before .before .before .before .before .before .before .before .before .before .before .before .pre .0) (c .before .before .before .before .before .before .before .before .before .before .before .quoted .ensures) (c .before .before .before .before .before .before .with-errors .ensures) (c .before .before .if1 .left) .text, c .before .before .before .before .before .before .before .before .before .before .before .quoted .ensures .wrote .count), omega (arith, c .before .before .before .before .before .before .before .before .before .before .before .quoted .ensures .room, c .before .before .before .before .before .before .before .before .before .before .before .quoted .ensures .passed .stands .inside, c .before .before .before .before .before .before .before .before .before .before .before .before .before .before .before .before .before .before .pre .0 .asks .small))
