@@ -42,13 +42,13 @@ pub record Copying (s : List ℕ) (from to : ℕ) (x₀ : List ℕ) (at : ℕ) (
   pub came : n ≡ at + (i - from)
   pub wrote : Wrote x₀ at (take (i - from) (drop from s)) x n
 
-pub co-start : {s : List ℕ} {from to : ℕ} {x : List ℕ} {at : ℕ} → (from ≤ to) × (to ≤ length s) × (at + (to - from) ≤ length x) → Copying s from to x at x at from
-co-start {s} {from} {to} {x} {at} h =
+pub copying-start : {s : List ℕ} {from to : ℕ} {x : List ℕ} {at : ℕ} → (from ≤ to) × (to ≤ length s) × (at + (to - from) ≤ length x) → Copying s from to x at x at from
+copying-start {s} {from} {to} {x} {at} h =
     let z : from - from ≡ 0 = omega arith in
     record { low = omega arith; high = omega arith; inside = omega arith; room = omega arith; came = omega arith; wrote = rw z wrote-none }
 
-pub co-more : {s : List ℕ} {from to : ℕ} {x₀ : List ℕ} {at : ℕ} {x : List ℕ} {n i : ℕ} {x′ : List ℕ} {m : ℕ} → Copying s from to x₀ at x n i → i < to → Wrote x n (getD s i 0 ∷ []) x′ m → Copying s from to x₀ at x′ m (i + 1)
-co-more {s} {from} {to} {x₀} {at} {x} {n} {i} {x′} {m} q h w =
+pub copying-more : {s : List ℕ} {from to : ℕ} {x₀ : List ℕ} {at : ℕ} {x : List ℕ} {n i : ℕ} {x′ : List ℕ} {m : ℕ} → Copying s from to x₀ at x n i → i < to → Wrote x n (getD s i 0 ∷ []) x′ m → Copying s from to x₀ at x′ m (i + 1)
+copying-more {s} {from} {to} {x₀} {at} {x} {n} {i} {x′} {m} q h w =
     let z : i + 1 - from ≡ suc (i - from) = omega arith in
     let y : from + (i - from) ≡ i = omega arith in
     let l : i - from < length (drop from s) = omega (arith, length-drop from s) in
@@ -56,8 +56,8 @@ co-more {s} {from} {to} {x₀} {at} {x} {n} {i} {x′} {m} q h w =
     rw z (take-suc (drop from s) (i - from) 0 l ∙ ap (λ (v : ℕ). take (i - from) (drop from s) ++ (v ∷ [])) (getD-drop from s (i - from) 0 ∙ ap (λ (k : ℕ). getD s k 0) y)) in
     record { low = omega arith; high = omega arith; inside = q .inside; room = omega (arith, w .size); came = omega (arith, w .count); wrote = rw e (wrote-trans (q .wrote) w) }
 
-pub co-end : {s : List ℕ} {from to : ℕ} {x₀ : List ℕ} {at : ℕ} {x : List ℕ} {n i : ℕ} → Copying s from to x₀ at x n i → to ≤ i → Wrote x₀ at (take (to - from) (drop from s)) x n
-co-end {to = to} {i = i} q h = let e : to ≡ i = omega arith in rw e (q .wrote)
+pub copying-end : {s : List ℕ} {from to : ℕ} {x₀ : List ℕ} {at : ℕ} {x : List ℕ} {n i : ℕ} → Copying s from to x₀ at x n i → to ≤ i → Wrote x₀ at (take (to - from) (drop from s)) x n
+copying-end {to = to} {i = i} q h = let e : to ≡ i = omega arith in rw e (q .wrote)
 
 -- ---- looking and skipping
 
@@ -73,6 +73,10 @@ skip-end {s} {c} p h = record { stands = p .stands; is = rest-end s c h ∙ ap Z
 pub skip-on : {s : List ℕ} {c d : Cursor} → Stepped s c d → Passed s c (Z.drop-one (rest s c)) d
 skip-on st = record { stands = st .stands; is = ap Z.drop-one (sym (st .chars)); forward = omega (arith, st .wide); shorter = omega (arith, ap length (st .chars)) }
 
+-- a test that the code has made
+pub told : {v w : Bool} (t : Bool) → v ≡ t → v ≡ w → t ≡ w
+told t e f = sym e ∙ f
+
 -- ---- scans that write nothing
 
 pub record Passing (F : List Ch → List Ch) (s : List ℕ) (c₀ c : Cursor) : Type 0 where
@@ -82,21 +86,21 @@ pub record Passing (F : List Ch → List Ch) (s : List ℕ) (c₀ c : Cursor) : 
   pub forward : c₀ .at ≤ c .at
   pub shorter : length (rest s c) ≤ length (rest s c₀)
 
-pub pa-start : {F : List Ch → List Ch} {s : List ℕ} {c : Cursor} → Passes s c → Passing F s c c
-pa-start p = record { stands = p .stands; small = p .small; same = refl; forward = omega arith; shorter = omega arith }
+pub passing-start : {F : List Ch → List Ch} {s : List ℕ} {c : Cursor} → Passes s c → Passing F s c c
+passing-start p = record { stands = p .stands; small = p .small; same = refl; forward = omega arith; shorter = omega arith }
 
 module _ {F : List Ch → List Ch} {s : List ℕ} {c₀ c : Cursor} (q : Passing F s c₀ c) where
-  pub pa-more : {d : Cursor} → Stepped s c d → F (char s c ∷ rest s d) ≡ F (rest s d) → Passing F s c₀ d
-  pa-more st e = record { stands = st .stands; small = q .small; same = sym e ∙ ap F (sym (st .chars)) ∙ q .same; forward = omega (arith, q .forward, st .wide); shorter = omega (arith, ap length (st .chars), q .shorter) }
+  pub passing-more : {d : Cursor} → Stepped s c d → F (char s c ∷ rest s d) ≡ F (rest s d) → Passing F s c₀ d
+  passing-more st e = record { stands = st .stands; small = q .small; same = sym e ∙ ap F (sym (st .chars)) ∙ q .same; forward = omega (arith, q .forward, st .wide); shorter = omega (arith, ap length (st .chars), q .shorter) }
 
-  pub pa-past : {d : Cursor} → Stepped s c d → F (char s c ∷ rest s d) ≡ rest s d → Passed s c₀ (F (rest s c₀)) d
-  pa-past st e = record { stands = st .stands; is = sym e ∙ ap F (sym (st .chars)) ∙ q .same; forward = omega (arith, q .forward, st .wide); shorter = omega (arith, ap length (st .chars), q .shorter) }
+  pub passing-past : {d : Cursor} → Stepped s c d → F (char s c ∷ rest s d) ≡ rest s d → Passed s c₀ (F (rest s c₀)) d
+  passing-past st e = record { stands = st .stands; is = sym e ∙ ap F (sym (st .chars)) ∙ q .same; forward = omega (arith, q .forward, st .wide); shorter = omega (arith, ap length (st .chars), q .shorter) }
 
-  pub pa-out : length s ≤ c .at → F [] ≡ [] → Passed s c₀ (F (rest s c₀)) c
-  pa-out h e = record { stands = q .stands; is = rest-end s c h ∙ sym e ∙ ap F (sym (rest-end s c h)) ∙ q .same; forward = q .forward; shorter = q .shorter }
+  pub passing-out : length s ≤ c .at → F [] ≡ [] → Passed s c₀ (F (rest s c₀)) c
+  passing-out h e = record { stands = q .stands; is = rest-end s c h ∙ sym e ∙ ap F (sym (rest-end s c h)) ∙ q .same; forward = q .forward; shorter = q .shorter }
 
-  pub pa-stop : c .at < length s → ((cs : List Ch) → F (char s c ∷ cs) ≡ char s c ∷ cs) → Passed s c₀ (F (rest s c₀)) c
-  pa-stop h e = record { stands = q .stands; is = rest-head (q .stands) h ∙ sym (e _) ∙ ap F (sym (rest-head (q .stands) h)) ∙ q .same; forward = q .forward; shorter = q .shorter }
+  pub passing-stop : c .at < length s → ((cs : List Ch) → F (char s c ∷ cs) ≡ char s c ∷ cs) → Passed s c₀ (F (rest s c₀)) c
+  passing-stop h e = record { stands = q .stands; is = rest-head (q .stands) h ∙ sym (e _) ∙ ap F (sym (rest-head (q .stands) h)) ∙ q .same; forward = q .forward; shorter = q .shorter }
 
 pub comment-none : comment [] ≡ []
 unfolding comment
@@ -136,16 +140,16 @@ pub record Spanning (F : List Ch → Span) (s : List ℕ) (c₀ : Cursor) (x₀ 
 abbrev pub empty : List Ch → Span
 empty cs = record { text = []; rest = cs }
 
-pub sp-start : {F : List Ch → Span} {s : List ℕ} {c : Cursor} {x : List ℕ} {n : ℕ} → Asks s c x n → Spanning F s c x n c x n
-sp-start p = record { asks = p; on = refl; same = refl; size = refl; forward = omega arith; shorter = omega arith; began = p .room }
+pub spanning-start : {F : List Ch → Span} {s : List ℕ} {c : Cursor} {x : List ℕ} {n : ℕ} → Asks s c x n → Spanning F s c x n c x n
+spanning-start p = record { asks = p; on = refl; same = refl; size = refl; forward = omega arith; shorter = omega arith; began = p .room }
 
 -- what a prefix and a text make up has their lengths
 pub count-of : (x x₀ : List ℕ) (n n₀ : ℕ) (t : List ℕ) → take n x ≡ take n₀ x₀ ++ t → n ≤ length x → n₀ ≤ length x₀ → n ≡ n₀ + length t
 count-of x x₀ n n₀ t e h k = sym (length-take-le n x h) ∙ ap length e ∙ length-append (take n₀ x₀) t ∙ ap (λ (m : ℕ). m + length t) (length-take-le n₀ x₀ k)
 
 module _ {F : List Ch → Span} {s : List ℕ} {c₀ : Cursor} {x₀ : List ℕ} {n₀ : ℕ} {c : Cursor} {x : List ℕ} {n : ℕ} (q : Spanning F s c₀ x₀ n₀ c x n) where
-  pub sp-more : {d : Cursor} {t x′ : List ℕ} {m : ℕ} → Stepped s c d → F (char s c ∷ rest s d) ≡ ahead t (F (rest s d)) → Wrote x n t x′ m → m ≤ d .at → Spanning F s c₀ x₀ n₀ d x′ m
-  sp-more {d} {t} st e w h =
+  pub spanning-more : {d : Cursor} {t x′ : List ℕ} {m : ℕ} → Stepped s c d → F (char s c ∷ rest s d) ≡ ahead t (F (rest s d)) → Wrote x n t x′ m → m ≤ d .at → Spanning F s c₀ x₀ n₀ d x′ m
+  spanning-more {d} {t} st e w h =
       let f : F (rest s c) ≡ ahead t (F (rest s d)) = ap F (st .chars) ∙ e in
       record {
         asks = record { stands = st .stands; small = q .asks .small; room = h; wide = omega (arith, w .size, q .asks .wide) };
@@ -157,8 +161,8 @@ module _ {F : List Ch → Span} {s : List ℕ} {c₀ : Cursor} {x₀ : List ℕ}
         began = q .began;
       }
 
-  sp-done : {d : Cursor} → Stands s d → c .at ≤ d .at → length (rest s d) ≤ length (rest s c) → F (rest s c) ≡ empty (rest s d) → Spanned s c₀ x₀ n₀ (F (rest s c₀)) x (record { cursor = d; n = n })
-  sp-done {d} z h k e =
+  spanning-done : {d : Cursor} → Stands s d → c .at ≤ d .at → length (rest s d) ≤ length (rest s c) → F (rest s c) ≡ empty (rest s d) → Spanned s c₀ x₀ n₀ (F (rest s c₀)) x (record { cursor = d; n = n })
+  spanning-done {d} z h k e =
       let p : take n x ≡ take n₀ x₀ ++ F (rest s c₀) .text = sym (append-nil (take n x)) ∙ ap (λ (y : Span). take n x ++ y .text) (sym e) ∙ q .on in
       record {
         passed = record { stands = z; is = ap (λ (y : Span). y .rest) (sym e) ∙ q .same; forward = omega (arith, q .forward); shorter = omega (arith, q .shorter) };
@@ -166,14 +170,14 @@ module _ {F : List Ch → Span} {s : List ℕ} {c₀ : Cursor} {x₀ : List ℕ}
         room = omega (arith, q .asks .room);
       }
 
-  pub sp-past : {d : Cursor} → Stepped s c d → F (char s c ∷ rest s d) ≡ empty (rest s d) → Spanned s c₀ x₀ n₀ (F (rest s c₀)) x (record { cursor = d; n = n })
-  sp-past st e = sp-done (st .stands) (omega (arith, st .wide)) (omega (arith, ap length (st .chars))) (ap F (st .chars) ∙ e)
+  pub spanning-past : {d : Cursor} → Stepped s c d → F (char s c ∷ rest s d) ≡ empty (rest s d) → Spanned s c₀ x₀ n₀ (F (rest s c₀)) x (record { cursor = d; n = n })
+  spanning-past st e = spanning-done (st .stands) (omega (arith, st .wide)) (omega (arith, ap length (st .chars))) (ap F (st .chars) ∙ e)
 
-  pub sp-out : length s ≤ c .at → F [] ≡ empty [] → Spanned s c₀ x₀ n₀ (F (rest s c₀)) x (record { cursor = c; n = n })
-  sp-out h e = sp-done (q .asks .stands) (omega arith) (omega arith) (ap F (rest-end s c h) ∙ e ∙ ap empty (sym (rest-end s c h)))
+  pub spanning-out : length s ≤ c .at → F [] ≡ empty [] → Spanned s c₀ x₀ n₀ (F (rest s c₀)) x (record { cursor = c; n = n })
+  spanning-out h e = spanning-done (q .asks .stands) (omega arith) (omega arith) (ap F (rest-end s c h) ∙ e ∙ ap empty (sym (rest-end s c h)))
 
-  pub sp-stop : c .at < length s → ((cs : List Ch) → F (char s c ∷ cs) ≡ empty (char s c ∷ cs)) → Spanned s c₀ x₀ n₀ (F (rest s c₀)) x (record { cursor = c; n = n })
-  sp-stop h e = sp-done (q .asks .stands) (omega arith) (omega arith) (ap F (rest-head (q .asks .stands) h) ∙ e _ ∙ ap empty (sym (rest-head (q .asks .stands) h)))
+  pub spanning-stop : c .at < length s → ((cs : List Ch) → F (char s c ∷ cs) ≡ empty (char s c ∷ cs)) → Spanned s c₀ x₀ n₀ (F (rest s c₀)) x (record { cursor = c; n = n })
+  spanning-stop h e = spanning-done (q .asks .stands) (omega arith) (omega arith) (ap F (rest-head (q .asks .stands) h) ∙ e _ ∙ ap empty (sym (rest-head (q .asks .stands) h)))
 
 pub digits-none : (b : ℕ) → digits b [] ≡ empty []
 unfolding digits
@@ -244,8 +248,8 @@ pub record Quoting (s : List ℕ) (c₀ : Cursor) (x₀ : List ℕ) (n₀ : ℕ)
   pub began : n₀ ≤ c₀ .at
   pub few : u ≤ c .at
 
-pub qu-start : {s : List ℕ} {c : Cursor} {x : List ℕ} {n : ℕ} → Asks s c x n → Quoting s c x n c x n 0
-qu-start p = record { asks = p; on = refl; counts = omega arith; closes = refl; same = refl; size = refl; forward = omega arith; shorter = omega arith; began = p .room; few = omega arith }
+pub quoting-start : {s : List ℕ} {c : Cursor} {x : List ℕ} {n : ℕ} → Asks s c x n → Quoting s c x n c x n 0
+quoting-start p = record { asks = p; on = refl; counts = omega arith; closes = refl; same = refl; size = refl; forward = omega arith; shorter = omega arith; began = p .room; few = omega arith }
 
 quoted-plain : (c : Ch) (cs : List Ch) → (c .byte ≡ 34 → ⊥) → (c .byte ≡ 92 → ⊥) → Z.quoted false (c ∷ cs) ≡ Z.quoted-ahead (c .byte ∷ c .more) (Z.quoted false cs)
 unfolding Z.quoted
@@ -288,8 +292,8 @@ unfolding Z.quoted
 quoted-slash-none = refl
 
 module _ {s : List ℕ} {c₀ : Cursor} {x₀ : List ℕ} {n₀ : ℕ} {c : Cursor} {x : List ℕ} {n u : ℕ} (q : Quoting s c₀ x₀ n₀ c x n u) where
-  qu-more : {d : Cursor} {t x′ : List ℕ} {m k v : ℕ} → Stands s d → c .at < d .at → length (rest s d) ≤ length (rest s c) → Steps t k (Q s c) (Q s d) → Wrote x n t x′ m → m ≤ d .at → v ≡ u + k → k ≤ 1 → Quoting s c₀ x₀ n₀ d x′ m v
-  qu-more {d} {t} z h l st w r e k1 =
+  quoting-more : {d : Cursor} {t x′ : List ℕ} {m k v : ℕ} → Stands s d → c .at < d .at → length (rest s d) ≤ length (rest s c) → Steps t k (Q s c) (Q s d) → Wrote x n t x′ m → m ≤ d .at → v ≡ u + k → k ≤ 1 → Quoting s c₀ x₀ n₀ d x′ m v
+  quoting-more {d} {t} z h l st w r e k1 =
       record {
         asks = record { stands = z; small = q .asks .small; room = r; wide = omega (arith, w .size, q .asks .wide) };
         on = ap (λ (l : List ℕ). l ++ Q s d .text) (w .put) ∙ append-assoc (take n x) t (Q s d .text) ∙ ap (λ (y : List ℕ). take n x ++ y) (sym (st .text)) ∙ q .on;
@@ -306,27 +310,27 @@ module _ {s : List ℕ} {c₀ : Cursor} {x₀ : List ℕ} {n₀ : ℕ} {c : Curs
   ahead-steps : (t : List ℕ) (y : Z.Quoted) {z : Z.Quoted} → z ≡ Z.quoted-ahead t y → Steps t 0 z y
   ahead-steps t y e = record { text = ap (λ (v : Z.Quoted). v .text) e; unknown = ap (λ (v : Z.Quoted). v .unknown) e ∙ omega arith; closed = ap (λ (v : Z.Quoted). v .closed) e; rest = ap (λ (v : Z.Quoted). v .rest) e }
 
-  pub qu-plain : {d : Cursor} {x′ : List ℕ} {m : ℕ} → Stepped s c d → (getD s (c .at) 0 ≡ 34 → ⊥) → (getD s (c .at) 0 ≡ 92 → ⊥) → Wrote x n (char s c .byte ∷ char s c .more) x′ m → m ≤ d .at → Quoting s c₀ x₀ n₀ d x′ m u
-  qu-plain {d} st h k w r = qu-more (st .stands) (omega (arith, st .wide)) (omega (arith, ap length (st .chars)))
+  pub quoting-plain : {d : Cursor} {x′ : List ℕ} {m : ℕ} → Stepped s c d → (getD s (c .at) 0 ≡ 34 → ⊥) → (getD s (c .at) 0 ≡ 92 → ⊥) → Wrote x n (char s c .byte ∷ char s c .more) x′ m → m ≤ d .at → Quoting s c₀ x₀ n₀ d x′ m u
+  quoting-plain {d} st h k w r = quoting-more (st .stands) (omega (arith, st .wide)) (omega (arith, ap length (st .chars)))
       (ahead-steps _ _ (ap (Z.quoted false) (st .chars) ∙ quoted-plain _ _ h k)) w r (omega arith) (omega arith)
 
   module _ {d : Cursor} (st : Stepped s c d) (b : getD s (c .at) 0 ≡ 92) where
     slash : Q s c ≡ Z.quoted true (rest s d)
     slash = ap (Z.quoted false) (st .chars) ∙ quoted-slash _ _ b
 
-    pub qu-known : {e : Cursor} {x′ : List ℕ} {m k : ℕ} → Stepped s d e → k ≡ Z.escape (getD s (d .at) 0) → (k ≡ 0 → ⊥) → Wrote x n (k ∷ []) x′ m → Quoting s c₀ x₀ n₀ e x′ m u
-    qu-known {e} {k = k} tt′ h z w = qu-more (tt′ .stands) (omega (arith, st .wide, tt′ .wide)) (omega (arith, ap length (st .chars), ap length (tt′ .chars)))
+    pub quoting-known : {e : Cursor} {x′ : List ℕ} {m k : ℕ} → Stepped s d e → k ≡ Z.escape (getD s (d .at) 0) → (k ≡ 0 → ⊥) → Wrote x n (k ∷ []) x′ m → Quoting s c₀ x₀ n₀ e x′ m u
+    quoting-known {e} {k = k} tt′ h z w = quoting-more (tt′ .stands) (omega (arith, st .wide, tt′ .wide)) (omega (arith, ap length (st .chars), ap length (tt′ .chars)))
         (ahead-steps (k ∷ []) _ (slash ∙ ap (Z.quoted true) (tt′ .chars) ∙ quoted-known _ _ k h z)) w (omega (arith, w .count, st .wide, tt′ .wide, q .asks .room)) (omega arith) (omega arith)
 
-    pub qu-unknown : {e : Cursor} {k : ℕ} → Stepped s d e → k ≡ Z.escape (getD s (d .at) 0) → k ≡ 0 → Quoting s c₀ x₀ n₀ e x n (u + 1)
-    qu-unknown {e} {k} tt′ h z =
+    pub quoting-unknown : {e : Cursor} {k : ℕ} → Stepped s d e → k ≡ Z.escape (getD s (d .at) 0) → k ≡ 0 → Quoting s c₀ x₀ n₀ e x n (u + 1)
+    quoting-unknown {e} {k} tt′ h z =
         let f : Q s c ≡ Z.one-unknown (Q s e) = slash ∙ ap (Z.quoted true) (tt′ .chars) ∙ quoted-unknown _ _ k h z in
-        qu-more (tt′ .stands) (omega (arith, st .wide, tt′ .wide)) (omega (arith, ap length (st .chars), ap length (tt′ .chars)))
+        quoting-more (tt′ .stands) (omega (arith, st .wide, tt′ .wide)) (omega (arith, ap length (st .chars), ap length (tt′ .chars)))
         (record { text = ap (λ (v : Z.Quoted). v .text) f; unknown = ap (λ (v : Z.Quoted). v .unknown) f ∙ omega arith; closed = ap (λ (v : Z.Quoted). v .closed) f; rest = ap (λ (v : Z.Quoted). v .rest) f })
         wrote-none (omega (arith, st .wide, tt′ .wide, q .asks .room)) refl (omega arith)
 
-  qu-done : {d : Cursor} {k v : ℕ} {o : Bool} → Stands s d → c .at ≤ d .at → length (rest s d) ≤ length (rest s c) → Q s c ≡ record { text = []; unknown = k; closed = o; rest = rest s d } → v ≡ u + k → v ≤ d .at → QuotedAs s c₀ x₀ n₀ (Q s c₀) x (record { cursor = d; n = n; unknown = v; closed = o })
-  qu-done {d} z h l e f b =
+  quoting-done : {d : Cursor} {k v : ℕ} {o : Bool} → Stands s d → c .at ≤ d .at → length (rest s d) ≤ length (rest s c) → Q s c ≡ record { text = []; unknown = k; closed = o; rest = rest s d } → v ≡ u + k → v ≤ d .at → QuotedAs s c₀ x₀ n₀ (Q s c₀) x (record { cursor = d; n = n; unknown = v; closed = o })
+  quoting-done {d} z h l e f b =
       let p : take n x ≡ take n₀ x₀ ++ Q s c₀ .text = sym (append-nil (take n x)) ∙ ap (λ (y : Z.Quoted). take n x ++ y .text) (sym e) ∙ q .on in
       record {
         passed = record { stands = z; is = ap (λ (y : Z.Quoted). y .rest) (sym e) ∙ q .same; forward = omega (arith, q .forward); shorter = omega (arith, q .shorter) };
@@ -337,11 +341,11 @@ module _ {s : List ℕ} {c₀ : Cursor} {x₀ : List ℕ} {n₀ : ℕ} {c : Curs
         room = omega (arith, q .asks .room);
       }
 
-  pub qu-close : {d : Cursor} → Stepped s c d → getD s (c .at) 0 ≡ 34 → QuotedAs s c₀ x₀ n₀ (Q s c₀) x (record { cursor = d; n = n; unknown = u; closed = true })
-  qu-close st b = qu-done (st .stands) (omega (arith, st .wide)) (omega (arith, ap length (st .chars))) (ap (Z.quoted false) (st .chars) ∙ quoted-close _ _ b) (omega arith) (omega (arith, q .few, st .wide))
+  pub quoting-close : {d : Cursor} → Stepped s c d → getD s (c .at) 0 ≡ 34 → QuotedAs s c₀ x₀ n₀ (Q s c₀) x (record { cursor = d; n = n; unknown = u; closed = true })
+  quoting-close st b = quoting-done (st .stands) (omega (arith, st .wide)) (omega (arith, ap length (st .chars))) (ap (Z.quoted false) (st .chars) ∙ quoted-close _ _ b) (omega arith) (omega (arith, q .few, st .wide))
 
-  pub qu-out : length s ≤ c .at → QuotedAs s c₀ x₀ n₀ (Q s c₀) x (record { cursor = c; n = n; unknown = u; closed = false })
-  qu-out h = qu-done (q .asks .stands) (omega arith) (omega arith) (ap (Z.quoted false) (rest-end s c h) ∙ quoted-none ∙ ap cut (sym (rest-end s c h))) (omega arith) (q .few)
+  pub quoting-out : length s ≤ c .at → QuotedAs s c₀ x₀ n₀ (Q s c₀) x (record { cursor = c; n = n; unknown = u; closed = false })
+  quoting-out h = quoting-done (q .asks .stands) (omega arith) (omega arith) (ap (Z.quoted false) (rest-end s c h) ∙ quoted-none ∙ ap cut (sym (rest-end s c h))) (omega arith) (q .few)
 
-  pub qu-slash-out : {d : Cursor} → Stepped s c d → getD s (c .at) 0 ≡ 92 → length s ≤ d .at → QuotedAs s c₀ x₀ n₀ (Q s c₀) x (record { cursor = d; n = n; unknown = u + 1; closed = false })
-  qu-slash-out {d} st b h = qu-done (st .stands) (omega (arith, st .wide)) (omega (arith, ap length (st .chars))) (slash st b ∙ ap (Z.quoted true) (rest-end s d h) ∙ quoted-slash-none ∙ ap cut-one (sym (rest-end s d h))) refl (omega (arith, q .few, st .wide))
+  pub quoting-slash-out : {d : Cursor} → Stepped s c d → getD s (c .at) 0 ≡ 92 → length s ≤ d .at → QuotedAs s c₀ x₀ n₀ (Q s c₀) x (record { cursor = d; n = n; unknown = u + 1; closed = false })
+  quoting-slash-out {d} st b h = quoting-done (st .stands) (omega (arith, st .wide)) (omega (arith, ap length (st .chars))) (slash st b ∙ ap (Z.quoted true) (rest-end s d h) ∙ quoted-slash-none ∙ ap cut-one (sym (rest-end s d h))) refl (omega (arith, q .few, st .wide))

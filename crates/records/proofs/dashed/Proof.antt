@@ -4,13 +4,13 @@ use Rattle.records.proofs.dashed.Statement.{statement}
 use Rattle.records.proofs.dashed.Tie as tie
 
 returns : tie.Need-returns
-returns c = dashed-none (c .before .args .part .now) (c .if1 .taken)
+returns c = search (dashed-none, needs)
 
 shared-slice-read-result : tie.Need-shared-slice-read-result
 shared-slice-read-result c = search needs
 
 returns-2 : tie.Need-returns-2
-returns-2 c = dashed-some (c .before .before .args .part .now) (c .before .if1 .left)
+returns-2 c = search (dashed-some, needs)
 
 pub dashed-spec : {M : Type 1} → statement M
 dashed-spec = tie.close (tie.spec returns shared-slice-read-result returns-2)

@@ -7,7 +7,7 @@ returns : tie.Need-returns
 returns c = rw (lt-leb _ _ (c .if1 .taken))
 
 returns-2 : tie.Need-returns-2
-returns-2 c = rw (le-leb _ _ (c .before .if1 .left), lt-leb _ _ (c .if2 .taken))
+returns-2 c = search (le-leb, lt-leb, needs)
 
 sub-valid : tie.Need-sub-valid
 sub-valid c = search needs
@@ -22,7 +22,7 @@ valid-requires : tie.Need-valid-requires
 valid-requires c κs = search needs
 
 returns-3 : tie.Need-returns-3
-returns-3 c = rw (le-leb _ _ (c .before .before .before .if1 .left), le-leb _ _ (c .before .before .if2 .left)) (c .valid .ensures)
+returns-3 c = search (le-leb, needs)
 
 pub part-fits-spec : {M : Type 1} → statement M
 part-fits-spec =

@@ -20,7 +20,7 @@ returns : tie.Need-returns Inv-loop μ-loop
 returns c = errors-full _ _ (c .if1 .taken) refl
 
 loop-holds : tie.Need-loop-holds Inv-loop μ-loop
-loop-holds c = pushing refl (c .if1 .left) (c .before .before .before .before .pre .0)
+loop-holds c = search (pushing, needs)
 
 mul-put-four : tie.Need-mul-put-four Inv-loop μ-loop
 mul-put-four c = search needs

@@ -26,7 +26,7 @@ same-length : tie.Need-same-length
 same-length c = search needs
 
 returns-2 : tie.Need-returns-2
-returns-2 c = token-went (c .before .before .before .before .if1 .left) refl (c .before .before .put-token .ensures)
+returns-2 c = search (token-went, needs)
 
 pub push-token-spec : {M : Type 1} → statement M
 push-token-spec =

@@ -37,7 +37,7 @@ returns-2 : tie.Need-returns-2 Inv-loop μ-loop
 returns-2 c = digits-fail (c .before .before .before .before .loop .inv) (c .before .before .before .loop-test .taken) (sym (c .before .is-digit-of .ensures) ∙ c .if2 .left)
 
 returns-3 : tie.Need-returns-3 Inv-loop μ-loop
-returns-3 c = digits-end (c .before .loop .inv) (c .loop-test .left)
+returns-3 c = search (digits-end, needs)
 
 pub some-digits-spec : {M : Type 1} → statement M
 some-digits-spec =

@@ -3,7 +3,7 @@ use native.Mathlib.Omega.{arith}
 use Prim.Native.Nat.{_-_}
 use lib.ListN.{length}
 use Rattle.definition.specs.Tokenizer.{comment}
-use Rattle.scan.proofs.Laws.{Passing, pa-start, pa-more, pa-out, pa-past, comment-go, comment-stop, comment-none}
+use Rattle.scan.proofs.Laws.{Passing, passing-start, passing-more, passing-out, passing-past, comment-go, comment-stop, comment-none}
 use Rattle.scan.proofs.comment.Statement.{statement}
 use Rattle.scan.proofs.comment.Tie as tie
 
@@ -14,10 +14,10 @@ abbrev μ-loop : tie.MeasureT-loop
 μ-loop s c₀ c = length s - (c .at)
 
 loop-holds : tie.Need-loop-holds Inv-loop μ-loop
-loop-holds c = pa-start (c .before .pre)
+loop-holds c = search (passing-start, needs)
 
 returns : tie.Need-returns Inv-loop μ-loop
-returns c = pa-out (c .before .loop .inv) (c .if1 .taken) comment-none
+returns c = passing-out (c .before .loop .inv) (c .if1 .taken) comment-none
 
 shared-slice-read-b : tie.Need-shared-slice-read-b Inv-loop μ-loop
 shared-slice-read-b c = search needs
@@ -26,13 +26,13 @@ step-requires : tie.Need-step-requires Inv-loop μ-loop
 step-requires c κs = (c .before .before .loop .inv .stands, omega arith, omega arith)
 
 returns-2 : tie.Need-returns-2 Inv-loop μ-loop
-returns-2 c = pa-past (c .before .before .before .before .loop .inv) (c .before .step .ensures) (comment-stop _ _ (c .if2 .taken))
+returns-2 c = passing-past (c .before .before .before .before .loop .inv) (c .before .step .ensures) (comment-stop _ _ (c .if2 .taken))
 
 loop-less : tie.Need-loop-less Inv-loop μ-loop
 loop-less c = search needs
 
 loop-again : tie.Need-loop-again Inv-loop μ-loop
-loop-again c = pa-more (c .before .before .before .before .loop .inv) (c .before .step .ensures) (comment-go _ _ (c .if2 .left))
+loop-again c = search (passing-more, comment-go, needs)
 
 pub comment-spec : {M : Type 1} → statement M
 comment-spec =

@@ -2,7 +2,7 @@ use borrow.Author.Needs.{needs}
 use native.Mathlib.Omega.{arith}
 use Prim.Native.Nat.{_-_}
 use lib.ListN.{length}
-use Rattle.scan.proofs.Laws.{Copying, co-start, co-more, co-end}
+use Rattle.scan.proofs.Laws.{Copying, copying-start, copying-more, copying-end}
 use Rattle.scan.proofs.copy.Statement.{statement}
 use Rattle.scan.proofs.copy.Tie as tie
 
@@ -13,7 +13,7 @@ abbrev μ-loop : tie.MeasureT-loop
 μ-loop s from to text₀ at i₀ n₀ text i n = to - i
 
 loop-holds : tie.Need-loop-holds Inv-loop μ-loop
-loop-holds c = co-start (c .before .before .pre)
+loop-holds c = search (copying-start, needs)
 
 shared-slice-read-put8 : tie.Need-shared-slice-read-put8 Inv-loop μ-loop
 shared-slice-read-put8 c = search needs
@@ -28,13 +28,13 @@ loop-less : tie.Need-loop-less Inv-loop μ-loop
 loop-less c = search needs
 
 loop-again : tie.Need-loop-again Inv-loop μ-loop
-loop-again c = co-more (c .before .before .before .before .before .before .loop .inv) (c .before .before .before .before .before .loop-test .taken) (c .before .before .put8 .ensures)
+loop-again c = search (copying-more, needs)
 
 same-length : tie.Need-same-length Inv-loop μ-loop
-same-length c = c .before .loop .inv .wrote .size
+same-length c = search needs
 
 returns : tie.Need-returns Inv-loop μ-loop
-returns c = co-end (c .before .loop .inv) (c .loop-test .left)
+returns c = search (copying-end, needs)
 
 pub copy-spec : {M : Type 1} → statement M
 copy-spec =

@@ -5,13 +5,13 @@ use Rattle.scan.proofs.look.Statement.{statement}
 use Rattle.scan.proofs.look.Tie as tie
 
 returns : tie.Need-returns
-returns c = look-end (c .before .pre) (c .if1 .taken)
+returns c = search (look-end, needs)
 
 shared-slice-read-result : tie.Need-shared-slice-read-result
 shared-slice-read-result c = search needs
 
 returns-2 : tie.Need-returns-2
-returns-2 c = look-here (c .before .before .pre) (c .before .if1 .left)
+returns-2 c = search (look-here, needs)
 
 pub look-spec : {M : Type 1} → statement M
 look-spec = tie.close (tie.spec returns shared-slice-read-result returns-2)

@@ -2,7 +2,7 @@ use borrow.Author.Needs.{needs}
 use native.Mathlib.Omega.{arith}
 use Prim.Native.Nat.{_-_}
 use lib.ListN.{length}
-use Rattle.scan.proofs.Laws.{Quoting, qu-start, qu-plain, qu-known, qu-unknown, qu-close, qu-out, qu-slash-out, char-copied, copied-room}
+use Rattle.scan.proofs.Laws.{Quoting, quoting-start, quoting-plain, quoting-known, quoting-unknown, quoting-close, quoting-out, quoting-slash-out, char-copied, copied-room}
 use Rattle.scan.proofs.quoted.Statement.{statement}
 use Rattle.scan.proofs.quoted.Tie as tie
 
@@ -13,13 +13,13 @@ abbrev μ-loop : tie.MeasureT-loop
 μ-loop s text₀ start c₀ n₀ unknown₀ text c n unknown = length s - (c .at)
 
 loop-holds : tie.Need-loop-holds Inv-loop μ-loop
-loop-holds c = qu-start (c .before .before .pre)
+loop-holds c = search (quoting-start, needs)
 
 same-length : tie.Need-same-length Inv-loop μ-loop
-same-length c = c .before .loop .inv .size
+same-length c = search needs
 
 returns : tie.Need-returns Inv-loop μ-loop
-returns c = qu-out (c .before .loop .inv) (c .if1 .taken)
+returns c = search (quoting-out, needs)
 
 shared-slice-read-b : tie.Need-shared-slice-read-b Inv-loop μ-loop
 shared-slice-read-b c = search needs
@@ -28,10 +28,10 @@ step-requires : tie.Need-step-requires Inv-loop μ-loop
 step-requires c κs = (c .before .before .loop .inv .asks .stands, omega arith, omega arith)
 
 same-length-2 : tie.Need-same-length-2 Inv-loop μ-loop
-same-length-2 c = c .before .before .before .before .loop .inv .size
+same-length-2 c = search needs
 
 returns-2 : tie.Need-returns-2 Inv-loop μ-loop
-returns-2 c = qu-close (c .before .before .before .before .loop .inv) (c .before .step .ensures) (c .if2 .taken)
+returns-2 c = search (quoting-close, needs)
 
 copy-requires : tie.Need-copy-requires Inv-loop μ-loop
 copy-requires c κs = search needs
@@ -40,16 +40,16 @@ loop-less : tie.Need-loop-less Inv-loop μ-loop
 loop-less c = search needs
 
 loop-again : tie.Need-loop-again Inv-loop μ-loop
-loop-again c = qu-plain (c .before .before .before .before .before .before .before .before .before .loop .inv) (c .before .before .before .before .before .before .step .ensures) (c .before .before .before .before .before .if2 .left) (c .before .before .before .before .if3 .taken) (char-copied (c .before .before .before .before .before .before .step .ensures) (c .before .before .before .before .before .before .before .before .if1 .left) (c .before .before .copy .ensures)) (copied-room (c .before .before .before .before .before .before .step .ensures) (c .before .before .copy .ensures) (c .before .before .before .before .before .before .before .before .before .loop .inv .asks .room))
+loop-again c = search (quoting-plain, char-copied, copied-room, needs)
 
 add-t19 : tie.Need-add-t19 Inv-loop μ-loop
 add-t19 c = search needs
 
 same-length-3 : tie.Need-same-length-3 Inv-loop μ-loop
-same-length-3 c = c .before .before .before .before .before .before .loop .inv .size
+same-length-3 c = search needs
 
 returns-3 : tie.Need-returns-3 Inv-loop μ-loop
-returns-3 c = qu-slash-out (c .before .before .before .before .before .before .loop .inv) (c .before .before .before .step .ensures) (c .before .if3 .left) (c .if4 .taken)
+returns-3 c = search (quoting-slash-out, needs)
 
 shared-slice-read-escape : tie.Need-shared-slice-read-escape Inv-loop μ-loop
 shared-slice-read-escape c = search needs
@@ -67,7 +67,7 @@ loop-less-2 : tie.Need-loop-less-2 Inv-loop μ-loop
 loop-less-2 c = search needs
 
 loop-again-2 : tie.Need-loop-again-2 Inv-loop μ-loop
-loop-again-2 c = qu-unknown (c .before .before .before .before .before .before .before .before .before .before .loop .inv) (c .before .before .before .before .before .before .before .step .ensures) (c .before .before .before .before .before .if3 .left) (c .before .step2 .ensures) (c .before .before .escape .ensures) (c .if5 .taken)
+loop-again-2 c = search (quoting-unknown, needs)
 
 put8-requires : tie.Need-put8-requires Inv-loop μ-loop
 put8-requires c κs = search needs
@@ -76,7 +76,7 @@ loop-less-3 : tie.Need-loop-less-3 Inv-loop μ-loop
 loop-less-3 c = search needs
 
 loop-again-3 : tie.Need-loop-again-3 Inv-loop μ-loop
-loop-again-3 c = qu-known (c .before .before .before .before .before .before .before .before .before .before .before .before .before .before .loop .inv) (c .before .before .before .before .before .before .before .before .before .before .before .step .ensures) (c .before .before .before .before .before .before .before .before .before .if3 .left) (c .before .before .before .before .before .step2 .ensures) (c .before .before .before .before .before .before .escape .ensures) (c .before .before .before .before .if5 .left) (c .before .before .put8 .ensures)
+loop-again-3 c = search (quoting-known, needs)
 
 pub quoted-spec : {M : Type 1} → statement M
 quoted-spec =

@@ -5,7 +5,7 @@ use Rattle.scan.proofs.skip.Statement.{statement}
 use Rattle.scan.proofs.skip.Tie as tie
 
 returns : tie.Need-returns
-returns c = skip-end (c .before .before .pre) (c .if1 .taken)
+returns c = search (skip-end, needs)
 
 step-requires : tie.Need-step-requires
 step-requires c κs = search needs

@@ -4,7 +4,7 @@ use mathlib.Core.Path.{sym, _∙_}
 use Prim.Native.Nat.{_-_}
 use lib.ListN.{length}
 use Rattle.scan.specs.Scan.{blanks}
-use Rattle.scan.proofs.Laws.{Passing, pa-start, pa-more, pa-out, pa-stop, blanks-go, blanks-stop, blanks-none}
+use Rattle.scan.proofs.Laws.{told, Passing, passing-start, passing-more, passing-out, passing-stop, blanks-go, blanks-stop, blanks-none}
 use Rattle.scan.proofs.white.Statement.{statement}
 use Rattle.scan.proofs.white.Tie as tie
 
@@ -15,10 +15,10 @@ abbrev μ-loop : tie.MeasureT-loop
 μ-loop s c₀ c = length s - (c .at)
 
 loop-holds : tie.Need-loop-holds Inv-loop μ-loop
-loop-holds c = pa-start (c .before .pre)
+loop-holds c = search (passing-start, told, needs)
 
 returns : tie.Need-returns Inv-loop μ-loop
-returns c = pa-out (c .before .loop .inv) (c .if1 .taken) blanks-none
+returns c = passing-out (c .before .loop .inv) (c .if1 .taken) blanks-none
 
 shared-slice-read-is-white : tie.Need-shared-slice-read-is-white Inv-loop μ-loop
 shared-slice-read-is-white c = search needs
@@ -33,10 +33,10 @@ loop-less : tie.Need-loop-less Inv-loop μ-loop
 loop-less c = search needs
 
 loop-again : tie.Need-loop-again Inv-loop μ-loop
-loop-again c = pa-more (c .before .before .before .before .before .loop .inv) (c .step .ensures) (blanks-go _ _ (sym (c .before .before .is-white .ensures) ∙ c .before .if2 .taken))
+loop-again c = search (passing-more, blanks-go, told, needs)
 
 returns-2 : tie.Need-returns-2 Inv-loop μ-loop
-returns-2 c = pa-stop (c .before .before .before .before .loop .inv) (c .before .before .before .if1 .left) (λ cs. blanks-stop _ _ (sym (c .before .is-white .ensures) ∙ c .if2 .left))
+returns-2 c = passing-stop (c .before .before .before .before .loop .inv) (c .before .before .before .if1 .left) (λ cs. blanks-stop _ _ (sym (c .before .is-white .ensures) ∙ c .if2 .left))
 
 pub white-spec : {M : Type 1} → statement M
 white-spec =

@@ -4,7 +4,7 @@ use mathlib.Core.Path.{sym, _∙_}
 use Prim.Native.Nat.{_-_}
 use lib.ListN.{length}
 use Rattle.scan.specs.Scan.{letters}
-use Rattle.scan.proofs.Laws.{Spanning, sp-start, sp-more, sp-out, sp-stop, letters-go, letters-stop, letters-none}
+use Rattle.scan.proofs.Laws.{told, Spanning, spanning-start, spanning-more, spanning-out, spanning-stop, letters-go, letters-stop, letters-none}
 use Rattle.scan.proofs.word.Statement.{statement}
 use Rattle.scan.proofs.word.Tie as tie
 
@@ -15,13 +15,13 @@ abbrev μ-loop : tie.MeasureT-loop
 μ-loop s text₀ start c₀ n₀ text c n = length s - (c .at)
 
 loop-holds : tie.Need-loop-holds Inv-loop μ-loop
-loop-holds c = sp-start (c .before .before .pre)
+loop-holds c = search (spanning-start, told, needs)
 
 same-length : tie.Need-same-length Inv-loop μ-loop
-same-length c = c .before .loop .inv .size
+same-length c = search needs
 
 returns : tie.Need-returns Inv-loop μ-loop
-returns c = sp-out (c .before .loop .inv) (c .if1 .taken) letters-none
+returns c = spanning-out (c .before .loop .inv) (c .if1 .taken) letters-none
 
 shared-slice-read-b : tie.Need-shared-slice-read-b Inv-loop μ-loop
 shared-slice-read-b c = search needs
@@ -39,13 +39,13 @@ loop-less : tie.Need-loop-less Inv-loop μ-loop
 loop-less c = search needs
 
 loop-again : tie.Need-loop-again Inv-loop μ-loop
-loop-again c = sp-more (c .before .before .before .before .before .before .before .before .before .loop .inv) (c .step .ensures) (letters-go _ _ (sym (c .before .before .before .before .before .before .is-word .ensures) ∙ c .before .before .before .before .before .if2 .taken)) (c .before .before .before .put8 .ensures) (omega arith)
+loop-again c = spanning-more (c .before .before .before .before .before .before .before .before .before .loop .inv) (c .step .ensures) (letters-go _ _ (sym (c .before .before .before .before .before .before .is-word .ensures) ∙ c .before .before .before .before .before .if2 .taken)) (c .before .before .before .put8 .ensures) (omega arith)
 
 same-length-2 : tie.Need-same-length-2 Inv-loop μ-loop
-same-length-2 c = c .before .before .before .before .loop .inv .size
+same-length-2 c = search needs
 
 returns-2 : tie.Need-returns-2 Inv-loop μ-loop
-returns-2 c = sp-stop (c .before .before .before .before .loop .inv) (c .before .before .before .if1 .left) (λ cs. letters-stop _ _ (sym (c .before .is-word .ensures) ∙ c .if2 .left))
+returns-2 c = spanning-stop (c .before .before .before .before .loop .inv) (c .before .before .before .if1 .left) (λ cs. letters-stop _ _ (sym (c .before .is-word .ensures) ∙ c .if2 .left))
 
 pub word-spec : {M : Type 1} → statement M
 word-spec =

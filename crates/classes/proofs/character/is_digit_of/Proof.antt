@@ -7,19 +7,19 @@ is-binary-requires : tie.Need-is-binary-requires
 is-binary-requires c κs = search needs
 
 returns : tie.Need-returns
-returns c = simp (eq-eqb _ _ (c .before .if1 .taken)) (c .is-binary .ensures)
+returns c = search (eq-eqb, needs)
 
 is-digit-requires : tie.Need-is-digit-requires
 is-digit-requires c κs = search needs
 
 returns-2 : tie.Need-returns-2
-returns-2 c = simp (ne-eqb _ _ (c .before .before .if1 .left), eq-eqb _ _ (c .before .if2 .taken)) (c .is-digit .ensures)
+returns-2 c = search (ne-eqb, eq-eqb, needs)
 
 is-hexadecimal-requires : tie.Need-is-hexadecimal-requires
 is-hexadecimal-requires c κs = search needs
 
 returns-3 : tie.Need-returns-3
-returns-3 c = simp (ne-eqb _ _ (c .before .before .if1 .left), ne-eqb _ _ (c .before .if2 .left)) (c .is-hexadecimal .ensures)
+returns-3 c = search (ne-eqb, needs)
 
 pub is-digit-of-spec : {M : Type 1} → statement M
 is-digit-of-spec =

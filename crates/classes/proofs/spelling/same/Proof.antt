@@ -19,7 +19,7 @@ returns : tie.Need-returns Inv-loop μ-loop
 returns c = cm-end (c .before .loop .inv) (c .if1 .taken)
 
 returns-2 : tie.Need-returns-2 Inv-loop μ-loop
-returns-2 c = cm-short (c .before .before .loop .inv) (c .before .if1 .left) (c .if2 .taken)
+returns-2 c = search (cm-short, needs)
 
 shared-slice-read-if3 : tie.Need-shared-slice-read-if3 Inv-loop μ-loop
 shared-slice-read-if3 c = search needs
@@ -28,7 +28,7 @@ shared-slice-read-if3-2 : tie.Need-shared-slice-read-if3-2 Inv-loop μ-loop
 shared-slice-read-if3-2 c = search needs
 
 returns-3 : tie.Need-returns-3 Inv-loop μ-loop
-returns-3 c = cm-differ (c .before .before .before .before .before .loop .inv) (c .before .before .before .before .if1 .left) (c .before .before .before .if2 .left) (c .if3 .taken)
+returns-3 c = search (cm-differ, needs)
 
 add-i : tie.Need-add-i Inv-loop μ-loop
 add-i c = search needs
@@ -37,7 +37,7 @@ loop-less : tie.Need-loop-less Inv-loop μ-loop
 loop-less c = search needs
 
 loop-again : tie.Need-loop-again Inv-loop μ-loop
-loop-again c = cm-more (c .before .before .before .before .before .loop .inv) (c .before .before .before .before .if1 .left) (c .before .before .before .if2 .left) (c .if3 .left)
+loop-again c = search (cm-more, needs)
 
 pub same-spec : {M : Type 1} → statement M
 same-spec =
