@@ -1,13 +1,12 @@
 -- One law for each way through the scanning loops. Assumes nothing.
 use mathlib.Core.Path.{_≡_, refl, sym, ap, _∙_}
-use mathlib.Core.Bool.{Bool, true, false, _&&_, _||_}
+use mathlib.Core.Bool.{Bool, true, false}
 use mathlib.Core.List.{List, [], _∷_, _++_, append-assoc, append-nil}
 use Prim.Native.Nat.{ℕ, zero, suc, _+_, _-_, _<_, _≤_}
 use native.Mathlib.Numerals.{add-one}
 use native.Mathlib.Omega.{arith}
-use borrow.Author.Tests.{leb-true, leb-false, lt-ltb, le-ltb, le-leb, lt-leb, eq-eqb, ne-eqb}
-use lib.Dec.{eqb, ltb, leb}
-use lib.ListN.{length, getD, take, drop, set, length-append, length-take, length-drop, length-set, drop-of-length-le}
+use borrow.Author.Tests.{eq-eqb, ne-eqb}
+use lib.ListN.{length, getD, take, drop, set, length-append, length-take, length-drop, length-set}
 use lib.Seq.{take-suc, take-suc-set, drop-cons, getD-drop, length-take-le}
 use Rattle.definition.specs.Source.{Ch, lead}
 use Rattle.definition.specs.Classes.{is-white, is-word, is-digit-of}
@@ -16,8 +15,6 @@ use Rattle.definition.specs.Tokenizer as Z
 use Rattle.source.specs.declared.Cursor.{Cursor}
 use Rattle.source.specs.Place.{Stands, Stepped, rest, char, more}
 use Rattle.source.proofs.Laws.{rest-head, rest-end}
-use Rattle.scan.specs.declared.Scan.{Scan}
-use Rattle.scan.specs.declared.Body.{Body}
 use Rattle.scan.specs.Scan.{Wrote, Passes, Passed, Asks, Spanned, letters, blanks, QuotedAs}
 
 -- ---- what is written

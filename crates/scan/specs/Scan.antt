@@ -1,10 +1,9 @@
 -- What the scanning functions promise, in the terms of the definition. Assumes nothing.
 use mathlib.Core.Path.{_≡_}
-use mathlib.Core.Bool.{Bool, true, false, _&&_, _||_}
+use mathlib.Core.Bool.{true, false}
 use mathlib.Core.List.{List, [], _∷_, _++_}
-use Prim.Native.Nat.{ℕ, zero, suc, _+_, _-_, _<_, _≤_}
-use lib.Dec.{eqb, ltb, leb}
-use lib.ListN.{length, getD, take, drop}
+use Prim.Native.Nat.{ℕ, _+_, _-_, _≤_}
+use lib.ListN.{length, take}
 use Rattle.definition.specs.Source.{Ch}
 use Rattle.definition.specs.Classes.{is-word, is-white}
 use Rattle.definition.specs.Tokenizer.{Span, ahead}

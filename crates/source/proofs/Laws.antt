@@ -1,16 +1,16 @@
 -- What the decoder does at a byte, in the terms of the code: the fold of needs, and one step of a cursor. Assumes nothing.
 use mathlib.Core.Path.{_≡_, refl, sym, ap, _∙_}
 use mathlib.Core.Bool.{Bool, true, false, _&&_}
-use mathlib.Core.List.{List, [], _∷_, _++_, append-assoc, append-nil}
+use mathlib.Core.List.{List, [], _∷_, _++_, append-assoc}
 use mathlib.Core.Option.{Option, none, some}
 use Prim.Native.Nat.{ℕ, zero, suc, pred, _+_, _-_, _<_, _≤_}
 use native.Mathlib.Numerals.{add-one, sub-one}
 use native.Mathlib.Omega.{arith}
-use borrow.Author.Tests.{eqb-true, eqb-false, ltb-true, ltb-false, leb-true, leb-false, lt-ltb, le-ltb, le-leb, lt-leb, eq-eqb, ne-eqb}
+use borrow.Author.Tests.{eqb-true, eqb-false, ltb-true, ltb-false, leb-true, leb-false, le-leb, lt-leb, ne-eqb}
 use lib.Dec.{eqb, ltb, leb}
 use lib.ListN.{length, getD, take, drop, length-drop, drop-of-length-le}
-use lib.Seq.{drop-cons, drop-drop, drop-length}
-use Rattle.definition.specs.Source.{Place, Ch, Lead, single, with-more, wrong, lead, after, Pending, fresh, within, and-then, decode, characters, is-some, utf8}
+use lib.Seq.{drop-cons, drop-drop}
+use Rattle.definition.specs.Source.{Place, Ch, Lead, single, with-more, wrong, lead, after, fresh, within, and-then, decode, characters, is-some, utf8}
 use Rattle.definition.specs.Choice.{pick, first}
 use Rattle.source.specs.declared.Need.{Need}
 use Rattle.source.specs.declared.Cursor.{Cursor}

@@ -1,7 +1,7 @@
 // UTF-8 (RFC 3629) and places: what a byte asks for, and how a character advances line and column.
 ghost use mathlib.Core.Path.{_≡_};
 ghost use Prim.Native.Nat.{_+_, _<_, _≤_};
-ghost use lib.ListN.{length, getD};
+ghost use lib.ListN.{length};
 ghost use Rattle.definition.specs.Source.{lead, utf8};
 ghost use Rattle.source.specs.Place.{need-of, next-need, needed, more, Stands, Stepped};
 

@@ -1,13 +1,13 @@
 -- The loop over the turns, beside the definition's. Assumes nothing.
 use mathlib.Core.Path.{_≡_, refl, sym, ap, _∙_}
-use mathlib.Core.Logic.{_⊎_, inl, inr}
+use mathlib.Core.Logic.{inl, inr}
 use mathlib.Core.Bool.{Bool, true, false}
 use mathlib.Core.List.{List, [], _∷_, _++_, append-assoc}
 use Prim.Native.Nat.{ℕ, zero, suc, _+_, _*_, _<_, _≤_}
 use native.Mathlib.Omega.{arith}
 use borrow.Author.Tests.{le-leb}
 use lib.Dec.{leb}
-use lib.ListN.{length, take, length-append}
+use lib.ListN.{length, length-append}
 use Rattle.definition.specs.Source.{Ch}
 use Rattle.definition.specs.Fallible.{Err}
 use Rattle.definition.specs.Token.{Tok}
@@ -15,12 +15,10 @@ use Rattle.definition.specs.Choice.{pick}
 use Rattle.definition.specs.Records.{token-words, tokens-words, tokens-text, errors-words}
 use Rattle.definition.specs.Tokenizer.{Turn, goes, refused}
 use Rattle.definition.specs.Tokenizer as Z
-use Rattle.source.specs.declared.Cursor.{Cursor}
 use Rattle.source.specs.Place.{Stands, rest, char, origin}
 use Rattle.source.proofs.Laws.{rest-head, rest-end}
-use Rattle.scan.specs.Scan.{Wrote, Asks}
 use Rattle.records.specs.declared.State.{State}
-use Rattle.turns.specs.Turn.{Few, Ready, bounded, Went}
+use Rattle.turns.specs.Turn.{Ready, bounded}
 use Rattle.turns.proofs.Turned.{errors-words-append}
 use Rattle.tokenizer.specs.Run.{Onward, Taken, turn-of, Holds, Ran}
 

@@ -3,7 +3,7 @@ use mathlib.Core.Path.{_≡_, refl, sym, ap, _∙_}
 use mathlib.Core.Logic.{inl, inr}
 use mathlib.Core.Bool.{false}
 use mathlib.Core.List.{List, [], _∷_}
-use Prim.Native.Nat.{ℕ, _<_, _≤_}
+use Prim.Native.Nat.{ℕ, _≤_}
 use native.Mathlib.Omega.{arith}
 use lib.ListN.{length, getD, replicate}
 use Rattle.definition.specs.Source.{Ch}
@@ -14,13 +14,13 @@ use Rattle.source.specs.declared.Cursor.{Cursor}
 use Rattle.source.specs.Place.{Stepped, rest, char, placed}
 use Rattle.classes.specs.declared.character.Class.{Class}
 use Rattle.classes.specs.Begins.{class-of}
-use Rattle.scan.specs.Scan.{Passed, Asks}
+use Rattle.scan.specs.Scan.{Passed}
 use Rattle.scan.proofs.Laws.{wrote-none}
 use Rattle.records.specs.declared.State.{State}
 use Rattle.records.specs.Push.{ErrorsPushed, TokenPushed}
 use Rattle.turns.specs.Turn.{at-cursor, Ready, bounded, Turned}
 use Rattle.tokenizer.specs.Run.{Taken, turn-of}
-use Rattle.turns.proofs.Turned.{passed-none, passed-trans, on-text, end-nothing, end-errors, end-plain}
+use Rattle.turns.proofs.Turned.{passed-none, on-text, end-nothing, end-errors, end-plain}
 
 abbrev of-class : Ch → List Ch → Z.Class → Turn
 of-class c cs x =

@@ -1,28 +1,26 @@
 -- Numbers, and what begins with a dash. Assumes nothing.
 use mathlib.Core.Path.{_≡_, refl, sym, ap, _∙_}
 use mathlib.Core.Bool.{Bool, true, false}
-use mathlib.Core.List.{List, [], _∷_, _++_}
-use Prim.Native.Nat.{ℕ, zero, suc, _+_, _-_, _*_, _<_, _≤_}
+use mathlib.Core.List.{List, [], _∷_}
+use Prim.Native.Nat.{ℕ, _-_, _<_, _≤_}
 use native.Mathlib.Omega.{arith}
-use borrow.Author.Tests.{ltb-true, lt-ltb, le-ltb, lt-leb, eq-eqb, ne-eqb}
-use lib.Dec.{ltb, leb}
-use lib.ListN.{length, getD, take, drop, replicate, length-append}
+use borrow.Author.Tests.{eq-eqb, ne-eqb}
+use lib.ListN.{length, getD}
 use Rattle.definition.specs.Source.{Place, Ch}
-use Rattle.definition.specs.Fallible.{Err}
 use Rattle.definition.specs.Token.{Tok}
 use Rattle.definition.specs.Classes as C
 use Rattle.definition.specs.Kind as K
-use Rattle.definition.specs.Tokenizer.{Span, Turn, goes, refused}
+use Rattle.definition.specs.Tokenizer.{goes, refused}
 use Rattle.definition.specs.Tokenizer as Z
 use Rattle.source.specs.declared.Cursor.{Cursor}
 use Rattle.source.specs.Place.{Stepped, rest}
 use Rattle.source.proofs.Laws.{rest-end}
 use Rattle.scan.specs.declared.Scan.{Scan}
-use Rattle.scan.specs.Scan.{Wrote, Passed, Asks, Spanned, letters, blanks}
-use Rattle.scan.proofs.Laws.{wrote-none, wrote-trans}
+use Rattle.scan.specs.Scan.{Wrote, Passed, Spanned}
+use Rattle.scan.proofs.Laws.{wrote-trans}
 use Rattle.records.specs.declared.State.{State}
-use Rattle.records.specs.Push.{ErrorsPushed, TokenPushed}
-use Rattle.turns.specs.Turn.{at-text, at-cursor, Few, Ready, Turned}
+use Rattle.records.specs.Push.{TokenPushed}
+use Rattle.turns.specs.Turn.{at-text, at-cursor, Ready, Turned}
 use Rattle.turns.proofs.Turned.{passed-step, on-text, end-token, end-refused, end-plain, with-words, turned-same, turned-on}
 
 abbrev number : Place → ℕ → List ℕ → Tok

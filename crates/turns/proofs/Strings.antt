@@ -3,24 +3,20 @@ use mathlib.Core.Path.{_≡_, refl, sym, ap, _∙_}
 use mathlib.Core.Logic.{inl, inr}
 use mathlib.Core.Bool.{Bool, true, false}
 use mathlib.Core.List.{List, [], _∷_, _++_}
-use Prim.Native.Nat.{ℕ, zero, suc, _+_, _-_, _*_, _<_, _≤_}
+use Prim.Native.Nat.{ℕ, _+_, _-_, _<_, _≤_}
 use native.Mathlib.Omega.{arith}
-use borrow.Author.Tests.{ltb-true, lt-ltb, le-ltb, lt-leb, eq-eqb, ne-eqb}
-use lib.Dec.{ltb, leb}
-use lib.ListN.{length, getD, take, drop, replicate, length-append}
-use Rattle.definition.specs.Source.{Place, Ch}
+use borrow.Author.Tests.{lt-leb}
+use lib.ListN.{length, replicate, length-append}
+use Rattle.definition.specs.Source.{Place}
 use Rattle.definition.specs.Fallible.{Err}
 use Rattle.definition.specs.Token.{Tok}
-use Rattle.definition.specs.Classes as C
 use Rattle.definition.specs.Kind as K
-use Rattle.definition.specs.Tokenizer.{Span, Turn, goes, refused}
+use Rattle.definition.specs.Tokenizer.{goes, refused}
 use Rattle.definition.specs.Tokenizer as Z
 use Rattle.source.specs.declared.Cursor.{Cursor}
-use Rattle.source.specs.Place.{Stepped, rest}
-use Rattle.source.proofs.Laws.{rest-end}
+use Rattle.source.specs.Place.{rest}
 use Rattle.scan.specs.declared.Body.{Body}
-use Rattle.scan.specs.Scan.{Wrote, Passed, Asks, QuotedAs}
-use Rattle.scan.proofs.Laws.{wrote-none, wrote-trans}
+use Rattle.scan.specs.Scan.{QuotedAs}
 use Rattle.records.specs.declared.State.{State}
 use Rattle.records.specs.Push.{ErrorsWent, ErrorsPushed, TokenPushed}
 use Rattle.turns.specs.Turn.{at-text, at-cursor, Few, Ready, bounded, Turned}

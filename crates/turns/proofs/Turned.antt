@@ -1,9 +1,9 @@
 -- How a turn ends: what it has read and written so far, and then a token, errors, nothing or a refusal. Assumes nothing.
 use mathlib.Core.Path.{_≡_, refl, sym, ap, _∙_}
-use mathlib.Core.Logic.{_⊎_, inl, inr}
-use mathlib.Core.Bool.{Bool, true, false}
+use mathlib.Core.Logic.{inl, inr}
+use mathlib.Core.Bool.{true, false}
 use mathlib.Core.List.{List, [], _∷_, _++_, append-nil}
-use Prim.Native.Nat.{ℕ, _+_, _-_, _*_, _<_, _≤_}
+use Prim.Native.Nat.{ℕ, _+_, _-_, _*_, _≤_}
 use native.Mathlib.Omega.{arith}
 use borrow.Author.Tests.{le-leb, lt-leb}
 use lib.Dec.{leb}
@@ -17,11 +17,11 @@ use Rattle.definition.specs.Tokenizer.{Turn, goes, refused}
 use Rattle.definition.specs.Tokenizer as Z
 use Rattle.source.specs.declared.Cursor.{Cursor}
 use Rattle.source.specs.Place.{Stands, Stepped, rest}
-use Rattle.scan.specs.Scan.{Wrote, Passed, Asks}
+use Rattle.scan.specs.Scan.{Wrote, Passed}
 use Rattle.scan.proofs.Laws.{wrote-none, wrote-trans}
 use Rattle.records.specs.declared.State.{State}
 use Rattle.records.specs.Push.{ErrorsPushed, TokenPushed}
-use Rattle.turns.specs.Turn.{at-text, at-cursor, Few, Ready, bounded, Went, Stopped, Turned}
+use Rattle.turns.specs.Turn.{at-text, at-cursor, Few, Ready, bounded, Turned}
 
 -- ---- places
 

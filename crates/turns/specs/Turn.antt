@@ -5,7 +5,6 @@ use mathlib.Core.List.{List}
 use Prim.Native.Nat.{ℕ, _+_, _*_, _≤_}
 use lib.Dec.{leb}
 use lib.ListN.{length}
-use Rattle.definition.specs.Source.{Ch}
 use Rattle.definition.specs.Fallible.{Err}
 use Rattle.definition.specs.Token.{Tok}
 use Rattle.definition.specs.Choice.{pick}

@@ -1,4 +1,4 @@
-use borrow.Author.Tests.{eq-eqb, ne-eqb, le-leb, lt-leb}
+use borrow.Author.Tests.{eq-eqb, ne-eqb}
 use Rattle.records.proofs.base_fits.Statement.{statement}
 use Rattle.records.proofs.base_fits.Tie as tie
 

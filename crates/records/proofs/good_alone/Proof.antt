@@ -1,4 +1,3 @@
-use mathlib.Core.Path.{ap, _∙_}
 use borrow.Author.Needs.{needs}
 use Rattle.records.proofs.good_alone.Statement.{statement}
 use Rattle.records.proofs.good_alone.Tie as tie

@@ -1,5 +1,5 @@
 use mathlib.Core.Path.{sym}
-use mathlib.Core.Path.{sym, _∙_, ap}
+use mathlib.Core.Path.{sym}
 use borrow.Author.Needs.{needs}
 use Rattle.records.proofs.integer_text.Statement.{statement}
 use Rattle.records.proofs.integer_text.Tie as tie

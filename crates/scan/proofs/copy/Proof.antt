@@ -1,7 +1,5 @@
 use borrow.Author.Needs.{needs}
-use native.Mathlib.Omega.{arith}
 use Prim.Native.Nat.{_-_}
-use lib.ListN.{length}
 use Rattle.scan.proofs.Laws.{Copying, copying-start, copying-more, copying-end}
 use Rattle.scan.proofs.copy.Statement.{statement}
 use Rattle.scan.proofs.copy.Tie as tie

@@ -1,4 +1,3 @@
-use native.Mathlib.Omega.{arith}
 use Rattle.scan.proofs.Laws.{look-end, look-here}
 use borrow.Author.Needs.{needs}
 use Rattle.scan.proofs.look.Statement.{statement}

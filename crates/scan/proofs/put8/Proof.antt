@@ -1,4 +1,3 @@
-use native.Mathlib.Omega.{arith}
 use Rattle.scan.proofs.Laws.{wrote-one}
 use borrow.Author.Needs.{needs}
 use Rattle.scan.proofs.put8.Statement.{statement}

@@ -1,4 +1,3 @@
-use native.Mathlib.Omega.{arith}
 use Rattle.scan.proofs.Laws.{skip-end, skip-on}
 use borrow.Author.Needs.{needs}
 use Rattle.scan.proofs.skip.Statement.{statement}

@@ -1,8 +1,6 @@
 use mathlib.Core.Path.{_≡_, refl, sym, _∙_}
 use Prim.Native.Nat.{ℕ, _≤_, _-_, _+_, _*_}
-use mathlib.Core.Bool.{_&&_}
 use mathlib.Core.List.{[], _∷_}
-use lib.Dec.{eqb}
 use lib.ListN.{length, getD, take, drop}
 use Rattle.definition.specs.Tokenizer as Z
 use Rattle.classes.proofs.Choices.{Searching, found, searching, search-more, search-found, search-end, small, at-most}

@@ -1,8 +1,8 @@
-use Prim.Native.Nat.{ℕ, _≤_, _-_, _+_, _*_}
+use Prim.Native.Nat.{_≤_, _-_}
 use mathlib.Core.Path.{_≡_, refl}
 use mathlib.Core.Bool.{_&&_}
 use lib.Dec.{eqb}
-use lib.ListN.{length, getD, take, drop}
+use lib.ListN.{length, getD}
 use Rattle.definition.specs.Tokenizer as Z
 use Rattle.classes.proofs.Choices.{Searching, found, searching, search-more, search-found, search-end}
 use borrow.Author.Needs.{needs}

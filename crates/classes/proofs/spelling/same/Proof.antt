@@ -1,5 +1,4 @@
 use borrow.Author.Needs.{needs}
-use native.Mathlib.Omega.{arith}
 use Prim.Native.Nat.{_-_}
 use lib.ListN.{length}
 use Rattle.classes.proofs.Same.{Comparing, cm-start, cm-more, cm-differ, cm-short, cm-end}
