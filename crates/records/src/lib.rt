@@ -165,13 +165,16 @@ fn base_fits(k: u32, base: u32) -> bool
     base == 0
 }
 
+// The largest line and column.
+const PLACES: u32 = 16384;
+
 // The words that are tested by themselves.
 fn fields_fit(k: u32, line: u32, column: u32, base: u32, seventh: u32, eighth: u32) -> bool
     ensures { λ r. ⌜ r ≡ fields-fit k line column base seventh eighth ⌝ }
 {
-    between(1, 54, k)
-        & between(1, 16384, line)
-        & between(1, 16384, column)
+    between(kind::IDENTIFIER, kind::INLINE_ASSEMBLY_FRAGMENT, k)
+        & between(1, PLACES, line)
+        & between(1, PLACES, column)
         & base_fits(k, base)
         & (seventh == 0)
         & (eighth == 0)

@@ -16,6 +16,7 @@ ghost use Rattle.scan.specs.Scan.{Wrote, Asks, Spanned, Passes, Passed, 
 
 // ---- what is written
 
+// One byte.
 pub fn put8(text: &mut [u8], at: usize, b: u8) -> usize
     requires { ⌜ at < length (now text) ⌝ }
     ensures { λ r. ⌜ Wrote (now (text .entry)) at (b ∷ []) (now (text .exit)) r ⌝ }
@@ -24,6 +25,7 @@ pub fn put8(text: &mut [u8], at: usize, b: u8) -> usize
     at + 1
 }
 
+// One word.
 pub fn put32(words: &mut [u32], at: usize, v: u32) -> usize
     requires { ⌜ at < length (now words) ⌝ }
     ensures { λ r. ⌜ Wrote (now (words .entry)) at (v ∷ []) (now (words .exit)) r ⌝ }
@@ -74,6 +76,7 @@ pub fn skip(s: &[u8], c: Cursor) -> Cursor
 
 // ---- scans that write nothing
 
+// Behind the newline that ends a comment, or the end.
 pub fn comment(s: &[u8], from: Cursor) -> Cursor
     requires { ⌜ Passes (now s) from ⌝ }
     ensures { λ r. ⌜ Passed (now (s .entry)) from (Z.comment (rest (now (s .entry)) from)) r ⌝ }
@@ -93,6 +96,7 @@ pub fn comment(s: &[u8], from: Cursor) -> Cursor
     }
 }
 
+// Behind white space.
 pub fn white(s: &[u8], from: Cursor) -> Cursor
     requires { ⌜ Passes (now s) from ⌝ }
     ensures { λ r. ⌜ Passed (now (s .entry)) from (blanks (rest (now (s .entry)) from)) r ⌝ }
@@ -119,6 +123,7 @@ pub struct Scan {
     pub n: usize,
 }
 
+// The digits of a base.
 pub fn digits(s: &[u8], from: Cursor, base: u32, text: &mut [u8], start: usize) -> Scan
     requires { ⌜ Asks (now s) from (now text) start ⌝ }
     ensures { λ r. ⌜ Spanned (now (s .entry)) from (now (text .entry)) start (Z.digits base (rest (now (s .entry)) from)) (now (text .exit)) r ⌝ }
@@ -140,6 +145,7 @@ pub fn digits(s: &[u8], from: Cursor, base: u32, text: &mut [u8], start: usize) 
     }
 }
 
+// The letters and digits of a word.
 pub fn word(s: &[u8], from: Cursor, text: &mut [u8], start: usize) -> Scan
     requires { ⌜ Asks (now s) from (now text) start ⌝ }
     ensures { λ r. ⌜ Spanned (now (s .entry)) from (now (text .entry)) start (letters (rest (now (s .entry)) from)) (now (text .exit)) r ⌝ }
@@ -161,6 +167,7 @@ pub fn word(s: &[u8], from: Cursor, text: &mut [u8], start: usize) -> Scan
     }
 }
 
+// The text of inline assembly, up to `}` or the end; the place is behind the `}`.
 pub fn assembly(s: &[u8], from: Cursor, text: &mut [u8], start: usize) -> Scan
     requires { ⌜ Asks (now s) from (now text) start ⌝ }
     ensures { λ r. ⌜ Spanned (now (s .entry)) from (now (text .entry)) start (Z.assembly (rest (now (s .entry)) from)) (now (text .exit)) r ⌝ }
@@ -192,6 +199,7 @@ pub struct Body {
     pub closed: bool,
 }
 
+// The text of a string, behind its opening quote.
 pub fn quoted(s: &[u8], from: Cursor, text: &mut [u8], start: usize) -> Body
     requires { ⌜ Asks (now s) from (now text) start ⌝ }
     ensures { λ r. ⌜ QuotedAs (now (s .entry)) from (now (text .entry)) start (Z.quoted false (rest (now (s .entry)) from)) (now (text .exit)) r ⌝ }
