@@ -1,20 +1,20 @@
 -- What the decoder does at a byte, in the terms of the code: the fold of needs, and one step of a cursor. Assumes nothing.
 use mathlib.Core.Path.{_≡_, refl, sym, ap, _∙_}
 use mathlib.Core.Bool.{Bool, true, false, _&&_}
-use mathlib.Core.List.{List, [], _∷_, _++_, append-assoc, append-nil}
+use mathlib.Core.List.{List, [], _∷_, _++_, append-assoc}
 use mathlib.Core.Option.{Option, none, some}
 use Prim.Native.Nat.{ℕ, zero, suc, pred, _+_, _-_, _<_, _≤_}
 use native.Mathlib.Numerals.{add-one, sub-one}
 use native.Mathlib.Omega.{arith}
-use borrow.Author.Tests.{eqb-true, eqb-false, ltb-true, ltb-false, leb-true, leb-false, lt-ltb, le-ltb, le-leb, lt-leb, eq-eqb, ne-eqb}
+use borrow.Author.Tests.{eqb-true, eqb-false, ltb-true, ltb-false, leb-true, leb-false, le-leb, lt-leb, ne-eqb}
 use lib.Dec.{eqb, ltb, leb}
 use lib.ListN.{length, getD, take, drop, length-drop, drop-of-length-le}
-use lib.Seq.{drop-cons, drop-drop, drop-length}
-use Rattle.definition.specs.Source.{Place, Ch, Lead, single, with-more, wrong, lead, after, Pending, fresh, within, and-then, decode, characters}
+use lib.Seq.{drop-cons, drop-drop}
+use Rattle.definition.specs.Source.{Place, Ch, Lead, single, with-more, wrong, lead, after, fresh, within, and-then, decode, characters, is-some, utf8}
 use Rattle.definition.specs.Choice.{pick, first}
 use Rattle.source.specs.declared.Need.{Need}
 use Rattle.source.specs.declared.Cursor.{Cursor}
-use Rattle.source.specs.Place.{start, bad, needOf, nextNeed, ranNeed, more, placed, or-none, rest, Stands, Stepped, char, is-some, utf8}
+use Rattle.source.specs.Place.{needed, start, bad, need-of, next-need, ran-need, more, placed, or-none, rest, Stands, Stepped, char}
 
 abbrev Small : Lead → Type 0
 Small single = Unit {0}
@@ -38,8 +38,8 @@ and-some : (c : Ch) (o : Option (List Ch)) → is-some (and-then c o) ≡ is-som
 and-some c none = refl
 and-some c (some cs) = refl
 
-ok-bad : (bs : List ℕ) → eqb (ranNeed bad bs .missing) 0 ≡ false
-unfolding ranNeed
+ok-bad : (bs : List ℕ) → eqb (ran-need bad bs .missing) 0 ≡ false
+unfolding ran-need
 ok-bad [] = refl
 ok-bad (b ∷ bs) = ok-bad bs
 
@@ -56,55 +56,57 @@ after-more l m n p b bs t u =
       | false ↦ none
     ]
 
-abbrev need-more : ℕ → List ℕ → Bool → Bool → Bool → Need
-need-more n bs t u v = pick t bad (pick u bad (pick v start (record { missing = n - 1; lo = 128; hi = 191 })))
+abbrev need-more : ℕ → Bool → Bool → Need
+need-more n t u = pick t bad (pick u bad (needed (n - 1) 128 191))
 
 -- inside a character the bounds and the count decide
-more-need : (n lo hi b : ℕ) → 1 ≤ n → n ≤ 3 → nextNeed (record { missing = n; lo = lo; hi = hi }) b ≡ need-more n [] (ltb b lo) (ltb hi b) (eqb n 1)
+more-need : (n lo hi b : ℕ) → 1 ≤ n → n ≤ 3 → next-need (needed n lo hi) b ≡ need-more n (ltb b lo) (ltb hi b)
 more-need n lo hi b h k = rw (ne-eqb n 9 (λ e. omega arith), ne-eqb n 0 (λ e. omega arith))
 
 record Ok (bs : List ℕ) : Type 0 where
-  fr : (p : Place) → eqb (ranNeed start bs .missing) 0 ≡ is-some (decode fresh p bs)
-  wi : (l : ℕ) (m : List ℕ) (n lo hi : ℕ) (p : Place) → 1 ≤ n → n ≤ 3 → eqb (ranNeed (record { missing = n; lo = lo; hi = hi }) bs .missing) 0 ≡ is-some (decode (within l m n lo hi) p bs)
+  fr : (p : Place) → eqb (ran-need start bs .missing) 0 ≡ is-some (decode fresh p bs)
+  wi : (l : ℕ) (m : List ℕ) (n lo hi : ℕ) (p : Place) → 1 ≤ n → n ≤ 3 → eqb (ran-need (needed n lo hi) bs .missing) 0 ≡ is-some (decode (within l m n lo hi) p bs)
 
 module _ (bs : List ℕ) (ok : Ok bs) where
-  ok-lead : (p : Place) (b : ℕ) (x : Lead) → Small x → eqb (ranNeed (needOf x) bs .missing) 0 ≡ is-some (after-lead p b bs x)
+  ok-lead : (p : Place) (b : ℕ) (x : Lead) → Small x → eqb (ran-need (need-of x) bs .missing) 0 ≡ is-some (after-lead p b bs x)
   ok-lead p b single h = ok .fr (after b p) ∙ sym (and-some (record { byte = b; more = []; place = p }) (decode fresh (after b p) bs))
   ok-lead p b (with-more n lo hi) h = ok .wi b [] n lo hi p (h .0) (h .1)
   ok-lead p b wrong h = ok-bad bs
 
   ok-tests : (l : ℕ) (m : List ℕ) (n lo hi : ℕ) (p : Place) (b : ℕ) → 1 ≤ n → n ≤ 3 → (t : Bool) → ltb b lo ≡ t → (u : Bool) → ltb hi b ≡ u → (v : Bool) → eqb n 1 ≡ v →
-      eqb (ranNeed (need-more n bs t u v) bs .missing) 0 ≡ is-some (after-more l m n p b bs (leb lo b && leb b hi) (leb n 1))
+      eqb (ran-need (need-more n t u) bs .missing) 0 ≡ is-some (after-more l m n p b bs (leb lo b && leb b hi) (leb n 1))
   ok-tests l m n lo hi p b h k true e u f v g = ok-bad bs ∙ rw (lt-leb lo b (ltb-true _ _ e))
   ok-tests l m n lo hi p b h k false e true f v g = ok-bad bs ∙ rw (le-leb lo b (ltb-false _ _ e), lt-leb b hi (ltb-true _ _ f))
-  ok-tests l m n lo hi p b h k false e false f true g = rw (le-leb lo b (ltb-false _ _ e), le-leb b hi (ltb-false _ _ f), le-leb n 1 (omega (arith, eqb-true n 1 g))) (ok .fr (after l p) ∙ sym (and-some (record { byte = l; more = m ++ (b ∷ []); place = p }) (decode fresh (after l p) bs)))
+  ok-tests l m n lo hi p b h k false e false f true g =
+      let z : n - 1 ≡ 0 = omega (arith, eqb-true n 1 g) in
+      rw (z, le-leb lo b (ltb-false _ _ e), le-leb b hi (ltb-false _ _ f), le-leb n 1 (omega (arith, eqb-true n 1 g))) (ok .fr (after l p) ∙ sym (and-some (record { byte = l; more = m ++ (b ∷ []); place = p }) (decode fresh (after l p) bs)))
   ok-tests l m n lo hi p b h k false e false f false g =
       let q : 1 < n = omega (arith, eqb-false n 1 g) in
       rw (le-leb lo b (ltb-false _ _ e), le-leb b hi (ltb-false _ _ f), lt-leb n 1 q, sub-one) (ok .wi l (m ++ (b ∷ [])) (pred n) 128 191 p (omega (arith, sub-one n)) (omega (arith, sub-one n)))
 
 oks : (bs : List ℕ) → Ok bs
-unfolding ranNeed decode
+unfolding ran-need decode
 oks [] = record { fr = λ p. refl; wi = λ l m n lo hi p h k. ne-eqb n 0 (λ e. omega arith) }
 oks (b ∷ bs) = record {
   fr = λ p. ok-lead bs (oks bs) p b (lead b) (lead-small b);
-  wi = λ l m n lo hi p h k. ap (λ (x : Need). eqb (ranNeed x bs .missing) 0) (more-need n lo hi b h k) ∙ ok-tests bs (oks bs) l m n lo hi p b h k (ltb b lo) refl (ltb hi b) refl (eqb n 1) refl;
+  wi = λ l m n lo hi p h k. ap (λ (x : Need). eqb (ran-need x bs .missing) 0) (more-need n lo hi b h k) ∙ ok-tests bs (oks bs) l m n lo hi p b h k (ltb b lo) refl (ltb hi b) refl (eqb n 1) refl;
 }
 
 -- the loop of `valid`: what is left runs from here as the whole from the start
 pub record Ran (s : List ℕ) (n : Need) (i : ℕ) : Type 0 where
   pub inside : i ≤ length s
-  pub same : ranNeed n (drop i s) ≡ ranNeed start s
+  pub same : ran-need n (drop i s) ≡ ran-need start s
 
 pub ran-start : {s : List ℕ} → Ran s start 0
 ran-start = record { inside = omega arith; same = refl }
 
-pub ran-more : {s : List ℕ} {n r : Need} {i : ℕ} → Ran s n i → i < length s → r ≡ nextNeed n (getD s i 0) → Ran s r (i + 1)
-unfolding ranNeed
-ran-more {s} {n} {r} {i} e h q = record { inside = omega arith; same = rw (q, add-one) (sym (ap (ranNeed n) (drop-cons s i 0 h)) ∙ e .same) }
+pub ran-more : {s : List ℕ} {n r : Need} {i : ℕ} → Ran s n i → i < length s → r ≡ next-need n (getD s i 0) → Ran s r (i + 1)
+unfolding ran-need
+ran-more {s} {n} {r} {i} e h q = record { inside = omega arith; same = rw (q, add-one) (sym (ap (ran-need n) (drop-cons s i 0 h)) ∙ e .same) }
 
 pub ran-end : {s : List ℕ} {n : Need} {i : ℕ} → Ran s n i → length s ≤ i → eqb (n .missing) 0 ≡ utf8 s
-unfolding ranNeed utf8 characters
-ran-end {s} {n} {i} e h = ap (λ (x : Need). eqb (x .missing) 0) (sym (ap (ranNeed n) (drop-of-length-le s h)) ∙ e .same) ∙ oks s .fr _
+unfolding ran-need utf8 characters
+ran-end {s} {n} {i} e h = ap (λ (x : Need). eqb (x .missing) 0) (sym (ap (ran-need n) (drop-of-length-le s h)) ∙ e .same) ∙ oks s .fr _
 
 -- ---- one step of a cursor
 
@@ -175,18 +177,18 @@ module _ {s : List ℕ} {c : Cursor} (z : Stands s c) (h : c .at < length s) whe
         wide = omega arith;
       }
 
-pub width-bad : (b : ℕ) (n : Need) → n ≡ needOf (lead b) → n .missing ≡ 9 → 1 ≡ more (lead b) + 1
+pub width-bad : (b : ℕ) (n : Need) → n ≡ need-of (lead b) → n .missing ≡ 9 → 1 ≡ more (lead b) + 1
 width-bad b n e h = go (lead b) (lead-small b) (ap (λ (x : Need). x .missing) (sym e) ∙ h)
   where
-    go : (x : Lead) → Small x → needOf x .missing ≡ 9 → 1 ≡ more x + 1
+    go : (x : Lead) → Small x → need-of x .missing ≡ 9 → 1 ≡ more x + 1
     go single s k = refl
     go (with-more n lo hi) s k = absurd (omega (arith, k))
     go wrong s k = refl
 
-pub width-good : (b : ℕ) (n : Need) → n ≡ needOf (lead b) → (n .missing ≡ 9 → ⊥) → n .missing + 1 ≡ more (lead b) + 1
+pub width-good : (b : ℕ) (n : Need) → n ≡ need-of (lead b) → (n .missing ≡ 9 → ⊥) → n .missing + 1 ≡ more (lead b) + 1
 width-good b n e h = ap (λ (x : Need). x .missing + 1) e ∙ go (lead b) (λ k. h (ap (λ (x : Need). x .missing) e ∙ k))
   where
-    go : (x : Lead) → (needOf x .missing ≡ 9 → ⊥) → needOf x .missing + 1 ≡ more x + 1
+    go : (x : Lead) → (need-of x .missing ≡ 9 → ⊥) → need-of x .missing + 1 ≡ more x + 1
     go single k = refl
     go (with-more n lo hi) k = refl
     go wrong k = absurd (k refl)

@@ -1,40 +1,43 @@
 -- What a byte asks for, a fold over the bytes; the characters from a cursor on. Assumes nothing.
 use mathlib.Core.Path.{_≡_}
-use mathlib.Core.Bool.{Bool, true, false, _&&_, _||_}
-use mathlib.Core.List.{List, [], _∷_, _++_}
+use mathlib.Core.List.{List, [], _∷_}
 use mathlib.Core.Option.{Option, none, some}
-use Prim.Native.Nat.{ℕ, zero, suc, _+_, _-_, _<_, _≤_}
-use lib.Dec.{eqb, ltb, leb}
+use Prim.Native.Nat.{ℕ, _+_, _-_, _≤_}
+use lib.Dec.{eqb, ltb}
 use lib.ListN.{length, getD, take, drop}
-use Rattle.definition.specs.Source.{Place, Ch, Lead, single, with-more, wrong, lead, after, decode, fresh, characters}
+use Rattle.definition.specs.Source.{Place, Ch, Lead, single, with-more, wrong, lead, decode, fresh}
 use Rattle.definition.specs.Choice.{pick}
 use Rattle.source.specs.declared.Need.{Need}
 use Rattle.source.specs.declared.Cursor.{Cursor}
 
+-- ---- what a byte asks for
+
+abbrev pub needed : ℕ → ℕ → ℕ → Need
+needed n lo hi = record { missing = n; lo = lo; hi = hi }
+
+-- between two characters
 abbrev pub start : Need
-start = record { missing = 0; lo = 128; hi = 191 }
+start = needed 0 0x80 0xBF
 
 abbrev pub bad : Need
-bad = record { missing = 9; lo = 0; hi = 0 }
+bad = needed 9 0 0
 
-abbrev pub needOf : Lead → Need
-needOf single = start
-needOf (with-more n lo hi) = record { missing = n; lo = lo; hi = hi }
-needOf wrong = bad
+abbrev pub need-of : Lead → Need
+need-of single = start
+need-of (with-more n lo hi) = needed n lo hi
+need-of wrong = bad
 
-abbrev pub nextNeed : Need → ℕ → Need
-nextNeed n b =
-    pick (eqb (n .missing) 9) n
-    (pick (eqb (n .missing) 0) (needOf (lead b))
-    (pick (ltb b (n .lo)) bad
-    (pick (ltb (n .hi) b) bad
-    (pick (eqb (n .missing) 1) start
-    (record { missing = n .missing - 1; lo = 128; hi = 191 })))))
+abbrev pub next-need : Need → ℕ → Need
+next-need n b =
+    pick (eqb (n .missing) 9) n (pick (eqb (n .missing) 0) (need-of (lead b)) (pick (ltb b (n .lo)) bad (pick (ltb (n .hi) b) bad (needed (n .missing - 1) 0x80 0xBF))))
 
-unfoldable pub ranNeed : Need → List ℕ → Need
-ranNeed n [] = n
-ranNeed n (b ∷ bs) = ranNeed (nextNeed n b) bs
+unfoldable pub ran-need : Need → List ℕ → Need
+ran-need n [] = n
+ran-need n (b ∷ bs) = ran-need (next-need n b) bs
 
+-- ---- places
+
+-- the bytes of a character behind its first
 abbrev pub more : Lead → ℕ
 more single = 0
 more (with-more n lo hi) = n
@@ -66,15 +69,6 @@ pub record Stepped (s : List ℕ) (c r : Cursor) : Type 0 where
   pub chars : rest s c ≡ char s c ∷ rest s r
   pub stands : Stands s r
   pub wide : r .at ≡ more (lead (getD s (c .at) 0)) + 1 + c .at
-
-abbrev pub is-some : Option (List Ch) → Bool
-is-some none = false
-is-some (some cs) = true
-
--- the bytes are UTF-8
-unfoldable pub utf8 : List ℕ → Bool
-unfolding characters
-utf8 s = is-some (characters s)
 
 -- where a script starts
 abbrev pub origin : Cursor

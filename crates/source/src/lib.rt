@@ -1,144 +1,86 @@
 // UTF-8 (RFC 3629) and places: what a byte asks for, and how a character advances line and column.
 ghost use mathlib.Core.Path.{_≡_};
 ghost use Prim.Native.Nat.{_+_, _<_, _≤_};
-ghost use lib.ListN.{length, getD};
-ghost use Rattle.definition.specs.Source.{lead};
-ghost use Rattle.source.specs.Place.{needOf, nextNeed, more, utf8, Stands, Stepped};
+ghost use lib.ListN.{length};
+ghost use Rattle.definition.specs.Source.{lead, utf8};
+ghost use Rattle.source.specs.Place.{need-of, next-need, needed, more, Stands, Stepped};
 
-// What a byte must be: how many are missing of a character (0 between two, 9 where the bytes are wrong), and the next one's bounds.
+// ---- UTF-8
+
+// What a byte must be: how many are missing of a character (0 between two, WRONG where the bytes are wrong), and the next one's bounds.
 pub struct Need {
     pub missing: u8,
     pub lo: u8,
     pub hi: u8,
 }
 
-// A place in the script: the byte, the line and the column of the character there.
-pub struct Cursor {
-    pub at: usize,
-    pub line: u32,
-    pub column: u32,
-}
+const WRONG: u8 = 9;
 
-fn lead_need(b: u8) -> Need
-    ensures { λ r. ⌜ r ≡ needOf (lead b) ⌝ }
+fn asks(missing: u8, lo: u8, hi: u8) -> Need
+    ensures { λ r. ⌜ r ≡ needed missing lo hi ⌝ }
 {
-    if b < 128 {
-        return Need {
-            missing: 0,
-            lo: 128,
-            hi: 191,
-        };
-    }
-    if b < 194 {
-        return Need {
-            missing: 9,
-            lo: 0,
-            hi: 0,
-        };
-    }
-    if b < 224 {
-        return Need {
-            missing: 1,
-            lo: 128,
-            hi: 191,
-        };
-    }
-    if b == 224 {
-        return Need {
-            missing: 2,
-            lo: 160,
-            hi: 191,
-        };
-    }
-    if b == 237 {
-        return Need {
-            missing: 2,
-            lo: 128,
-            hi: 159,
-        };
-    }
-    if b < 240 {
-        return Need {
-            missing: 2,
-            lo: 128,
-            hi: 191,
-        };
-    }
-    if b == 240 {
-        return Need {
-            missing: 3,
-            lo: 144,
-            hi: 191,
-        };
-    }
-    if b < 244 {
-        return Need {
-            missing: 3,
-            lo: 128,
-            hi: 191,
-        };
-    }
-    if b == 244 {
-        return Need {
-            missing: 3,
-            lo: 128,
-            hi: 143,
-        };
-    }
-    Need {
-        missing: 9,
-        lo: 0,
-        hi: 0,
-    }
+    Need { missing, lo, hi }
 }
 
+// What a first byte asks for.
+fn lead_need(b: u8) -> Need
+    ensures { λ r. ⌜ r ≡ need-of (lead b) ⌝ }
+{
+    if b < 0x80 {
+        return asks(0, 0x80, 0xBF);
+    }
+    if b < 0xC2 {
+        return asks(WRONG, 0, 0);
+    }
+    if b < 0xE0 {
+        return asks(1, 0x80, 0xBF);
+    }
+    if b == 0xE0 {
+        return asks(2, 0xA0, 0xBF);
+    }
+    if b == 0xED {
+        return asks(2, 0x80, 0x9F);
+    }
+    if b < 0xF0 {
+        return asks(2, 0x80, 0xBF);
+    }
+    if b == 0xF0 {
+        return asks(3, 0x90, 0xBF);
+    }
+    if b < 0xF4 {
+        return asks(3, 0x80, 0xBF);
+    }
+    if b == 0xF4 {
+        return asks(3, 0x80, 0x8F);
+    }
+    asks(WRONG, 0, 0)
+}
+
+// What is asked for behind the byte `b`.
 fn next_need(n: Need, b: u8) -> Need
-    ensures { λ r. ⌜ r ≡ nextNeed n b ⌝ }
+    ensures { λ r. ⌜ r ≡ next-need n b ⌝ }
 {
     let missing = n.missing;
-    if missing == 9 {
+    if missing == WRONG {
         return n;
     }
     if missing == 0 {
         return lead_need(b);
     }
     if b < n.lo {
-        return Need {
-            missing: 9,
-            lo: 0,
-            hi: 0,
-        };
+        return asks(WRONG, 0, 0);
     }
     if n.hi < b {
-        return Need {
-            missing: 9,
-            lo: 0,
-            hi: 0,
-        };
+        return asks(WRONG, 0, 0);
     }
-    if missing == 1 {
-        return Need {
-            missing: 0,
-            lo: 128,
-            hi: 191,
-        };
-    }
-    Need {
-        missing: missing - 1,
-        lo: 128,
-        hi: 191,
-    }
+    asks(missing - 1, 0x80, 0xBF)
 }
 
 // Whether the bytes are UTF-8.
 pub fn valid(s: &[u8]) -> bool
     ensures { λ r. ⌜ r ≡ utf8 (now (s .entry)) ⌝ }
 {
-    let mut n = Need {
-        missing: 0,
-        lo: 128,
-        hi: 191,
-    };
+    let mut n = asks(0, 0x80, 0xBF);
     let mut i = 0;
     while i < s.len() {
         n = next_need(n, s[i]);
@@ -148,27 +90,37 @@ pub fn valid(s: &[u8]) -> bool
     missing == 0
 }
 
+// ---- places
+
+// A place in the script: the byte, the line and the column of the character there.
+pub struct Cursor {
+    pub at: usize,
+    pub line: u32,
+    pub column: u32,
+}
+
 // How many bytes the character that begins with `b` has.
-pub fn width(b: u8) -> usize
+pub fn width(b: u8) -> u32
     ensures { λ r. ⌜ r ≡ more (lead b) + 1 ⌝ }
 {
     let n = lead_need(b);
     let missing = n.missing;
-    if missing == 9 {
+    if missing == WRONG {
         return 1;
     }
-    missing as usize + 1
+    missing as u32 + 1
 }
 
-// The place behind the character at `c`.
+// The place behind the character at `c`. A newline belongs to the line it ends.
 pub fn step(s: &[u8], c: Cursor) -> Cursor
     requires { ⌜ Stands (now s) c × (c .at < length (now s)) × (length (now s) ≤ 16384) ⌝ }
     ensures { λ r. ⌜ Stepped (now (s .entry)) c r ⌝ }
 {
     let at = c.at;
     let b = s[at];
-    let next = at + width(b);
-    if b == 10 {
+    let w = width(b);
+    let next = at + w as usize;
+    if b == b'\n' {
         return Cursor {
             at: next,
             line: c.line + 1,

@@ -1,64 +1,102 @@
-use borrow.Author.Needs.{needs}
-use native.Mathlib.Omega.{arith}
-use Rattle.definition.specs.Source.{lead}
-use Rattle.definition.specs.Choice.{first}
+use mathlib.Core.Path.{_∙_}
 use borrow.Author.Tests.{lt-ltb, le-ltb, eq-eqb, ne-eqb}
+use Rattle.definition.specs.Choice.{first}
+use Rattle.definition.specs.Source.{lead}
+use borrow.Author.Needs.{needs}
 use Rattle.source.proofs.lead_need.Statement.{statement}
 use Rattle.source.proofs.lead_need.Tie as tie
-use Rattle.source.proofs.lead_need.Reads as reads
-use Rattle.source.proofs.lead_need.Lts as lts
+
+asks-requires : tie.Need-asks-requires
+asks-requires c κs = search needs
 
 returns : tie.Need-returns
 unfolding lead first
-returns c = simp (lt-ltb _ _ (c .if1 .taken))
+returns c = c .asks .ensures ∙ simp (lt-ltb _ _ (c .before .if1 .taken))
+
+asks-requires-2 : tie.Need-asks-requires-2
+asks-requires-2 c κs = search needs
 
 returns-2 : tie.Need-returns-2
 unfolding lead first
-returns-2 c = simp (le-ltb _ _ (c .before .if1 .left), lt-ltb _ _ (c .if2 .taken))
+returns-2 c = c .asks2 .ensures ∙ simp (le-ltb _ _ (c .before .before .if1 .left), lt-ltb _ _ (c .before .if2 .taken))
+
+asks-requires-3 : tie.Need-asks-requires-3
+asks-requires-3 c κs = search needs
 
 returns-3 : tie.Need-returns-3
 unfolding lead first
-returns-3 c = simp (le-ltb _ _ (c .before .before .if1 .left), le-ltb _ _ (c .before .if2 .left), lt-ltb _ _ (c .if3 .taken))
+returns-3 c = c .asks3 .ensures ∙ simp (le-ltb _ _ (c .before .before .before .if1 .left), le-ltb _ _ (c .before .before .if2 .left), lt-ltb _ _ (c .before .if3 .taken))
+
+asks-requires-4 : tie.Need-asks-requires-4
+asks-requires-4 c κs = search needs
 
 returns-4 : tie.Need-returns-4
 unfolding lead first
-returns-4 c = simp (le-ltb _ _ (c .before .before .before .if1 .left), le-ltb _ _ (c .before .before .if2 .left), le-ltb _ _ (c .before .if3 .left), eq-eqb _ _ (c .if4 .taken))
+returns-4 c = c .asks4 .ensures ∙ simp (le-ltb _ _ (c .before .before .before .before .if1 .left), le-ltb _ _ (c .before .before .before .if2 .left), le-ltb _ _ (c .before .before .if3 .left), eq-eqb _ _ (c .before .if4 .taken))
+
+asks-requires-5 : tie.Need-asks-requires-5
+asks-requires-5 c κs = search needs
 
 returns-5 : tie.Need-returns-5
 unfolding lead first
-returns-5 c = simp (le-ltb _ _ (c .before .before .before .before .if1 .left), le-ltb _ _ (c .before .before .before .if2 .left), le-ltb _ _ (c .before .before .if3 .left), ne-eqb _ _ (c .before .if4 .left), eq-eqb _ _ (c .if5 .taken))
+returns-5 c = c .asks5 .ensures ∙ simp (le-ltb _ _ (c .before .before .before .before .before .if1 .left), le-ltb _ _ (c .before .before .before .before .if2 .left), le-ltb _ _ (c .before .before .before .if3 .left), ne-eqb _ _ (c .before .before .if4 .left), eq-eqb _ _ (c .before .if5 .taken))
+
+asks-requires-6 : tie.Need-asks-requires-6
+asks-requires-6 c κs = search needs
 
 returns-6 : tie.Need-returns-6
 unfolding lead first
-returns-6 c = simp (le-ltb _ _ (c .before .before .before .before .before .if1 .left), le-ltb _ _ (c .before .before .before .before .if2 .left), le-ltb _ _ (c .before .before .before .if3 .left), ne-eqb _ _ (c .before .before .if4 .left), ne-eqb _ _ (c .before .if5 .left), lt-ltb _ _ (c .if6 .taken))
+returns-6 c = c .asks6 .ensures ∙ simp (le-ltb _ _ (c .before .before .before .before .before .before .if1 .left), le-ltb _ _ (c .before .before .before .before .before .if2 .left), le-ltb _ _ (c .before .before .before .before .if3 .left), ne-eqb _ _ (c .before .before .before .if4 .left), ne-eqb _ _ (c .before .before .if5 .left), lt-ltb _ _ (c .before .if6 .taken))
+
+asks-requires-7 : tie.Need-asks-requires-7
+asks-requires-7 c κs = search needs
 
 returns-7 : tie.Need-returns-7
 unfolding lead first
-returns-7 c = simp (le-ltb _ _ (c .before .before .before .before .before .before .if1 .left), le-ltb _ _ (c .before .before .before .before .before .if2 .left), le-ltb _ _ (c .before .before .before .before .if3 .left), ne-eqb _ _ (c .before .before .before .if4 .left), ne-eqb _ _ (c .before .before .if5 .left), le-ltb _ _ (c .before .if6 .left), eq-eqb _ _ (c .if7 .taken))
+returns-7 c = c .asks7 .ensures ∙ simp (le-ltb _ _ (c .before .before .before .before .before .before .before .if1 .left), le-ltb _ _ (c .before .before .before .before .before .before .if2 .left), le-ltb _ _ (c .before .before .before .before .before .if3 .left), ne-eqb _ _ (c .before .before .before .before .if4 .left), ne-eqb _ _ (c .before .before .before .if5 .left), le-ltb _ _ (c .before .before .if6 .left), eq-eqb _ _ (c .before .if7 .taken))
+
+asks-requires-8 : tie.Need-asks-requires-8
+asks-requires-8 c κs = search needs
 
 returns-8 : tie.Need-returns-8
 unfolding lead first
-returns-8 c = simp (le-ltb _ _ (c .before .before .before .before .before .before .before .if1 .left), le-ltb _ _ (c .before .before .before .before .before .before .if2 .left), le-ltb _ _ (c .before .before .before .before .before .if3 .left), ne-eqb _ _ (c .before .before .before .before .if4 .left), ne-eqb _ _ (c .before .before .before .if5 .left), le-ltb _ _ (c .before .before .if6 .left), ne-eqb _ _ (c .before .if7 .left), lt-ltb _ _ (c .if8 .taken))
+returns-8 c = c .asks8 .ensures ∙ simp (le-ltb _ _ (c .before .before .before .before .before .before .before .before .if1 .left), le-ltb _ _ (c .before .before .before .before .before .before .before .if2 .left), le-ltb _ _ (c .before .before .before .before .before .before .if3 .left), ne-eqb _ _ (c .before .before .before .before .before .if4 .left), ne-eqb _ _ (c .before .before .before .before .if5 .left), le-ltb _ _ (c .before .before .before .if6 .left), ne-eqb _ _ (c .before .before .if7 .left), lt-ltb _ _ (c .before .if8 .taken))
+
+asks-requires-9 : tie.Need-asks-requires-9
+asks-requires-9 c κs = search needs
 
 returns-9 : tie.Need-returns-9
 unfolding lead first
-returns-9 c = simp (le-ltb _ _ (c .before .before .before .before .before .before .before .before .if1 .left), le-ltb _ _ (c .before .before .before .before .before .before .before .if2 .left), le-ltb _ _ (c .before .before .before .before .before .before .if3 .left), ne-eqb _ _ (c .before .before .before .before .before .if4 .left), ne-eqb _ _ (c .before .before .before .before .if5 .left), le-ltb _ _ (c .before .before .before .if6 .left), ne-eqb _ _ (c .before .before .if7 .left), le-ltb _ _ (c .before .if8 .left), eq-eqb _ _ (c .if9 .taken))
+returns-9 c = c .asks9 .ensures ∙ simp (le-ltb _ _ (c .before .before .before .before .before .before .before .before .before .if1 .left), le-ltb _ _ (c .before .before .before .before .before .before .before .before .if2 .left), le-ltb _ _ (c .before .before .before .before .before .before .before .if3 .left), ne-eqb _ _ (c .before .before .before .before .before .before .if4 .left), ne-eqb _ _ (c .before .before .before .before .before .if5 .left), le-ltb _ _ (c .before .before .before .before .if6 .left), ne-eqb _ _ (c .before .before .before .if7 .left), le-ltb _ _ (c .before .before .if8 .left), eq-eqb _ _ (c .before .if9 .taken))
+
+asks-requires-10 : tie.Need-asks-requires-10
+asks-requires-10 c κs = search needs
 
 returns-10 : tie.Need-returns-10
 unfolding lead first
-returns-10 c = simp (le-ltb _ _ (c .before .before .before .before .before .before .before .before .if1 .left), le-ltb _ _ (c .before .before .before .before .before .before .before .if2 .left), le-ltb _ _ (c .before .before .before .before .before .before .if3 .left), ne-eqb _ _ (c .before .before .before .before .before .if4 .left), ne-eqb _ _ (c .before .before .before .before .if5 .left), le-ltb _ _ (c .before .before .before .if6 .left), ne-eqb _ _ (c .before .before .if7 .left), le-ltb _ _ (c .before .if8 .left), ne-eqb _ _ (c .if9 .left))
+returns-10 c = c .asks10 .ensures ∙ simp (le-ltb _ _ (c .before .before .before .before .before .before .before .before .before .if1 .left), le-ltb _ _ (c .before .before .before .before .before .before .before .before .if2 .left), le-ltb _ _ (c .before .before .before .before .before .before .before .if3 .left), ne-eqb _ _ (c .before .before .before .before .before .before .if4 .left), ne-eqb _ _ (c .before .before .before .before .before .if5 .left), le-ltb _ _ (c .before .before .before .before .if6 .left), ne-eqb _ _ (c .before .before .before .if7 .left), le-ltb _ _ (c .before .before .if8 .left), ne-eqb _ _ (c .before .if9 .left))
 
 pub lead-need-spec : {M : Type 1} → statement M
 lead-need-spec =
     tie.close
     (tie.spec
+    asks-requires
     returns
+    asks-requires-2
     returns-2
+    asks-requires-3
     returns-3
+    asks-requires-4
     returns-4
+    asks-requires-5
     returns-5
+    asks-requires-6
     returns-6
+    asks-requires-7
     returns-7
+    asks-requires-8
     returns-8
+    asks-requires-9
     returns-9
+    asks-requires-10
     returns-10)

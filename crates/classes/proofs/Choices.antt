@@ -1,0 +1,113 @@
+-- A choice among several by tests in turn, and a table that is searched from its first entry. Assumes nothing.
+use mathlib.Core.Path.{_≡_, refl, sym, ap, _∙_}
+use mathlib.Core.Bool.{Bool, true, false, _&&_}
+use mathlib.Core.List.{List, [], _∷_}
+use Prim.Native.Nat.{ℕ, zero, suc, _+_, _<_, _≤_}
+use native.Mathlib.Numerals.{add-one}
+use native.Mathlib.Omega.{arith}
+use borrow.Author.Tests.{leb-true, lt-ltb, le-ltb}
+use lib.Dec.{eqb, leb, ltb}
+use lib.ListN.{getD}
+use Rattle.definition.specs.Ascii.{char}
+use Rattle.definition.specs.Choice.{pick}
+use Rattle.definition.specs.Classes.{is-white, is-letter, is-digit}
+use Rattle.definition.specs.Tokenizer as Z
+
+pub yes : {A : Type 0} (t : Bool) {v : Bool} (a b : A) → v ≡ t → v ≡ true → a ≡ pick t a b
+yes t a b e f = ap (λ (x : Bool). pick x a b) (sym f ∙ e)
+
+pub no : {A : Type 0} (t : Bool) {v : Bool} (a b : A) {r : A} → v ≡ t → v ≡ false → r ≡ b → r ≡ pick t a b
+no t a b e f g = g ∙ ap (λ (x : Bool). pick x a b) (sym f ∙ e)
+
+pub is : {A : Type 0} (t : Bool) (a b : A) → t ≡ true → a ≡ pick t a b
+is t a b e = yes t a b refl e
+
+pub not : {A : Type 0} (t : Bool) (a b : A) {r : A} → t ≡ false → r ≡ b → r ≡ pick t a b
+not t a b e g = no t a b refl e g
+
+-- a kind that was found, or not
+pub some-kind : {r : ℕ} (n : ℕ) → r ≡ n → 0 < r → ltb 0 n ≡ true
+some-kind n e h = lt-ltb 0 n (omega (arith, e, h))
+
+pub no-kind : {r : ℕ} (n : ℕ) → r ≡ n → r ≤ 0 → ltb 0 n ≡ false
+no-kind n e h = le-ltb 0 n (omega (arith, e, h))
+
+-- ---- a table
+
+-- of n entries from the i-th on: the answer of the first whose test passes, or 0
+unfoldable pub found : (ℕ → Bool) → (ℕ → ℕ) → ℕ → ℕ → ℕ
+found t k zero i = 0
+found t k (suc n) i = pick (t i) (k i) (found t k n (suc i))
+
+-- the entries before the i-th are passed
+pub record Searching (t : ℕ → Bool) (k : ℕ → ℕ) (n a i : ℕ) : Type 0 where
+  pub left : ℕ
+  pub sum : i + left ≡ n
+  pub is : found t k left i ≡ a
+
+pub searching : {t : ℕ → Bool} {k : ℕ → ℕ} {n a : ℕ} → found t k n 0 ≡ a → Searching t k n a 0
+searching {n = n} e = record { left = n; sum = omega arith; is = e }
+
+module _ {t : ℕ → Bool} {k : ℕ → ℕ} {n a i : ℕ} (q : Searching t k n a i) where
+  pub search-more : i < n → t i ≡ false → Searching t k n a (i + 1)
+  unfolding found
+  search-more h e = go (q .left) (q .sum) (q .is)
+    where
+      go : (m : ℕ) → i + m ≡ n → found t k m i ≡ a → Searching t k n a (i + 1)
+      go zero f g = absurd (omega (arith, f, h))
+      go (suc m) f g = record { left = m; sum = omega (arith, f); is = rw add-one (rw e at g) }
+
+  pub search-found : i < n → t i ≡ true → k i ≡ a
+  unfolding found
+  search-found h e = go (q .left) (q .sum) (q .is)
+    where
+      go : (m : ℕ) → i + m ≡ n → found t k m i ≡ a → k i ≡ a
+      go zero f g = absurd (omega (arith, f, h))
+      go (suc m) f g = rw e at g
+
+  pub search-end : n ≤ i → 0 ≡ a
+  unfolding found
+  search-end h = go (q .left) (q .sum) (q .is)
+    where
+      go : (m : ℕ) → i + m ≡ n → found t k m i ≡ a → 0 ≡ a
+      go zero f g = g
+      go (suc m) f g = absurd (omega (arith, f, h))
+
+-- ---- both of two tests pass
+
+and-left : (a b : Bool) → (a && b) ≡ true → a ≡ true
+and-left true b e = refl
+and-left false b e = e
+
+and-right : (a b : Bool) → (a && b) ≡ true → b ≡ true
+and-right true b e = e
+and-right false b e = absurd (let z : _≡_ {A = ℕ} 0 1 = cc in omega arith)
+
+-- ---- the numbers of a table are at most m
+
+unfoldable pub small : ℕ → List ℕ → Bool
+small m [] = true
+small m (x ∷ xs) = leb x m && small m xs
+
+pub at-most : (m : ℕ) (xs : List ℕ) → small m xs ≡ true → (k : ℕ) → getD xs k 0 ≤ m
+unfolding small
+at-most m [] e zero = omega arith
+at-most m [] e (suc k) = omega arith
+at-most m (x ∷ xs) e zero = leb-true _ _ (and-left (leb x m) (small m xs) e)
+at-most m (x ∷ xs) e (suc k) = at-most m xs (and-right (leb x m) (small m xs) e) k
+
+-- ---- what a character begins, test by test
+
+-- a character that is no symbol
+abbrev pub alone : ℕ → Z.Class
+alone c =
+    pick (eqb c (char "\"")) Z.Quote (pick (is-letter c) Z.Word (pick (eqb c (char "-")) Z.Dash (pick (eqb c (char "0")) Z.Zero (pick (is-digit c) Z.Digit Z.Unknown))))
+
+pub class-is : (c d : ℕ) →
+    Z.class c d ≡
+    pick (ltb 127 c) Z.Foreign (pick (is-white c) Z.White (pick (eqb c (char "/") && eqb d (char "/")) Z.Comment (pick (ltb 0 (Z.pair c d)) Z.Pair (pick (ltb 0 (Z.symbol c)) Z.Symbol (alone c)))))
+unfolding Z.class
+class-is c d = refl
+
+pub no-symbol : (c d : ℕ) {p y : ℕ} {w : Bool} {r : Z.Class} → c ≤ 127 → w ≡ is-white c → w ≡ false → (eqb c (char "/") && eqb d (char "/")) ≡ false → p ≡ Z.pair c d → p ≤ 0 → y ≡ Z.symbol c → y ≤ 0 → r ≡ alone c → r ≡ Z.class c d
+no-symbol c d h e f g i j k l m = rw (class-is, le-ltb 127 c h, sym e ∙ f, g, no-kind (Z.pair c d) i j, no-kind (Z.symbol c) k l) m

@@ -1,0 +1,15 @@
+use borrow.Author.Needs.{needs}
+use Rattle.classes.proofs.character.is_word.Statement.{statement}
+use Rattle.classes.proofs.character.is_word.Tie as tie
+
+is-letter-requires : tie.Need-is-letter-requires
+is-letter-requires c κs = search needs
+
+is-digit-requires : tie.Need-is-digit-requires
+is-digit-requires c κs = search needs
+
+returns : tie.Need-returns
+returns c = cc
+
+pub is-word-spec : {M : Type 1} → statement M
+is-word-spec = tie.close (tie.spec is-letter-requires is-digit-requires returns)

@@ -1,0 +1,50 @@
+// Characters: their classes, the fixed spellings, and what a character begins.
+pub mod character;
+pub mod spelling;
+
+use character::Class;
+use character::is_digit;
+use character::is_letter;
+use character::is_white;
+use spelling::pair;
+use spelling::symbol;
+ghost use mathlib.Core.Path.{_≡_};
+ghost use Rattle.definition.specs.Tokenizer as Z;
+ghost use Rattle.classes.specs.Begins.{class-of};
+
+// What the character `c` begins, `d` behind it; 0 stands for the end.
+pub fn class(c: u8, d: u8) -> Class
+    ensures { λ r. ⌜ class-of r ≡ Z.class c d ⌝ }
+{
+    if 127 < c {
+        return Class::Foreign;
+    }
+    if is_white(c) {
+        return Class::White;
+    }
+    if (c == b'/') & (d == b'/') {
+        return Class::Comment;
+    }
+    if 0 < pair(c, d) {
+        return Class::Pair;
+    }
+    if 0 < symbol(c) {
+        return Class::Symbol;
+    }
+    if c == b'"' {
+        return Class::Quote;
+    }
+    if is_letter(c) {
+        return Class::Word;
+    }
+    if c == b'-' {
+        return Class::Dash;
+    }
+    if c == b'0' {
+        return Class::Zero;
+    }
+    if is_digit(c) {
+        return Class::Digit;
+    }
+    Class::Unknown
+}

@@ -1,0 +1,19 @@
+use Rattle.scan.proofs.Laws.{wrote-trans}
+use borrow.Author.Needs.{needs}
+use Rattle.records.proofs.put_token.Statement.{statement}
+use Rattle.records.proofs.put_token.Tie as tie
+
+put-four-requires : tie.Need-put-four-requires
+put-four-requires c κs = search needs
+
+put-four-requires-2 : tie.Need-put-four-requires-2
+put-four-requires-2 c κs = search needs
+
+same-length : tie.Need-same-length
+same-length c = search needs
+
+returns : tie.Need-returns
+returns c = wrote-trans (c .before .before .before .before .before .before .put-four .ensures) (c .before .before .put-four2 .ensures)
+
+pub put-token-spec : {M : Type 1} → statement M
+put-token-spec = tie.close (tie.spec put-four-requires put-four-requires-2 same-length returns)

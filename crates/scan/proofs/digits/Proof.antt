@@ -1,0 +1,66 @@
+use borrow.Author.Needs.{needs}
+use native.Mathlib.Omega.{arith}
+use mathlib.Core.Path.{sym, _∙_}
+use Prim.Native.Nat.{_-_}
+use lib.ListN.{length}
+use Rattle.definition.specs.Tokenizer as Z
+use Rattle.scan.proofs.Laws.{told, Spanning, spanning-start, spanning-more, spanning-out, spanning-stop, digits-go, digits-stop, digits-none}
+use Rattle.scan.proofs.digits.Statement.{statement}
+use Rattle.scan.proofs.digits.Tie as tie
+
+abbrev Inv-loop : tie.InvT-loop
+Inv-loop s base text₀ start c₀ n₀ text c n = Spanning (Z.digits base) s c₀ text₀ n₀ c text n
+
+abbrev μ-loop : tie.MeasureT-loop
+μ-loop s base text₀ start c₀ n₀ text c n = length s - (c .at)
+
+loop-holds : tie.Need-loop-holds Inv-loop μ-loop
+loop-holds c = search (spanning-start, told, needs)
+
+same-length : tie.Need-same-length Inv-loop μ-loop
+same-length c = search needs
+
+returns : tie.Need-returns Inv-loop μ-loop
+returns c = spanning-out (c .before .loop .inv) (c .if1 .taken) (digits-none _)
+
+shared-slice-read-b : tie.Need-shared-slice-read-b Inv-loop μ-loop
+shared-slice-read-b c = search needs
+
+is-digit-of-requires : tie.Need-is-digit-of-requires Inv-loop μ-loop
+is-digit-of-requires c κs = search needs
+
+put8-requires : tie.Need-put8-requires Inv-loop μ-loop
+put8-requires c κs = search needs
+
+step-requires : tie.Need-step-requires Inv-loop μ-loop
+step-requires c κs = (c .before .before .before .before .before .before .before .before .loop .inv .asks .stands, omega arith, omega arith)
+
+loop-less : tie.Need-loop-less Inv-loop μ-loop
+loop-less c = search needs
+
+loop-again : tie.Need-loop-again Inv-loop μ-loop
+loop-again c = spanning-more (c .before .before .before .before .before .before .before .before .before .loop .inv) (c .step .ensures) (digits-go _ _ _ (sym (c .before .before .before .before .before .before .is-digit-of .ensures) ∙ c .before .before .before .before .before .if2 .taken)) (c .before .before .before .put8 .ensures) (omega arith)
+
+same-length-2 : tie.Need-same-length-2 Inv-loop μ-loop
+same-length-2 c = search needs
+
+returns-2 : tie.Need-returns-2 Inv-loop μ-loop
+returns-2 c = spanning-stop (c .before .before .before .before .loop .inv) (c .before .before .before .if1 .left) (λ cs. digits-stop _ _ _ (sym (c .before .is-digit-of .ensures) ∙ c .if2 .left))
+
+pub digits-spec : {M : Type 1} → statement M
+digits-spec =
+    tie.close
+    (tie.spec
+    Inv-loop
+    μ-loop
+    loop-holds
+    same-length
+    returns
+    shared-slice-read-b
+    is-digit-of-requires
+    put8-requires
+    step-requires
+    loop-less
+    loop-again
+    same-length-2
+    returns-2)

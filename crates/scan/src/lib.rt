@@ -1,0 +1,252 @@
+// Scanning: from a place on, the functions pass characters, and some write what they pass.
+use classes::character::is_digit_of;
+use classes::character::is_white;
+use classes::character::is_word;
+use classes::spelling::escape;
+use source::Cursor;
+use source::step;
+ghost use mathlib.Core.Bool.{false};
+ghost use mathlib.Core.Path.{_≡_};
+ghost use mathlib.Core.List.{[], _∷_};
+ghost use Prim.Native.Nat.{_+_, _-_, _<_, _≤_};
+ghost use lib.ListN.{length, take, drop};
+ghost use Rattle.definition.specs.Tokenizer as Z;
+ghost use Rattle.source.specs.Place.{Stands, rest};
+ghost use Rattle.scan.specs.Scan.{Wrote, Asks, Spanned, Passes, Passed, letters, blanks, QuotedAs};
+
+// ---- what is written
+
+// One byte.
+pub fn put8(text: &mut [u8], at: usize, b: u8) -> usize
+    requires { ⌜ at < length (now text) ⌝ }
+    ensures { λ r. ⌜ Wrote (now (text .entry)) at (b ∷ []) (now (text .exit)) r ⌝ }
+{
+    text[at] = b;
+    at + 1
+}
+
+// One word.
+pub fn put32(words: &mut [u32], at: usize, v: u32) -> usize
+    requires { ⌜ at < length (now words) ⌝ }
+    ensures { λ r. ⌜ Wrote (now (words .entry)) at (v ∷ []) (now (words .exit)) r ⌝ }
+{
+    words[at] = v;
+    at + 1
+}
+
+// The bytes of `s` from `from` to `to`, written at `at`.
+pub fn copy(s: &[u8], from: usize, to: usize, text: &mut [u8], at: usize) -> usize
+    requires { ⌜ (from ≤ to) × (to ≤ length (now s)) × (at + (to - from) ≤ length (now text)) ⌝ }
+    ensures { λ r. ⌜ Wrote (now (text .entry)) at (take (to - from) (drop from (now (s .entry)))) (now (text .exit)) r ⌝ }
+{
+    let mut i = from;
+    let mut n = at;
+    while i < to {
+        n = put8(text, n, s[i]);
+        i += 1;
+    }
+    n
+}
+
+// ---- looking and skipping
+
+// The first byte of what is left, 0 at the end.
+pub fn look(s: &[u8], c: Cursor) -> u8
+    requires { ⌜ Stands (now s) c ⌝ }
+    ensures { λ r. ⌜ r ≡ Z.look (rest (now (s .entry)) c) ⌝ }
+{
+    let at = c.at;
+    if s.len() <= at {
+        return 0;
+    }
+    s[at]
+}
+
+// The place behind the character at `c`, if there is one.
+pub fn skip(s: &[u8], c: Cursor) -> Cursor
+    requires { ⌜ Passes (now s) c ⌝ }
+    ensures { λ r. ⌜ Passed (now (s .entry)) c (Z.drop-one (rest (now (s .entry)) c)) r ⌝ }
+{
+    let at = c.at;
+    if s.len() <= at {
+        return c;
+    }
+    step(s, c)
+}
+
+// ---- scans that write nothing
+
+// Behind the newline that ends a comment, or the end.
+pub fn comment(s: &[u8], from: Cursor) -> Cursor
+    requires { ⌜ Passes (now s) from ⌝ }
+    ensures { λ r. ⌜ Passed (now (s .entry)) from (Z.comment (rest (now (s .entry)) from)) r ⌝ }
+{
+    let mut c = from;
+    loop {
+        let at = c.at;
+        if s.len() <= at {
+            return c;
+        }
+        let b = s[at];
+        let d = step(s, c);
+        if b == b'\n' {
+            return d;
+        }
+        c = d;
+    }
+}
+
+// Behind white space.
+pub fn white(s: &[u8], from: Cursor) -> Cursor
+    requires { ⌜ Passes (now s) from ⌝ }
+    ensures { λ r. ⌜ Passed (now (s .entry)) from (blanks (rest (now (s .entry)) from)) r ⌝ }
+{
+    let mut c = from;
+    loop {
+        let at = c.at;
+        if s.len() <= at {
+            return c;
+        }
+        if is_white(s[at]) {
+            c = step(s, c);
+        } else {
+            return c;
+        }
+    }
+}
+
+// ---- scans that write
+
+// Where a scan stopped, and where what it wrote ends.
+pub struct Scan {
+    pub cursor: Cursor,
+    pub n: usize,
+}
+
+// The digits of a base.
+pub fn digits(s: &[u8], from: Cursor, base: u32, text: &mut [u8], start: usize) -> Scan
+    requires { ⌜ Asks (now s) from (now text) start ⌝ }
+    ensures { λ r. ⌜ Spanned (now (s .entry)) from (now (text .entry)) start (Z.digits base (rest (now (s .entry)) from)) (now (text .exit)) r ⌝ }
+{
+    let mut c = from;
+    let mut n = start;
+    loop {
+        let at = c.at;
+        if s.len() <= at {
+            return Scan { cursor: c, n };
+        }
+        let b = s[at];
+        if is_digit_of(base, b) {
+            n = put8(text, n, b);
+            c = step(s, c);
+        } else {
+            return Scan { cursor: c, n };
+        }
+    }
+}
+
+// The letters and digits of a word.
+pub fn word(s: &[u8], from: Cursor, text: &mut [u8], start: usize) -> Scan
+    requires { ⌜ Asks (now s) from (now text) start ⌝ }
+    ensures { λ r. ⌜ Spanned (now (s .entry)) from (now (text .entry)) start (letters (rest (now (s .entry)) from)) (now (text .exit)) r ⌝ }
+{
+    let mut c = from;
+    let mut n = start;
+    loop {
+        let at = c.at;
+        if s.len() <= at {
+            return Scan { cursor: c, n };
+        }
+        let b = s[at];
+        if is_word(b) {
+            n = put8(text, n, b);
+            c = step(s, c);
+        } else {
+            return Scan { cursor: c, n };
+        }
+    }
+}
+
+// The text of inline assembly, up to `}` or the end; the place is behind the `}`.
+pub fn assembly(s: &[u8], from: Cursor, text: &mut [u8], start: usize) -> Scan
+    requires { ⌜ Asks (now s) from (now text) start ⌝ }
+    ensures { λ r. ⌜ Spanned (now (s .entry)) from (now (text .entry)) start (Z.assembly (rest (now (s .entry)) from)) (now (text .exit)) r ⌝ }
+{
+    let mut c = from;
+    let mut n = start;
+    loop {
+        let at = c.at;
+        if s.len() <= at {
+            return Scan { cursor: c, n };
+        }
+        let b = s[at];
+        let d = step(s, c);
+        if b == b'}' {
+            return Scan { cursor: d, n };
+        }
+        n = copy(s, at, d.at, text, n);
+        c = d;
+    }
+}
+
+// ---- strings
+
+// Behind a string: also how many escapes were unknown, and whether the closing quote was there.
+pub struct Body {
+    pub cursor: Cursor,
+    pub n: usize,
+    pub unknown: usize,
+    pub closed: bool,
+}
+
+// The text of a string, behind its opening quote.
+pub fn quoted(s: &[u8], from: Cursor, text: &mut [u8], start: usize) -> Body
+    requires { ⌜ Asks (now s) from (now text) start ⌝ }
+    ensures { λ r. ⌜ QuotedAs (now (s .entry)) from (now (text .entry)) start (Z.quoted false (rest (now (s .entry)) from)) (now (text .exit)) r ⌝ }
+{
+    let mut c = from;
+    let mut n = start;
+    let mut unknown = 0;
+    loop {
+        let at = c.at;
+        if s.len() <= at {
+            return Body {
+                cursor: c,
+                n,
+                unknown,
+                closed: false,
+            };
+        }
+        let b = s[at];
+        let d = step(s, c);
+        if b == b'"' {
+            return Body {
+                cursor: d,
+                n,
+                unknown,
+                closed: true,
+            };
+        }
+        let e = d.at;
+        if b != b'\\' {
+            n = copy(s, at, e, text, n);
+            c = d;
+            continue;
+        }
+        if s.len() <= e {
+            return Body {
+                cursor: d,
+                n,
+                unknown: unknown + 1,
+                closed: false,
+            };
+        }
+        let k = escape(s[e]);
+        c = step(s, d);
+        if k == 0 {
+            unknown += 1;
+            continue;
+        }
+        n = put8(text, n, k);
+    }
+}

@@ -1,0 +1,182 @@
+// Tokenise: a script's bytes to token records, token errors and text in lent slices.
+use classes::character::Class;
+use classes::class;
+use classes::spelling::pair;
+use classes::spelling::symbol;
+use definition::limit;
+use definition::refusal;
+use definition::token_error;
+use records::State;
+use scan::comment;
+use scan::look;
+use scan::skip;
+use source::Cursor;
+use source::step;
+use source::valid;
+use turns::dash_turn;
+use turns::moved;
+use turns::number_turn;
+use turns::plain;
+use turns::refuse;
+use turns::string_turn;
+use turns::with_errors;
+use turns::word_turn;
+use turns::zero_turn;
+ghost use mathlib.Core.Path.{_≡_};
+ghost use Prim.Native.Nat.{_*_, _<_, _≤_};
+ghost use lib.ListN.{length};
+ghost use Rattle.definition.specs.Operations as O;
+ghost use Rattle.source.specs.Place.{Stands, rest, origin};
+ghost use Rattle.turns.specs.Turn.{Ready};
+ghost use Rattle.tokenizer.specs.Run.{Taken, turn-of, Ran, Cleared, answer, refusal-of};
+
+// ---- the loop
+
+// One turn, at a character.
+fn turn(
+    most: usize,
+    s: &[u8],
+    st: State,
+    tokens: &mut [u32],
+    errors: &mut [u32],
+    text: &mut [u8],
+) -> State
+    requires { ⌜ Ready most (now s) (now tokens) (now text) st (st .cursor) × (st .cursor .at < length (now s)) × (1024 ≤ length (now errors)) ⌝ }
+    ensures { λ r. ⌜ Taken most (turn-of (rest (now (s .entry)) (st .cursor))) (now (s .entry)) st (now (tokens .entry)) (now (errors .entry)) (now (text .entry)) r (now (tokens .exit)) (now (errors .exit)) (now (text .exit)) ⌝ }
+{
+    let from = st.cursor;
+    let at = from.at;
+    let b = s[at];
+    let c = step(s, from);
+    let d = look(s, c);
+    let k = class(b, d);
+    match k {
+        Class::Foreign => refuse(st, refusal::FOREIGN_CHARACTER),
+        Class::White => moved(st, c),
+        Class::Comment => moved(st, comment(s, skip(s, c))),
+        Class::Pair => plain(most, tokens, st, skip(s, c), pair(b, d)),
+        Class::Symbol => plain(most, tokens, st, c, symbol(b)),
+        Class::Quote => string_turn(most, s, st, c, tokens, errors, text),
+        Class::Word => word_turn(most, s, st, c, b, tokens, errors, text),
+        Class::Dash => dash_turn(most, s, st, c, tokens, text),
+        Class::Zero => zero_turn(most, s, st, c, tokens, text),
+        Class::Digit => number_turn(most, s, st, c, b, tokens, text),
+        Class::Unknown => with_errors(
+            errors,
+            st,
+            from,
+            c,
+            st.text,
+            1,
+            token_error::UNKNOWN_CHARACTER,
+        ),
+    }
+}
+
+// The loop: a turn at each character that is reached, until the end or a refusal.
+fn run(most: usize, s: &[u8], tokens: &mut [u32], errors: &mut [u32], text: &mut [u8]) -> State
+    requires { ⌜ Stands (now s) origin × (length (now s) ≤ 16384) × (8 * most ≤ length (now tokens)) × (1024 ≤ length (now errors)) × (16384 ≤ length (now text)) ⌝ }
+    ensures { λ r. ⌜ Ran most (rest (now (s .entry)) origin) (now (tokens .exit)) (now (errors .exit)) (now (text .exit)) r ⌝ }
+{
+    let start = Cursor {
+        at: 0,
+        line: 1,
+        column: 1,
+    };
+    let mut st = State {
+        cursor: start,
+        tokens: 0,
+        errors: 0,
+        text: 0,
+        how: 0,
+    };
+    loop {
+        let c = st.cursor;
+        let at = c.at;
+        if s.len() <= at {
+            return st;
+        }
+        st = turn(most, s, st, tokens, errors, text);
+        if st.how != 0 {
+            return st;
+        }
+    }
+}
+
+// ---- zeros from `from` on
+
+fn clear_bytes(text: &mut [u8], from: usize)
+    requires { ⌜ from ≤ length (now text) ⌝ }
+    ensures { λ _. ⌜ Cleared (now (text .entry)) from (now (text .exit)) ⌝ }
+{
+    let mut i = from;
+    while i < text.len() {
+        text[i] = 0;
+        i += 1;
+    }
+}
+
+fn clear_words(words: &mut [u32], from: usize)
+    requires { ⌜ from ≤ length (now words) ⌝ }
+    ensures { λ _. ⌜ Cleared (now (words .entry)) from (now (words .exit)) ⌝ }
+{
+    let mut i = from;
+    while i < words.len() {
+        words[i] = 0;
+        i += 1;
+    }
+}
+
+// ---- the operation
+
+// The number of a refusal, or 0, and the counts of tokens, of token errors and of bytes of text.
+pub struct Tokenized {
+    pub number: u32,
+    pub tokens: usize,
+    pub errors: usize,
+    pub bytes: usize,
+}
+
+fn refused(number: u32) -> Tokenized
+    ensures { λ r. ⌜ r ≡ refusal-of number ⌝ }
+{
+    Tokenized {
+        number,
+        tokens: 0,
+        errors: 0,
+        bytes: 0,
+    }
+}
+
+pub fn tokenize(script: &[u8], tokens: &mut [u32], errors: &mut [u32], text: &mut [u8]) -> Tokenized
+    ensures { λ r. ⌜ answer r (now (tokens .exit)) (now (errors .exit)) (now (text .exit)) ≡ O.tokenise (now (script .entry)) (now (tokens .entry)) (now (errors .entry)) (now (text .entry)) ⌝ }
+{
+    if limit::SCRIPT_BYTES < script.len() {
+        return refused(refusal::SCRIPT_LENGTH);
+    }
+    if !valid(script) {
+        return refused(refusal::NOT_UTF8);
+    }
+    let wide = (limit::TOKEN_WORDS <= tokens.len())
+        & (limit::ERROR_WORDS <= errors.len())
+        & (limit::TEXT_BYTES <= text.len());
+    if !wide {
+        return refused(refusal::SLICE_LENGTH);
+    }
+    let st = run(limit::TOKENS, script, tokens, errors, text);
+    if st.how != 0 {
+        clear_words(tokens, 0);
+        clear_words(errors, 0);
+        clear_bytes(text, 0);
+        return refused(st.how);
+    }
+    clear_words(tokens, 8 * st.tokens);
+    clear_words(errors, 4 * st.errors);
+    clear_bytes(text, st.text);
+    Tokenized {
+        number: 0,
+        tokens: st.tokens,
+        errors: st.errors,
+        bytes: st.text,
+    }
+}

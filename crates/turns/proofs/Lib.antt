@@ -1,0 +1,5 @@
+pub mod Turned
+mod Numbers
+pub mod Textless
+mod Words
+mod Strings

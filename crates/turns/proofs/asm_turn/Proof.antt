@@ -1,0 +1,62 @@
+use native.Mathlib.Omega.{arith}
+use Rattle.turns.proofs.Words.{asm-foreign-law, asm-open-law, asm-other-law}
+use borrow.Author.Needs.{needs}
+use Rattle.turns.proofs.asm_turn.Statement.{statement}
+use Rattle.turns.proofs.asm_turn.Tie as tie
+
+white-requires : tie.Need-white-requires
+white-requires c κs = search needs
+
+look-requires : tie.Need-look-requires
+look-requires c κs = search needs
+
+refuse-requires : tie.Need-refuse-requires
+refuse-requires c κs = search needs
+
+returns : tie.Need-returns
+returns c = search asm-foreign-law
+
+skip-requires : tie.Need-skip-requires
+skip-requires c κs = search needs
+
+assembly-requires : tie.Need-assembly-requires
+assembly-requires c κs = search needs
+
+with-text-requires : tie.Need-with-text-requires
+with-text-requires c κs = (c .before .before .before .before .before .before .before .before .before .before .before .before .before .before .before .before .pre .0 .few, omega (arith, c .before .before .before .before .before .before .before .before .before .before .before .before .before .before .before .before .pre .0 .wide), omega (arith, c .before .before .before .before .assembly .ensures .wrote .count), omega (arith, c .before .before .before .before .assembly .ensures .room, c .before .before .before .before .assembly .ensures .passed .stands .inside, c .before .before .before .before .before .before .before .before .before .before .before .before .before .before .before .before .pre .0 .asks .small))
+
+same-length : tie.Need-same-length
+same-length c = search needs
+
+same-length-2 : tie.Need-same-length-2
+same-length-2 c = search needs
+
+returns-2 : tie.Need-returns-2
+returns-2 c = asm-open-law _ (c .before .before .before .before .before .before .before .before .before .before .before .before .before .white .ensures) (c .before .before .before .before .before .before .before .before .before .before .before .before .look .ensures) (c .before .before .before .before .before .before .before .before .before .before .before .before .before .before .before .before .before .before .before .pre .0) (c .before .before .before .before .before .before .before .before .before .before .before .if1 .left) (c .before .before .before .before .before .before .before .before .before .before .skip .ensures) (c .before .before .before .before .before .before .before .before .before .if2 .taken) (c .before .before .before .before .before .before .before .assembly .ensures) (c .before .before .with-text .ensures)
+
+with-errors-requires : tie.Need-with-errors-requires
+with-errors-requires c κs = search needs
+
+same-length-3 : tie.Need-same-length-3
+same-length-3 c = search needs
+
+returns-3 : tie.Need-returns-3
+returns-3 c = search asm-other-law
+
+pub asm-turn-spec : {M : Type 1} → statement M
+asm-turn-spec =
+    tie.close
+    (tie.spec
+    white-requires
+    look-requires
+    refuse-requires
+    returns
+    skip-requires
+    assembly-requires
+    with-text-requires
+    same-length
+    same-length-2
+    returns-2
+    with-errors-requires
+    same-length-3
+    returns-3)

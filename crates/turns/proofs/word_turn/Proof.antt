@@ -1,0 +1,123 @@
+use Rattle.turns.proofs.Turned.{ready-on, ready-wrote}
+use native.Mathlib.Omega.{arith}
+use Rattle.turns.proofs.Words.{word-foreign-law, word-asm-law, word-identifier-law, word-keyword-law}
+use borrow.Author.Needs.{needs}
+use Rattle.turns.proofs.word_turn.Statement.{statement}
+use Rattle.turns.proofs.word_turn.Tie as tie
+
+put8-requires : tie.Need-put8-requires
+put8-requires c κs = search needs
+
+word-requires : tie.Need-word-requires
+word-requires c κs = search needs
+
+look-requires : tie.Need-look-requires
+look-requires c κs = search needs
+
+refuse-requires : tie.Need-refuse-requires
+refuse-requires c κs = search needs
+
+same-length : tie.Need-same-length
+same-length c = search needs
+
+returns : tie.Need-returns
+returns c = search word-foreign-law
+
+sub-same : tie.Need-sub-same
+sub-same c = search needs
+
+part-same-start : tie.Need-part-same-start
+part-same-start c = search needs
+
+part-same-end : tie.Need-part-same-end
+part-same-end c = search needs
+
+slice-aggregate-same : tie.Need-slice-aggregate-same
+slice-aggregate-same c = search needs
+
+same-requires : tie.Need-same-requires
+same-requires c κs = search needs
+
+asm-turn-requires : tie.Need-asm-turn-requires
+asm-turn-requires c κs = (ready-on (ready-wrote (ready-wrote (c .before .before .before .before .before .before .before .before .before .before .before .before .before .before .before .before .before .before .before .before .before .before .before .before .pre .0) (c .before .before .before .before .before .before .before .before .before .before .before .before .before .before .before .before .before .put8 .ensures)) (c .before .before .before .before .before .before .before .before .before .before .before .before .before .word .ensures .wrote)) (c .before .before .before .before .before .before .before .before .before .before .before .before .before .word .ensures .passed), omega arith)
+
+same-length-2 : tie.Need-same-length-2
+same-length-2 c = search needs
+
+same-length-3 : tie.Need-same-length-3
+same-length-3 c = search needs
+
+same-length-4 : tie.Need-same-length-4
+same-length-4 c = search needs
+
+returns-2 : tie.Need-returns-2
+returns-2 c = word-asm-law _ (c .before .before .before .before .before .before .before .before .before .before .before .before .before .before .before .before .before .before .before .before .before .before .before .before .before .before .before .before .before .before .before .pre .0) (c .before .before .before .before .before .before .before .before .before .before .before .before .before .before .before .before .before .before .before .before .before .before .before .before .put8 .ensures) (c .before .before .before .before .before .before .before .before .before .before .before .before .before .before .before .before .before .before .before .before .word .ensures) (c .before .before .before .before .before .before .before .before .before .before .before .before .before .before .before .before .look .ensures) (c .before .before .before .before .before .before .before .before .before .before .before .before .before .before .before .if1 .left) (c .before .before .before .before .before .before .before .before .before .before .before .same .ensures) (c .before .before .before .before .before .before .before .before .before .before .if2 .taken) (c .before .before .before .before .before .before .asm-turn .ensures)
+
+sub-keyword : tie.Need-sub-keyword
+sub-keyword c = search needs
+
+part-keyword-start : tie.Need-part-keyword-start
+part-keyword-start c = search needs
+
+part-keyword-end : tie.Need-part-keyword-end
+part-keyword-end c = search needs
+
+keyword-requires : tie.Need-keyword-requires
+keyword-requires c κs = search needs
+
+with-text-requires : tie.Need-with-text-requires
+with-text-requires c κs = (c .before .before .before .before .before .before .before .before .before .before .before .before .before .before .before .before .before .before .before .before .before .before .before .before .before .before .pre .0 .few, omega (arith, c .before .before .before .before .before .before .before .before .before .before .before .before .before .before .before .before .before .before .before .before .before .before .before .before .before .before .pre .0 .wide), omega (arith, c .before .before .before .before .before .before .before .before .before .before .before .before .before .before .before .before .before .before .before .put8 .ensures .count, c .before .before .before .before .before .before .before .before .before .before .before .before .before .before .before .word .ensures .wrote .count), omega (arith, c .before .before .before .before .before .before .before .before .before .before .before .before .before .before .before .word .ensures .room, c .before .before .before .before .before .before .before .before .before .before .before .before .before .before .before .word .ensures .passed .stands .inside, c .before .before .before .before .before .before .before .before .before .before .before .before .before .before .before .before .before .before .before .before .before .before .before .before .before .before .pre .0 .asks .small))
+
+same-length-5 : tie.Need-same-length-5
+same-length-5 c = search needs
+
+same-length-6 : tie.Need-same-length-6
+same-length-6 c = search needs
+
+returns-3 : tie.Need-returns-3
+returns-3 c = word-identifier-law _ (c .before .before .before .before .before .before .before .before .before .before .before .before .before .before .before .before .before .before .before .before .before .before .before .before .before .before .before .before .before .pre .0) (c .before .before .before .before .before .before .before .before .before .before .before .before .before .before .before .before .before .before .before .before .before .before .put8 .ensures) (c .before .before .before .before .before .before .before .before .before .before .before .before .before .before .before .before .before .before .word .ensures) (c .before .before .before .before .before .before .before .before .before .before .before .before .before .before .look .ensures) (c .before .before .before .before .before .before .before .before .before .before .before .before .before .if1 .left) (c .before .before .before .before .before .before .before .before .before .same .ensures) (c .before .before .before .before .before .before .before .before .if2 .left) (c .before .before .before .before .before .keyword .ensures) (c .before .before .before .before .if3 .taken) (c .before .before .with-text .ensures)
+
+plain-requires : tie.Need-plain-requires
+plain-requires c κs = (c .before .before .before .before .before .before .before .before .before .before .before .before .before .before .before .before .before .before .before .before .before .before .before .before .before .before .pre .0 .few, omega (arith, c .before .before .before .before .before .before .before .before .before .before .before .before .before .before .before .before .before .before .before .before .before .before .before .before .before .before .pre .0 .wide))
+
+same-length-7 : tie.Need-same-length-7
+same-length-7 c = search needs
+
+same-length-8 : tie.Need-same-length-8
+same-length-8 c = search needs
+
+returns-4 : tie.Need-returns-4
+returns-4 c = word-keyword-law _ (c .before .before .before .before .before .before .before .before .before .before .before .before .before .before .before .before .before .before .before .before .before .before .before .before .before .before .before .before .before .pre .0) (c .before .before .before .before .before .before .before .before .before .before .before .before .before .before .before .before .before .before .before .before .before .before .put8 .ensures) (c .before .before .before .before .before .before .before .before .before .before .before .before .before .before .before .before .before .before .word .ensures) (c .before .before .before .before .before .before .before .before .before .before .before .before .before .before .look .ensures) (c .before .before .before .before .before .before .before .before .before .before .before .before .before .if1 .left) (c .before .before .before .before .before .before .before .before .before .same .ensures) (c .before .before .before .before .before .before .before .before .if2 .left) (c .before .before .before .before .before .keyword .ensures) (c .before .before .before .before .if3 .left) (c .before .before .plain .ensures)
+
+pub word-turn-spec : {M : Type 1} → statement M
+word-turn-spec =
+    tie.close
+    (tie.spec
+    put8-requires
+    word-requires
+    look-requires
+    refuse-requires
+    same-length
+    returns
+    sub-same
+    part-same-start
+    part-same-end
+    slice-aggregate-same
+    same-requires
+    asm-turn-requires
+    same-length-2
+    same-length-3
+    same-length-4
+    returns-2
+    sub-keyword
+    part-keyword-start
+    part-keyword-end
+    keyword-requires
+    with-text-requires
+    same-length-5
+    same-length-6
+    returns-3
+    plain-requires
+    same-length-7
+    same-length-8
+    returns-4)

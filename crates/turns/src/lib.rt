@@ -1,0 +1,340 @@
+// The turns of the tokenizer's loop, by what they begin with. A turn has the state before it, whose place is the token's, and the place `c` behind what it has read.
+use classes::character::is_digit;
+use classes::spelling::keyword;
+use classes::spelling::same;
+use definition::kind;
+use definition::refusal;
+use definition::token_error;
+use records::State;
+use records::push_errors;
+use records::push_token;
+use scan::assembly;
+use scan::digits;
+use scan::look;
+use scan::put8;
+use scan::quoted;
+use scan::skip;
+use scan::white;
+use scan::word;
+use source::Cursor;
+use source::step;
+ghost use mathlib.Core.Bool.{false};
+ghost use mathlib.Core.Path.{_≡_};
+ghost use mathlib.Core.List.{List, [], _∷_};
+ghost use Prim.Native.Nat.{ℕ, _*_, _-_, _<_, _≤_};
+ghost use lib.ListN.{length, replicate};
+ghost use Rattle.definition.specs.Tokenizer as Z;
+ghost use Rattle.source.specs.Place.{rest, placed};
+ghost use Rattle.records.specs.Push.{ErrorsPushed, TokenPushed};
+ghost use Rattle.turns.specs.Turn.{at-cursor, at-text, Few, Ready, Turned};
+
+// ---- how a turn ends
+
+pub fn refuse(st: State, how: u32) -> State
+    ensures { λ r. ⌜ r .how ≡ how ⌝ }
+{
+    let cursor = st.cursor;
+    State {
+        cursor,
+        tokens: st.tokens,
+        errors: st.errors,
+        text: st.text,
+        how,
+    }
+}
+
+// Nothing is pushed.
+pub fn moved(st: State, c: Cursor) -> State
+    ensures { λ r. ⌜ r ≡ at-cursor st c ⌝ }
+{
+    State {
+        cursor: c,
+        tokens: st.tokens,
+        errors: st.errors,
+        text: st.text,
+        how: st.how,
+    }
+}
+
+// A token with no text.
+pub fn plain(most: usize, tokens: &mut [u32], st: State, c: Cursor, kind: u32) -> State
+    requires { ⌜ Few most st × (8 * most ≤ length (now tokens)) ⌝ }
+    ensures { λ r. ⌜ TokenPushed most (now (tokens .entry)) (at-cursor st c) (kind ∷ st .cursor .line ∷ st .cursor .column ∷ 0 ∷ 0 ∷ 0 ∷ 0 ∷ 0 ∷ []) (now (tokens .exit)) r ⌝ }
+{
+    let from = st.cursor;
+    let on = State {
+        cursor: c,
+        tokens: st.tokens,
+        errors: st.errors,
+        text: st.text,
+        how: st.how,
+    };
+    push_token(most, tokens, on, kind, from.line, from.column, 0, 0, 0)
+}
+
+// A token at `from`, with the text up to `n`.
+fn with_text(
+    most: usize,
+    tokens: &mut [u32],
+    st: State,
+    from: Cursor,
+    c: Cursor,
+    n: usize,
+    kind: u32,
+    base: u32,
+) -> State
+    requires { ⌜ Few most st × (8 * most ≤ length (now tokens)) × (st .text ≤ n) × (n ≤ 16384) ⌝ }
+    ensures { λ r. ⌜ TokenPushed most (now (tokens .entry)) (at-text st c n) (kind ∷ from .line ∷ from .column ∷ st .text ∷ (n - (st .text)) ∷ base ∷ 0 ∷ 0 ∷ []) (now (tokens .exit)) r ⌝ }
+{
+    let start = st.text;
+    let on = State {
+        cursor: c,
+        tokens: st.tokens,
+        errors: st.errors,
+        text: n,
+        how: st.how,
+    };
+    push_token(
+        most,
+        tokens,
+        on,
+        kind,
+        from.line,
+        from.column,
+        start,
+        n - start,
+        base,
+    )
+}
+
+// The same error at `from`, `count` times, with the text up to `n`.
+pub fn with_errors(
+    errors: &mut [u32],
+    st: State,
+    from: Cursor,
+    c: Cursor,
+    n: usize,
+    count: usize,
+    number: u32,
+) -> State
+    requires { ⌜ (1024 ≤ length (now errors)) × (st .errors ≤ 255) × (count ≤ 16384) ⌝ }
+    ensures { λ r. ⌜ ErrorsPushed (now (errors .entry)) (at-text st c n) (replicate count (Z.token-error number (placed from))) (now (errors .exit)) r ⌝ }
+{
+    let on = State {
+        cursor: c,
+        tokens: st.tokens,
+        errors: st.errors,
+        text: n,
+        how: st.how,
+    };
+    push_errors(errors, on, count, number, from.line, from.column)
+}
+
+// ---- numbers
+
+// Behind the first digit, or the dash before it.
+pub fn number_turn(
+    most: usize,
+    s: &[u8],
+    st: State,
+    c: Cursor,
+    first: u8,
+    tokens: &mut [u32],
+    text: &mut [u8],
+) -> State
+    requires { ⌜ Ready most (now s) (now tokens) (now text) st c × (st .text < c .at) ⌝ }
+    ensures { λ r. ⌜ ((E : List ℕ) → Turned most (Z.integer (placed (st .cursor)) 10 (first ∷ []) (Z.digits 10 (rest (now (s .entry)) c))) (now (s .entry)) st c (now (tokens .entry)) E (now (text .entry)) r (now (tokens .exit)) E (now (text .exit))) ⌝ }
+{
+    let from = st.cursor;
+    let start = st.text;
+    let n = put8(text, start, first);
+    let d = digits(s, c, 10, text, n);
+    let e = d.cursor;
+    with_text(most, tokens, st, from, e, d.n, kind::INTEGER, 10)
+}
+
+// Behind a `0` that opens the number, and the letter of its base.
+fn based_turn(
+    most: usize,
+    s: &[u8],
+    st: State,
+    c: Cursor,
+    base: u32,
+    tokens: &mut [u32],
+    text: &mut [u8],
+) -> State
+    requires { ⌜ Ready most (now s) (now tokens) (now text) st c × (st .text < c .at) ⌝ }
+    ensures { λ r. ⌜ ((E : List ℕ) → Turned most (Z.integer (placed (st .cursor)) base [] (Z.digits base (rest (now (s .entry)) c))) (now (s .entry)) st c (now (tokens .entry)) E (now (text .entry)) r (now (tokens .exit)) E (now (text .exit))) ⌝ }
+{
+    let from = st.cursor;
+    let start = st.text;
+    let d = digits(s, c, base, text, start);
+    let e = d.cursor;
+    let n = d.n;
+    if n == start {
+        let m = put8(text, start, b'0');
+        return with_text(most, tokens, st, from, e, m, kind::INTEGER, base);
+    }
+    with_text(most, tokens, st, from, e, n, kind::INTEGER, base)
+}
+
+// Behind a `0` that opens the number.
+pub fn zero_turn(
+    most: usize,
+    s: &[u8],
+    st: State,
+    c: Cursor,
+    tokens: &mut [u32],
+    text: &mut [u8],
+) -> State
+    requires { ⌜ Ready most (now s) (now tokens) (now text) st c × (st .text < c .at) ⌝ }
+    ensures { λ r. ⌜ ((E : List ℕ) → Turned most (Z.zero-turn (placed (st .cursor)) (rest (now (s .entry)) c)) (now (s .entry)) st c (now (tokens .entry)) E (now (text .entry)) r (now (tokens .exit)) E (now (text .exit))) ⌝ }
+{
+    let b = look(s, c);
+    if b == b'x' {
+        let d = skip(s, c);
+        return based_turn(most, s, st, d, 16, tokens, text);
+    }
+    if b == b'b' {
+        let d = skip(s, c);
+        return based_turn(most, s, st, d, 2, tokens, text);
+    }
+    based_turn(most, s, st, c, 10, tokens, text)
+}
+
+// Behind a dash.
+pub fn dash_turn(
+    most: usize,
+    s: &[u8],
+    st: State,
+    c: Cursor,
+    tokens: &mut [u32],
+    text: &mut [u8],
+) -> State
+    requires { ⌜ Ready most (now s) (now tokens) (now text) st c × (st .text < c .at) ⌝ }
+    ensures { λ r. ⌜ ((E : List ℕ) → Turned most (Z.dash-turn (placed (st .cursor)) (rest (now (s .entry)) c)) (now (s .entry)) st c (now (tokens .entry)) E (now (text .entry)) r (now (tokens .exit)) E (now (text .exit))) ⌝ }
+{
+    let at = c.at;
+    if s.len() <= at {
+        return refuse(st, refusal::MINUS_AT_END);
+    }
+    let b = s[at];
+    let d = step(s, c);
+    if b == b'>' {
+        return plain(most, tokens, st, d, kind::R_ARROW);
+    }
+    if is_digit(b) {
+        return number_turn(most, s, st, c, b'-', tokens, text);
+    }
+    plain(most, tokens, st, d, kind::MINUS)
+}
+
+// ---- words
+
+// Behind `asm`.
+fn asm_turn(
+    most: usize,
+    s: &[u8],
+    st: State,
+    c: Cursor,
+    tokens: &mut [u32],
+    errors: &mut [u32],
+    text: &mut [u8],
+) -> State
+    requires { ⌜ Ready most (now s) (now tokens) (now text) st c × (1024 ≤ length (now errors)) ⌝ }
+    ensures { λ r. ⌜ Turned most (Z.assembly-turn (placed (st .cursor)) (Z.white (rest (now (s .entry)) c))) (now (s .entry)) st c (now (tokens .entry)) (now (errors .entry)) (now (text .entry)) r (now (tokens .exit)) (now (errors .exit)) (now (text .exit)) ⌝ }
+{
+    let from = st.cursor;
+    let w = white(s, c);
+    let b = look(s, w);
+    if 127 < b {
+        return refuse(st, refusal::FOREIGN_CHARACTER);
+    }
+    let d = skip(s, w);
+    if b == b'{' {
+        let a = assembly(s, d, text, st.text);
+        let e = a.cursor;
+        return with_text(
+            most,
+            tokens,
+            st,
+            from,
+            e,
+            a.n,
+            kind::INLINE_ASSEMBLY_FRAGMENT,
+            0,
+        );
+    }
+    with_errors(errors, st, from, d, st.text, 1, token_error::NO_ASSEMBLY)
+}
+
+// Behind the first letter of a word.
+pub fn word_turn(
+    most: usize,
+    s: &[u8],
+    st: State,
+    c: Cursor,
+    first: u8,
+    tokens: &mut [u32],
+    errors: &mut [u32],
+    text: &mut [u8],
+) -> State
+    requires { ⌜ Ready most (now s) (now tokens) (now text) st c × (st .text < c .at) × (1024 ≤ length (now errors)) ⌝ }
+    ensures { λ r. ⌜ Turned most (Z.word-turn (placed (st .cursor)) (Z.run-ahead (first ∷ []) (Z.word (rest (now (s .entry)) c)))) (now (s .entry)) st c (now (tokens .entry)) (now (errors .entry)) (now (text .entry)) r (now (tokens .exit)) (now (errors .exit)) (now (text .exit)) ⌝ }
+{
+    let from = st.cursor;
+    let start = st.text;
+    let n = put8(text, start, first);
+    let w = word(s, c, text, n);
+    let d = w.cursor;
+    let end = w.n;
+    if 127 < look(s, d) {
+        return refuse(st, refusal::FOREIGN_CHARACTER);
+    }
+    if same(&text[start..end], b"asm") {
+        return asm_turn(most, s, st, d, tokens, errors, text);
+    }
+    let k = keyword(&text[start..end]);
+    if k == 0 {
+        return with_text(most, tokens, st, from, d, end, kind::IDENTIFIER, 0);
+    }
+    plain(most, tokens, st, d, k)
+}
+
+// ---- strings
+
+// Behind a quote.
+pub fn string_turn(
+    most: usize,
+    s: &[u8],
+    st: State,
+    c: Cursor,
+    tokens: &mut [u32],
+    errors: &mut [u32],
+    text: &mut [u8],
+) -> State
+    requires { ⌜ Ready most (now s) (now tokens) (now text) st c × (1024 ≤ length (now errors)) ⌝ }
+    ensures { λ r. ⌜ Turned most (Z.string-turn (placed (st .cursor)) (Z.quoted false (rest (now (s .entry)) c))) (now (s .entry)) st c (now (tokens .entry)) (now (errors .entry)) (now (text .entry)) r (now (tokens .exit)) (now (errors .exit)) (now (text .exit)) ⌝ }
+{
+    let from = st.cursor;
+    let start = st.text;
+    let q = quoted(s, c, text, start);
+    let d = q.cursor;
+    let end = q.n;
+    let e = with_errors(
+        errors,
+        st,
+        from,
+        d,
+        start,
+        q.unknown,
+        token_error::UNKNOWN_ESCAPE,
+    );
+    if e.how != 0 {
+        return e;
+    }
+    if q.closed {
+        return with_text(most, tokens, e, from, d, end, kind::STRING, 0);
+    }
+    with_errors(errors, e, from, d, start, 1, token_error::UNCLOSED_STRING)
+}
