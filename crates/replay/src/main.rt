@@ -1,0 +1,235 @@
+// Reads a list of scripts with the answers that Tokenise should give (beside/README.md has its format) from
+// standard input, and writes how many agree and how many differ, and the number of the first that differs.
+use libc::STDIN_FILENO;
+use libc::STDOUT_FILENO;
+
+fn wide(b: u8) -> u32 {
+    b as u32
+}
+
+// A number in two bytes, high byte first.
+fn pair(high: u8, low: u8) -> u32 {
+    wide(high) % 256 * 256 + wide(low) % 256
+}
+
+// Whether the next twelve bytes of the input are the token record at an index.
+fn token_agrees(tokens: &[u32], at: usize) -> bool {
+    let mut b = [0u8; 12];
+    if io::read_full(STDIN_FILENO, &mut b) != 12 {
+        return false;
+    }
+    if tokens.len() / 8 <= at {
+        return false;
+    }
+    let i = 8 * at;
+    if tokens[i] != wide(b[0]) {
+        return false;
+    }
+    if tokens[i + 1] != pair(b[1], b[2]) {
+        return false;
+    }
+    if tokens[i + 2] != pair(b[3], b[4]) {
+        return false;
+    }
+    if tokens[i + 3] != pair(b[5], b[6]) {
+        return false;
+    }
+    if tokens[i + 4] != pair(b[7], b[8]) {
+        return false;
+    }
+    if tokens[i + 5] != wide(b[9]) {
+        return false;
+    }
+    if tokens[i + 6] != wide(b[10]) {
+        return false;
+    }
+    tokens[i + 7] == wide(b[11])
+}
+
+// Whether the next six bytes of the input are the token error at an index.
+fn error_agrees(errors: &[u32], at: usize) -> bool {
+    let mut b = [0u8; 6];
+    if io::read_full(STDIN_FILENO, &mut b) != 6 {
+        return false;
+    }
+    if errors.len() / 4 <= at {
+        return false;
+    }
+    let i = 4 * at;
+    if errors[i] != wide(b[0]) {
+        return false;
+    }
+    if errors[i + 1] != pair(b[1], b[2]) {
+        return false;
+    }
+    if errors[i + 2] != pair(b[3], b[4]) {
+        return false;
+    }
+    errors[i + 3] == wide(b[5])
+}
+
+fn record_agrees(words: &[u32], at: usize, is_token: bool) -> bool {
+    if is_token {
+        token_agrees(words, at)
+    } else {
+        error_agrees(words, at)
+    }
+}
+
+// Reads so many records, also behind one that differs.
+fn records_agree(words: &[u32], count: u32, are_tokens: bool) -> bool {
+    let mut agree = true;
+    for at in 0..count {
+        if !record_agrees(words, at as usize, are_tokens) {
+            agree = false;
+        }
+    }
+    agree
+}
+
+fn same_start(a: &[u8], b: &[u8], n: usize) -> bool {
+    if a.len() < n {
+        return false;
+    }
+    if b.len() < n {
+        return false;
+    }
+    let from = 0;
+    check::same(&a[from..n], &b[from..n])
+}
+
+// Reads so many bytes to the start of a slice; whether they were there.
+fn fill(space: &mut [u8], n: usize) -> bool {
+    if space.len() < n {
+        return false;
+    }
+    let from = 0;
+    io::read_full(STDIN_FILENO, &mut space[from..n]) == n
+}
+
+// Whether the next bytes of the input, so many, are the text.
+fn text_agrees(text: &[u8], count: u32) -> bool {
+    let mut space = [0u8; 16384];
+    let n = count as usize;
+    if !fill(&mut space, n) {
+        return false;
+    }
+    same_start(text, &space, n)
+}
+
+enum Found {
+    Agrees,
+    Differs,
+    End,
+}
+
+// Tokenises the first bytes of a slice, then reads the answer that should come of them.
+fn answer(space: &[u8], n: usize) -> Found {
+    if space.len() < n {
+        return Found::End;
+    }
+    let from = 0;
+    let mut tokens = [0u32; 16384];
+    let mut errors = [0u32; 1024];
+    let mut text = [0u8; 16384];
+    let got = tokenizer::tokenize(&space[from..n], &mut tokens, &mut errors, &mut text);
+    let mut b = [0u8; 7];
+    if io::read_full(STDIN_FILENO, &mut b) != 7 {
+        return Found::End;
+    }
+    let token_count = pair(b[1], b[2]);
+    let error_count = pair(b[3], b[4]);
+    let text_count = pair(b[5], b[6]);
+    let tokens_same = records_agree(&tokens, token_count, true);
+    let errors_same = records_agree(&errors, error_count, false);
+    let text_same = text_agrees(&text, text_count);
+    if got.number != wide(b[0]) {
+        return Found::Differs;
+    }
+    if got.tokens != token_count as usize {
+        return Found::Differs;
+    }
+    if got.errors != error_count as usize {
+        return Found::Differs;
+    }
+    if got.text != text_count as usize {
+        return Found::Differs;
+    }
+    if !tokens_same {
+        return Found::Differs;
+    }
+    if !errors_same {
+        return Found::Differs;
+    }
+    if !text_same {
+        return Found::Differs;
+    }
+    Found::Agrees
+}
+
+fn case() -> Found {
+    let mut space = [0u8; 20000];
+    let mut b = [0u8; 3];
+    if io::read_full(STDIN_FILENO, &mut b) != 3 {
+        return Found::End;
+    }
+    let n = (wide(b[0]) % 256 * 65536 + pair(b[1], b[2]) % 65536) as usize;
+    if !fill(&mut space, n) {
+        return Found::End;
+    }
+    answer(&space, n)
+}
+
+// `first` is the number, from 0, of the first case that differs.
+struct Counts {
+    agree: u64,
+    differ: u64,
+    first: u64,
+}
+
+// A list has fewer cases than this.
+const MOST: u64 = 1000000000;
+
+fn all_cases() -> Counts {
+    let mut agree: u64 = 0;
+    let mut differ: u64 = 0;
+    let mut first: u64 = 0;
+    for turn in 0..MOST {
+        match case() {
+            Found::Agrees => {
+                agree = std::num::wrapping_add_u64(agree, 1);
+            }
+            Found::Differs => {
+                if differ == 0 {
+                    first = agree;
+                }
+                differ = std::num::wrapping_add_u64(differ, 1);
+            }
+            Found::End => {
+                return Counts {
+                    agree,
+                    differ,
+                    first,
+                };
+            }
+        }
+    }
+    Counts {
+        agree,
+        differ,
+        first,
+    }
+}
+
+fn main() {
+    let counts = all_cases();
+    if counts.differ != 0 {
+        io::write_all(STDOUT_FILENO, b"the first that differs: ");
+        io::print_decimal(STDOUT_FILENO, counts.first);
+        io::write_all(STDOUT_FILENO, b"\n");
+    }
+    io::print_decimal(STDOUT_FILENO, counts.agree);
+    io::write_all(STDOUT_FILENO, b" agree, ");
+    io::print_decimal(STDOUT_FILENO, counts.differ);
+    io::write_all(STDOUT_FILENO, b" differ\n");
+}
