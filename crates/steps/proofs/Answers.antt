@@ -16,7 +16,7 @@ use Rattle.definition.specs.Choice.{pick}
 use Rattle.definition.specs.Source.{Place, nowhere}
 use Rattle.definition.specs.Node.{Num, Rec, rec-bytes, recs-bytes}
 use Rattle.definition.specs.Fallible.{Err, Fallible, Ans, ok, fatal}
-use Rattle.definition.specs.Act.{Act, done, make, Consumed, St, Res, gives, refused, after, or-return, run, push, _>>=_, _>>?_}
+use Rattle.definition.specs.Act.{Act, Node, done, make, Consumed, St, Res, gives, refused, after, or-return, run, push, _>>=_, _>>?_}
 use Rattle.definition.specs.Parser as P
 use Rattle.definition.specs.Go.{go, turns}
 use Rattle.definition.proofs.Flat.{go-bind}
@@ -150,17 +150,17 @@ module _ {A : Type 0} {K : View A} {T T′ : List ℕ} {E E′ : List Err} {rs :
 place-of : Rec → Place
 place-of z = elim (z .place) [ none ↦ nowhere | some p ↦ p ]
 
--- Behind an answer a of a construct with the records rs and the errors es, the record v is written: z in the definition's terms.
-module _ {A : Type 0} {K : View A} {T : List ℕ} {E : List Err} {rs : List Rec} {es : List Err} {w x : List ℕ} {n : ℕ} {o o′ r f : List ℕ} {a y : Answer} {v : Record} {q : Res (Ans A)} (d : ℕ) (p : Place) (ns : List Num) (text : List ℕ) (u : Finished x o a v o′ y) where
-  pub finishes : rec-of x v ≡ record { tag = v .tag; place = some p; numbers = ns; text = text } → Shows K T E rs es w x n o r f a q
-      → Shows node T E [] [] w x n o′ r f y (after q (λ z S. go d (or-return (λ e. P.good (P.node (rs ++ K .recs (e .item)) (v .tag) p ns text) (es ++ e .errors)) z) S))
+-- What a record makes of an item, behind the records rs and the errors es that the construct has before; its place and numbers may be the item's.
+abbrev pub wrapped : {A : Type 0} → View A → List Rec → List Err → ℕ → (A → Place) → (A → List Num) → List ℕ → Fallible A → Act (Ans Node)
+wrapped K rs es tag p ns text e = P.good (P.node (rs ++ K .recs (e .item)) tag (p (e .item)) (ns (e .item)) text) (es ++ e .errors)
+
+module _ {A : Type 0} {K : View A} {T : List ℕ} {E : List Err} {rs : List Rec} {es : List Err} {w x : List ℕ} {n : ℕ} {o o′ r f : List ℕ} {a y : Answer} {v : Record} {q : Res (Ans A)} (d : ℕ) (p : A → Place) (ns : A → List Num) (text : List ℕ) (u : Finished x o a v o′ y) where
+  pub finishes : ((i : A) → K .fine (a .line) (a .column) i → rec-of x v ≡ record { tag = v .tag; place = some (p i); numbers = ns i; text = text }) → Shows K T E rs es w x n o r f a q
+      → Shows node T E [] [] w x n o′ r f y (after q (λ z S. go d (or-return (wrapped K rs es (v .tag) p ns text) z) S))
   unfolding go run place-of
   finishes e h = record { told = one (a .how) refl (u .is) (h .told) }
     where
-      place : p ≡ record { line = v .line; column = v .column }
-      place = ap place-of (sym e)
-
-      one : (k : How) → a .how ≡ k → FinishedOf k x o a v o′ y → ShowsOf k K T E rs es w x n o r f a q → ShowsOf (y .how) node T E [] [] w x n o′ r f y (after q (λ z S. go d (or-return (λ e. P.good (P.node (rs ++ K .recs (e .item)) (v .tag) p ns text) (es ++ e .errors)) z) S))
-      one Done z m g = rw (m .0) (record { item = P.node (rs ++ K .recs (g .item)) (v .tag) p ns text; errors = es ++ g .errors; read = g .read; is = rw (g .is, u .at, u .full); tree = wrote T (rs ++ K .recs (g .item)) (m .1 .0) (g .tree) (sym e); rep = ap (λ (k : ℕ). errs r k) (u .reported) ∙ g .rep; holds = place ∙ sym (rw (m .1 .1 .0, m .1 .1 .1)) })
+      one : (k : How) → a .how ≡ k → FinishedOf k x o a v o′ y → ShowsOf k K T E rs es w x n o r f a q → ShowsOf (y .how) node T E [] [] w x n o′ r f y (after q (λ z S. go d (or-return (wrapped K rs es (v .tag) p ns text) z) S))
+      one Done z m g = rw (m .0) (record { item = P.node (rs ++ K .recs (g .item)) (v .tag) (p (g .item)) (ns (g .item)) text; errors = es ++ g .errors; read = g .read; is = rw (g .is, u .at, u .full); tree = wrote T (rs ++ K .recs (g .item)) (m .1 .0) (g .tree) (sym (e (g .item) (g .holds))); rep = ap (λ (k : ℕ). errs r k) (u .reported) ∙ g .rep; holds = ap place-of (sym (e (g .item) (g .holds))) ∙ sym (rw (m .1 .1 .0, m .1 .1 .1)) })
       one Fatal z m g = rw (m .0, m .1, z) (record { errors = g .errors; read = g .read; is = rw (g .is); tree = g .tree; rep = g .rep })
       one (Refused k) z m g = rw (m .0, z, g)

@@ -15,7 +15,7 @@ use Rattle.fallible.specs.declared.Answer.{Answer}
 use Rattle.fallible.specs.Answers.{refused-at, one-more, making, Raised, Abandoned, Cuts}
 use Rattle.steps.specs.declared.Front.{Front}
 use Rattle.steps.specs.Tokens.{rest, spend, budget, Seen}
-use Rattle.steps.specs.Shows.{Asks, Moved, Follows}
+use Rattle.steps.specs.Shows.{Asks, Asked, Moved, Follows}
 use Rattle.steps.proofs.Tokens.{rest-nil, fore}
 
 -- at the end nothing is left to pay for
@@ -54,3 +54,12 @@ asks-moved q m h g = record { held = q .held; at = m .end; reported = omega arit
 
 pub abandoned-moved : {w x : List ℕ} {n i j k : ℕ} {r r′ : List ℕ} {s : State} {b c : Answer} → Moved w x n (s .pos) (s .reported) s (b .state) → Abandoned r b i j k r′ c → Moved w x n i j s (c .state)
 abandoned-moved {w} {x} {n} m v = record { at = omega arith; end = omega arith; pos = v .low; room = omega (arith, ap (λ (k : ℕ). budget w x n k) (v .at)); reported = v .first; less = omega arith; full = omega arith; few = omega arith }
+
+module _ {w x : List ℕ} {n : ℕ} {o r f : List ℕ} {s : State} (q : Asked w x n o r f s) where
+  -- behind a token
+  pub asked-seen : {t : Front} → Seen w x n (s .at) t → Asked w x n o r f (fore s t)
+  asked-seen v = record { asks = asks-fore (q .asks) v; room = omega arith }
+
+  -- at a later state, in slices as long
+  pub asked-moved : {i j : ℕ} {o′ r′ f′ : List ℕ} {t : State} → Moved w x n i j s t → length o′ ≡ length o → length r′ ≡ length r → length f′ ≡ length f → Asked w x n o′ r′ f′ t
+  asked-moved m a b c = record { asks = asks-moved (q .asks) m b c; room = omega arith }

@@ -42,6 +42,10 @@ seen-end {w} {x} {n} {at} g h =
     let e = rest-nil w x n at h in
     record { kind = rw e; place = rw e; text = rw e; base = rw e; tail = rw e; pays = omega arith; on = omega arith; up = omega arith; end = omega arith; part = omega arith; kinds = omega arith; lines = omega arith; columns = omega arith; bases = omega arith; based = λ z. omega arith }
 
+-- a token that is there is of some kind
+pub alive : {w x : List ℕ} {n at : ℕ} → Held w x n → at < n → 0 < head (rest w x n at) .kind
+alive {w} {x} {n} {at} q h = rw (rest-cons w x n at h) (q .each at h .real)
+
 -- a test of a token's kind
 pub yes : {w x : List ℕ} {n at k : ℕ} {t : Front} → Seen w x n at t → t .kind ≡ k → head (rest w x n at) is k ≡ true
 yes v e = eq-eqb _ _ (v .kind ∙ e)

@@ -32,6 +32,7 @@ budget w x n at = spend (rest w x n at)
 
 -- a record that can be read
 pub record Sound (w x : List ℕ) (i : ℕ) : Type 0 where
+  pub real : 0 < getD w (8 * i) 0
   pub kind : getD w (8 * i) 0 ≤ 54
   pub line : getD w (8 * i + 1) 0 ≤ 16384
   pub column : getD w (8 * i + 2) 0 ≤ 16384

@@ -1,0 +1,113 @@
+-- The levels of an expression: boolean and, comparison, the arithmetic operators, casts. Assumes nothing.
+use mathlib.Core.Path.{_≡_, refl, sym, ap, _∙_, subst}
+use mathlib.Core.Bool.{Bool, true, false}
+use mathlib.Core.Option.{some}
+use mathlib.Core.List.{List, [], _∷_, _++_}
+use Prim.Native.Nat.{ℕ, min, _+_, _*_, _-_, _≤_, _<_}
+use native.Mathlib.Omega.{arith}
+use lib.Dec.{eqb}
+use lib.ListN.{length, take}
+use borrow.Author.Tests.{eq-eqb, ne-eqb}
+use Rattle.definition.specs.Source.{Place}
+use Rattle.definition.specs.Node.{Num, byte, Rec}
+use Rattle.definition.specs.Fallible.{Err, Fallible, Ans, ok}
+use Rattle.definition.specs.Kind as K
+use Rattle.definition.specs.Token.{Tok, head, _is_}
+use Rattle.definition.specs.Act as A
+use Rattle.definition.specs.Act.{Act, done, loop, Operators, Casts, Node, Consumed, plain, St, Res, gives, after, or-return, run, now-read, advance, next, _>>=_, _>>?_}
+use Rattle.definition.specs.Parser as P
+use Rattle.definition.specs.Go.{go, turns}
+use Rattle.definition.proofs.Flat.{go-bind, go-loop}
+use Rattle.fallible.specs.declared.State.{State}
+use Rattle.fallible.specs.declared.How.the-variants.{Done}
+use Rattle.fallible.specs.declared.Answer.{Answer}
+use Rattle.fallible.specs.Answers.{Abandoned}
+use Rattle.node.specs.Put.{rec-of, size-of}
+use Rattle.node.specs.declared.Numbers.{Numbers}
+use Rattle.node.specs.declared.Numbers.the-variants.{None, Byte}
+use Rattle.node.specs.declared.Record.{Record}
+use Rattle.steps.specs.declared.Front.{Front}
+use Rattle.steps.specs.Tokens.{rest, Seen}
+use Rattle.steps.specs.Shows.{st-of, Reads, Goes, GoesOn, node, Finished}
+use Rattle.steps.proofs.Tokens.{yes, no, fore, adv}
+use Rattle.leaves.specs.Leaves.{Operator}
+use Rattle.grammar.specs.Post.{operators-on, casts-on}
+use Rattle.grammar.proofs.Joins.{goes-none, goes-joined, goes-turn}
+
+-- the record of an operator
+abbrev pub at-operator : Front → ℕ → Numbers → Record
+at-operator t tag ns = record { tag = tag; line = t .line; column = t .column; numbers = ns; start = 0; len = 0 }
+
+-- behind the operator
+abbrev pub past : List ℕ → List ℕ → ℕ → ℕ → List Consumed → List Consumed
+past w x n at rd = rd ++ now-read (λ _. plain) (rest w x n at)
+
+-- ---- what follows an operand
+
+abbrev pub and-on : Fallible Node → Act (Ans Node)
+and-on e = A.peek λ t. A.if_then_else_ (t is K.DoubleAmpersand) (next λ op. P.parse-comparison >>? λ r. done (ok (P.binary 0x2C [] (op .place) e r))) (done (ok e))
+
+abbrev compared : Fallible Node → ℕ → Act (Ans Node)
+compared e o = next λ op. P.parse-bitwise-or >>? λ r. done (ok (P.binary 0x2E (byte o ∷ []) (op .place) e r))
+
+abbrev pub compare-on : Fallible Node → Act (Ans Node)
+compare-on e = A.peek λ t. P.find t P.comparisons (compared e) (done (ok e))
+
+abbrev operated : A.Level → Fallible Node → ℕ → Act (Ans Node)
+operated l e o = next λ op. P.cascade l >>? λ r. operators-on l (P.binary 0x2D (byte o ∷ []) (op .place) e r)
+
+-- which way the definition goes at a token
+module _ {ops : List P.Op} {c op : ℕ} (k : Operator ops c op) (t : Tok) (e : t .kind ≡ c) (d : ℕ) (found : ℕ → Act (Ans Node)) (other : Act (Ans Node)) (S : St) where
+  none-found : op ≡ 0 → go d (P.find t ops found other) S ≡ go d other S
+  none-found h = k .is t e found other d S ∙ rw (eq-eqb op 0 h)
+
+  one-found : (op ≡ 0 → ⊥) → go d (P.find t ops found other) S ≡ go d (found (op - 1)) S
+  one-found h = k .is t e found other d S ∙ rw (ne-eqb op 0 h)
+
+module _ {w x : List ℕ} {n d i j : ℕ} {o r f : List ℕ} {a : Answer} {t : Front} (q : GoesOn w x n o r f a i j) (z : a .how ≡ Done) (u : Seen w x n (a .state .at) t) where
+  -- ---- `&&`
+
+  pub and-none : (t .kind ≡ 29 → ⊥) → Goes node node w x n d and-on i j o r f a o r f a
+  unfolding go run
+  and-none h = goes-none q z (λ e rd. rw (run, no u h))
+
+  pub and-found : {o1 r1 f1 r2 o2 : List ℕ} {b c y : Answer} → t .kind ≡ 29 → Reads node w x n d P.parse-comparison o r f (fore (a .state) t) o1 r1 f1 b → Abandoned r1 b i j (a .state .reported) r2 c → Finished x o1 c (at-operator t 0x2C None) o2 y → Goes node node w x n d and-on i j o r f a o2 r2 f1 y
+  unfolding go run
+  and-found h B C F = goes-joined (head (rest w x n (a .state .at)) .place) [] q z u B C F (omega arith) (rw (u .place)) (past w x n (a .state .at)) (λ e rd. rw (run, yes u h) (ap (λ (S : St). go d (P.parse-comparison >>? λ r. done (ok (P.binary 0x2C [] (head (rest w x n (a .state .at)) .place) e r))) S) (adv (a .state) u (λ _. plain) f rd)))
+
+  -- ---- comparisons and operators of a level
+
+  pub compare-none : {op : ℕ} → Operator P.comparisons (t .kind) op → op ≡ 0 → Goes node node w x n d compare-on i j o r f a o r f a
+  unfolding go run
+  compare-none k h = goes-none q z (λ e rd. none-found k (head (rest w x n (a .state .at))) (u .kind) d (compared e) (done (ok e)) (st-of w x n f rd (a .state)) h)
+
+  pub compare-found : {op : ℕ} {o1 r1 f1 r2 o2 : List ℕ} {b c y : Answer} → Operator P.comparisons (t .kind) op → (op ≡ 0 → ⊥) → Reads node w x n d P.parse-bitwise-or o r f (fore (a .state) t) o1 r1 f1 b → Abandoned r1 b i j (a .state .reported) r2 c → Finished x o1 c (at-operator t 0x2E (Byte (op - 1))) o2 y → Goes node node w x n d compare-on i j o r f a o2 r2 f1 y
+  unfolding go run
+  compare-found {op} k h B C F =
+      goes-joined (head (rest w x n (a .state .at)) .place) (byte (op - 1) ∷ []) q z u B C F (omega (arith, k .real)) (rw (u .place)) (past w x n (a .state .at))
+      (λ e rd. one-found k (head (rest w x n (a .state .at))) (u .kind) d (compared e) (done (ok e)) (st-of w x n f rd (a .state)) h ∙ ap (λ (S : St). go d (P.parse-bitwise-or >>? λ r. done (ok (P.binary 0x2E (byte (op - 1) ∷ []) (head (rest w x n (a .state .at)) .place) e r))) S) (adv (a .state) u (λ _. plain) f rd))
+
+  module _ (l : A.Level) {op : ℕ} (k : Operator (P.mapping l) (t .kind) op) where
+    pub operators-none : op ≡ 0 → Goes node node w x n d (operators-on l) i j o r f a o r f a
+    unfolding go run P.operators-turn
+    operators-none h = goes-none q z (λ e rd. go-loop d (Operators l e) (st-of w x n f rd (a .state)) ∙ none-found k (head (rest w x n (a .state .at))) (u .kind) d (operated l e) (done (ok e)) (st-of w x n f rd (a .state)) h)
+
+    pub operators-more : {o1 r1 f1 r2 o2 o3 r3 f3 : List ℕ} {b c y y′ : Answer} → (op ≡ 0 → ⊥) → Reads node w x n d (P.cascade l) o r f (fore (a .state) t) o1 r1 f1 b → Abandoned r1 b i j (a .state .reported) r2 c → Finished x o1 c (at-operator t 0x2D (Byte (op - 1))) o2 y
+        → Goes node node w x n d (operators-on l) i j o2 r2 f1 y o3 r3 f3 y′ → Goes node node w x n d (operators-on l) i j o r f a o3 r3 f3 y′
+    unfolding go run P.operators-turn
+    operators-more h B C F G =
+        goes-turn (head (rest w x n (a .state .at)) .place) (byte (op - 1) ∷ []) q z u B C F (omega (arith, k .real)) (rw (u .place)) (past w x n (a .state .at)) (λ e b. P.binary 0x2D (byte (op - 1) ∷ []) (head (rest w x n (a .state .at)) .place) e b) (λ e b. refl)
+        (λ e rd. go-loop d (Operators l e) (st-of w x n f rd (a .state)) ∙ one-found k (head (rest w x n (a .state .at))) (u .kind) d (operated l e) (done (ok e)) (st-of w x n f rd (a .state)) h ∙ ap (λ (S : St). go d (P.cascade l >>? λ b. operators-on l (P.binary 0x2D (byte (op - 1) ∷ []) (head (rest w x n (a .state .at)) .place) e b)) S) (adv (a .state) u (λ _. plain) f rd)) G
+
+  -- ---- casts
+
+  pub casts-none : (t .kind ≡ 14 → ⊥) → Goes node node w x n d casts-on i j o r f a o r f a
+  unfolding go run P.casts-turn
+  casts-none h = goes-none q z (λ e rd. go-loop d (Casts e) (st-of w x n f rd (a .state)) ∙ rw (run, no u h))
+
+  pub casts-more : {o1 r1 f1 r2 o2 o3 r3 f3 : List ℕ} {b c y y′ : Answer} → t .kind ≡ 14 → Reads node w x n d P.parse-type o r f (fore (a .state) t) o1 r1 f1 b → Abandoned r1 b i j (a .state .reported) r2 c → Finished x o1 c (at-operator t 0x26 None) o2 y
+      → Goes node node w x n d casts-on i j o2 r2 f1 y o3 r3 f3 y′ → Goes node node w x n d casts-on i j o r f a o3 r3 f3 y′
+  unfolding go run P.casts-turn
+  casts-more h B C F G =
+      goes-turn (head (rest w x n (a .state .at)) .place) [] q z u B C F (omega arith) (rw (u .place)) (past w x n (a .state .at)) (λ e b. P.binary 0x26 [] (head (rest w x n (a .state .at)) .place) e b) (λ e b. refl)
+      (λ e rd. go-loop d (Casts e) (st-of w x n f rd (a .state)) ∙ rw (run, yes u h) (ap (λ (S : St). go d (P.parse-type >>? λ b. casts-on (P.binary 0x26 [] (head (rest w x n (a .state .at)) .place) e b)) S) (adv (a .state) u (λ _. plain) f rd))) G

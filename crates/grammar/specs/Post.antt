@@ -1,0 +1,99 @@
+-- What the functions of the cycle show beyond `Reads` and `Goes`. Assumes nothing.
+use mathlib.Core.Path.{_≡_}
+use mathlib.Core.List.{List, [], _∷_, _++_}
+use Prim.Native.Nat.{ℕ, min, _+_, _*_, _<_, _≤_}
+use lib.Dec.{eqb}
+use lib.ListN.{length, take}
+use Rattle.definition.specs.Ascii.{ascii}
+use Rattle.definition.specs.Choice.{pick}
+use Rattle.definition.specs.Source.{Place}
+use Rattle.definition.specs.Node.{Rec, recs-bytes}
+use Rattle.definition.specs.Fallible.{Err, Fallible, Ans, ok}
+use Rattle.definition.specs.Kind as K
+use Rattle.definition.specs.Token.{Tok, head}
+use Rattle.definition.specs.Act as A
+use Rattle.definition.specs.Act.{Items, Node, Act, done, loop, ListOf, Casts, Suffixes, Operators, Consumed, _>>=_}
+use Rattle.definition.specs.Parser as P
+use Rattle.definition.specs.Go.{go}
+use Rattle.node.specs.Put.{Wrote, bare-of}
+use Rattle.node.specs.declared.Numbers.the-variants.{None}
+use Rattle.fallible.specs.declared.State.{State}
+use Rattle.fallible.specs.declared.How.{How}
+use Rattle.fallible.specs.declared.How.the-variants.{Done, Fatal, Refused}
+use Rattle.fallible.specs.declared.Answer.{Answer}
+use Rattle.fallible.specs.Lists.{errs}
+use Rattle.steps.specs.Tokens.{rest, budget, Held}
+use Rattle.steps.specs.Shows.{st-of, Moved, Shows, done-of, node, typed, items}
+
+abbrev pub place-at : ℕ → ℕ → Place
+place-at line column = record { line = line; column = column }
+
+-- ---- the loops, behind an operand
+
+abbrev pub operators-on : A.Level → Fallible Node → Act (Ans Node)
+operators-on l e = loop (Operators l e) done
+
+abbrev pub casts-on : Fallible Node → Act (Ans Node)
+casts-on e = loop (Casts e) done
+
+abbrev pub suffixes-on : Fallible Node → Act (Ans Node)
+suffixes-on e = loop (Suffixes e) done
+
+-- ---- names
+
+-- the name that a token gives
+abbrev pub name-of : Tok → List ℕ
+name-of t = pick (eqb (t .kind) K.Identifier) (t .text) (ascii "<?>")
+
+pub record NameRoom (w x : List ℕ) (n : ℕ) (o : List ℕ) (a : Answer) (at : ℕ) : Type 0 where
+  pub held : Held w x n
+  pub within : at ≤ n
+  pub room : a .state .pos + 19 * done-of (a .how) + length (head (rest w x n at) .text) ≤ length o
+
+abbrev pub BareNamedOf : How → List ℕ → List ℕ → ℕ → List ℕ → Answer → ℕ → ℕ → List ℕ → Answer → Type 0
+BareNamedOf Done w x n o a tag at o′ y = (y .how ≡ Done) × (Wrote o (a .state .pos) (bare-of tag None (name-of (head (rest w x n at)))) (3 + length (name-of (head (rest w x n at)))) o′ (y .state .pos) × ((y .line ≡ 0) × (y .column ≡ 0)))
+BareNamedOf Fatal w x n o a tag at o′ y = (y ≡ a) × (o′ ≡ o)
+BareNamedOf (Refused m) w x n o a tag at o′ y = (y ≡ a) × (o′ ≡ o)
+
+pub record BareNamed (w x : List ℕ) (n : ℕ) (o : List ℕ) (a : Answer) (tag p : ℕ) (o′ : List ℕ) (y : Answer) : Type 0 where
+  pub at : y .state .at ≡ a .state .at
+  pub reported : y .state .reported ≡ a .state .reported
+  pub full : y .state .full ≡ a .state .full
+  pub low : a .state .pos ≤ y .state .pos
+  pub high : y .state .pos ≤ a .state .pos + 6 * done-of (a .how) + length (head (rest w x n p) .text)
+  pub is : BareNamedOf (a .how) w x n o a tag p o′ y
+
+-- ---- typed identifiers
+
+pub record ReadsTyped (w x : List ℕ) (n d : ℕ) (o r f : List ℕ) (s : State) (o′ r′ f′ : List ℕ) (a : Answer) : Type 0 where
+  pub moved : Moved w x n (s .pos) (s .reported) s (a .state)
+  pub on : s .at + min (head (rest w x n (s .at)) .kind) 1 ≤ a .state .at
+  pub spare : a .state .pos + budget w x n (a .state .at) + 32 * done-of (a .how) + length (head (rest w x n (s .at)) .text) ≤ s .pos + budget w x n (s .at)
+  pub is : (rd : List Consumed) → Shows (typed (name-of (head (rest w x n (s .at))))) (take (s .pos) o) (errs r (s .reported)) [] [] w x n o′ r′ f′ a (go d P.parse-typed-identifier (st-of w x n f rd s))
+
+-- behind the name: the construct has the errors since j
+pub record TypedOn (w x : List ℕ) (n d j : ℕ) (o r f : List ℕ) (s : State) (o′ r′ f′ : List ℕ) (a : Answer) : Type 0 where
+  pub moved : Moved w x n (s .pos) j s (a .state)
+  pub spare : a .state .pos + budget w x n (a .state .at) + 16 * done-of (a .how) ≤ s .pos + budget w x n (s .at)
+  pub is : (rd : List Consumed) (name : List ℕ) (E es : List Err) → length E ≡ j → errs r (s .reported) ≡ E ++ es
+      → Shows (typed name) (take (s .pos) o) E [] [] w x n o′ r′ f′ a (go d (P.typed name es) (st-of w x n f rd s))
+
+-- ---- lists
+
+-- the items of a list, as an answer
+abbrev pub as-answer : Items → Act (Ans Items)
+as-answer i = done (ok (record { item = i; errors = i .errors }))
+
+pub record ReadsList (w x : List ℕ) (n d : ℕ) (k : A.Listed) (o r f : List ℕ) (s : State) (o′ r′ f′ : List ℕ) (a : Answer) : Type 0 where
+  pub moved : Moved w x n (s .pos) (s .reported) s (a .state)
+  pub on : s .at + min (head (rest w x n (s .at)) .kind) 1 ≤ a .state .at
+  pub spare : a .state .pos + budget w x n (a .state .at) + 16 * min (head (rest w x n (s .at)) .kind) 1 ≤ s .pos + budget w x n (s .at)
+  pub never : a .how ≡ Fatal → ⊥
+  pub is : (rd : List Consumed) → Shows items (take (s .pos) o) (errs r (s .reported)) [] [] w x n o′ r′ f′ a (go d (P.parse-list k >>= as-answer) (st-of w x n f rd s))
+
+-- the loop, with the items i
+pub record ListOn (w x : List ℕ) (n d : ℕ) (k : A.Listed) (count : ℕ) (o r f : List ℕ) (s : State) (o′ r′ f′ : List ℕ) (a : Answer) : Type 0 where
+  pub moved : Moved w x n (s .pos) (s .reported) s (a .state)
+  pub never : a .how ≡ Fatal → ⊥
+  pub is : (rd : List Consumed) (T : List ℕ) (E : List Err) (i : Items) → take (s .pos) o ≡ T ++ recs-bytes (i .recs) → errs r (s .reported) ≡ E ++ i .errors → i .count ≡ count
+      → Shows items T E [] [] w x n o′ r′ f′ a (go d (loop (ListOf k i) done >>= as-answer) (st-of w x n f rd s))

@@ -1,0 +1,51 @@
+-- Which operator, comparison or prefix a kind is. Assumes nothing.
+use mathlib.Core.Path.{_≡_, refl, sym, _∙_, subst}
+use mathlib.Core.Bool.{Bool, true, false}
+use mathlib.Core.List.{List, [], _∷_}
+use Prim.Native.Nat.{ℕ, min, _+_, _-_, _≤_}
+use native.Mathlib.Omega.{arith}
+use lib.Dec.{eqb}
+use borrow.Author.Tests.{eq-eqb, ne-eqb, eqb-false}
+use Rattle.definition.specs.Fallible.{Ans}
+use Rattle.definition.specs.Token.{Tok, head}
+use Rattle.definition.specs.Act.{Node, Act, St, run}
+use Rattle.definition.specs.Kind as K
+use Rattle.definition.specs.Parser as P
+use Rattle.definition.specs.Go.{go}
+use Rattle.leaves.specs.declared.Level.{Level}
+use Rattle.leaves.specs.Leaves.{level-of, Operator, Prefix}
+
+-- where a table has the kind k, at r - 1; nowhere where r is 0
+pub record Finds (ops : List P.Op) (k r : ℕ) : Type 0 where
+  pub is : (t : Tok) → t .kind ≡ k → (found : ℕ → Act (Ans Node)) (other : Act (Ans Node)) (d : ℕ) (S : St) → go d (P.find t ops found other) S ≡ go d (elim (eqb r 0) [ true ↦ other | false ↦ found (r - 1) ]) S
+
+pub none : {k : ℕ} → Finds [] k 0
+none = record { is = λ t e found other d S. refl }
+
+module _ {k c p : ℕ} {ops : List P.Op} where
+  pub hit : k ≡ c → Finds (P.on c p ∷ ops) k (p + 1)
+  unfolding go run
+  hit z = record { is = λ t e found other d S. let s : p + 1 - 1 ≡ p = omega arith in rw (run, eq-eqb (t .kind) c (e ∙ z), ne-eqb (p + 1) 0 (λ y. omega arith), s) }
+
+  pub miss : {r : ℕ} → (k ≡ c → ⊥) → Finds ops k r → Finds (P.on c p ∷ ops) k r
+  unfolding go run
+  miss z h = record { is = λ t e found other d S. rw (run, ne-eqb (t .kind) c (λ y. z (sym e ∙ y))) (h .is t e found other d S) }
+
+pub finds : {ops : List P.Op} {k r : ℕ} → r ≤ 8 → min r 1 ≤ k → Finds ops k r → Operator ops k r
+finds h g i = record { small = h; real = g; is = i .is }
+
+-- at the code's level
+pub at-level : {v v′ : Level} {k r : ℕ} → v ≡ v′ → r ≤ 8 → min r 1 ≤ k → Finds (P.mapping (level-of v′)) k r → Operator (P.mapping (level-of v)) k r
+at-level {v} {v′} {k} {r} e h g i = subst (λ (z : Level). Operator (P.mapping (level-of z)) k r) (sym e) (finds h g i)
+
+-- the prefix operators as a table, of their tags
+abbrev pub prefixes : List P.Op
+prefixes = P.on K.Ampersand 0x26 ∷ P.on K.Star 0x27 ∷ P.on K.Tilde 0x29 ∷ P.on K.Bang 0x2A ∷ []
+
+pub prefixed : {k r : ℕ} → r ≤ 0x2B → min r 1 ≤ k → Finds prefixes k r → Prefix k r
+unfolding go run P.unary-rule
+prefixed {k} {r} h g i = record { small = h; real = g; is = λ d S e. i .is (head (S .left)) e (λ o. P.prefix (o + 1)) P.parse-call d S ∙ one (eqb r 0) refl d S }
+  where
+    one : (b : Bool) → eqb r 0 ≡ b → (d : ℕ) (S : St) → go {A = Ans Node} d (elim b [ true ↦ P.parse-call | false ↦ P.prefix (r - 1 + 1) ]) S ≡ go {A = Ans Node} d (elim b [ true ↦ P.parse-call | false ↦ P.prefix r ]) S
+    one true e d S = refl
+    one false e d S = let z = eqb-false r 0 e in let s : r - 1 + 1 ≡ r = omega arith in rw s

@@ -1,0 +1,5 @@
+pub mod Values
+pub mod Choices
+pub mod Errors
+pub mod Lists
+pub mod Atoms

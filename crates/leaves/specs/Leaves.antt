@@ -1,0 +1,129 @@
+-- What the functions below the cycle show. Assumes nothing.
+use mathlib.Core.Path.{_≡_}
+use mathlib.Core.Bool.{Bool, true, false, _||_, not}
+use mathlib.Core.List.{List, _++_}
+use Prim.Native.Nat.{ℕ, min, _+_, _-_, _^_, _≤_}
+use lib.Dec.{eqb, ltb}
+use Rattle.definition.specs.Fallible.{Err, Ans}
+use Rattle.definition.specs.Token.{Tok, head, dashed, number}
+use Rattle.definition.specs.Act as A
+use Rattle.definition.specs.Act.{Items, Node, Act, done, loop, ListOf, Consumed, St, refused}
+use Rattle.definition.specs.Parser as P
+use Rattle.definition.specs.Go.{go}
+use Rattle.fallible.specs.declared.State.{State}
+use Rattle.fallible.specs.declared.How.{How}
+use Rattle.fallible.specs.declared.How.the-variants.{Done, Fatal, Refused}
+use Rattle.fallible.specs.declared.Answer.{Answer}
+use Rattle.fallible.specs.Lists.{errs}
+use Rattle.steps.specs.declared.Front.{Front}
+use Rattle.steps.specs.Tokens.{rest}
+use Rattle.steps.specs.Shows.{st-of, Asked, Moved, Expects}
+use Rattle.leaves.specs.declared.Listed.{Listed}
+use Rattle.leaves.specs.declared.Listed.the-variants as I
+use Rattle.leaves.specs.declared.Level.{Level}
+use Rattle.leaves.specs.declared.Level.the-variants as Lv
+use Rattle.leaves.specs.declared.Size.{Size}
+
+-- ---- lists
+
+abbrev pub listed-of : Listed → A.Listed
+listed-of I.Parameters = A.Parameters
+listed-of I.Arguments = A.Arguments
+listed-of I.StructFields = A.StructFields
+listed-of I.ArrayValues = A.ArrayValues
+listed-of I.StructValues = A.StructValues
+
+abbrev pub count-of : How → ℕ → ℕ
+count-of Done n = n + 1
+count-of Fatal n = n
+count-of (Refused m) n = n
+
+pub record Counted (h : How) (n r : ℕ) : Type 0 where
+  pub is : r ≡ count-of h n
+  pub low : n ≤ r
+  pub high : r ≤ n + 1
+
+-- the items with some errors more
+abbrev pub with-errors : Items → List Err → Items
+with-errors i es = record { count = i .count; recs = i .recs; errors = i .errors ++ es }
+
+-- after an item the list goes on
+pub record Next (w x : List ℕ) (n : ℕ) (k : A.Listed) (r f : List ℕ) (s : State) (r′ f′ : List ℕ) (s′ : State) (d : ℕ) (rd : List Consumed) (i : Items) : Type 0 where
+  pub errors : List Err
+  pub read : List Consumed
+  pub is : go d (P.after-item k i) (st-of w x n f rd s) ≡ go d (loop (ListOf k (with-errors i errors)) done) (st-of w x n f′ read s′)
+  pub rep : errs r′ (s′ .reported) ≡ errs r (s .reported) ++ errors
+
+abbrev pub CommasOf : How → List ℕ → List ℕ → ℕ → A.Listed → List ℕ → List ℕ → State → List ℕ → List ℕ → State → ℕ → List Consumed → Items → Type 0
+CommasOf Done w x n k r f s r′ f′ s′ d rd i = Next w x n k r f s r′ f′ s′ d rd i
+CommasOf Fatal w x n k r f s r′ f′ s′ d rd i = ⊥
+CommasOf (Refused m) w x n k r f s r′ f′ s′ d rd i = go d (P.after-item k i) (st-of w x n f rd s) ≡ refused m
+
+pub record Commas (w x : List ℕ) (n : ℕ) (r f : List ℕ) (s : State) (close : ℕ) (r′ f′ : List ℕ) (a : Answer) : Type 0 where
+  pub moved : Moved w x n (s .pos) (s .reported) s (a .state)
+  pub pos : a .state .pos ≡ s .pos
+  pub is : (k : A.Listed) → P.closer k ≡ close → (d : ℕ) (rd : List Consumed) (i : Items) → CommasOf (a .how) w x n k r f s r′ f′ (a .state) d rd i
+
+-- ---- array sizes
+
+-- the text is no size that fits
+abbrev pub unfit : ℕ → List ℕ → Bool
+unfit base t = dashed t || not (ltb (number base 0 t) (2 ^ 64))
+
+pub record Valued (t : List ℕ) (base : ℕ) (v : Size) : Type 0 where
+  pub fits : unfit base t ≡ not (v .fits)
+  pub number : v .fits ≡ true → number base 0 t ≡ v .number
+
+-- ---- operators
+
+abbrev pub level-of : Level → A.Level
+level-of Lv.BitwiseOr = A.BitOr
+level-of Lv.BitwiseXor = A.BitXor
+level-of Lv.BitwiseAnd = A.BitAnd
+level-of Lv.BitShift = A.Shift
+level-of Lv.AddSub = A.AddSub
+level-of Lv.Mul = A.Mul
+
+-- the kind k is the operator r - 1 of the table, or none of them where r is 0: which way the definition goes
+pub record Operator (ops : List P.Op) (k r : ℕ) : Type 0 where
+  pub small : r ≤ 8
+  pub real : min r 1 ≤ k
+  pub is : (t : Tok) → t .kind ≡ k → (found : ℕ → Act (Ans Node)) (other : Act (Ans Node)) (d : ℕ) (S : St) → go d (P.find t ops found other) S ≡ go d (elim (eqb r 0) [ true ↦ other | false ↦ found (r - 1) ]) S
+
+-- the kind k has the prefix tag r, or none where r is 0
+pub record Prefix (k r : ℕ) : Type 0 where
+  pub small : r ≤ 0x2B
+  pub real : min r 1 ≤ k
+  pub is : (d : ℕ) (S : St) → head (S .left) .kind ≡ k → go d P.unary-rule S ≡ go d (elim (eqb r 0) [ true ↦ P.parse-call | false ↦ P.prefix r ]) S
+
+-- ---- literals, groups
+
+-- the answer of a token that is read
+abbrev pub there : State → Front → Answer
+there s t = record { how = Done; state = record { at = t .next; pos = s .pos; reported = s .reported; full = s .full }; line = t .line; column = t .column }
+
+-- no parenthesis opens what is read
+pub record Literal (w x : List ℕ) (n : ℕ) (o r f : List ℕ) (s : State) : Type 0 where
+  pub asked : Asked w x n o r f s
+  pub bare : head (rest w x n (s .at)) .kind ≡ 41 → ⊥
+
+-- behind the item a, `)` is asked for: b is that answer
+abbrev pub ClosingOf : How → Answer → Answer → Answer → Type 0
+ClosingOf Done a b y = y ≡ record { how = a .how; state = b .state; line = a .line; column = a .column }
+ClosingOf Fatal a b y = y ≡ record { how = a .how; state = b .state; line = a .line; column = a .column }
+ClosingOf (Refused m) a b y = y ≡ b
+
+pub record Closing (w x : List ℕ) (n : ℕ) (r f : List ℕ) (a : Answer) (r′ f′ : List ℕ) (y : Answer) : Type 0 where
+  pub b : Answer
+  pub expects : Expects w x n (λ role. P.expect-as role 42) r f (a .state) r′ f′ b
+  pub is : ClosingOf (b .how) a b y
+
+abbrev pub ClosedOf : How → List ℕ → List ℕ → ℕ → List ℕ → List ℕ → Answer → List ℕ → List ℕ → Answer → Type 0
+ClosedOf Done w x n r f a r′ f′ y = Closing w x n r f a r′ f′ y
+ClosedOf Fatal w x n r f a r′ f′ y = Closing w x n r f a r′ f′ y
+ClosedOf (Refused m) w x n r f a r′ f′ y = (y ≡ a) × ((r′ ≡ r) × (f′ ≡ f))
+
+pub record Closed (w x : List ℕ) (n : ℕ) (r f : List ℕ) (a : Answer) (r′ f′ : List ℕ) (y : Answer) : Type 0 where
+  pub moved : Moved w x n (a .state .pos) (a .state .reported) (a .state) (y .state)
+  pub pos : y .state .pos ≡ a .state .pos
+  pub is : ClosedOf (a .how) w x n r f a r′ f′ y

@@ -1,0 +1,408 @@
+// The functions of parser.rs that call none of the four counted ones: what lists, levels, literals, sizes and groups are made of.
+use definition::kind;
+use definition::parse_error;
+use definition::tag;
+use fallible::Answer;
+use fallible::How;
+use fallible::State;
+use fallible::entry;
+use fallible::note;
+use fallible::raise;
+use node::Numbers;
+use node::Record;
+use steps::Front;
+use steps::expect;
+use steps::finish;
+use steps::head;
+ghost use mathlib.Core.Path.{_≡_};
+ghost use Prim.Native.Nat.{ℕ, _+_, _<_, _≤_};
+ghost use lib.ListN.{length, take, drop};
+ghost use Rattle.definition.specs.Parser as P;
+ghost use Rattle.definition.specs.Token.{digit};
+ghost use Rattle.node.specs.Put.{Room};
+ghost use Rattle.steps.specs.Shows.{Asks, Reads, Finished, node};
+ghost use Rattle.leaves.specs.Leaves.{listed-of, Counted, Commas, Valued, level-of, Operator, Prefix, there, Literal, Closed};
+
+// The lists of parse_bounded_list_of.
+pub enum Listed {
+    Parameters,
+    Arguments,
+    StructFields,
+    ArrayValues,
+    StructValues,
+}
+
+// The levels of parse_arithmetic_binop, the loosest first.
+pub enum Level {
+    BitwiseOr,
+    BitwiseXor,
+    BitwiseAnd,
+    BitShift,
+    AddSub,
+    Mul,
+}
+
+// The kind that opens a list.
+pub fn opener(what: Listed) -> u32
+    ensures { λ r. ⌜ (r ≡ P.opener (listed-of what)) × ((0 < r) × (r < 256)) ⌝ }
+{
+    match what {
+        Listed::Parameters => kind::L_PAREN,
+        Listed::Arguments => kind::L_PAREN,
+        Listed::StructFields => kind::L_BRACE,
+        Listed::ArrayValues => kind::L_BRACKET,
+        Listed::StructValues => kind::L_BRACE,
+    }
+}
+
+// The kind that closes it.
+pub fn closer(what: Listed) -> u32
+    ensures { λ r. ⌜ r ≡ P.closer (listed-of what) ⌝ }
+{
+    match what {
+        Listed::Parameters => kind::R_PAREN,
+        Listed::Arguments => kind::R_PAREN,
+        Listed::StructFields => kind::R_BRACE,
+        Listed::ArrayValues => kind::R_BRACKET,
+        Listed::StructValues => kind::R_BRACE,
+    }
+}
+
+// One more where the item is there.
+pub fn counted(how: How, count: usize) -> usize
+    requires { ⌜ count < 65536 ⌝ }
+    ensures { λ r. ⌜ Counted how count r ⌝ }
+{
+    match how {
+        How::Done => count + 1,
+        How::Fatal => count,
+        How::Refused(_) => count,
+    }
+}
+
+// What stands between two items of a list: a comma, the end of the list or of the input, or an error.
+pub fn comma(
+    tokens: &[u32],
+    text: &[u8],
+    n: usize,
+    rep: &mut [usize],
+    full: &mut [usize],
+    st: State,
+    close: u32,
+) -> Answer
+    requires { ⌜ Asks (now tokens) (now text) n (now rep) (now full) st ⌝ }
+    ensures { λ r. ⌜ Commas (now (tokens .entry)) (now (text .entry)) n (now (rep .entry)) (now (full .entry)) st close (now (rep .exit)) (now (full .exit)) r ⌝ }
+{
+    let at = st.at;
+    let t = head(tokens, text, n, at);
+    let on = State { at: t.next, ..st };
+    if t.kind == kind::COMMA {
+        return Answer {
+            how: How::Done,
+            state: on,
+            line: 0,
+            column: 0,
+        };
+    }
+    if t.kind == close {
+        return Answer {
+            how: How::Done,
+            state: st,
+            line: 0,
+            column: 0,
+        };
+    }
+    if t.kind == kind::END {
+        return Answer {
+            how: How::Done,
+            state: st,
+            line: 0,
+            column: 0,
+        };
+    }
+    note(
+        n,
+        rep,
+        full,
+        on,
+        entry(parse_error::IN_LIST, t.line, t.column, 0, t.kind),
+    )
+}
+
+// The value of a digit.
+fn digit_value(c: u8) -> usize
+    ensures { λ r. ⌜ (r ≡ digit c) × (r < 256) ⌝ }
+{
+    if c <= b'9' {
+        if c < b'0' {
+            return 0;
+        }
+        return (c - b'0') as usize;
+    }
+    if c <= b'Z' {
+        return (c - 55) as usize;
+    }
+    (c - 87) as usize
+}
+
+// An array's size, where `fits` is true.
+pub struct Size {
+    pub fits: bool,
+    pub number: usize,
+}
+
+// `usize::from_str_radix`: the number that a text is in a base, where no dash stands before it and it is below 2 to the 64.
+pub fn array_size(text: &[u8], start: usize, len: usize, base: usize) -> Size
+    requires { ⌜ (start + len ≤ length (now text)) × ((0 < base) × (base < 256)) ⌝ }
+    ensures { λ r. ⌜ Valued (take len (drop start (now (text .entry)))) base r ⌝ }
+{
+    if len == 0 {
+        return Size {
+            fits: true,
+            number: 0,
+        };
+    }
+    if text[start] == b'-' {
+        return Size {
+            fits: false,
+            number: 0,
+        };
+    }
+    let mut i = 0;
+    let mut number: usize = 0;
+    while i < len {
+        let d = digit_value(text[start + i]);
+        if (18446744073709551615 - d) / base < number {
+            return Size {
+                fits: false,
+                number: 0,
+            };
+        }
+        number = number * base + d;
+        i += 1;
+    }
+    Size { fits: true, number }
+}
+
+// The operator of a level that a kind is, one more than its position in `ArithmeticBinOp`; 0 where it is none.
+pub fn operator(level: Level, k: u32) -> u8
+    ensures { λ r. ⌜ Operator (P.mapping (level-of level)) k r ⌝ }
+{
+    match level {
+        Level::BitwiseOr => if k == kind::BAR { 6 } else { 0 },
+        Level::BitwiseXor => if k == kind::CARET { 5 } else { 0 },
+        Level::BitwiseAnd => if k == kind::AMPERSAND { 4 } else { 0 },
+        Level::BitShift => {
+            if k == kind::LEFT_SHIFT {
+                return 7;
+            }
+            if k == kind::RIGHT_SHIFT { 8 } else { 0 }
+        }
+        Level::AddSub => {
+            if k == kind::PLUS {
+                return 1;
+            }
+            if k == kind::MINUS { 2 } else { 0 }
+        }
+        Level::Mul => if k == kind::STAR { 3 } else { 0 },
+    }
+}
+
+// The comparison that a kind is, one more than its position in `ComparisonBinOp`; 0 where it is none.
+pub fn comparison_operator(k: u32) -> u8
+    ensures { λ r. ⌜ Operator P.comparisons k r ⌝ }
+{
+    if k == kind::DOUBLE_EQUALS {
+        return 1;
+    }
+    if k == kind::L_ANGLE {
+        return 4;
+    }
+    if k == kind::L_ANGLE_EQUALS {
+        return 5;
+    }
+    if k == kind::R_ANGLE {
+        return 2;
+    }
+    if k == kind::R_ANGLE_EQUALS { 3 } else { 0 }
+}
+
+// The tag of a prefix operator; 0 where the kind is none.
+pub fn prefix(k: u32) -> u8
+    ensures { λ r. ⌜ Prefix k r ⌝ }
+{
+    if k == kind::AMPERSAND {
+        return tag::POINTER_TAKE;
+    }
+    if k == kind::STAR {
+        return tag::POINTER_DEREFERENCE;
+    }
+    if k == kind::TILDE {
+        return tag::BITWISE_NOT;
+    }
+    if k == kind::BANG { tag::BOOLEAN_NOT } else { 0 }
+}
+
+// A leaf of the tree: the token's record, the state behind it.
+fn leaf(file: &mut [u8], text: &[u8], st: State, t: Front, v: Record) -> Answer
+    requires { ⌜ Room (now file) (now text) (st .pos) (16 + v .len) (v .start) (v .len) ⌝ }
+    ensures { λ r. ⌜ Finished (now (text .entry)) (now (file .entry)) (there st t) v (now (file .exit)) r ⌝ }
+{
+    finish(
+        file,
+        text,
+        Answer {
+            how: How::Done,
+            state: State { at: t.next, ..st },
+            line: t.line,
+            column: t.column,
+        },
+        v,
+    )
+}
+
+// parse_atom, where no parenthesis opens it.
+pub fn literal(
+    tokens: &[u32],
+    text: &[u8],
+    n: usize,
+    file: &mut [u8],
+    rep: &mut [usize],
+    full: &mut [usize],
+    st: State,
+) -> Answer
+    requires { ⌜ Literal (now tokens) (now text) n (now file) (now rep) (now full) st ⌝ }
+    ensures { λ r. ⌜ ((d : ℕ) → Reads node (now (tokens .entry)) (now (text .entry)) n d P.parse-atom (now (file .entry)) (now (rep .entry)) (now (full .entry)) st (now (file .exit)) (now (rep .exit)) (now (full .exit)) r) ⌝ }
+{
+    let at = st.at;
+    let t = head(tokens, text, n, at);
+    if t.kind == kind::INTEGER {
+        let base = (t.base % 256) as u8;
+        return leaf(
+            file,
+            text,
+            st,
+            t,
+            Record {
+                tag: tag::INTEGER,
+                line: t.line,
+                column: t.column,
+                numbers: Numbers::Byte(base),
+                start: t.start,
+                len: t.len,
+            },
+        );
+    }
+    if t.kind == kind::IDENTIFIER {
+        return leaf(
+            file,
+            text,
+            st,
+            t,
+            Record {
+                tag: tag::IDENTIFIER,
+                line: t.line,
+                column: t.column,
+                numbers: Numbers::None,
+                start: t.start,
+                len: t.len,
+            },
+        );
+    }
+    if t.kind == kind::STRING {
+        return leaf(
+            file,
+            text,
+            st,
+            t,
+            Record {
+                tag: tag::STRING,
+                line: t.line,
+                column: t.column,
+                numbers: Numbers::None,
+                start: t.start,
+                len: t.len,
+            },
+        );
+    }
+    if t.kind == kind::KW_TRUE {
+        return leaf(
+            file,
+            text,
+            st,
+            t,
+            Record {
+                tag: tag::BOOLEAN,
+                line: t.line,
+                column: t.column,
+                numbers: Numbers::Byte(1),
+                start: 0,
+                len: 0,
+            },
+        );
+    }
+    if t.kind == kind::KW_FALSE {
+        return leaf(
+            file,
+            text,
+            st,
+            t,
+            Record {
+                tag: tag::BOOLEAN,
+                line: t.line,
+                column: t.column,
+                numbers: Numbers::Byte(0),
+                start: 0,
+                len: 0,
+            },
+        );
+    }
+    let on = State { at: t.next, ..st };
+    if t.kind == kind::END {
+        return raise(
+            n,
+            rep,
+            full,
+            on,
+            entry(parse_error::EXPRESSION_AT_END, 0, 0, 0, 0),
+        );
+    }
+    raise(
+        n,
+        rep,
+        full,
+        on,
+        entry(parse_error::EXPRESSION, t.line, t.column, 0, t.kind),
+    )
+}
+
+// The closing parenthesis of a group: the errors of both stay, and the item of the first, also where it is fatal.
+pub fn close(
+    tokens: &[u32],
+    text: &[u8],
+    n: usize,
+    rep: &mut [usize],
+    full: &mut [usize],
+    a: Answer,
+) -> Answer
+    requires { ⌜ Asks (now tokens) (now text) n (now rep) (now full) (a .state) ⌝ }
+    ensures { λ r. ⌜ Closed (now (tokens .entry)) (now (text .entry)) n (now (rep .entry)) (now (full .entry)) a (now (rep .exit)) (now (full .exit)) r ⌝ }
+{
+    let how = a.how;
+    if let How::Refused(_) = how {
+        return a;
+    }
+    let s = a.state;
+    let b = expect(tokens, text, n, rep, full, s, kind::R_PAREN);
+    let h = b.how;
+    if let How::Refused(_) = h {
+        return b;
+    }
+    let e = b.state;
+    Answer {
+        how,
+        state: e,
+        line: a.line,
+        column: a.column,
+    }
+}
