@@ -15,9 +15,9 @@ use Rattle.definition.specs.Fallible.{Err, Fallible, Ans, ok, fatal}
 use Rattle.definition.specs.Token.{Tok, head, tail, _is_, end-token}
 use Rattle.definition.specs.Act.{Node, Items, Goal, Statement, Expression, Unary, Type', Loop, Module, Body, ListOf, Operators, Casts, Suffixes, Modifiers, Listed, Parameters, Arguments, StructFields, ArrayValues, StructValues, Level, BitOr, BitXor, BitAnd, Shift, AddSub, Mul, Left, Words, Act, St, advance, push, plain, next, done, _>>=_, _>>?_, or-return}
 use Rattle.definition.specs.Parser as P
-use Rattle.definition.specs.Parser.{rule, turn, statement-rule, expression-rule, unary-rule, type-rule, list-turn, body-turn, module-turn, operators-turn, casts-turn, suffixes-turn, modifiers-turn, Typed, parse-module}
+use Rattle.definition.specs.Parser.{rule, turn, statement-rule, expression-rule, unary-rule, type-rule, list-turn, body-turn, module-turn, operators-turn, casts-turn, suffixes-turn, modifiers-turn, Typed, parse, parse-module}
 use Rattle.definition.proofs.Later.{Later, After, weaken}
-use Rattle.definition.proofs.Ind.{wp, wp-bind, wp-mono, follow, try, module-ind}
+use Rattle.definition.proofs.Ind.{wp, wp-bind, wp-mono, follow, try, parse-ind, module-ind}
 
 abbrev pub place-size : Option Place → ℕ
 place-size none = 0
@@ -523,6 +523,10 @@ module _ (f : Err → ℕ) where
   turns (Casts e) s = casts-size e s
   turns (Suffixes e) s = suffixes-size e s
   turns (Modifiers w) s = modifiers-size w s
+
+  -- of a call
+  pub goal-size : (n : ℕ) (g : Goal) (s : St) → After (λ a s′. Later s s′ × G g s a s′) (parse n g s)
+  goal-size n g s = parse-ind G L R M (λ s. r-ok (s .left)) (λ e s. tt) rules turns n g s
 
   -- of a whole reading
   pub module-size : (ts : List Tok) → After (λ i s′. (weight (i .recs) ≤ budget ts) × (tally (i .errors) ≤ tally (s′ .full))) (parse-module ts)

@@ -1,0 +1,40 @@
+-- An expression that is there spares eight bytes of what its tokens pay for: so there is room for the record of a statement that ends with it. Assumes nothing.
+use mathlib.Core.Path.{_≡_, refl, sym, ap, _∙_, subst}
+use mathlib.Core.List.{List, [], _∷_, _++_}
+use Prim.Native.Nat.{ℕ, _+_, _*_, _≤_, _<_}
+use native.Mathlib.Omega.{arith}
+use lib.ListN.{length, take, length-append}
+use lib.Seq.{length-take-le}
+use Rattle.definition.specs.Node.{recs-bytes}
+use Rattle.definition.specs.Fallible.{Fallible, ok}
+use Rattle.definition.specs.Token.{Tok}
+use Rattle.definition.specs.Act.{Node, Expression, St, gives}
+use Rattle.definition.specs.Parser as P
+use Rattle.definition.specs.Parser.{parse}
+use Rattle.definition.proofs.Later.{After}
+use Rattle.definition.proofs.Size as Z
+use Rattle.definition.proofs.Room.{recs-length}
+use Rattle.definition.proofs.Flat.{go-call}
+use Rattle.fallible.specs.declared.State.{State}
+use Rattle.fallible.specs.declared.How.the-variants.{Done}
+use Rattle.fallible.specs.declared.Answer.{Answer}
+use Rattle.steps.specs.Tokens.{rest, spend, budget}
+use Rattle.steps.specs.Shows.{st-of, Asked, Good, Reads, node}
+use Rattle.steps.proofs.Answers.{good-of}
+
+-- what the definition says of it
+spared : (n : ℕ) (s : St) (x : Fallible Node) (s′ : St) → parse n Expression s ≡ gives (ok x) s′ → Z.weight (x .item .recs) + 8 + Z.budget (s′ .left) ≤ Z.budget (s .left)
+spared n s x s′ e = subst (After _) e (Z.goal-size (λ _. 1) n Expression s) .1 .0
+
+-- what the tokens pay, as the definition's laws and as the steps have it
+spends : (ts : List Tok) → spend ts ≡ Z.budget ts
+unfolding spend
+spends [] = refl
+spends (t ∷ ts) = omega (arith, spends ts)
+
+module _ {w x : List ℕ} {n d : ℕ} {o r f o′ r′ f′ : List ℕ} {s : State} {a : Answer} (q : Asked w x n o r f s) (u : Reads node w x n d P.parse-expression o r f s o′ r′ f′ a) where
+  pub expression-spares : length o′ ≡ length o → a .how ≡ Done → a .state .pos + budget w x n (a .state .at) + 8 ≤ s .pos + budget w x n (s .at)
+  expression-spares l z =
+      let g : Good node (take (s .pos) o) _ [] [] w x n o′ r′ f′ a _ = good-of z (u .is []) in
+      let e : a .state .pos ≡ s .pos + length (recs-bytes (g .item .recs)) = sym (length-take-le (a .state .pos) o′ (omega (arith, u .moved .room, q .room))) ∙ ap length (g .tree) ∙ length-append (take (s .pos) o) _ ∙ ap (λ (k : ℕ). k + length (recs-bytes (g .item .recs))) (length-take-le (s .pos) o (omega (arith, q .room))) in
+      omega (arith, e, recs-length (g .item .recs), spared d _ _ _ (sym (go-call d Expression _) ∙ g .is), spends (rest w x n (s .at)), spends (rest w x n (a .state .at)))

@@ -1,0 +1,102 @@
+-- What the functions of statements show beyond `Reads`. Assumes nothing.
+use mathlib.Core.Path.{_≡_}
+use mathlib.Core.Option.{some}
+use mathlib.Core.List.{List, [], _∷_, _++_}
+use Prim.Native.Nat.{ℕ, min, _+_, _*_, _≤_}
+use lib.ListN.{length, take}
+use Rattle.definition.specs.Node.{Rec, recs-bytes}
+use Rattle.definition.specs.Fallible.{Err, Ans}
+use Rattle.definition.specs.Token.{head}
+use Rattle.definition.specs.Act.{Items, Node, Act, done, loop, Body, Consumed, Res, after, or-return, _>>=_}
+use Rattle.definition.specs.Parser as P
+use Rattle.definition.specs.Go.{go}
+use Rattle.node.specs.Put.{Wrote, bare-of}
+use Rattle.node.specs.declared.Numbers.the-variants.{None}
+use Rattle.fallible.specs.declared.State.{State}
+use Rattle.fallible.specs.declared.How.{How}
+use Rattle.fallible.specs.declared.How.the-variants.{Done, Fatal, Refused}
+use Rattle.fallible.specs.declared.Answer.{Answer}
+use Rattle.fallible.specs.Lists.{errs}
+use Rattle.steps.specs.Tokens.{rest, budget}
+use Rattle.steps.specs.Shows.{st-of, Asked, Moved, Shows, done-of, node, typed, items}
+use Rattle.grammar.specs.Post.{place-at, name-of, as-answer}
+use Rattle.statement.specs.Rules.{value-on}
+
+-- what begins with a token of the kind k
+pub record Starts (k : ℕ) (w x : List ℕ) (n : ℕ) (o r f : List ℕ) (s : State) : Type 0 where
+  pub asked : Asked w x n o r f s
+  pub kind : head (rest w x n (s .at)) .kind ≡ k
+
+-- a state whose file ends k bytes later: what some records cost that no token of their own pays for
+abbrev pub up : ℕ → State → State
+up k s = record { at = s .at; pos = s .pos + k; reported = s .reported; full = s .full }
+
+-- ---- declarations
+
+-- a record with nothing but its tag behind an answer
+abbrev pub BaredOf : How → List ℕ → Answer → ℕ → List ℕ → Answer → Type 0
+BaredOf Done o a tag o′ y = (y .how ≡ Done) × Wrote o (a .state .pos) (bare-of tag None []) 3 o′ (y .state .pos)
+BaredOf Fatal o a tag o′ y = (y ≡ a) × (o′ ≡ o)
+BaredOf (Refused m) o a tag o′ y = (y ≡ a) × (o′ ≡ o)
+
+pub record Bared (o : List ℕ) (a : Answer) (tag : ℕ) (o′ : List ℕ) (y : Answer) : Type 0 where
+  pub at : y .state .at ≡ a .state .at
+  pub reported : y .state .reported ≡ a .state .reported
+  pub full : y .state .full ≡ a .state .full
+  pub low : a .state .pos ≤ y .state .pos
+  pub high : y .state .pos ≤ a .state .pos + 3 * done-of (a .how)
+  pub is : BaredOf (a .how) o a tag o′ y
+
+-- behind a typed identifier, of a construct that began at i and j; where no value is given no token pays for its record
+pub record ValueOn (w x : List ℕ) (n d i j : ℕ) (o r f : List ℕ) (a : Answer) (o′ r′ f′ : List ℕ) (y : Answer) : Type 0 where
+  pub moved : Moved w x n i j (up (3 * done-of (a .how)) (a .state)) (y .state)
+  pub there : done-of (y .how) ≤ done-of (a .how)
+  pub is : (name : List ℕ) (T : List ℕ) (E : List Err) (q : Res (Ans P.Typed)) → length T ≡ i → length E ≡ j → Shows (typed name) T E [] [] w x n o r f a q
+      → Shows (typed name) T E [] [] w x n o′ r′ f′ y (after q (λ z S. go d (or-return value-on z) S))
+
+pub record ReadsDeclared (w x : List ℕ) (n d : ℕ) (o r f : List ℕ) (s : State) (o′ r′ f′ : List ℕ) (a : Answer) : Type 0 where
+  pub moved : Moved w x n (s .pos) (s .reported) s (a .state)
+  pub on : s .at + min (head (rest w x n (s .at)) .kind) 1 ≤ a .state .at
+  pub spare : a .state .pos + budget w x n (a .state .at) + 16 * done-of (a .how) + length (head (rest w x n (s .at)) .text) ≤ s .pos + budget w x n (s .at)
+  pub is : (rd : List Consumed) → Shows (typed (name-of (head (rest w x n (s .at))))) (take (s .pos) o) (errs r (s .reported)) [] [] w x n o′ r′ f′ a (go d P.parse-var-like-declaration (st-of w x n f rd s))
+
+-- a record with a place and a name
+abbrev pub named-of : ℕ → ℕ → ℕ → List ℕ → Rec
+named-of tag line column name = record { tag = tag; place = some (place-at line column); numbers = []; text = name }
+
+abbrev pub NamedOf : How → List ℕ → List ℕ → ℕ → List ℕ → Answer → ℕ → ℕ → ℕ → ℕ → List ℕ → Answer → Type 0
+NamedOf Done w x n o a tag line column at o′ y = (y .how ≡ Done) × (Wrote o (a .state .pos) (named-of tag line column (name-of (head (rest w x n at)))) (7 + length (name-of (head (rest w x n at)))) o′ (y .state .pos) × ((y .line ≡ line) × (y .column ≡ column)))
+NamedOf Fatal w x n o a tag line column at o′ y = (y ≡ a) × (o′ ≡ o)
+NamedOf (Refused m) w x n o a tag line column at o′ y = (y ≡ a) × (o′ ≡ o)
+
+pub record Named (w x : List ℕ) (n : ℕ) (o : List ℕ) (a : Answer) (tag line column p : ℕ) (o′ : List ℕ) (y : Answer) : Type 0 where
+  pub at : y .state .at ≡ a .state .at
+  pub reported : y .state .reported ≡ a .state .reported
+  pub full : y .state .full ≡ a .state .full
+  pub low : a .state .pos ≤ y .state .pos
+  pub high : y .state .pos ≤ a .state .pos + 10 * done-of (a .how) + length (head (rest w x n p) .text)
+  pub is : NamedOf (a .how) w x n o a tag line column p o′ y
+
+-- ---- bodies
+
+pub record ReadsBody (w x : List ℕ) (n d : ℕ) (o r f : List ℕ) (s : State) (o′ r′ f′ : List ℕ) (a : Answer) : Type 0 where
+  pub moved : Moved w x n (s .pos) (s .reported) s (a .state)
+  pub on : s .at + min (head (rest w x n (s .at)) .kind) 1 ≤ a .state .at
+  pub spare : a .state .pos + budget w x n (a .state .at) + 16 * min (head (rest w x n (s .at)) .kind) 1 ≤ s .pos + budget w x n (s .at)
+  pub never : a .how ≡ Fatal → ⊥
+  pub is : (rd : List Consumed) → Shows items (take (s .pos) o) (errs r (s .reported)) [] [] w x n o′ r′ f′ a (go d (P.parse-body >>= as-answer) (st-of w x n f rd s))
+
+-- the loop, with the statements i
+pub record BodyOn (w x : List ℕ) (n d : ℕ) (count : ℕ) (o r f : List ℕ) (s : State) (o′ r′ f′ : List ℕ) (a : Answer) : Type 0 where
+  pub moved : Moved w x n (s .pos) (s .reported) s (a .state)
+  pub never : a .how ≡ Fatal → ⊥
+  pub is : (rd : List Consumed) (T : List ℕ) (E : List Err) (i : Items) → take (s .pos) o ≡ T ++ recs-bytes (i .recs) → errs r (s .reported) ≡ E ++ i .errors → i .count ≡ count
+      → Shows items T E [] [] w x n o′ r′ f′ a (go d (loop (Body i) done >>= as-answer) (st-of w x n f rd s))
+
+-- ---- statements
+
+-- behind an expression with no errors, written from i on: what is shown of what follows
+pub record Behind (w x : List ℕ) (n d : ℕ) (k : Node → Act (Ans Node)) (i : ℕ) (o r f : List ℕ) (s : State) (o′ r′ f′ : List ℕ) (y : Answer) : Type 0 where
+  pub moved : Moved w x n i (s .reported) s (y .state)
+  pub is : (rd : List Consumed) (T : List ℕ) (e : Node) → length T ≡ i → take (s .pos) o ≡ T ++ recs-bytes (e .recs)
+      → Shows node T (errs r (s .reported)) [] [] w x n o′ r′ f′ y (go d (k e) (st-of w x n f rd s))
