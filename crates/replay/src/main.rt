@@ -152,7 +152,7 @@ fn answer(space: &[u8], n: usize) -> Found {
     if got.errors != error_count as usize {
         return Found::Differs;
     }
-    if got.text != text_count as usize {
+    if got.bytes != text_count as usize {
         return Found::Differs;
     }
     if !tokens_same {
