@@ -1,5 +1,6 @@
 // Reads a list of scripts with the answers that Tokenise should give (beside/README.md has its format) from
 // standard input, and writes how many agree and how many differ, and the number of the first that differs.
+// In a case that agrees, Token text gave the part of each token too, and the empty part where it should.
 use libc::STDIN_FILENO;
 use libc::STDOUT_FILENO;
 
@@ -117,6 +118,103 @@ fn text_agrees(text: &[u8], count: u32) -> bool {
     same_start(text, &space, n)
 }
 
+// ---- the text of each token
+
+fn textless(tokens: &[u32], text: &[u8], at: usize) -> bool {
+    let got = records::token_text(tokens, text, at);
+    got.len() == 0
+}
+
+fn long(word: u32) -> usize {
+    word as usize
+}
+
+// Whether a token's text is the part of the text that its record names, and nothing where the slice ends inside it.
+fn part_agrees(tokens: &[u32], text: &[u8], at: usize) -> bool {
+    if tokens.len() / 8 <= at {
+        return false;
+    }
+    let i = 8 * at;
+    let start = long(tokens[i + 3]);
+    let size = long(tokens[i + 4]);
+    if text.len() < start {
+        return false;
+    }
+    if text.len() - start < size {
+        return false;
+    }
+    let end = start + size;
+    let got = records::token_text(tokens, text, at);
+    if !check::same(got, &text[start..end]) {
+        return false;
+    }
+    if end == 0 {
+        return true;
+    }
+    let from = 0;
+    let short = end - 1;
+    textless(tokens, &text[from..short], at)
+}
+
+// Whether a token has no text with another word in its record.
+fn textless_with(tokens: &[u32], text: &[u8], at: usize, word: usize, other: u32) -> bool {
+    if tokens.len() / 8 <= at {
+        return false;
+    }
+    if 8 <= word {
+        return false;
+    }
+    let i = 8 * at;
+    let mut record = [
+        tokens[i],
+        tokens[i + 1],
+        tokens[i + 2],
+        tokens[i + 3],
+        tokens[i + 4],
+        tokens[i + 5],
+        tokens[i + 6],
+        tokens[i + 7],
+    ];
+    record[word] = other;
+    textless(&record, text, 0)
+}
+
+// Whether a token has no text where its record is damaged, in each word by itself.
+fn textless_damaged(tokens: &[u32], text: &[u8], at: usize) -> bool {
+    let kind = textless_with(tokens, text, at, 0, 0) & textless_with(tokens, text, at, 0, 55);
+    let line = textless_with(tokens, text, at, 1, 0) & textless_with(tokens, text, at, 1, 16385);
+    let column = textless_with(tokens, text, at, 2, 0) & textless_with(tokens, text, at, 2, 16385);
+    let start = textless_with(tokens, text, at, 3, 16385);
+    let size = textless_with(tokens, text, at, 4, 16385);
+    let base = textless_with(tokens, text, at, 5, 3);
+    let rest = textless_with(tokens, text, at, 6, 1) & textless_with(tokens, text, at, 7, 1);
+    kind & line & column & start & size & base & rest
+}
+
+fn token_text_agrees(tokens: &[u32], text: &[u8], at: usize) -> bool {
+    part_agrees(tokens, text, at) & textless_damaged(tokens, text, at)
+}
+
+// No token behind so many has a text.
+fn end_agrees(tokens: &[u32], text: &[u8], count: u32) -> bool {
+    textless(tokens, text, long(count))
+        & textless(tokens, text, tokens.len() / 8)
+        & textless(tokens, text, 18446744073709551615)
+}
+
+// Token text, for so many tokens and behind them.
+fn texts_agree(tokens: &[u32], text: &[u8], count: u32) -> bool {
+    let mut agree = end_agrees(tokens, text, count);
+    for at in 0..count {
+        if !token_text_agrees(tokens, text, at as usize) {
+            agree = false;
+        }
+    }
+    agree
+}
+
+// ---- cases
+
 enum Found {
     Agrees,
     Differs,
@@ -143,6 +241,7 @@ fn answer(space: &[u8], n: usize) -> Found {
     let tokens_same = records_agree(&tokens, token_count, true);
     let errors_same = records_agree(&errors, error_count, false);
     let text_same = text_agrees(&text, text_count);
+    let texts_same = texts_agree(&tokens, &text, token_count);
     if got.number != wide(b[0]) {
         return Found::Differs;
     }
@@ -152,7 +251,7 @@ fn answer(space: &[u8], n: usize) -> Found {
     if got.errors != error_count as usize {
         return Found::Differs;
     }
-    if got.text != text_count as usize {
+    if got.bytes != text_count as usize {
         return Found::Differs;
     }
     if !tokens_same {
@@ -162,6 +261,9 @@ fn answer(space: &[u8], n: usize) -> Found {
         return Found::Differs;
     }
     if !text_same {
+        return Found::Differs;
+    }
+    if !texts_same {
         return Found::Differs;
     }
     Found::Agrees
