@@ -33,10 +33,10 @@ use Rattle.steps.specs.Tokens.{rest, budget, Seen}
 use Rattle.steps.specs.Shows.{st-of, Asks, Asked, Moved, Good, ShowsOf, Shows, Reads, node, items, typed, token, Expects, Expected, done-of, FinishedOf, Finished}
 use Rattle.steps.proofs.Tokens.{yes, no, fore, adv}
 use Rattle.steps.proofs.Moves.{making-moved, asks-moved}
-use Rattle.steps.proofs.Answers.{Stopped, say, good-of, stops, follows, wrapped, finishes, wrote, raise-shows, not-done}
+use Rattle.steps.proofs.Answers.{Stopped, say, good-of, stops, follows, wrapped, finishes, wrote, raise-shows, not-done, done-le}
 use Rattle.steps.proofs.Following.{expects-behind}
 use Rattle.leaves.proofs.Errors.{raise-same}
-use Rattle.grammar.specs.Post.{place-at, name-of, as-answer, ReadsList}
+use Rattle.grammar.specs.Post.{place-at, name-of, as-answer, ReadsList, NameRoom}
 use Rattle.grammar.proofs.Calls.{expect-seam}
 use Rattle.statement.specs.Rules.{values-rule}
 use Rattle.statement.specs.Post.{Starts, named-of, NamedOf, Named, ReadsDeclared}
@@ -165,6 +165,9 @@ names {T} {E} {w} {x} {n} {o} {o′} {r} {f} {b} {y} {tag} {line} {column} {at} 
     one Done z m g = rw (m .0) (record { item = P.node (g .item .type) tag (place-at line column) [] (g .item .name); errors = g .errors; read = g .read; is = rw (g .is, N .at, N .full); tree = wrote T (g .item .type) (m .1 .0) (g .tree) (ap (named-of tag line column) (g .holds)); rep = ap (λ (k : ℕ). errs r k) (N .reported) ∙ g .rep; holds = sym (rw (m .1 .1 .0, m .1 .1 .1)) })
     one Fatal z m g = rw (m .0, m .1, z) (record { errors = g .errors; read = g .read; is = rw (g .is); tree = g .tree; rep = g .rep })
     one (Refused k) z m g = rw (m .0, z, g)
+
+pub declaration-room : {w x : List ℕ} {n d i j : ℕ} {o r f o1 r1 f1 r2 f2 : List ℕ} {s : State} {a b : Answer} → Asked w x n o r f s → ReadsDeclared w x n d o r f s o1 r1 f1 a → Expected w x n 50 i j r1 f1 a r2 f2 b → length o1 ≡ length o → NameRoom w x n o1 b (s .at)
+declaration-room {b = b} q D X l = record { held = q .asks .held; within = q .asks .at; room = omega (arith, q .room, D .spare, X .high, X .pays, done-le (b .how)) }
 
 module _ {w x : List ℕ} {n d : ℕ} {o r f o1 r1 f1 r2 f2 o2 : List ℕ} {s : State} {a b y : Answer} {tag line column : ℕ} (q : Asked w x n o r f s) (D : ReadsDeclared w x n d o r f s o1 r1 f1 a) (lr : length r1 ≡ length r) (lf : length f1 ≡ length f)
     (X : Expected w x n 50 (s .pos) (s .reported) r1 f1 a r2 f2 b) (N : Named w x n o1 b tag line column (s .at) o2 y) where

@@ -3,4 +3,4 @@ pub mod Statements
 pub mod Assigned
 pub mod Bodies
 pub mod Declared
-pub mod Values
+pub mod Initial

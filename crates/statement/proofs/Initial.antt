@@ -41,8 +41,8 @@ bare-stops {o} {a} {tag} nd = record { at = refl; reported = refl; full = refl; 
     one Fatal z = (refl, refl)
     one (Refused m) z = (refl, refl)
 
-pub bare-on : {o o2 : List ℕ} {a : Answer} {tag p : ℕ} (x : List ℕ) → a .how ≡ Done → Wrote o (a .state .pos) (bare-of tag None (take 0 (drop 0 x))) (bare-size None 0) o2 p → Bared o a tag o2 (record { how = a .how; state = record { at = a .state .at; pos = p; reported = a .state .reported; full = a .state .full }; line = 0; column = 0 })
-bare-on {o} {o2} {a} {tag} {p} x z v = let one : done-of (a .how) ≡ 1 = rw z in record { at = refl; reported = refl; full = refl; low = omega (arith, v .end); high = omega (arith, v .end, one); is = subst (λ (h : How). BaredOf h o a tag o2 (record { how = a .how; state = record { at = a .state .at; pos = p; reported = a .state .reported; full = a .state .full }; line = 0; column = 0 })) (sym z) (z, v) }
+pub bare-on : {o o2 : List ℕ} {a : Answer} {tag p : ℕ} → a .how ≡ Done → Wrote o (a .state .pos) (bare-of tag None []) (bare-size None 0) o2 p → Bared o a tag o2 (record { how = a .how; state = record { at = a .state .at; pos = p; reported = a .state .reported; full = a .state .full }; line = 0; column = 0 })
+bare-on {o} {o2} {a} {tag} {p} z v = let one : done-of (a .how) ≡ 1 = rw z in record { at = refl; reported = refl; full = refl; low = omega (arith, v .end); high = omega (arith, v .end, one); is = subst (λ (h : How). BaredOf h o a tag o2 (record { how = a .how; state = record { at = a .state .at; pos = p; reported = a .state .reported; full = a .state .full }; line = 0; column = 0 })) (sym z) (z, v) }
 
 -- ---- a value behind what is declared
 
