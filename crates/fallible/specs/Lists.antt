@@ -9,7 +9,7 @@ error-at number line column expected got = record { number = number; place = rec
 
 -- an entry: one byte of number, two of line, two of column, one of each kind
 unfoldable pub unpack : ℕ → Err
-unpack e = error-at (e / 281474976710656) (e / 4294967296 % 65536) (e / 65536 % 65536) (e / 256 % 256) (e % 256)
+unpack e = error-at (e / 281474976710656 % 256) (e / 4294967296 % 65536) (e / 65536 % 65536) (e / 256 % 256) (e % 256)
 
 -- the first n errors of a slice
 unfoldable pub errs : List ℕ → ℕ → List Err
