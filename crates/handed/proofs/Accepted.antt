@@ -1,0 +1,1 @@
+-- What an accepted hand-over gives the parser. Assumes nothing.
