@@ -3,23 +3,23 @@ use mathlib.Core.Path.{_≡_, refl, sym, ap, _∙_, subst}
 use mathlib.Core.Bool.{Bool, true, false, _&&_, _||_}
 use mathlib.Core.List.{List, [], _∷_}
 use mathlib.Core.Option.{Option, none, some}
-use Prim.Native.Nat.{ℕ, zero, suc, min, _+_, _-_, _*_, _<_, _≤_}
+use Prim.Native.Nat.{ℕ, zero, suc, _+_, _-_, _*_, _<_, _≤_}
 use native.Mathlib.Numerals.{add-one}
 use native.Mathlib.Omega.{arith}
 use borrow.Author.Tests.{leb-true, eqb-true, eq-eqb}
 use lib.Dec.{eqb, leb}
-use lib.ListN.{length, take, drop, length-take}
+use lib.ListN.{length, drop, length-take}
 use Rattle.definition.specs.Choice.{pick}
 use Rattle.definition.specs.Classes.{between}
 use Rattle.definition.specs.Fallible.{Err}
 use Rattle.definition.specs.Kind as K
-use Rattle.definition.specs.Source.{Place, nowhere, utf8}
+use Rattle.definition.specs.Source.{Place, nowhere}
 use Rattle.definition.specs.Token.{Tok}
-use Rattle.definition.specs.Records.{TokenWords, has-text, words-at, part, base-fits, text-fits, good-alone, good-behind, comes-after, place-of, text-end, token-of, token-before, tokens-of, errors-of}
+use Rattle.definition.specs.Records.{TokenWords, has-text, words-at, base-fits, text-fits, good-alone, good-behind, comes-after, place-of, text-end, token-before, tokens-of, error-at, good-error, error-of, error-before, errors-of}
 use Rattle.definition.specs.Operations.{Handed, both, handed}
 use Rattle.definition.proofs.Tests.{left-true, right-true, between-bounds, either-true, clash}
-use Rattle.steps.specs.Tokens.{tok-at, from, rest, spend, Sound, Held}
-use Rattle.handed.specs.Tested.{Tested}
+use Rattle.steps.specs.Tokens.{tok-at, from, rest, spend, Sound}
+use Rattle.handed.specs.Tested.{is-some, Tested}
 
 never : {A B : Type 0} {x : A} → none ≡ some x → B
 never e = let z : _≡_ {A = ℕ} 0 1 = cc in absurd (omega arith)
@@ -29,9 +29,22 @@ chosen : {A : Type 0} {x : A} (b : Bool) (o : Option A) → _≡_ {A = Option A}
 chosen true o q = (refl, q)
 chosen false o q = never q
 
+-- an answer told by `is-some`
+pub record There {A : Type 0} (o : Option A) : Type 0 where
+  pub value : A
+  pub is : o ≡ some value
+
+pub there : {A : Type 0} (o : Option A) → is-some o ≡ true → There o
+there none e = clash (sym e)
+there (some a) e = record { value = a; is = refl }
+
+pub absent : {A : Type 0} (o : Option A) → is-some o ≡ false → o ≡ none
+absent none e = refl
+absent (some a) e = clash e
+
 -- ---- one token record
 
--- the tests of a good record that the parser leans on
+-- the tests of a good record that the parser needs
 record Fits (X : List ℕ) (w : TokenWords) : Type 0 where
   kind : (1 ≤ w .kind) × (w .kind ≤ 54)
   line : (1 ≤ w .line) × (w .line ≤ 16384)
@@ -137,6 +150,44 @@ taken T X (suc n) p e i ts h q =
         each : (j : ℕ) → j < suc n → Sound T X (i + j)
         each zero k = subst (λ (j : ℕ). Sound T X j) (omega arith) (sound T X i f (l .inside))
         each (suc j) k = subst (λ (j : ℕ). Sound T X j) (omega arith) (r .each j (omega arith))
+
+-- ---- all error records
+
+-- the numbers of the i-th error record
+pub record Small (E : List ℕ) (i : ℕ) : Type 0 where
+  pub number : error-at E i .number ≤ 4
+  pub line : error-at E i .line ≤ 16384
+  pub column : error-at E i .column ≤ 16384
+
+small : (E : List ℕ) (i : ℕ) → good-error (error-at E i) ≡ true → Small E i
+small E i g =
+    let w = error-at E i in
+    let n = between 1 4 (w .number) in
+    let l = between 1 16384 (w .line) in
+    let c = between 1 16384 (w .column) in
+    let t = left-true (n && l && c) _ g in
+    let f = left-true (n && l) c t in
+    record { number = between-bounds 1 4 (w .number) (left-true n l f) .1; line = between-bounds 1 16384 (w .line) (right-true n l f) .1; column = between-bounds 1 16384 (w .column) (right-true (n && l) c t) .1 }
+
+-- n records from the i-th on
+pub record Faults (E : List ℕ) (i n : ℕ) (es : List Err) : Type 0 where
+  pub size : length es ≡ n
+  pub each : (j : ℕ) → j < n → Small E (i + j)
+
+pub faults : (E : List ℕ) (n i : ℕ) (es : List Err) → errors-of E i n ≡ some es → Faults E i n es
+unfolding errors-of
+faults E zero i es q = let z : [] ≡ es = cc in record { size = rw (sym z); each = λ j l. absurd (omega arith) }
+faults E (suc n) i es q =
+    let c = chosen (good-error (error-at E i)) (error-before (error-of (error-at E i)) (errors-of E (suc i) n)) q in
+    more (small E i (c .0)) _ (λ vs. faults E n (suc i) vs) (c .1)
+  where
+    more : Small E i → (o : Option (List Err)) → ((vs : List Err) → o ≡ some vs → Faults E (suc i) n vs) → error-before (error-of (error-at E i)) o ≡ some es → Faults E i (suc n) es
+    more s none r b = never b
+    more s (some vs) r b = let z : error-of (error-at E i) ∷ vs ≡ es = cc in record { size = rw (sym z) (ap suc (r vs refl .size)); each = each }
+      where
+        each : (j : ℕ) → j < suc n → Small E (i + j)
+        each zero k = subst (λ (j : ℕ). Small E j) (omega arith) s
+        each (suc j) k = subst (λ (j : ℕ). Small E j) (omega arith) (r vs refl .each j (omega arith))
 
 -- ---- all that is handed in
 

@@ -1,7 +1,7 @@
 -- The tests of the records one by one, and of all that is handed in. Assumes nothing.
 use mathlib.Core.Path.{_≡_, refl, sym, ap, ap₂, _∙_, subst}
 use mathlib.Core.Bool.{Bool, true, false, not, _&&_, _||_}
-use mathlib.Core.List.{List, _∷_}
+use mathlib.Core.List.{List}
 use mathlib.Core.Option.{Option, none, some}
 use Prim.Native.Nat.{ℕ, suc, _+_, _-_, _*_, _<_, _≤_}
 use native.Mathlib.Numerals.{add-one}
@@ -13,7 +13,7 @@ use Rattle.definition.specs.Choice.{pick}
 use Rattle.definition.specs.Fallible.{Err}
 use Rattle.definition.specs.Source.{Place, nowhere}
 use Rattle.definition.specs.Token.{Tok}
-use Rattle.definition.specs.Records.{TokenWords, words-at, has-text, good-alone, comes-after, good-behind, place-of, text-end, token-of, token-before, tokens-of, ErrorWords, error-at, good-error, error-of, error-before, errors-of}
+use Rattle.definition.specs.Records.{TokenWords, words-at, has-text, good-alone, comes-after, good-behind, place-of, text-end, token-of, token-before, tokens-of, error-at, good-error, error-of, error-before, errors-of}
 use Rattle.definition.specs.Operations.{both, handed}
 use Rattle.definition.proofs.Tests.{clash}
 use Rattle.records.specs.Push.{spot}

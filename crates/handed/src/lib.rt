@@ -92,7 +92,11 @@ fn good_tokens(tokens: &[u32], count: usize, text: &[u8]) -> bool
 fn good_error(number: u32, line: u32, column: u32, fourth: u32) -> bool
     ensures { λ r. ⌜ r ≡ R.good-error (record { number = number; line = line; column = column; fourth = fourth }) ⌝ }
 {
-    between(token_error::UNKNOWN_ESCAPE, token_error::UNKNOWN_CHARACTER, number)
+    between(
+        token_error::UNKNOWN_ESCAPE,
+        token_error::UNKNOWN_CHARACTER,
+        number,
+    )
         & between(1, PLACES, line)
         & between(1, PLACES, column)
         & (fourth == 0)
@@ -118,13 +122,7 @@ fn good_errors(errors: &[u32], count: usize) -> bool
 // ---- both
 
 // Whether so many records are there, and each is good.
-pub fn handed(
-    tokens: &[u32],
-    count: usize,
-    errors: &[u32],
-    error_count: usize,
-    text: &[u8],
-) -> bool
+pub fn handed(tokens: &[u32], count: usize, errors: &[u32], error_count: usize, text: &[u8]) -> bool
     ensures { λ r. ⌜ r ≡ is-some (O.handed (now (tokens .entry)) count (now (errors .entry)) «error_count» (now (text .entry))) ⌝ }
 {
     if (limit::TOKENS < count) | (limit::TOKEN_ERRORS < error_count) {
