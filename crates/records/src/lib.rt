@@ -141,7 +141,7 @@ pub fn push_errors(
 
 // ---- tested
 
-fn between(lo: u32, hi: u32, x: u32) -> bool
+pub fn between(lo: u32, hi: u32, x: u32) -> bool
     ensures { λ r. ⌜ r ≡ C.between lo hi x ⌝ }
 {
     (lo <= x) & (x <= hi)
@@ -166,7 +166,7 @@ fn base_fits(k: u32, base: u32) -> bool
 }
 
 // The largest line and column.
-const PLACES: u32 = 16384;
+pub const PLACES: u32 = 16384;
 
 // The words that are tested by themselves.
 fn fields_fit(k: u32, line: u32, column: u32, base: u32, seventh: u32, eighth: u32) -> bool
