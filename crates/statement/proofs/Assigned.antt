@@ -21,7 +21,8 @@ use Rattle.fallible.specs.declared.How.{How}
 use Rattle.fallible.specs.declared.How.the-variants.{Done, Fatal, Refused}
 use Rattle.fallible.specs.declared.Answer.{Answer}
 use Rattle.fallible.specs.Lists.{unpack, error-at, errs}
-use Rattle.fallible.specs.Answers.{raised, Raised, Abandoned}
+use Rattle.fallible.specs.Answers.{raised, Raised, Abandoned, Cuts}
+use Rattle.node.specs.Put.{Room}
 use Rattle.node.specs.declared.Numbers.the-variants.{None}
 use Rattle.node.specs.declared.Record.{Record}
 use Rattle.steps.specs.declared.Front.{Front}
@@ -80,6 +81,23 @@ module _ {w x : List ℕ} {n d : ℕ} {o r f : List ℕ} {s : State} {t : Front}
     pub compound-behind : Behind w x n d (P.after-expression (place-at line column)) i o r f s o2 r3 f2 y
     unfolding go run P.after-expression
     compound-behind = assigned-behind 0x44 B C lr lf X F (omega (arith, h)) (λ e rd. rw (run, no {k = 26} u (λ e. omega (arith, h)), yes u h) (ap (λ (S : St). go d (P.parse-compound >>? λ v. P.expect 50 >>? λ _. wrapped node (e .recs) [] 0x44 (λ _. place-at line column) (λ _. []) [] v) S) (adv s u (λ _. plain) f rd)))
+
+-- what the steps behind a value ask for
+module _ {w x : List ℕ} {n d : ℕ} {o r f : List ℕ} {s : State} {t : Front} {i : ℕ} (q : Asked w x n o r f s) (hi : i ≤ s .pos) (u : Seen w x n (s .at) t) where
+  module _ {o1 r1 f1 : List ℕ} {a : Answer} {m : Act (Ans Node)} (B : Reads node w x n d m o r f (fore s t) o1 r1 f1 a) where
+    pub assigned-cuts : length r1 ≡ length r → Cuts r1 a i (s .reported) (s .reported)
+    assigned-cuts l = record { pos = omega (arith, hi, B .moved .pos); order = omega arith; own = B .moved .reported; within = omega (arith, B .moved, q .asks) }
+
+    module _ {r2 : List ℕ} {b : Answer} (C : Abandoned r1 a i (s .reported) (s .reported) r2 b) where
+      -- from the target's end to the end of the value
+      assigned-moved : Moved w x n i (s .reported) s (b .state)
+      assigned-moved = moved-trans (fore-moved (q .asks) u) (abandoned-moved (B .moved) C)
+
+      pub assigned-asks : length r2 ≡ length r → length f1 ≡ length f → Follows w x n r2 f1 b i (s .reported)
+      assigned-asks lr lf = record { asks = asks-moved (q .asks) assigned-moved lr lf; pos = C .low; reported = C .first }
+
+      pub assigned-room : {r3 f2 : List ℕ} {c : Answer} → Expected w x n 50 i (s .reported) r2 f1 b r3 f2 c → length o1 ≡ length o → Room o1 x (c .state .pos) (16 + 0) 0 0
+      assigned-room X l = record { room = omega (arith, q .room, assigned-moved .room, X .high); part = omega arith }
 
 -- a record is paid for only where the answer is there
 finished-high : {x o o′ : List ℕ} {b y : Answer} {line column tag : ℕ} → Finished x o b (placed tag line column) o′ y → y .state .pos ≤ b .state .pos + 7 * done-of (b .how)

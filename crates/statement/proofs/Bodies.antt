@@ -26,7 +26,7 @@ use Rattle.steps.specs.declared.Front.{Front}
 use Rattle.steps.specs.Tokens.{rest, budget, Seen}
 use Rattle.steps.specs.Shows.{st-of, Asks, Asked, Moved, View, Good, Bad, ShowsOf, Shows, Reads, Expects, node, token, items}
 use Rattle.steps.proofs.Tokens.{yes, no, fore, adv}
-use Rattle.steps.proofs.Moves.{fore-moved, making-moved}
+use Rattle.steps.proofs.Moves.{fore-moved, making-moved, asked-moved}
 use Rattle.steps.proofs.Answers.{say, good-of, tree-join, errs-join}
 use Rattle.leaves.specs.Leaves.{count-of, Counted}
 use Rattle.leaves.proofs.Errors.{made-so, makes, makes-none}
@@ -67,6 +67,10 @@ opening d S = go-bind d P.parse-body as-answer S ∙ ap (λ (z : Res Items). ans
 
 fatal-of : {A : Type 0} {K : View A} {T : List ℕ} {E : List Err} {w x : List ℕ} {n : ℕ} {o r f : List ℕ} {a : Answer} {q : Res (Ans A)} → a .how ≡ Fatal → Shows K T E [] [] w x n o r f a q → Bad T E w x n o r f a q
 fatal-of {A} {K} {T} {E} {w} {x} {n} {o} {r} {f} {a} {q} z v = subst (λ (h : How). ShowsOf h K T E [] [] w x n o r f a q) z (v .told)
+
+-- what the loop asks for
+pub body-asked : {w x : List ℕ} {n i j : ℕ} {o r f r1 f1 : List ℕ} {s t : State} → Asked w x n o r f s → Moved w x n i j s t → length r1 ≡ length r → length f1 ≡ length f → Asked w x n o r1 f1 t × (0 ≤ t .at)
+body-asked q m lr lf = (asked-moved q m refl lr lf, omega arith)
 
 module _ {w x : List ℕ} {n d : ℕ} {o r f r1 f1 : List ℕ} {s : State} {a : Answer} (q : Asked w x n o r f s) (e : Expects w x n (λ role. P.expect-as role 39) r f s r1 f1 a) where
   pub body-refused : Ended a → ReadsBody w x n d o r f s o r1 f1 a
@@ -145,6 +149,9 @@ module _ {w x : List ℕ} {n count : ℕ} {o r f : List ℕ} {s : State} {t : Fr
 
       pub rest-refused : Ended b → BodyOn w x n d count o r f s o1 r1 f1 b
       rest-refused h = record { moved = u .moved; never = not-fatal (b .how) h; is = λ rd T E l et ee ec. refusal h (λ m g. statement-first rd l ∙ rw g) (u .is rd) }
+
+      pub rest-asked : {m : ℕ} → Counted (b .how) count m → length o1 ≡ length o → length r1 ≡ length r → length f1 ≡ length f → Asked w x n o1 r1 f1 (b .state) × (m ≤ b .state .at)
+      rest-asked c lo lr lf = (asked-moved (q .0) (u .moved) lo lr lf, omega (arith, q .1, v .kind, m0, u .on, c .high))
 
       pub rest-next : {m : ℕ} {o3 r3 f3 : List ℕ} {y : Answer} → Alive b → Counted (b .how) count m → BodyOn w x n d m o1 r1 f1 (b .state) o3 r3 f3 y → BodyOn w x n d count o r f s o3 r3 f3 y
       rest-next {m} {o3} {r3} {f3} {y} alive cm h = record {

@@ -1,14 +1,15 @@
--- An expression that is there spares eight bytes of what its tokens pay for: so there is room for the record of a statement that ends with it. Assumes nothing.
+-- What a part that is there has used up: an expression spares eight bytes of what its tokens pay for, so there is room for the record of a statement that ends with it; an expected token is passed. Assumes nothing.
 use mathlib.Core.Path.{_≡_, refl, sym, ap, _∙_, subst}
 use mathlib.Core.List.{List, [], _∷_, _++_}
 use Prim.Native.Nat.{ℕ, _+_, _*_, _≤_, _<_}
 use native.Mathlib.Omega.{arith}
+use native.Mathlib.Decide.{decLe}
 use lib.ListN.{length, take, length-append}
 use lib.Seq.{length-take-le}
 use Rattle.definition.specs.Node.{recs-bytes}
-use Rattle.definition.specs.Fallible.{Fallible, ok}
+use Rattle.definition.specs.Fallible.{Fallible, Ans, ok}
 use Rattle.definition.specs.Token.{Tok}
-use Rattle.definition.specs.Act.{Node, Expression, St, gives}
+use Rattle.definition.specs.Act.{Act, Role, Node, Expression, St, gives}
 use Rattle.definition.specs.Parser as P
 use Rattle.definition.specs.Parser.{parse}
 use Rattle.definition.proofs.Later.{After}
@@ -19,7 +20,7 @@ use Rattle.fallible.specs.declared.State.{State}
 use Rattle.fallible.specs.declared.How.the-variants.{Done}
 use Rattle.fallible.specs.declared.Answer.{Answer}
 use Rattle.steps.specs.Tokens.{rest, spend, budget}
-use Rattle.steps.specs.Shows.{st-of, Asked, Good, Reads, node}
+use Rattle.steps.specs.Shows.{st-of, Asked, Good, Reads, Expects, done-of, node}
 use Rattle.steps.proofs.Answers.{good-of}
 
 -- what the definition says of it
@@ -38,3 +39,8 @@ module _ {w x : List ℕ} {n d : ℕ} {o r f o′ r′ f′ : List ℕ} {s : Sta
       let g : Good node (take (s .pos) o) _ [] [] w x n o′ r′ f′ a _ = good-of z (u .is []) in
       let e : a .state .pos ≡ s .pos + length (recs-bytes (g .item .recs)) = sym (length-take-le (a .state .pos) o′ (omega (arith, u .moved .room, q .room))) ∙ ap length (g .tree) ∙ length-append (take (s .pos) o) _ ∙ ap (λ (k : ℕ). k + length (recs-bytes (g .item .recs))) (length-take-le (s .pos) o (omega (arith, q .room))) in
       omega (arith, e, recs-length (g .item .recs), spared d _ _ _ (sym (go-call d Expression _) ∙ g .is), spends (rest w x n (s .at)), spends (rest w x n (a .state .at)))
+
+pub passed : {w x : List ℕ} {n : ℕ} {m : Role → Act (Ans Tok)} {r f r′ f′ : List ℕ} {s : State} {a : Answer} → Expects w x n m r f s r′ f′ a → a .how ≡ Done → s .at < a .state .at
+passed {w} {x} {n} {s = s} {a = a} e z =
+    let one : done-of (a .how) ≡ 1 = rw z in
+    elim (decLe (a .state .at) (s .at)) [ yes g ↦ let same : a .state .at ≡ s .at = omega (arith, g, e .moved .at) in absurd (omega (arith, e .pays, one, ap (λ (k : ℕ). budget w x n k) same)) | no g ↦ omega (arith, g) ]

@@ -23,15 +23,15 @@ use Rattle.fallible.specs.declared.How.{How}
 use Rattle.fallible.specs.declared.How.the-variants.{Done, Fatal, Refused}
 use Rattle.fallible.specs.declared.Answer.{Answer}
 use Rattle.fallible.specs.Lists.{unpack, error-at, errs}
-use Rattle.fallible.specs.Answers.{raised, Raised, Abandoned}
-use Rattle.node.specs.Put.{rec-of, size-of}
+use Rattle.fallible.specs.Answers.{raised, Raised, Abandoned, Cuts}
+use Rattle.node.specs.Put.{Room, rec-of, size-of}
 use Rattle.node.specs.declared.Numbers.the-variants.{None, Byte, Two}
 use Rattle.node.specs.declared.Record.{Record}
 use Rattle.steps.specs.declared.Front.{Front}
 use Rattle.steps.specs.Tokens.{rest, budget, Seen}
 use Rattle.steps.specs.Shows.{st-of, Asked, Moved, Good, ShowsOf, Shows, Reads, node, items, token, Expects, Expected, Follows, Finished}
 use Rattle.steps.proofs.Tokens.{yes, no, fore, adv}
-use Rattle.steps.proofs.Moves.{making-moved, fore-moved, moved-trans, asks-moved}
+use Rattle.steps.proofs.Moves.{making-moved, fore-moved, moved-trans, asks-moved, asked-seen, asked-moved}
 use Rattle.steps.proofs.Answers.{Stopped, say, good-of, is-good, stops, follows, abandons, wrapped, finishes, raise-shows}
 use Rattle.steps.proofs.Constructs.{then-stops}
 use Rattle.steps.proofs.Following.{expecting, expects-behind}
@@ -316,3 +316,17 @@ module _ {w x : List ℕ} {n d : ℕ} {o r f o1 r1 f1 : List ℕ} {s : State} {a
               say (go-bind d P.parse-expression (or-return (λ c. P.parse-statement >>? λ b. done (ok (guarding c b)))) _ ∙ follows d (λ c. P.parse-statement >>? λ b. done (ok (guarding c b))) (g .is) ∙ go-bind d P.parse-statement (or-return (λ b. done (ok (guarding y b)))) _)
               (joins d y (abandons {T = take (s .pos) o} {E = errs r (s .reported)} (g .tree) (g .rep) (length-take-le (s .pos) o (omega (arith, q .room))) (errs-length r (s .reported) (omega (arith, q .asks))) (errs-length r1 (a .state .reported) (omega (arith, q .asks, B .moved, lr))) C (omega (arith, D .moved .pos, B .moved .pos)) (omega (arith, D .moved .reported, B .moved .reported)) (D .is (g .read))));
         }
+
+-- ---- what the steps behind a first part ask for
+
+module _ {w x : List ℕ} {n : ℕ} {o r f : List ℕ} {s : State} (q : Asked w x n o r f s) where
+  -- a second part, read from t′, which has the counts of the first part's end t
+  pub later-cuts : {r2 : List ℕ} {t t′ : State} {b : Answer} → Moved w x n (s .pos) (s .reported) s t → Moved w x n (t .pos) (t .reported) t′ (b .state) → t′ .reported ≡ t .reported → t′ .full ≡ t .full → length r2 ≡ length r → Cuts r2 b (s .pos) (s .reported) (t .reported)
+  later-cuts M B e g l = record { pos = omega (arith, M .pos, B .pos); order = M .reported; own = B .reported; within = omega (arith, M, B, q .asks, e, g, l) }
+
+  module _ {i j : ℕ} {t u : Front} {a : State} (v : Seen w x n (s .at) t) (M : Moved w x n i j (fore s t) a) (y : Seen w x n (a .at) u) where
+    pub later-asked : {o′ r′ f′ : List ℕ} → length o′ ≡ length o → length r′ ≡ length r → length f′ ≡ length f → Asked w x n o′ r′ f′ (fore a u)
+    later-asked lo lr lf = asked-seen (asked-moved q (moved-trans (fore-moved (q .asks) v) M) lo lr lf) y
+
+    pub later-room : {i′ j′ k : ℕ} {o′ r′ r2 : List ℕ} {b c : Answer} → Moved w x n i′ j′ (fore a u) (b .state) → Abandoned r′ b i j k r2 c → length o′ ≡ length o → Room o′ x (c .state .pos) (16 + 0) 0 0
+    later-room B C l = record { room = omega (arith, q .room, v .pays, M .room, y .pays, B .room, C .high, l); part = omega arith }

@@ -1,39 +1,41 @@
-// Compounds and declarations: the functions of parser.rs between expressions and statements.
+// Statements and bodies: the functions of parser.rs that call one another in a cycle, above expressions.
+pub mod declarations;
+mod simple;
+
 use definition::kind;
 use definition::parse_error;
 use definition::tag;
 use expression::expression;
-use expression::list;
-use expression::typed_identifier;
 use fallible::Answer;
 use fallible::How;
 use fallible::State;
 use fallible::abandon;
 use fallible::entry;
+use fallible::note;
 use fallible::raise;
-use leaves::Listed;
+use fallible::refuse;
+use leaves::counted;
 use node::Numbers;
 use node::Record;
-use node::write_bare;
-use steps::and_expect;
+use simple::assembly_statement;
+use simple::break_statement;
+use simple::expression_statement;
+use simple::return_statement;
+use simple::var_statement;
 use steps::expect;
 use steps::finish;
 use steps::head;
-ghost use mathlib.Core.Path.{_≡_};
-ghost use Prim.Native.Nat.{ℕ, _+_, _<_, _≤_};
-ghost use lib.ListN.{length};
+ghost use Prim.Native.Nat.{_≤_};
+ghost use Rattle.definition.specs.Kind as K;
 ghost use Rattle.definition.specs.Parser as P;
-ghost use Rattle.node.specs.Put.{Room};
-ghost use Rattle.steps.specs.Shows.{Asked, Reads, GoesOn, node};
-ghost use Rattle.leaves.specs.Leaves.{listed-of};
-ghost use Rattle.grammar.specs.Post.{place-at, NameRoom};
-ghost use Rattle.statement.specs.Rules.{values-rule};
-ghost use Rattle.statement.specs.Post.{Starts, Bared, Named, ReadsDeclared, ValueOn};
+ghost use Rattle.steps.specs.Shows.{Asked, Reads, node};
+ghost use Rattle.statement.specs.Rules.{guarded-rule};
+ghost use Rattle.statement.specs.Post.{Starts, ReadsBody, BodyOn};
 
-// ---- compounds and declarations
+// ---- bodies
 
-// parse_compound: `#` (array values | struct values)
-pub fn compound(
+// parse_body: `{` {statement} `}`. The answer's `line` is the count, and it is never fatal.
+pub fn body(
     tokens: &[u32],
     text: &[u8],
     n: usize,
@@ -44,93 +46,111 @@ pub fn compound(
     left: usize,
 ) -> Answer
     requires { ⌜ Asked (now tokens) (now text) n (now file) (now rep) (now full) st ⌝ }
-    ensures { λ r. ⌜ Reads node (now (tokens .entry)) (now (text .entry)) n left P.parse-compound (now (file .entry)) (now (rep .entry)) (now (full .entry)) st (now (file .exit)) (now (rep .exit)) (now (full .exit)) r ⌝ }
+    ensures { λ r. ⌜ ReadsBody (now (tokens .entry)) (now (text .entry)) n left (now (file .entry)) (now (rep .entry)) (now (full .entry)) st (now (file .exit)) (now (rep .exit)) (now (full .exit)) r ⌝ }
 {
-    let a = expect(tokens, text, n, rep, full, st, kind::HASH);
+    let a = expect(tokens, text, n, rep, full, st, kind::L_BRACE);
     let how = a.how;
-    let How::Done = how else {
-        return a;
-    };
     let s = a.state;
-    let at = s.at;
-    let t = head(tokens, text, n, at);
-    if t.kind == kind::END {
-        return raise(
-            n,
-            rep,
-            full,
-            s,
-            entry(parse_error::COMPOUND_AT_END, 0, 0, 0, 0),
-        );
+    match how {
+        How::Done => body_rest(tokens, text, n, file, rep, full, 0, s, left),
+        How::Fatal => Answer {
+            how: How::Done,
+            state: s,
+            line: 0,
+            column: 0,
+        },
+        How::Refused(_) => a,
     }
-    if t.kind == kind::L_BRACKET {
-        return values(
-            tokens,
-            text,
-            n,
-            file,
-            rep,
-            full,
-            Listed::ArrayValues,
-            tag::COMPOUND_ARRAY,
-            t.line,
-            t.column,
-            s,
-            left,
-        );
-    }
-    if t.kind == kind::L_BRACE {
-        return values(
-            tokens,
-            text,
-            n,
-            file,
-            rep,
-            full,
-            Listed::StructValues,
-            tag::COMPOUND_STRUCT,
-            t.line,
-            t.column,
-            s,
-            left,
-        );
-    }
-    raise(
-        n,
-        rep,
-        full,
-        s,
-        entry(parse_error::COMPOUND, t.line, t.column, 0, t.kind),
-    )
 }
 
-// The values of a compound that opens with `[` or `{`.
-fn values(
+// Its loop, with so many statements read.
+fn body_rest(
     tokens: &[u32],
     text: &[u8],
     n: usize,
     file: &mut [u8],
     rep: &mut [usize],
     full: &mut [usize],
-    what: Listed,
-    tag: u8,
-    line: usize,
-    column: usize,
+    count: usize,
     st: State,
     left: usize,
 ) -> Answer
-    requires { ⌜ Starts (P.opener (listed-of what)) (now tokens) (now text) n (now file) (now rep) (now full) st ⌝ }
-    ensures { λ r. ⌜ Reads node (now (tokens .entry)) (now (text .entry)) n left (values-rule (listed-of what) tag (place-at line column)) (now (file .entry)) (now (rep .entry)) (now (full .entry)) st (now (file .exit)) (now (rep .exit)) (now (full .exit)) r ⌝ }
+    requires { ⌜ Asked (now tokens) (now text) n (now file) (now rep) (now full) st × (count ≤ st .at) ⌝ }
+    ensures { λ r. ⌜ BodyOn (now (tokens .entry)) (now (text .entry)) n left count (now (file .entry)) (now (rep .entry)) (now (full .entry)) st (now (file .exit)) (now (rep .exit)) (now (full .exit)) r ⌝ }
 {
-    let a = list(tokens, text, n, file, rep, full, what, st, left);
+    let at = st.at;
+    let t = head(tokens, text, n, at);
+    if t.kind == kind::R_BRACE {
+        return Answer {
+            how: How::Done,
+            state: State { at: t.next, ..st },
+            line: count,
+            column: 0,
+        };
+    }
+    if t.kind == kind::END {
+        let b = note(
+            n,
+            rep,
+            full,
+            st,
+            entry(parse_error::BODY_AT_END, 0, 0, 0, 0),
+        );
+        let how = b.how;
+        let s = b.state;
+        return Answer {
+            how,
+            state: s,
+            line: count,
+            column: 0,
+        };
+    }
+    let b = statement(tokens, text, n, file, rep, full, st, left);
+    let how = b.how;
+    let s = b.state;
+    if let How::Refused(_) = how {
+        return b;
+    }
+    body_rest(
+        tokens,
+        text,
+        n,
+        file,
+        rep,
+        full,
+        counted(how, count),
+        s,
+        left,
+    )
+}
+
+// ---- statements
+
+// A body that is a statement.
+fn block(
+    tokens: &[u32],
+    text: &[u8],
+    n: usize,
+    file: &mut [u8],
+    rep: &mut [usize],
+    full: &mut [usize],
+    st: State,
+    left: usize,
+) -> Answer
+    requires { ⌜ Starts K.LBrace (now tokens) (now text) n (now file) (now rep) (now full) st ⌝ }
+    ensures { λ r. ⌜ Reads node (now (tokens .entry)) (now (text .entry)) n left P.statement-rule (now (file .entry)) (now (rep .entry)) (now (full .entry)) st (now (file .exit)) (now (rep .exit)) (now (full .exit)) r ⌝ }
+{
+    let at = st.at;
+    let t = head(tokens, text, n, at);
+    let a = body(tokens, text, n, file, rep, full, st, left);
     finish(
         file,
         text,
         a,
         Record {
-            tag: tag,
-            line: line,
-            column: column,
+            tag: tag::BLOCK,
+            line: t.line,
+            column: t.column,
             numbers: Numbers::Two(a.line),
             start: 0,
             len: 0,
@@ -138,64 +158,49 @@ fn values(
     )
 }
 
-// A record with nothing but its tag behind an answer, if it is there.
-fn bare(file: &mut [u8], text: &[u8], a: Answer, tag: u8) -> Answer
-    requires { ⌜ Room (now file) (now text) (a .state .pos) 16 0 0 ⌝ }
-    ensures { λ r. ⌜ Bared (now (file .entry)) a tag (now (file .exit)) r ⌝ }
-{
-    let how = a.how;
-    let How::Done = how else {
-        return a;
-    };
-    let s = a.state;
-    let pos = write_bare(file, text, s.pos, tag, Numbers::None, 0, 0);
-    Answer {
-        how,
-        state: State { pos, ..s },
-        line: 0,
-        column: 0,
-    }
-}
-
-// The initial value behind an answer: [`=` expression | `<-` compound]
-fn initial_value(
+// `loop` statement
+fn loop_statement(
     tokens: &[u32],
     text: &[u8],
     n: usize,
     file: &mut [u8],
     rep: &mut [usize],
     full: &mut [usize],
-    a: Answer,
-    i: usize,
-    j: usize,
+    st: State,
     left: usize,
 ) -> Answer
-    requires { ⌜ GoesOn (now tokens) (now text) n (now file) (now rep) (now full) a i j ⌝ }
-    ensures { λ r. ⌜ ValueOn (now (tokens .entry)) (now (text .entry)) n left i j (now (file .entry)) (now (rep .entry)) (now (full .entry)) a (now (file .exit)) (now (rep .exit)) (now (full .exit)) r ⌝ }
+    requires { ⌜ Starts K.KwLoop (now tokens) (now text) n (now file) (now rep) (now full) st ⌝ }
+    ensures { λ r. ⌜ Reads node (now (tokens .entry)) (now (text .entry)) n left P.statement-rule (now (file .entry)) (now (rep .entry)) (now (full .entry)) st (now (file .exit)) (now (rep .exit)) (now (full .exit)) r ⌝ }
 {
-    let how = a.how;
-    let How::Done = how else {
-        return a;
-    };
-    let s = a.state;
-    let at = s.at;
+    let at = st.at;
     let t = head(tokens, text, n, at);
-    let on = State { at: t.next, ..s };
-    if t.kind == kind::EQUALS {
-        let b = expression(tokens, text, n, file, rep, full, on, left);
-        let c = abandon(rep, b, i, j, s.reported);
-        return bare(file, text, c, tag::ASSIGNED_VALUE);
-    }
-    if t.kind == kind::L_ARROW {
-        let b = compound(tokens, text, n, file, rep, full, on, left);
-        let c = abandon(rep, b, i, j, s.reported);
-        return bare(file, text, c, tag::COMPOUND_VALUE);
-    }
-    bare(file, text, a, tag::NO_VALUE)
+    let a = statement(
+        tokens,
+        text,
+        n,
+        file,
+        rep,
+        full,
+        State { at: t.next, ..st },
+        left,
+    );
+    finish(
+        file,
+        text,
+        a,
+        Record {
+            tag: tag::LOOP,
+            line: t.line,
+            column: t.column,
+            numbers: Numbers::None,
+            start: 0,
+            len: 0,
+        },
+    )
 }
 
-// parse_var_like_declaration: typed_identifier initial_value. The name is that of the first token.
-fn var_like_declaration(
+// A condition and what it guards: expression statement
+fn guarded(
     tokens: &[u32],
     text: &[u8],
     n: usize,
@@ -206,101 +211,200 @@ fn var_like_declaration(
     left: usize,
 ) -> Answer
     requires { ⌜ Asked (now tokens) (now text) n (now file) (now rep) (now full) st ⌝ }
-    ensures { λ r. ⌜ ReadsDeclared (now (tokens .entry)) (now (text .entry)) n left (now (file .entry)) (now (rep .entry)) (now (full .entry)) st (now (file .exit)) (now (rep .exit)) (now (full .exit)) r ⌝ }
+    ensures { λ r. ⌜ Reads node (now (tokens .entry)) (now (text .entry)) n left guarded-rule (now (file .entry)) (now (rep .entry)) (now (full .entry)) st (now (file .exit)) (now (rep .exit)) (now (full .exit)) r ⌝ }
 {
-    let a = typed_identifier(tokens, text, n, file, rep, full, st, left);
-    initial_value(
+    let a = expression(tokens, text, n, file, rep, full, st, left);
+    let how = a.how;
+    let How::Done = how else {
+        return a;
+    };
+    let s = a.state;
+    let b = statement(tokens, text, n, file, rep, full, s, left);
+    abandon(rep, b, st.pos, st.reported, s.reported)
+}
+
+// `while` guarded
+fn while_statement(
+    tokens: &[u32],
+    text: &[u8],
+    n: usize,
+    file: &mut [u8],
+    rep: &mut [usize],
+    full: &mut [usize],
+    st: State,
+    left: usize,
+) -> Answer
+    requires { ⌜ Starts K.KwWhile (now tokens) (now text) n (now file) (now rep) (now full) st ⌝ }
+    ensures { λ r. ⌜ Reads node (now (tokens .entry)) (now (text .entry)) n left P.statement-rule (now (file .entry)) (now (rep .entry)) (now (full .entry)) st (now (file .exit)) (now (rep .exit)) (now (full .exit)) r ⌝ }
+{
+    let at = st.at;
+    let t = head(tokens, text, n, at);
+    let a = guarded(
         tokens,
         text,
         n,
         file,
         rep,
         full,
-        a,
-        st.pos,
-        st.reported,
+        State { at: t.next, ..st },
         left,
+    );
+    finish(
+        file,
+        text,
+        a,
+        Record {
+            tag: tag::WHILE,
+            line: t.line,
+            column: t.column,
+            numbers: Numbers::None,
+            start: 0,
+            len: 0,
+        },
     )
 }
 
-// A record with a place behind an answer, if it is there; its text is the name at the place `at`, or `<?>` where none stands there.
-fn named(
+// `if` guarded [`else` statement]
+fn if_statement(
     tokens: &[u32],
     text: &[u8],
     n: usize,
     file: &mut [u8],
-    a: Answer,
-    tag: u8,
-    line: usize,
-    column: usize,
-    at: usize,
+    rep: &mut [usize],
+    full: &mut [usize],
+    st: State,
+    left: usize,
 ) -> Answer
-    requires { ⌜ NameRoom (now tokens) (now text) n (now file) a at ⌝ }
-    ensures { λ r. ⌜ Named (now (tokens .entry)) (now (text .entry)) n (now (file .entry)) a tag line column at (now (file .exit)) r ⌝ }
+    requires { ⌜ Starts K.KwIf (now tokens) (now text) n (now file) (now rep) (now full) st ⌝ }
+    ensures { λ r. ⌜ Reads node (now (tokens .entry)) (now (text .entry)) n left P.statement-rule (now (file .entry)) (now (rep .entry)) (now (full .entry)) st (now (file .exit)) (now (rep .exit)) (now (full .exit)) r ⌝ }
 {
+    let at = st.at;
+    let t = head(tokens, text, n, at);
+    let a = guarded(
+        tokens,
+        text,
+        n,
+        file,
+        rep,
+        full,
+        State { at: t.next, ..st },
+        left,
+    );
     let how = a.how;
     let How::Done = how else {
         return a;
     };
-    let t = head(tokens, text, n, at);
-    if t.kind == kind::IDENTIFIER {
+    let s = a.state;
+    let u = head(tokens, text, n, s.at);
+    if u.kind != kind::KW_ELSE {
         return finish(
             file,
             text,
             a,
             Record {
-                tag: tag,
-                line: line,
-                column: column,
-                numbers: Numbers::None,
-                start: t.start,
-                len: t.len,
+                tag: tag::IF,
+                line: t.line,
+                column: t.column,
+                numbers: Numbers::Byte(2),
+                start: 0,
+                len: 0,
             },
         );
     }
+    let b = statement(
+        tokens,
+        text,
+        n,
+        file,
+        rep,
+        full,
+        State { at: u.next, ..s },
+        left,
+    );
+    let c = abandon(rep, b, st.pos, st.reported, s.reported);
     finish(
         file,
-        b"<?>",
-        a,
+        text,
+        c,
         Record {
-            tag: tag,
-            line: line,
-            column: column,
-            numbers: Numbers::None,
+            tag: tag::IF,
+            line: t.line,
+            column: t.column,
+            numbers: Numbers::Byte(3),
             start: 0,
-            len: 3,
+            len: 0,
         },
     )
 }
 
-// A declaration behind `var`: var_like_declaration `;`
-pub fn declaration(
+// The statement that the next token begins.
+fn statement_rule(
     tokens: &[u32],
     text: &[u8],
     n: usize,
     file: &mut [u8],
     rep: &mut [usize],
     full: &mut [usize],
-    tag: u8,
-    line: usize,
-    column: usize,
     st: State,
     left: usize,
 ) -> Answer
     requires { ⌜ Asked (now tokens) (now text) n (now file) (now rep) (now full) st ⌝ }
-    ensures { λ r. ⌜ Reads node (now (tokens .entry)) (now (text .entry)) n left (P.declaration tag (place-at line column)) (now (file .entry)) (now (rep .entry)) (now (full .entry)) st (now (file .exit)) (now (rep .exit)) (now (full .exit)) r ⌝ }
+    ensures { λ r. ⌜ Reads node (now (tokens .entry)) (now (text .entry)) n left P.statement-rule (now (file .entry)) (now (rep .entry)) (now (full .entry)) st (now (file .exit)) (now (rep .exit)) (now (full .exit)) r ⌝ }
 {
-    let a = var_like_declaration(tokens, text, n, file, rep, full, st, left);
-    let b = and_expect(
-        tokens,
-        text,
-        n,
-        rep,
-        full,
-        a,
-        kind::SEMICOLON,
-        st.pos,
-        st.reported,
-    );
-    named(tokens, text, n, file, b, tag, line, column, st.at)
+    let at = st.at;
+    let t = head(tokens, text, n, at);
+    if t.kind == kind::KW_RETURN {
+        return return_statement(tokens, text, n, file, rep, full, st, left);
+    }
+    if t.kind == kind::KW_VAR {
+        return var_statement(tokens, text, n, file, rep, full, st, left);
+    }
+    if t.kind == kind::L_BRACE {
+        return block(tokens, text, n, file, rep, full, st, left);
+    }
+    if t.kind == kind::KW_LOOP {
+        return loop_statement(tokens, text, n, file, rep, full, st, left);
+    }
+    if t.kind == kind::KW_WHILE {
+        return while_statement(tokens, text, n, file, rep, full, st, left);
+    }
+    if t.kind == kind::KW_BREAK {
+        return break_statement(tokens, text, n, file, rep, full, st);
+    }
+    if t.kind == kind::KW_IF {
+        return if_statement(tokens, text, n, file, rep, full, st, left);
+    }
+    if t.kind == kind::INLINE_ASSEMBLY_FRAGMENT {
+        return assembly_statement(tokens, text, n, file, rep, full, st);
+    }
+    if t.kind == kind::END {
+        return raise(
+            n,
+            rep,
+            full,
+            st,
+            entry(parse_error::STATEMENT_AT_END, 0, 0, 0, 0),
+        );
+    }
+    expression_statement(tokens, text, n, file, rep, full, t.line, t.column, st, left)
+}
+
+// parse_statement, one of the four functions whose open calls are counted.
+pub fn statement(
+    tokens: &[u32],
+    text: &[u8],
+    n: usize,
+    file: &mut [u8],
+    rep: &mut [usize],
+    full: &mut [usize],
+    st: State,
+    left: usize,
+) -> Answer
+    requires { ⌜ Asked (now tokens) (now text) n (now file) (now rep) (now full) st ⌝ }
+    ensures { λ r. ⌜ Reads node (now (tokens .entry)) (now (text .entry)) n left P.parse-statement (now (file .entry)) (now (rep .entry)) (now (full .entry)) st (now (file .exit)) (now (rep .exit)) (now (full .exit)) r ⌝ }
+{
+    if left == 0 {
+        return refuse(n, st, 10);
+    }
+    statement_rule(tokens, text, n, file, rep, full, st, left - 1)
 }

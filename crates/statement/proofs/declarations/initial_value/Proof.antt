@@ -3,8 +3,8 @@ use Rattle.steps.proofs.Moves.{asked-seen}
 use Rattle.grammar.proofs.Joins.{join-cuts, join-room}
 use native.Mathlib.Omega.{arith}
 use borrow.Author.Needs.{needs}
-use Rattle.statement.proofs.initial_value.Statement.{statement}
-use Rattle.statement.proofs.initial_value.Tie as tie
+use Rattle.statement.proofs.declarations.initial_value.Statement.{statement}
+use Rattle.statement.proofs.declarations.initial_value.Tie as tie
 
 pub initial-value-spec : {M : Type 1} → statement M
 initial-value-spec =

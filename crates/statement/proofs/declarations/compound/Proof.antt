@@ -3,8 +3,8 @@ use Rattle.steps.proofs.Moves.{asked-moved, asks-moved}
 use mathlib.Core.Path.{refl, _∙_}
 use native.Mathlib.Omega.{arith}
 use borrow.Author.Needs.{needs}
-use Rattle.statement.proofs.compound.Statement.{statement}
-use Rattle.statement.proofs.compound.Tie as tie
+use Rattle.statement.proofs.declarations.compound.Statement.{statement}
+use Rattle.statement.proofs.declarations.compound.Tie as tie
 
 pub compound-spec : {M : Type 1} → statement M
 compound-spec =

@@ -2,8 +2,8 @@ use Rattle.statement.proofs.Initial.{declared-reads}
 use Rattle.steps.proofs.Moves.{asked-moved}
 use native.Mathlib.Omega.{arith}
 use borrow.Author.Needs.{needs}
-use Rattle.statement.proofs.var_like_declaration.Statement.{statement}
-use Rattle.statement.proofs.var_like_declaration.Tie as tie
+use Rattle.statement.proofs.declarations.var_like_declaration.Statement.{statement}
+use Rattle.statement.proofs.declarations.var_like_declaration.Tie as tie
 
 pub var-like-declaration-spec : {M : Type 1} → statement M
 var-like-declaration-spec =

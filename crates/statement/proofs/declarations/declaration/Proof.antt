@@ -2,8 +2,8 @@ use Rattle.statement.proofs.Declared.{declaration-room, declaration-rea
 use Rattle.steps.proofs.Moves.{asks-moved}
 use native.Mathlib.Omega.{arith}
 use borrow.Author.Needs.{needs}
-use Rattle.statement.proofs.declaration.Statement.{statement}
-use Rattle.statement.proofs.declaration.Tie as tie
+use Rattle.statement.proofs.declarations.declaration.Statement.{statement}
+use Rattle.statement.proofs.declarations.declaration.Tie as tie
 
 pub declaration-spec : {M : Type 1} → statement M
 declaration-spec =

@@ -1,7 +1,7 @@
 use Rattle.statement.proofs.Initial.{bare-stops, bare-on}
 use borrow.Author.Needs.{needs}
-use Rattle.statement.proofs.bare.Statement.{statement}
-use Rattle.statement.proofs.bare.Tie as tie
+use Rattle.statement.proofs.declarations.bare.Statement.{statement}
+use Rattle.statement.proofs.declarations.bare.Tie as tie
 
 pub bare-spec : {M : Type 1} → statement M
 bare-spec =

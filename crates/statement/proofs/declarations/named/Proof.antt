@@ -1,8 +1,8 @@
 use Rattle.statement.proofs.Declared.{named-stops, named-there, named-none}
 use Rattle.grammar.proofs.Names.{bare-room, unknown-room}
 use borrow.Author.Needs.{needs}
-use Rattle.statement.proofs.named.Statement.{statement}
-use Rattle.statement.proofs.named.Tie as tie
+use Rattle.statement.proofs.declarations.named.Statement.{statement}
+use Rattle.statement.proofs.declarations.named.Tie as tie
 
 pub named-spec : {M : Type 1} → statement M
 named-spec =

@@ -1,7 +1,7 @@
 use Rattle.statement.proofs.Declared.{values-reads}
 use borrow.Author.Needs.{needs}
-use Rattle.statement.proofs.values.Statement.{statement}
-use Rattle.statement.proofs.values.Tie as tie
+use Rattle.statement.proofs.declarations.values.Statement.{statement}
+use Rattle.statement.proofs.declarations.values.Tie as tie
 
 pub values-spec : {M : Type 1} → statement M
 values-spec =

@@ -1,0 +1,36 @@
+-- The needs of `block`.
+use Rattle.grammar.proofs.Joins.{room-at}
+use Rattle.statement.proofs.Statements.{block-reads}
+use native.Mathlib.Omega.{arith}
+use Prim.Native.Nat.{ℕ}
+use Rattle.statement.proofs.+block+body+body_rest+guarded+if_statement+loop_statement+statement+statement_rule+while_statement.Lts-block as lts
+use Rattle.statement.proofs.block.Reads as block
+use Rattle.statement.proofs.body.Reads as body
+use Rattle.steps.proofs.finish.Reads as finish-reads
+use Rattle.steps.proofs.head.Reads as head-reads
+use Rattle.statement.proofs.+block+body+body_rest+guarded+if_statement+loop_statement+statement+statement_rule+while_statement.Proof.Falls.{block-at, body-below}
+
+module _ (t : ℕ) where
+  abbrev pub given : lts.Claims
+  given = (head-reads.Asked, head-reads.Learnt, body-below t, body.Post, finish-reads.Asked, finish-reads.Learnt)
+
+  pub head-requires : lts.Need-head-requires given (block-at t) block.Post
+  head-requires c κs = (c .before .before .before .before .before .pre .1 .asked .asks .held, c .before .before .before .before .before .pre .1 .asked .asks .at)
+
+  pub body-requires : lts.Need-body-requires given (block-at t) block.Post
+  body-requires c κs = (omega (arith, c .before .before .before .before .before .before .before .before .before .pre .0), c .before .before .before .before .before .before .before .before .before .pre .1 .asked)
+
+  pub finish-requires : lts.Need-finish-requires given (block-at t) block.Post
+  finish-requires c κs = room-at (c .before .before .before .before .before .before .before .before .before .before .before .before .before .before .before .before .before .pre .1 .asked) (c .before .before .before .before .before .before .before .body .ensures .moved) (omega (arith, c .before .before .before .before .before .before .before .body .kept))
+
+  pub same-length : lts.Need-same-length given (block-at t) block.Post
+  same-length c = omega (arith, c .before .before .finish .kept, c .before .before .before .before .before .before .before .before .before .before .body .kept)
+
+  pub same-length-2 : lts.Need-same-length-2 given (block-at t) block.Post
+  same-length-2 c = omega (arith, c .before .before .finish .kept, c .before .before .before .before .before .before .before .before .before .before .body .kept)
+
+  pub same-length-3 : lts.Need-same-length-3 given (block-at t) block.Post
+  same-length-3 c = omega (arith, c .before .before .finish .kept, c .before .before .before .before .before .before .before .before .before .before .body .kept)
+
+  pub returns : lts.Need-returns given (block-at t) block.Post
+  returns c = block-reads (c .before .before .before .before .before .before .before .before .before .before .before .before .before .before .head .ensures) (c .before .before .before .before .before .before .before .before .before .before .before .before .before .before .before .before .before .before .before .before .pre .1) (c .before .before .before .before .before .before .before .before .before .before .body .ensures) (c .before .before .finish .ensures)

@@ -1,0 +1,60 @@
+-- The needs of `body`.
+use Rattle.statement.proofs.Bodies.{body-asked, body-refused, body-none, body-on}
+use Rattle.statement.proofs.Spare.{passed}
+use borrow.Author.Needs.{needs}
+use native.Mathlib.Omega.{arith}
+use Prim.Native.Nat.{ℕ}
+use Rattle.statement.proofs.+block+body+body_rest+guarded+if_statement+loop_statement+statement+statement_rule+while_statement.Lts-body as lts
+use Rattle.statement.proofs.body.Reads as body
+use Rattle.statement.proofs.body_rest.Reads as body-rest
+use Rattle.steps.proofs.expect.Reads as expect-reads
+use Rattle.statement.proofs.+block+body+body_rest+guarded+if_statement+loop_statement+statement+statement_rule+while_statement.Proof.Falls.{body-at, body-rest-below}
+
+module _ (t : ℕ) where
+  abbrev pub given : lts.Claims
+  given = (expect-reads.Asked, expect-reads.Learnt, body-rest-below t, body-rest.Post)
+
+  pub expect-requires : lts.Need-expect-requires given (body-at t) body.Post
+  expect-requires c κs = (c .before .before .before .before .before .before .before .pre .1 .asks, (omega arith, omega arith))
+
+  pub enum-told : lts.Need-enum-told given (body-at t) body.Post
+  enum-told c = search needs
+
+  pub body-rest-requires : lts.Need-body-rest-requires given (body-at t) body.Post
+  body-rest-requires c κs = (omega (arith, c .before .before .before .before .before .before .before .before .before .before .before .before .before .before .before .before .before .before .pre .0, c .before .before .before .before .before .before .before .before .before .before .expect .ensures .moved .end, passed (c .before .before .before .before .before .before .before .before .before .before .expect .ensures) (c .before .before .before .enum-told .given .1)), body-asked (c .before .before .before .before .before .before .before .before .before .before .before .before .before .before .before .before .before .before .pre .1) (c .before .before .before .before .before .before .before .before .before .before .expect .ensures .moved) (omega (arith, c .before .before .before .before .before .before .before .before .before .before .expect .kept)) (omega (arith, c .before .before .before .before .before .before .before .before .before .before .expect .kept)))
+
+  pub enum-told-2 : lts.Need-enum-told-2 given (body-at t) body.Post
+  enum-told-2 c = search needs
+
+  pub enum-told-3 : lts.Need-enum-told-3 given (body-at t) body.Post
+  enum-told-3 c = search needs
+
+  pub same-length : lts.Need-same-length given (body-at t) body.Post
+  same-length c = omega (arith, c .before .before .before .before .before .before .body-rest .kept, c .before .before .before .before .before .before .before .before .before .before .before .before .before .before .before .before .before .expect .kept)
+
+  pub same-length-2 : lts.Need-same-length-2 given (body-at t) body.Post
+  same-length-2 c = omega (arith, c .before .before .before .before .before .before .body-rest .kept, c .before .before .before .before .before .before .before .before .before .before .before .before .before .before .before .before .before .expect .kept)
+
+  pub same-length-3 : lts.Need-same-length-3 given (body-at t) body.Post
+  same-length-3 c = omega (arith, c .before .before .before .before .before .before .body-rest .kept, c .before .before .before .before .before .before .before .before .before .before .before .before .before .before .before .before .before .expect .kept)
+
+  pub returns : lts.Need-returns given (body-at t) body.Post
+  returns c = body-on (c .before .before .before .before .before .before .before .before .before .before .before .before .before .before .before .before .before .before .before .before .before .before .before .before .before .pre .1) (c .before .before .before .before .before .before .before .before .before .before .before .before .before .before .before .before .before .expect .ensures) (c .before .before .before .before .before .before .before .before .before .before .enum-told .given .1) (c .before .before .before .before .before .before .body-rest .ensures)
+
+  pub same-length-4 : lts.Need-same-length-4 given (body-at t) body.Post
+  same-length-4 c = omega (arith, c .before .before .before .before .before .before .before .expect .kept)
+
+  pub same-length-5 : lts.Need-same-length-5 given (body-at t) body.Post
+  same-length-5 c = omega (arith, c .before .before .before .before .before .before .before .expect .kept)
+
+  pub returns-2 : lts.Need-returns-2 given (body-at t) body.Post
+  returns-2 c = body-none (c .before .before .before .before .before .before .before .before .before .before .before .before .before .before .before .pre .1) (c .before .before .before .before .before .before .before .expect .ensures) (c .enum-told2 .given .1)
+
+  pub same-length-6 : lts.Need-same-length-6 given (body-at t) body.Post
+  same-length-6 c = omega (arith, c .before .before .before .before .before .before .before .expect .kept)
+
+  pub same-length-7 : lts.Need-same-length-7 given (body-at t) body.Post
+  same-length-7 c = omega (arith, c .before .before .before .before .before .before .before .expect .kept)
+
+  pub returns-3 : lts.Need-returns-3 given (body-at t) body.Post
+  returns-3 c = body-refused (c .before .before .before .before .before .before .before .before .before .before .before .before .before .before .before .pre .1) (c .before .before .before .before .before .before .before .expect .ensures) (c .before .match .keys3)

@@ -1,0 +1,37 @@
+-- The needs of `loop_statement`.
+use Rattle.steps.proofs.Moves.{asked-seen, fore-moved, moved-trans}
+use Rattle.grammar.proofs.Joins.{room-at}
+use Rattle.statement.proofs.Statements.{loop-reads}
+use native.Mathlib.Omega.{arith}
+use Prim.Native.Nat.{ℕ}
+use Rattle.statement.proofs.+block+body+body_rest+guarded+if_statement+loop_statement+statement+statement_rule+while_statement.Lts-loop_statement as lts
+use Rattle.statement.proofs.loop_statement.Reads as loop-statement
+use Rattle.statement.proofs.statement.Reads as statement′
+use Rattle.steps.proofs.finish.Reads as finish-reads
+use Rattle.steps.proofs.head.Reads as head-reads
+use Rattle.statement.proofs.+block+body+body_rest+guarded+if_statement+loop_statement+statement+statement_rule+while_statement.Proof.Falls.{loop-statement-at, statement-below}
+
+module _ (t : ℕ) where
+  abbrev pub given : lts.Claims
+  given = (head-reads.Asked, head-reads.Learnt, statement-below t, statement′.Post, finish-reads.Asked, finish-reads.Learnt)
+
+  pub head-requires : lts.Need-head-requires given (loop-statement-at t) loop-statement.Post
+  head-requires c κs = (c .before .before .before .before .before .pre .1 .asked .asks .held, c .before .before .before .before .before .pre .1 .asked .asks .at)
+
+  pub statement-requires : lts.Need-statement-requires given (loop-statement-at t) loop-statement.Post
+  statement-requires c κs = (omega (arith, c .before .before .before .before .before .before .before .before .before .pre .0, c .before .before .before .before .before .before .before .before .before .pre .1 .kind, c .before .before .before .head .ensures .kind, c .before .before .before .head .ensures .on, c .before .before .before .head .ensures .end), asked-seen (c .before .before .before .before .before .before .before .before .before .pre .1 .asked) (c .before .before .before .head .ensures))
+
+  pub finish-requires : lts.Need-finish-requires given (loop-statement-at t) loop-statement.Post
+  finish-requires c κs = room-at (c .before .before .before .before .before .before .before .before .before .before .before .before .before .before .before .before .before .pre .1 .asked) (moved-trans (fore-moved (c .before .before .before .before .before .before .before .before .before .before .before .before .before .before .before .before .before .pre .1 .asked .asks) (c .before .before .before .before .before .before .before .before .before .before .before .head .ensures)) (c .before .before .before .before .before .before .before .statement .ensures .moved)) (omega (arith, c .before .before .before .before .before .before .before .statement .kept))
+
+  pub same-length : lts.Need-same-length given (loop-statement-at t) loop-statement.Post
+  same-length c = omega (arith, c .before .before .finish .kept, c .before .before .before .before .before .before .before .before .before .before .statement .kept)
+
+  pub same-length-2 : lts.Need-same-length-2 given (loop-statement-at t) loop-statement.Post
+  same-length-2 c = omega (arith, c .before .before .finish .kept, c .before .before .before .before .before .before .before .before .before .before .statement .kept)
+
+  pub same-length-3 : lts.Need-same-length-3 given (loop-statement-at t) loop-statement.Post
+  same-length-3 c = omega (arith, c .before .before .finish .kept, c .before .before .before .before .before .before .before .before .before .before .statement .kept)
+
+  pub returns : lts.Need-returns given (loop-statement-at t) loop-statement.Post
+  returns c = loop-reads (c .before .before .before .before .before .before .before .before .before .before .before .before .before .before .head .ensures) (c .before .before .before .before .before .before .before .before .before .before .before .before .before .before .before .before .before .before .before .before .pre .1) (c .before .before .before .before .before .before .before .before .before .before .statement .ensures) (c .before .before .finish .ensures)

@@ -1,0 +1,177 @@
+-- The needs of `statement_rule`.
+use Rattle.grammar.proofs.Types.{raise-asked}
+use Rattle.statement.proofs.Statements.{begins, end-reads, other-reads}
+use native.Mathlib.Omega.{arith}
+use Prim.Native.Nat.{ℕ}
+use Rattle.statement.proofs.+block+body+body_rest+guarded+if_statement+loop_statement+statement+statement_rule+while_statement.Lts-statement_rule as lts
+use Rattle.statement.proofs.block.Reads as block
+use Rattle.statement.proofs.if_statement.Reads as if-statement
+use Rattle.statement.proofs.loop_statement.Reads as loop-statement
+use Rattle.statement.proofs.statement_rule.Reads as statement-rule
+use Rattle.statement.proofs.while_statement.Reads as while-statement
+use Rattle.fallible.proofs.entry.Reads as entry-reads
+use Rattle.fallible.proofs.raise.Reads as raise-reads
+use Rattle.statement.proofs.simple.assembly_statement.Reads as assembly-statement-reads
+use Rattle.statement.proofs.simple.break_statement.Reads as break-statement-reads
+use Rattle.statement.proofs.simple.expression_statement.Reads as expression-statement-reads
+use Rattle.statement.proofs.simple.return_statement.Reads as return-statement-reads
+use Rattle.statement.proofs.simple.var_statement.Reads as var-statement-reads
+use Rattle.steps.proofs.head.Reads as head-reads
+use Rattle.statement.proofs.+block+body+body_rest+guarded+if_statement+loop_statement+statement+statement_rule+while_statement.Proof.Falls.{block-below, if-statement-below, loop-statement-below, statement-rule-at, while-statement-below}
+
+module _ (t : ℕ) where
+  abbrev pub given : lts.Claims
+  given = (head-reads.Asked, head-reads.Learnt, return-statement-reads.Asked, return-statement-reads.Learnt, var-statement-reads.Asked, var-statement-reads.Learnt, block-below t, block.Post, loop-statement-below t, loop-statement.Post, while-statement-below t, while-statement.Post, break-statement-reads.Asked, break-statement-reads.Learnt, if-statement-below t, if-statement.Post, assembly-statement-reads.Asked, assembly-statement-reads.Learnt, entry-reads.Asked, entry-reads.Learnt, raise-reads.Asked, raise-reads.Learnt, expression-statement-reads.Asked, expression-statement-reads.Learnt)
+
+  pub head-requires : lts.Need-head-requires given (statement-rule-at t) statement-rule.Post
+  head-requires c κs = (c .before .before .before .before .before .pre .1 .asks .held, c .before .before .before .before .before .pre .1 .asks .at)
+
+  pub return-statement-requires : lts.Need-return-statement-requires given (statement-rule-at t) statement-rule.Post
+  return-statement-requires c κs = begins (c .before .before .before .before .before .before .before .before .before .before .before .pre .1) (c .before .before .before .before .before .head .ensures) (c .before .before .before .if1 .taken)
+
+  pub same-length : lts.Need-same-length given (statement-rule-at t) statement-rule.Post
+  same-length c = omega (arith, c .before .before .before .before .before .before .return-statement .kept)
+
+  pub same-length-2 : lts.Need-same-length-2 given (statement-rule-at t) statement-rule.Post
+  same-length-2 c = omega (arith, c .before .before .before .before .before .before .return-statement .kept)
+
+  pub same-length-3 : lts.Need-same-length-3 given (statement-rule-at t) statement-rule.Post
+  same-length-3 c = omega (arith, c .before .before .before .before .before .before .return-statement .kept)
+
+  pub returns : lts.Need-returns given (statement-rule-at t) statement-rule.Post
+  returns c = c .before .before .before .before .before .before .return-statement .ensures
+
+  pub var-statement-requires : lts.Need-var-statement-requires given (statement-rule-at t) statement-rule.Post
+  var-statement-requires c κs = begins (c .before .before .before .before .before .before .before .before .before .before .before .before .before .pre .1) (c .before .before .before .before .before .before .before .head .ensures) (c .before .before .before .if2 .taken)
+
+  pub same-length-4 : lts.Need-same-length-4 given (statement-rule-at t) statement-rule.Post
+  same-length-4 c = omega (arith, c .before .before .before .before .before .before .var-statement .kept)
+
+  pub same-length-5 : lts.Need-same-length-5 given (statement-rule-at t) statement-rule.Post
+  same-length-5 c = omega (arith, c .before .before .before .before .before .before .var-statement .kept)
+
+  pub same-length-6 : lts.Need-same-length-6 given (statement-rule-at t) statement-rule.Post
+  same-length-6 c = omega (arith, c .before .before .before .before .before .before .var-statement .kept)
+
+  pub returns-2 : lts.Need-returns-2 given (statement-rule-at t) statement-rule.Post
+  returns-2 c = c .before .before .before .before .before .before .var-statement .ensures
+
+  pub block-requires : lts.Need-block-requires given (statement-rule-at t) statement-rule.Post
+  block-requires c κs = (omega (arith, c .before .before .before .before .before .before .before .before .before .before .before .before .before .before .before .pre .0), begins (c .before .before .before .before .before .before .before .before .before .before .before .before .before .before .before .pre .1) (c .before .before .before .before .before .before .before .before .before .head .ensures) (c .before .before .before .if3 .taken))
+
+  pub same-length-7 : lts.Need-same-length-7 given (statement-rule-at t) statement-rule.Post
+  same-length-7 c = omega (arith, c .before .before .before .before .before .before .block .kept)
+
+  pub same-length-8 : lts.Need-same-length-8 given (statement-rule-at t) statement-rule.Post
+  same-length-8 c = omega (arith, c .before .before .before .before .before .before .block .kept)
+
+  pub same-length-9 : lts.Need-same-length-9 given (statement-rule-at t) statement-rule.Post
+  same-length-9 c = omega (arith, c .before .before .before .before .before .before .block .kept)
+
+  pub returns-3 : lts.Need-returns-3 given (statement-rule-at t) statement-rule.Post
+  returns-3 c = c .before .before .before .before .before .before .block .ensures
+
+  pub loop-statement-requires : lts.Need-loop-statement-requires given (statement-rule-at t) statement-rule.Post
+  loop-statement-requires c κs = (omega (arith, c .before .before .before .before .before .before .before .before .before .before .before .before .before .before .before .before .before .pre .0), begins (c .before .before .before .before .before .before .before .before .before .before .before .before .before .before .before .before .before .pre .1) (c .before .before .before .before .before .before .before .before .before .before .before .head .ensures) (c .before .before .before .if4 .taken))
+
+  pub same-length-10 : lts.Need-same-length-10 given (statement-rule-at t) statement-rule.Post
+  same-length-10 c = omega (arith, c .before .before .before .before .before .before .loop-statement .kept)
+
+  pub same-length-11 : lts.Need-same-length-11 given (statement-rule-at t) statement-rule.Post
+  same-length-11 c = omega (arith, c .before .before .before .before .before .before .loop-statement .kept)
+
+  pub same-length-12 : lts.Need-same-length-12 given (statement-rule-at t) statement-rule.Post
+  same-length-12 c = omega (arith, c .before .before .before .before .before .before .loop-statement .kept)
+
+  pub returns-4 : lts.Need-returns-4 given (statement-rule-at t) statement-rule.Post
+  returns-4 c = c .before .before .before .before .before .before .loop-statement .ensures
+
+  pub while-statement-requires : lts.Need-while-statement-requires given (statement-rule-at t) statement-rule.Post
+  while-statement-requires c κs = (omega (arith, c .before .before .before .before .before .before .before .before .before .before .before .before .before .before .before .before .before .before .before .pre .0), begins (c .before .before .before .before .before .before .before .before .before .before .before .before .before .before .before .before .before .before .before .pre .1) (c .before .before .before .before .before .before .before .before .before .before .before .before .before .head .ensures) (c .before .before .before .if5 .taken))
+
+  pub same-length-13 : lts.Need-same-length-13 given (statement-rule-at t) statement-rule.Post
+  same-length-13 c = omega (arith, c .before .before .before .before .before .before .while-statement .kept)
+
+  pub same-length-14 : lts.Need-same-length-14 given (statement-rule-at t) statement-rule.Post
+  same-length-14 c = omega (arith, c .before .before .before .before .before .before .while-statement .kept)
+
+  pub same-length-15 : lts.Need-same-length-15 given (statement-rule-at t) statement-rule.Post
+  same-length-15 c = omega (arith, c .before .before .before .before .before .before .while-statement .kept)
+
+  pub returns-5 : lts.Need-returns-5 given (statement-rule-at t) statement-rule.Post
+  returns-5 c = c .before .before .before .before .before .before .while-statement .ensures
+
+  pub break-statement-requires : lts.Need-break-statement-requires given (statement-rule-at t) statement-rule.Post
+  break-statement-requires c κs = begins (c .before .before .before .before .before .before .before .before .before .before .before .before .before .before .before .before .before .before .before .before .before .pre .1) (c .before .before .before .before .before .before .before .before .before .before .before .before .before .before .before .head .ensures) (c .before .before .before .if6 .taken)
+
+  pub same-length-16 : lts.Need-same-length-16 given (statement-rule-at t) statement-rule.Post
+  same-length-16 c = omega (arith, c .before .before .before .before .before .before .break-statement .kept)
+
+  pub same-length-17 : lts.Need-same-length-17 given (statement-rule-at t) statement-rule.Post
+  same-length-17 c = omega (arith, c .before .before .before .before .before .before .break-statement .kept)
+
+  pub same-length-18 : lts.Need-same-length-18 given (statement-rule-at t) statement-rule.Post
+  same-length-18 c = omega (arith, c .before .before .before .before .before .before .break-statement .kept)
+
+  pub returns-6 : lts.Need-returns-6 given (statement-rule-at t) statement-rule.Post
+  returns-6 c = c .before .before .before .before .before .before .break-statement .ensures _
+
+  pub if-statement-requires : lts.Need-if-statement-requires given (statement-rule-at t) statement-rule.Post
+  if-statement-requires c κs = (omega (arith, c .before .before .before .before .before .before .before .before .before .before .before .before .before .before .before .before .before .before .before .before .before .before .before .pre .0), begins (c .before .before .before .before .before .before .before .before .before .before .before .before .before .before .before .before .before .before .before .before .before .before .before .pre .1) (c .before .before .before .before .before .before .before .before .before .before .before .before .before .before .before .before .before .head .ensures) (c .before .before .before .if7 .taken))
+
+  pub same-length-19 : lts.Need-same-length-19 given (statement-rule-at t) statement-rule.Post
+  same-length-19 c = omega (arith, c .before .before .before .before .before .before .if-statement .kept)
+
+  pub same-length-20 : lts.Need-same-length-20 given (statement-rule-at t) statement-rule.Post
+  same-length-20 c = omega (arith, c .before .before .before .before .before .before .if-statement .kept)
+
+  pub same-length-21 : lts.Need-same-length-21 given (statement-rule-at t) statement-rule.Post
+  same-length-21 c = omega (arith, c .before .before .before .before .before .before .if-statement .kept)
+
+  pub returns-7 : lts.Need-returns-7 given (statement-rule-at t) statement-rule.Post
+  returns-7 c = c .before .before .before .before .before .before .if-statement .ensures
+
+  pub assembly-statement-requires : lts.Need-assembly-statement-requires given (statement-rule-at t) statement-rule.Post
+  assembly-statement-requires c κs = begins (c .before .before .before .before .before .before .before .before .before .before .before .before .before .before .before .before .before .before .before .before .before .before .before .before .before .pre .1) (c .before .before .before .before .before .before .before .before .before .before .before .before .before .before .before .before .before .before .before .head .ensures) (c .before .before .before .if8 .taken)
+
+  pub same-length-22 : lts.Need-same-length-22 given (statement-rule-at t) statement-rule.Post
+  same-length-22 c = omega (arith, c .before .before .before .before .before .before .assembly-statement .kept)
+
+  pub same-length-23 : lts.Need-same-length-23 given (statement-rule-at t) statement-rule.Post
+  same-length-23 c = omega (arith, c .before .before .before .before .before .before .assembly-statement .kept)
+
+  pub same-length-24 : lts.Need-same-length-24 given (statement-rule-at t) statement-rule.Post
+  same-length-24 c = omega (arith, c .before .before .before .before .before .before .assembly-statement .kept)
+
+  pub returns-8 : lts.Need-returns-8 given (statement-rule-at t) statement-rule.Post
+  returns-8 c = c .before .before .before .before .before .before .assembly-statement .ensures _
+
+  pub entry-requires : lts.Need-entry-requires given (statement-rule-at t) statement-rule.Post
+  entry-requires c κs = omega arith
+
+  pub raise-requires : lts.Need-raise-requires given (statement-rule-at t) statement-rule.Post
+  raise-requires c κs = raise-asked (c .before .before .before .before .before .before .before .before .before .before .before .before .before .before .before .before .before .before .before .before .before .before .before .before .before .before .before .pre .1)
+
+  pub same-length-25 : lts.Need-same-length-25 given (statement-rule-at t) statement-rule.Post
+  same-length-25 c = omega (arith, c .before .before .before .before .raise .kept)
+
+  pub same-length-26 : lts.Need-same-length-26 given (statement-rule-at t) statement-rule.Post
+  same-length-26 c = omega (arith, c .before .before .before .before .raise .kept)
+
+  pub returns-9 : lts.Need-returns-9 given (statement-rule-at t) statement-rule.Post
+  returns-9 c = end-reads (c .before .before .before .before .before .before .before .before .before .before .before .before .before .before .before .before .before .before .before .before .before .before .before .before .before .before .head .ensures) (c .before .before .before .before .before .before .before .before .before .before .before .before .before .before .before .before .before .before .before .before .before .before .before .before .if1 .left) (c .before .before .before .before .before .before .before .before .before .before .before .before .before .before .before .before .before .before .before .before .before .before .if2 .left) (c .before .before .before .before .before .before .before .before .before .before .before .before .before .before .before .before .before .before .before .before .if3 .left) (c .before .before .before .before .before .before .before .before .before .before .before .before .before .before .before .before .before .before .if4 .left) (c .before .before .before .before .before .before .before .before .before .before .before .before .before .before .before .before .if5 .left) (c .before .before .before .before .before .before .before .before .before .before .before .before .before .before .if6 .left) (c .before .before .before .before .before .before .before .before .before .before .before .before .if7 .left) (c .before .before .before .before .before .before .before .before .before .before .if8 .left) (c .before .before .before .before .before .before .before .before .before .before .before .before .before .before .before .before .before .before .before .before .before .before .before .before .before .before .before .before .before .before .before .before .pre .1) (c .before .before .before .before .before .before .before .before .if9 .taken) (c .before .before .before .before .before .entry .ensures) (c .before .before .before .before .raise .ensures)
+
+  pub expression-statement-requires : lts.Need-expression-statement-requires given (statement-rule-at t) statement-rule.Post
+  expression-statement-requires c κs = c .before .before .before .before .before .before .before .before .before .before .before .before .before .before .before .before .before .before .before .before .before .before .before .before .before .before .before .pre .1
+
+  pub same-length-27 : lts.Need-same-length-27 given (statement-rule-at t) statement-rule.Post
+  same-length-27 c = omega (arith, c .before .before .before .before .before .before .expression-statement .kept)
+
+  pub same-length-28 : lts.Need-same-length-28 given (statement-rule-at t) statement-rule.Post
+  same-length-28 c = omega (arith, c .before .before .before .before .before .before .expression-statement .kept)
+
+  pub same-length-29 : lts.Need-same-length-29 given (statement-rule-at t) statement-rule.Post
+  same-length-29 c = omega (arith, c .before .before .before .before .before .before .expression-statement .kept)
+
+  pub returns-10 : lts.Need-returns-10 given (statement-rule-at t) statement-rule.Post
+  returns-10 c = other-reads (c .before .before .before .before .before .before .before .before .before .before .before .before .before .before .before .before .before .before .before .before .before .before .before .before .before .before .before .before .head .ensures) (c .before .before .before .before .before .before .before .before .before .before .before .before .before .before .before .before .before .before .before .before .before .before .before .before .before .before .if1 .left) (c .before .before .before .before .before .before .before .before .before .before .before .before .before .before .before .before .before .before .before .before .before .before .before .before .if2 .left) (c .before .before .before .before .before .before .before .before .before .before .before .before .before .before .before .before .before .before .before .before .before .before .if3 .left) (c .before .before .before .before .before .before .before .before .before .before .before .before .before .before .before .before .before .before .before .before .if4 .left) (c .before .before .before .before .before .before .before .before .before .before .before .before .before .before .before .before .before .before .if5 .left) (c .before .before .before .before .before .before .before .before .before .before .before .before .before .before .before .before .if6 .left) (c .before .before .before .before .before .before .before .before .before .before .before .before .before .before .if7 .left) (c .before .before .before .before .before .before .before .before .before .before .before .before .if8 .left) (c .before .before .before .before .before .before .before .before .before .before .if9 .left) (c .before .before .before .before .before .before .expression-statement .ensures)

@@ -1,0 +1,20 @@
+use Rattle.statement.proofs.Assigned.{assignment-behind, assigned-cuts, assigned-asks, assigned-room}
+use Rattle.steps.proofs.Moves.{asked-seen}
+use mathlib.Core.Path.{sym, _∙_}
+use native.Mathlib.Omega.{arith}
+use Rattle.statement.proofs.simple.assignment.Statement.{statement}
+use Rattle.statement.proofs.simple.assignment.Tie as tie
+
+pub assignment-spec : {M : Type 1} → statement M
+assignment-spec =
+    tie.close
+    (tie.spec
+    (λ c κs. (c .before .before .before .before .before .pre .0 .asked .asks .held, (c .before .before .before .before .before .pre) .0 .asked .asks .at))
+    (λ c κs. asked-seen (c .before .before .before .before .before .before .before .before .before .pre .0 .asked) (c .before .before .before .head .ensures))
+    (λ c κs. assigned-cuts (c .before .before .before .before .before .before .before .before .before .before .before .before .before .before .before .before .before .pre .0 .asked) (c .before .before .before .before .before .before .before .before .before .before .before .before .before .before .before .before .before .pre .1) (c .before .before .before .before .before .before .before .before .before .before .before .head .ensures) (c .before .before .before .before .before .before .before .expression .ensures) (omega (arith, c .before .before .before .before .before .before .before .expression .kept)))
+    (λ c κs. (assigned-asks (c .before .before .before .before .before .before .before .before .before .before .before .before .before .before .before .before .before .before .before .before .before .before .pre .0 .asked) (c .before .before .before .before .before .before .before .before .before .before .before .before .before .before .before .before .before .before .before .before .before .before .pre .1) (c .before .before .before .before .before .before .before .before .before .before .before .before .before .before .before .before .head .ensures) (c .before .before .before .before .before .before .before .before .before .before .before .before .expression .ensures) (c .before .before .before .before .abandon .ensures) (omega (arith, c .before .before .before .before .abandon .kept, c .before .before .before .before .before .before .before .before .before .before .before .before .expression .kept)) (omega (arith, c .before .before .before .before .before .before .before .before .before .before .before .before .expression .kept)), (omega arith, omega arith)))
+    (λ c κs. assigned-room (c .before .before .before .before .before .before .before .before .before .before .before .before .before .before .before .before .before .before .before .before .before .before .before .before .before .before .before .before .pre .0 .asked) (c .before .before .before .before .before .before .before .before .before .before .before .before .before .before .before .before .before .before .before .before .before .before .before .before .before .before .before .before .pre .1) (c .before .before .before .before .before .before .before .before .before .before .before .before .before .before .before .before .before .before .before .before .before .before .head .ensures) (c .before .before .before .before .before .before .before .before .before .before .before .before .before .before .before .before .before .before .expression .ensures) (c .before .before .before .before .before .before .before .before .before .before .abandon .ensures) (c .before .before .before .before .before .and-expect .ensures) (omega (arith, c .before .before .before .before .before .before .before .before .before .before .before .before .before .before .before .before .before .before .expression .kept)))
+    (λ c. omega (arith, c .before .before .before .before .before .before .before .before .before .before .before .before .before .before .before .before .before .before .before .before .before .expression .kept, c .before .before .before .before .before .before .before .before .before .before .before .before .before .abandon .kept, c .before .before .before .before .before .before .before .before .and-expect .kept, c .before .before .finish .kept))
+    (λ c. omega (arith, c .before .before .before .before .before .before .before .before .before .before .before .before .before .before .before .before .before .before .before .before .before .expression .kept, c .before .before .before .before .before .before .before .before .before .before .before .before .before .abandon .kept, c .before .before .before .before .before .before .before .before .and-expect .kept, c .before .before .finish .kept))
+    (λ c. omega (arith, c .before .before .before .before .before .before .before .before .before .before .before .before .before .before .before .before .before .before .before .before .before .expression .kept, c .before .before .before .before .before .before .before .before .before .before .before .before .before .abandon .kept, c .before .before .before .before .before .before .before .before .and-expect .kept, c .before .before .finish .kept))
+    (λ c. assignment-behind (c .before .before .before .before .before .before .before .before .before .before .before .before .before .before .before .before .before .before .before .before .before .before .before .before .before .before .before .before .before .before .before .pre .0 .asked) (c .before .before .before .before .before .before .before .before .before .before .before .before .before .before .before .before .before .before .before .before .before .before .before .before .before .before .before .before .before .before .before .pre .1) (c .before .before .before .before .before .before .before .before .before .before .before .before .before .before .before .before .before .before .before .before .before .before .before .before .before .head .ensures) (sym (c .before .before .before .before .before .before .before .before .before .before .before .before .before .before .before .before .before .before .before .before .before .before .before .before .before .head .ensures .kind) ∙ c .before .before .before .before .before .before .before .before .before .before .before .before .before .before .before .before .before .before .before .before .before .before .before .before .before .before .before .before .before .before .before .pre .0 .kind) (c .before .before .before .before .before .before .before .before .before .before .before .before .before .before .before .before .before .before .before .before .before .expression .ensures) (c .before .before .before .before .before .before .before .before .before .before .before .before .before .abandon .ensures) (omega (arith, c .before .before .before .before .before .before .before .before .before .before .before .before .before .abandon .kept, c .before .before .before .before .before .before .before .before .before .before .before .before .before .before .before .before .before .before .before .before .before .expression .kept)) (omega (arith, c .before .before .before .before .before .before .before .before .before .before .before .before .before .before .before .before .before .before .before .before .before .expression .kept)) (c .before .before .before .before .before .before .before .before .and-expect .ensures) (c .before .before .finish .ensures)))
