@@ -56,11 +56,11 @@ pub fn expression(
     if left == 0 {
         return refuse(n, st, 10);
     }
-    boolean_combinator(tokens, text, n, file, rep, full, st, left - 1)
+    boolean(tokens, text, n, file, rep, full, st, left - 1)
 }
 
-// comparison [`&&` comparison]
-fn boolean_combinator(
+// parse_boolean_combinator: comparison [`&&` comparison]
+fn boolean(
     tokens: &[u32],
     text: &[u8],
     n: usize,
@@ -110,7 +110,7 @@ fn boolean_combinator(
     )
 }
 
-// bitwise_or [(`==` | `<` | `<=` | `>` | `>=`) bitwise_or]
+// bit_or [(`==` | `<` | `<=` | `>` | `>=`) bit_or]
 fn comparison(
     tokens: &[u32],
     text: &[u8],
@@ -124,7 +124,7 @@ fn comparison(
     requires { ⌜ Asked (now tokens) (now text) n (now file) (now rep) (now full) st ⌝ }
     ensures { λ r. ⌜ Reads node (now (tokens .entry)) (now (text .entry)) n left P.parse-comparison (now (file .entry)) (now (rep .entry)) (now (full .entry)) st (now (file .exit)) (now (rep .exit)) (now (full .exit)) r ⌝ }
 {
-    let a = bitwise_or(tokens, text, n, file, rep, full, st, left);
+    let a = bit_or(tokens, text, n, file, rep, full, st, left);
     let how = a.how;
     let How::Done = how else {
         return a;
@@ -136,7 +136,7 @@ fn comparison(
     if op == 0 {
         return a;
     }
-    let b = bitwise_or(
+    let b = bit_or(
         tokens,
         text,
         n,
@@ -162,8 +162,8 @@ fn comparison(
     )
 }
 
-// bitwise_xor {`|` bitwise_xor}
-fn bitwise_or(
+// parse_bitwise_or: bit_xor {`|` bit_xor}
+fn bit_or(
     tokens: &[u32],
     text: &[u8],
     n: usize,
@@ -176,7 +176,7 @@ fn bitwise_or(
     requires { ⌜ Asked (now tokens) (now text) n (now file) (now rep) (now full) st ⌝ }
     ensures { λ r. ⌜ Reads node (now (tokens .entry)) (now (text .entry)) n left P.parse-bitwise-or (now (file .entry)) (now (rep .entry)) (now (full .entry)) st (now (file .exit)) (now (rep .exit)) (now (full .exit)) r ⌝ }
 {
-    let a = bitwise_xor(tokens, text, n, file, rep, full, st, left);
+    let a = bit_xor(tokens, text, n, file, rep, full, st, left);
     operators(
         tokens,
         text,
@@ -192,8 +192,8 @@ fn bitwise_or(
     )
 }
 
-// bitwise_and {`^` bitwise_and}
-fn bitwise_xor(
+// parse_bitwise_xor: bit_and {`^` bit_and}
+fn bit_xor(
     tokens: &[u32],
     text: &[u8],
     n: usize,
@@ -206,7 +206,7 @@ fn bitwise_xor(
     requires { ⌜ Asked (now tokens) (now text) n (now file) (now rep) (now full) st ⌝ }
     ensures { λ r. ⌜ Reads node (now (tokens .entry)) (now (text .entry)) n left P.parse-bitwise-xor (now (file .entry)) (now (rep .entry)) (now (full .entry)) st (now (file .exit)) (now (rep .exit)) (now (full .exit)) r ⌝ }
 {
-    let a = bitwise_and(tokens, text, n, file, rep, full, st, left);
+    let a = bit_and(tokens, text, n, file, rep, full, st, left);
     operators(
         tokens,
         text,
@@ -222,8 +222,8 @@ fn bitwise_xor(
     )
 }
 
-// bit_shift {`&` bit_shift}
-fn bitwise_and(
+// parse_bitwise_and: shift {`&` shift}
+fn bit_and(
     tokens: &[u32],
     text: &[u8],
     n: usize,
@@ -236,7 +236,7 @@ fn bitwise_and(
     requires { ⌜ Asked (now tokens) (now text) n (now file) (now rep) (now full) st ⌝ }
     ensures { λ r. ⌜ Reads node (now (tokens .entry)) (now (text .entry)) n left P.parse-bitwise-and (now (file .entry)) (now (rep .entry)) (now (full .entry)) st (now (file .exit)) (now (rep .exit)) (now (full .exit)) r ⌝ }
 {
-    let a = bit_shift(tokens, text, n, file, rep, full, st, left);
+    let a = shift(tokens, text, n, file, rep, full, st, left);
     operators(
         tokens,
         text,
@@ -252,8 +252,8 @@ fn bitwise_and(
     )
 }
 
-// add_sub {(`<<` | `>>`) add_sub}
-fn bit_shift(
+// parse_bit_shift: add_sub {(`<<` | `>>`) add_sub}
+fn shift(
     tokens: &[u32],
     text: &[u8],
     n: usize,
@@ -358,9 +358,9 @@ fn cascade(
     ensures { λ r. ⌜ Reads node (now (tokens .entry)) (now (text .entry)) n left (P.cascade (level-of level)) (now (file .entry)) (now (rep .entry)) (now (full .entry)) st (now (file .exit)) (now (rep .exit)) (now (full .exit)) r ⌝ }
 {
     match level {
-        Level::BitwiseOr => bitwise_xor(tokens, text, n, file, rep, full, st, left),
-        Level::BitwiseXor => bitwise_and(tokens, text, n, file, rep, full, st, left),
-        Level::BitwiseAnd => bit_shift(tokens, text, n, file, rep, full, st, left),
+        Level::BitwiseOr => bit_xor(tokens, text, n, file, rep, full, st, left),
+        Level::BitwiseXor => bit_and(tokens, text, n, file, rep, full, st, left),
+        Level::BitwiseAnd => shift(tokens, text, n, file, rep, full, st, left),
         Level::BitShift => add_sub(tokens, text, n, file, rep, full, st, left),
         Level::AddSub => mul(tokens, text, n, file, rep, full, st, left),
         Level::Mul => cast(tokens, text, n, file, rep, full, st, left),
@@ -927,7 +927,7 @@ pub fn ty(
         );
     }
     if t.kind == kind::L_BRACKET {
-        return array_type(
+        return array(
             tokens,
             text,
             n,
@@ -986,7 +986,7 @@ pub fn ty(
 }
 
 // Behind `[`: the size, `]`, the type.
-fn array_type(
+fn array(
     tokens: &[u32],
     text: &[u8],
     n: usize,
@@ -1072,7 +1072,7 @@ fn typed(
 }
 
 // parse_typed_identifier: name `:` type. The name is that of the first token.
-pub fn typed_identifier(
+pub fn typed_name(
     tokens: &[u32],
     text: &[u8],
     n: usize,
@@ -1118,7 +1118,7 @@ pub fn typed_identifier(
 // ---- lists
 
 // A parameter, or a field of a struct type.
-fn named_type(
+fn named(
     tokens: &[u32],
     text: &[u8],
     n: usize,
@@ -1131,12 +1131,12 @@ fn named_type(
     requires { ⌜ Asked (now tokens) (now text) n (now file) (now rep) (now full) st ⌝ }
     ensures { λ r. ⌜ Reads node (now (tokens .entry)) (now (text .entry)) n left P.parse-named-type (now (file .entry)) (now (rep .entry)) (now (full .entry)) st (now (file .exit)) (now (rep .exit)) (now (full .exit)) r ⌝ }
 {
-    let a = typed_identifier(tokens, text, n, file, rep, full, st, left);
+    let a = typed_name(tokens, text, n, file, rep, full, st, left);
     bare_name(tokens, text, n, file, a, tag::NAMED_TYPE, st.at)
 }
 
 // parse_compound_struct_field: name `=` expression.
-fn struct_field(
+fn field(
     tokens: &[u32],
     text: &[u8],
     n: usize,
@@ -1200,11 +1200,11 @@ fn item(
     ensures { λ r. ⌜ Reads node (now (tokens .entry)) (now (text .entry)) n left (P.item (listed-of what)) (now (file .entry)) (now (rep .entry)) (now (full .entry)) st (now (file .exit)) (now (rep .exit)) (now (full .exit)) r ⌝ }
 {
     match what {
-        Listed::Parameters => named_type(tokens, text, n, file, rep, full, st, left),
+        Listed::Parameters => named(tokens, text, n, file, rep, full, st, left),
         Listed::Arguments => expression(tokens, text, n, file, rep, full, st, left),
-        Listed::StructFields => named_type(tokens, text, n, file, rep, full, st, left),
+        Listed::StructFields => named(tokens, text, n, file, rep, full, st, left),
         Listed::ArrayValues => expression(tokens, text, n, file, rep, full, st, left),
-        Listed::StructValues => struct_field(tokens, text, n, file, rep, full, st, left),
+        Listed::StructValues => field(tokens, text, n, file, rep, full, st, left),
     }
 }
 
@@ -1230,11 +1230,11 @@ pub fn list(
     if let How::Refused(_) = how {
         return a;
     }
-    list_rest(tokens, text, n, file, rep, full, what, 0, s, left)
+    list_on(tokens, text, n, file, rep, full, what, 0, s, left)
 }
 
 // Its loop, with so many items read.
-fn list_rest(
+fn list_on(
     tokens: &[u32],
     text: &[u8],
     n: usize,
@@ -1289,7 +1289,7 @@ fn list_rest(
     let How::Done = h else {
         return c;
     };
-    list_rest(
+    list_on(
         tokens,
         text,
         n,

@@ -4,7 +4,7 @@ use definition::parse_error;
 use definition::tag;
 use expression::expression;
 use expression::list;
-use expression::typed_identifier;
+use expression::typed_name;
 use fallible::Answer;
 use fallible::How;
 use fallible::State;
@@ -189,7 +189,7 @@ fn initial_value(
     bare(file, text, a, tag::NO_VALUE)
 }
 
-// parse_var_like_declaration: typed_identifier initial_value. The name is that of the first token.
+// parse_var_like_declaration: typed_name initial_value. The name is that of the first token.
 fn var_like_declaration(
     tokens: &[u32],
     text: &[u8],
@@ -203,7 +203,7 @@ fn var_like_declaration(
     requires { ⌜ Asked (now tokens) (now text) n (now file) (now rep) (now full) st ⌝ }
     ensures { λ r. ⌜ ReadsDeclared (now (tokens .entry)) (now (text .entry)) n left (now (file .entry)) (now (rep .entry)) (now (full .entry)) st (now (file .exit)) (now (rep .exit)) (now (full .exit)) r ⌝ }
 {
-    let a = typed_identifier(tokens, text, n, file, rep, full, st, left);
+    let a = typed_name(tokens, text, n, file, rep, full, st, left);
     initial_value(
         tokens,
         text,
