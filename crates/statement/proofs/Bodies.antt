@@ -34,7 +34,7 @@ use Rattle.leaves.proofs.Atoms.{Ended, Alive}
 use Rattle.grammar.specs.Post.{as-answer}
 use Rattle.grammar.proofs.Levels.{past}
 use Rattle.grammar.proofs.Types.{moved-onward, paid}
-use Rattle.statement.specs.Post.{ReadsBody, BodyOn}
+use Rattle.statement.specs.Post.{ReadsBody, LoopOn, statements-on}
 
 -- ---- refusals
 
@@ -96,7 +96,7 @@ module _ {w x : List ℕ} {n d : ℕ} {o r f r1 f1 : List ℕ} {s : State} {a : 
           → Shows items (take (s .pos) o) (errs r (s .reported)) [] [] w x n o r1 f1 (record { how = Done; state = a .state; line = 0; column = 0 }) (go d (P.parse-body >>= as-answer) (st-of w x n f rd s))
       one rd i = record { told = record { item = P.no-items (i .errors); errors = i .errors; read = i .read; is = opening d _ ∙ rw (i .is); tree = i .tree ∙ sym (append-nil (take (s .pos) o)); rep = i .rep; holds = refl } }
 
-  pub body-on : {o2 r2 f2 : List ℕ} {y : Answer} → a .how ≡ Done → BodyOn w x n d 0 o r1 f1 (a .state) o2 r2 f2 y → ReadsBody w x n d o r f s o2 r2 f2 y
+  pub body-on : {o2 r2 f2 : List ℕ} {y : Answer} → a .how ≡ Done → LoopOn statements-on w x n d 0 o r1 f1 (a .state) o2 r2 f2 y → ReadsBody w x n d o r f s o2 r2 f2 y
   unfolding recs-bytes
   body-on {o2} {r2} {f2} {y} z u = record {
     moved = moved-onward (e .moved) (u .moved);
@@ -110,6 +110,40 @@ module _ {w x : List ℕ} {n d : ℕ} {o r f r1 f1 : List ℕ} {s : State} {a : 
           → Shows items (take (s .pos) o) (errs r (s .reported)) [] [] w x n o2 r2 f2 y (go d (P.parse-body >>= as-answer) (st-of w x n f rd s))
       one rd i = say (opening d _ ∙ rw (i .is)) (u .is (i .read) (take (s .pos) o) (errs r (s .reported)) (P.no-items []) (i .tree) (e .kept z .1 ∙ sym (append-nil (errs r (s .reported)))) refl)
 
+-- ---- a turn that reads an item
+
+-- Of the loop `on`, where a turn at s reads an item by the act m.
+module _ {w x : List ℕ} {n d : ℕ} {o r f o1 r1 f1 : List ℕ} {s : State} {b : Answer} (on : Items → Act Items) (m : Act (Ans Node)) (step : (rd : List Consumed) (l : Items) → go d (on l) (st-of w x n f rd s) ≡ go d (m >>= λ a. on (P.integrate l a)) (st-of w x n f rd s))
+    (u : Reads node w x n d m o r f s o1 r1 f1 b) where
+  -- the item, and the loop behind it
+  item-first : (rd : List Consumed) (l : Items) → go d (on l >>= as-answer) (st-of w x n f rd s) ≡ answered d (after (go d m (st-of w x n f rd s)) (λ a S. go d (on (P.integrate l a)) S))
+  item-first rd l = go-bind d (on l) as-answer (st-of w x n f rd s) ∙ ap (λ (z : Res Items). answered d z) (step rd l ∙ go-bind d m (λ a. on (P.integrate l a)) (st-of w x n f rd s))
+
+  pub loop-refused : {count : ℕ} → Ended b → LoopOn on w x n d count o r f s o1 r1 f1 b
+  loop-refused h = record { moved = u .moved; never = not-fatal (b .how) h; is = λ rd T E l et ee ec. refusal h (λ m g. item-first rd l ∙ rw g) (u .is rd) }
+
+  pub loop-next : {count k : ℕ} {o3 r3 f3 : List ℕ} {y : Answer} → Alive b → Counted (b .how) count k → LoopOn on w x n d k o1 r1 f1 (b .state) o3 r3 f3 y → LoopOn on w x n d count o r f s o3 r3 f3 y
+  loop-next {count} {k} {o3} {r3} {f3} {y} alive ck h = record {
+    moved = moved-onward (u .moved) (h .moved);
+    never = h .never;
+    is = λ rd T E l et ee ec. one rd T E l et ee ec (b .how) refl alive (u .is rd .told);
+  }
+    where
+      one : (rd : List Consumed) (T : List ℕ) (E : List Err) (l : Items) → take (s .pos) o ≡ T ++ recs-bytes (l .recs) → errs r (s .reported) ≡ E ++ l .errors → l .count ≡ count → (g : How) → b .how ≡ g → OneOf (0 ∷ 1 ∷ []) (tagOf the-type g)
+          → ShowsOf g node (take (s .pos) o) (errs r (s .reported)) [] [] w x n o1 r1 f1 b (go d m (st-of w x n f rd s)) → Shows items T E [] [] w x n o3 r3 f3 y (go d (on l >>= as-answer) (st-of w x n f rd s))
+      one rd T E l et ee ec Done z al i =
+          say (item-first rd l ∙ rw (i .is) (sym (go-bind d (on (P.integrate l (ok (record { item = i .item; errors = i .errors })))) as-answer _)))
+          (h .is (i .read) T E (P.integrate l (ok (record { item = i .item; errors = i .errors }))) (tree-join T (l .recs) (i .item .recs) et (i .tree)) (errs-join E (l .errors) (i .errors) ee (i .rep)) (let c : count-of (b .how) count ≡ count + 1 = rw z in omega (arith, ec, ck .is, c)))
+      one rd T E l et ee ec Fatal z al i =
+          say (item-first rd l ∙ rw (i .is) (sym (go-bind d (on (P.integrate l (fatal (i .errors)))) as-answer _)))
+          (h .is (i .read) T E (P.integrate l (fatal (i .errors))) (i .tree ∙ et) (errs-join E (l .errors) (i .errors) ee (i .rep)) (let c : count-of (b .how) count ≡ count = rw z in omega (arith, ec, ck .is, c)))
+      one rd T E l et ee ec (Refused j) z al i = absurd (⊎-elim (λ z. omega arith) (λ z. omega arith) al)
+
+-- what the next turn asks for: an item that a token begins passes it
+pub loop-asked : {w x : List ℕ} {n d count k : ℕ} {m : Act (Ans Node)} {o r f o1 r1 f1 : List ℕ} {s : State} {b : Answer} {t : Front} → Asked w x n o r f s × (count ≤ s .at) → Seen w x n (s .at) t → (t .kind ≡ 0 → ⊥) → Reads node w x n d m o r f s o1 r1 f1 b → Counted (b .how) count k → length o1 ≡ length o → length r1 ≡ length r → length f1 ≡ length f
+    → Asked w x n o1 r1 f1 (b .state) × (k ≤ b .state .at)
+loop-asked q v m0 u c lo lr lf = (asked-moved (q .0) (u .moved) lo lr lf, omega (arith, q .1, v .kind, m0, u .on, c .high))
+
 -- ---- `body_rest`
 
 -- a loop is one turn of it
@@ -117,7 +151,7 @@ turned : (d : ℕ) (l : Items) (S : St) → go d (loop (Body l) done >>= as-answ
 turned d l S = go-bind d (loop (Body l) done) as-answer S ∙ ap (λ (z : Res Items). answered d z) (go-loop d (Body l) S)
 
 module _ {w x : List ℕ} {n count : ℕ} {o r f : List ℕ} {s : State} {t : Front} (q : Asked w x n o r f s × (count ≤ s .at)) (v : Seen w x n (s .at) t) where
-  pub rest-closed : {d : ℕ} → t .kind ≡ 40 → BodyOn w x n d count o r f s o r f (record { how = Done; state = fore s t; line = count; column = 0 })
+  pub rest-closed : {d : ℕ} → t .kind ≡ 40 → LoopOn statements-on w x n d count o r f s o r f (record { how = Done; state = fore s t; line = count; column = 0 })
   unfolding go run P.body-turn
   rest-closed {d} z = record {
     moved = fore-moved (q .0 .asks) v;
@@ -126,7 +160,7 @@ module _ {w x : List ℕ} {n count : ℕ} {o r f : List ℕ} {s : State} {t : Fr
   }
 
   module _ (m40 : t .kind ≡ 40 → ⊥) where
-    pub rest-end : {d e : ℕ} {r1 f1 : List ℕ} {b : Answer} → t .kind ≡ 0 → unpack e ≡ error-at 13 0 0 0 0 → Raised (noted n s) r f s e r1 f1 b → BodyOn w x n d count o r f s o r1 f1 (record { how = b .how; state = b .state; line = count; column = 0 })
+    pub rest-end : {d e : ℕ} {r1 f1 : List ℕ} {b : Answer} → t .kind ≡ 0 → unpack e ≡ error-at 13 0 0 0 0 → Raised (noted n s) r f s e r1 f1 b → LoopOn statements-on w x n d count o r f s o r1 f1 (record { how = b .how; state = b .state; line = count; column = 0 })
     unfolding go run P.body-turn
     rest-end {d} {e} {r1} {f1} {b} z i g = record {
       moved = rw (g .is) (making-moved (q .0 .asks) Done);
@@ -139,33 +173,13 @@ module _ {w x : List ℕ} {n count : ℕ} {o r f : List ℕ} {s : State} {t : Fr
     }
 
     module _ {d : ℕ} {o1 r1 f1 : List ℕ} {b : Answer} (m0 : t .kind ≡ 0 → ⊥) (u : Reads node w x n d P.parse-statement o r f s o1 r1 f1 b) where
-      first-step : (rd : List Consumed) (l : Items) → go d (P.body-turn l) (st-of w x n f rd s) ≡ go d (P.parse-statement >>= λ a. loop (Body (P.integrate l a)) done) (st-of w x n f rd s)
+      -- a turn that reads a statement
+      statement-turn : (rd : List Consumed) (l : Items) → go d (statements-on l) (st-of w x n f rd s) ≡ go d (P.parse-statement >>= λ a. statements-on (P.integrate l a)) (st-of w x n f rd s)
       unfolding go run P.body-turn _>>=_
-      first-step rd l = rw (run, no v m40, no v m0)
+      statement-turn rd l = go-loop d (Body l) _ ∙ rw (run, no v m40, no v m0)
 
-      -- the statement, and the loop behind it
-      statement-first : (rd : List Consumed) (l : Items) → go d (loop (Body l) done >>= as-answer) (st-of w x n f rd s) ≡ answered d (after (go d P.parse-statement (st-of w x n f rd s)) (λ a S. go d (loop (Body (P.integrate l a)) done) S))
-      statement-first rd l = turned d l (st-of w x n f rd s) ∙ ap (λ (z : Res Items). answered d z) (first-step rd l ∙ go-bind d P.parse-statement (λ a. loop (Body (P.integrate l a)) done) (st-of w x n f rd s))
+      pub rest-refused : Ended b → LoopOn statements-on w x n d count o r f s o1 r1 f1 b
+      rest-refused h = loop-refused statements-on P.parse-statement statement-turn u h
 
-      pub rest-refused : Ended b → BodyOn w x n d count o r f s o1 r1 f1 b
-      rest-refused h = record { moved = u .moved; never = not-fatal (b .how) h; is = λ rd T E l et ee ec. refusal h (λ m g. statement-first rd l ∙ rw g) (u .is rd) }
-
-      pub rest-asked : {m : ℕ} → Counted (b .how) count m → length o1 ≡ length o → length r1 ≡ length r → length f1 ≡ length f → Asked w x n o1 r1 f1 (b .state) × (m ≤ b .state .at)
-      rest-asked c lo lr lf = (asked-moved (q .0) (u .moved) lo lr lf, omega (arith, q .1, v .kind, m0, u .on, c .high))
-
-      pub rest-next : {m : ℕ} {o3 r3 f3 : List ℕ} {y : Answer} → Alive b → Counted (b .how) count m → BodyOn w x n d m o1 r1 f1 (b .state) o3 r3 f3 y → BodyOn w x n d count o r f s o3 r3 f3 y
-      rest-next {m} {o3} {r3} {f3} {y} alive cm h = record {
-        moved = moved-onward (u .moved) (h .moved);
-        never = h .never;
-        is = λ rd T E l et ee ec. one rd T E l et ee ec (b .how) refl alive (u .is rd .told);
-      }
-        where
-          one : (rd : List Consumed) (T : List ℕ) (E : List Err) (l : Items) → take (s .pos) o ≡ T ++ recs-bytes (l .recs) → errs r (s .reported) ≡ E ++ l .errors → l .count ≡ count → (k : How) → b .how ≡ k → OneOf (0 ∷ 1 ∷ []) (tagOf the-type k)
-              → ShowsOf k node (take (s .pos) o) (errs r (s .reported)) [] [] w x n o1 r1 f1 b (go d P.parse-statement (st-of w x n f rd s)) → Shows items T E [] [] w x n o3 r3 f3 y (go d (loop (Body l) done >>= as-answer) (st-of w x n f rd s))
-          one rd T E l et ee ec Done z al i =
-              say (statement-first rd l ∙ rw (i .is) (sym (go-bind d (loop (Body (P.integrate l (ok (record { item = i .item; errors = i .errors })))) done) as-answer _)))
-              (h .is (i .read) T E (P.integrate l (ok (record { item = i .item; errors = i .errors }))) (tree-join T (l .recs) (i .item .recs) et (i .tree)) (errs-join E (l .errors) (i .errors) ee (i .rep)) (let c : count-of (b .how) count ≡ count + 1 = rw z in omega (arith, ec, cm .is, c)))
-          one rd T E l et ee ec Fatal z al i =
-              say (statement-first rd l ∙ rw (i .is) (sym (go-bind d (loop (Body (P.integrate l (fatal (i .errors)))) done) as-answer _)))
-              (h .is (i .read) T E (P.integrate l (fatal (i .errors))) (i .tree ∙ et) (errs-join E (l .errors) (i .errors) ee (i .rep)) (let c : count-of (b .how) count ≡ count = rw z in omega (arith, ec, cm .is, c)))
-          one rd T E l et ee ec (Refused j) z al i = absurd (⊎-elim (λ z. omega arith) (λ z. omega arith) al)
+      pub rest-next : {k : ℕ} {o3 r3 f3 : List ℕ} {y : Answer} → Alive b → Counted (b .how) count k → LoopOn statements-on w x n d k o1 r1 f1 (b .state) o3 r3 f3 y → LoopOn statements-on w x n d count o r f s o3 r3 f3 y
+      rest-next h c l = loop-next statements-on P.parse-statement statement-turn u h c l

@@ -30,7 +30,7 @@ ghost use Rattle.definition.specs.Kind as K;
 ghost use Rattle.definition.specs.Parser as P;
 ghost use Rattle.steps.specs.Shows.{Asked, Reads, node};
 ghost use Rattle.statement.specs.Rules.{guarded-rule};
-ghost use Rattle.statement.specs.Post.{Starts, ReadsBody, BodyOn};
+ghost use Rattle.statement.specs.Post.{Starts, ReadsBody, LoopOn, statements-on};
 
 // ---- bodies
 
@@ -76,7 +76,7 @@ fn body_rest(
     left: usize,
 ) -> Answer
     requires { ⌜ Asked (now tokens) (now text) n (now file) (now rep) (now full) st × (count ≤ st .at) ⌝ }
-    ensures { λ r. ⌜ BodyOn (now (tokens .entry)) (now (text .entry)) n left count (now (file .entry)) (now (rep .entry)) (now (full .entry)) st (now (file .exit)) (now (rep .exit)) (now (full .exit)) r ⌝ }
+    ensures { λ r. ⌜ LoopOn statements-on (now (tokens .entry)) (now (text .entry)) n left count (now (file .entry)) (now (rep .entry)) (now (full .entry)) st (now (file .exit)) (now (rep .exit)) (now (full .exit)) r ⌝ }
 {
     let at = st.at;
     let t = head(tokens, text, n, at);

@@ -1,6 +1,6 @@
 -- The needs of `body_rest`.
 use Rattle.grammar.proofs.Types.{raise-asked}
-use Rattle.statement.proofs.Bodies.{rest-closed, rest-end, rest-refused, rest-next, rest-asked}
+use Rattle.statement.proofs.Bodies.{rest-closed, rest-end, rest-refused, rest-next, loop-asked}
 use borrow.Author.Needs.{needs}
 use native.Mathlib.Omega.{arith}
 use Prim.Native.Nat.{ℕ}
@@ -60,7 +60,7 @@ module _ (t : ℕ) where
   counted-requires c κs = omega (arith, c .before .before .before .before .before .before .before .before .before .before .before .before .before .before .before .before .before .before .before .before .before .before .before .before .before .pre .1 .1, c .before .before .before .before .before .before .before .before .before .before .before .before .before .before .before .before .before .before .before .before .before .before .before .before .before .pre .1 .0 .asks .at, c .before .before .before .before .before .before .before .before .before .before .before .before .before .before .before .before .before .before .before .before .before .before .before .before .before .pre .1 .0 .asks .held .few)
 
   pub body-rest-requires : lts.Need-body-rest-requires given (body-rest-at t) body-rest.Post
-  body-rest-requires c κs = (omega (arith, c .before .before .before .before .before .before .before .before .before .before .before .before .before .before .before .before .before .before .before .before .before .before .before .before .before .before .pre .0, c .before .before .before .before .before .before .before .before .before .before .before .before .before .before .before .before .before .before .before .before .before .before .before .before .before .before .pre .1 .0 .asks .at, c .before .before .before .before .before .before .before .before .before .before .before .before .before .before .before .before .before .before .before .before .head .ensures .kind, c .before .before .before .before .before .before .before .before .before .before .before .before .before .before .before .before .if2 .left, c .before .before .before .before .before .before .before .before .before .before .before .before .statement .ensures .on, c .before .before .before .before .before .before .before .before .before .before .before .before .statement .ensures .moved), rest-asked (c .before .before .before .before .before .before .before .before .before .before .before .before .before .before .before .before .before .before .before .before .before .before .before .before .before .before .pre .1) (c .before .before .before .before .before .before .before .before .before .before .before .before .before .before .before .before .before .before .before .before .head .ensures) (c .before .before .before .before .before .before .before .before .before .before .before .before .before .before .before .before .before .before .if1 .left) (c .before .before .before .before .before .before .before .before .before .before .before .before .before .before .before .before .if2 .left) (c .before .before .before .before .before .before .before .before .before .before .before .before .statement .ensures) (c .counted .ensures) (omega (arith, c .before .before .before .before .before .before .before .before .before .before .before .before .statement .kept)) (omega (arith, c .before .before .before .before .before .before .before .before .before .before .before .before .statement .kept)) (omega (arith, c .before .before .before .before .before .before .before .before .before .before .before .before .statement .kept)))
+  body-rest-requires c κs = (omega (arith, c .before .before .before .before .before .before .before .before .before .before .before .before .before .before .before .before .before .before .before .before .before .before .before .before .before .before .pre .0, c .before .before .before .before .before .before .before .before .before .before .before .before .before .before .before .before .before .before .before .before .before .before .before .before .before .before .pre .1 .0 .asks .at, c .before .before .before .before .before .before .before .before .before .before .before .before .before .before .before .before .before .before .before .before .head .ensures .kind, c .before .before .before .before .before .before .before .before .before .before .before .before .before .before .before .before .if2 .left, c .before .before .before .before .before .before .before .before .before .before .before .before .statement .ensures .on, c .before .before .before .before .before .before .before .before .before .before .before .before .statement .ensures .moved), loop-asked (c .before .before .before .before .before .before .before .before .before .before .before .before .before .before .before .before .before .before .before .before .before .before .before .before .before .before .pre .1) (c .before .before .before .before .before .before .before .before .before .before .before .before .before .before .before .before .before .before .before .before .head .ensures) (c .before .before .before .before .before .before .before .before .before .before .before .before .before .before .before .before .if2 .left) (c .before .before .before .before .before .before .before .before .before .before .before .before .statement .ensures) (c .counted .ensures) (omega (arith, c .before .before .before .before .before .before .before .before .before .before .before .before .statement .kept)) (omega (arith, c .before .before .before .before .before .before .before .before .before .before .before .before .statement .kept)) (omega (arith, c .before .before .before .before .before .before .before .before .before .before .before .before .statement .kept)))
 
   pub same-length-6 : lts.Need-same-length-6 given (body-rest-at t) body-rest.Post
   same-length-6 c = omega (arith, c .before .before .before .before .before .before .body-rest .kept, c .before .before .before .before .before .before .before .before .before .before .before .before .before .before .before .before .before .before .before .statement .kept)
