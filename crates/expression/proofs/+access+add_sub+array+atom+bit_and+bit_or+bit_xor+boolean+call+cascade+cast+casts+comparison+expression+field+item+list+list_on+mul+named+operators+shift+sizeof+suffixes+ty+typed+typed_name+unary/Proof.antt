@@ -116,8 +116,8 @@ use Rattle.expression.proofs.+access+add_sub+array+atom+bit_and+bit_or+
 use Rattle.expression.proofs.+access+add_sub+array+atom+bit_and+bit_or+bit_xor+boolean+call+cascade+cast+casts+comparison+expression+field+item+list+list_on+mul+named+operators+shift+sizeof+suffixes+ty+typed+typed_name+unary.Proof.TypedName as N-typed-name
 use Rattle.expression.proofs.+access+add_sub+array+atom+bit_and+bit_or+bit_xor+boolean+call+cascade+cast+casts+comparison+expression+field+item+list+list_on+mul+named+operators+shift+sizeof+suffixes+ty+typed+typed_name+unary.Proof.Unary as N-unary
 
-pub +access+add-sub+array+atom+shift+bit-and+bit-or+bit-xor+boolean+call+cascade+cast+casts+comparison+expression+item+list+list-on+mul+named+operators+sizeof+field+suffixes+ty+typed+typed-name+unary-spec : {M : Type 1} → statement M
-+access+add-sub+array+atom+shift+bit-and+bit-or+bit-xor+boolean+call+cascade+cast+casts+comparison+expression+item+list+list-on+mul+named+operators+sizeof+field+suffixes+ty+typed+typed-name+unary-spec =
+pub +access+add-sub+array+atom+bit-and+bit-or+bit-xor+boolean+call+cascade+cast+casts+comparison+expression+field+item+list+list-on+mul+named+operators+shift+sizeof+suffixes+ty+typed+typed-name+unary-spec : {M : Type 1} → statement M
++access+add-sub+array+atom+bit-and+bit-or+bit-xor+boolean+call+cascade+cast+casts+comparison+expression+field+item+list+list-on+mul+named+operators+shift+sizeof+suffixes+ty+typed+typed-name+unary-spec =
     close
     μ-access
     μ-add-sub

@@ -31,5 +31,5 @@ module _ (t : ℕ) where
   same-length-3 c = omega (arith, c .before .before .before .before .before .before .operators .kept, c .before .before .before .before .before .before .before .before .before .before .before .before .before .before .before .before .shift .kept)
 
   pub returns : lts.Need-returns given (bit-and-at t) bit-and.Post
-  unfolding P.parse-bit-and
+  unfolding P.parse-bitwise-and
   returns c = then-asked (operators-on BitAnd) (c .before .before .before .before .before .before .before .before .before .before .before .before .before .before .before .before .before .before .before .before .before .before .before .before .before .pre .1) (c .before .before .before .before .before .before .before .before .before .before .before .before .before .before .before .before .shift .ensures) (c .before .before .before .before .before .before .operators .ensures)

@@ -31,5 +31,5 @@ module _ (t : ℕ) where
   same-length-3 c = omega (arith, c .before .before .before .before .before .before .operators .kept, c .before .before .before .before .before .before .before .before .before .before .before .before .before .before .before .before .bit-xor .kept)
 
   pub returns : lts.Need-returns given (bit-or-at t) bit-or.Post
-  unfolding P.parse-bit-or
+  unfolding P.parse-bitwise-or
   returns c = then-asked (operators-on BitOr) (c .before .before .before .before .before .before .before .before .before .before .before .before .before .before .before .before .before .before .before .before .before .before .before .before .before .pre .1) (c .before .before .before .before .before .before .before .before .before .before .before .before .before .before .before .before .bit-xor .ensures) (c .before .before .before .before .before .before .operators .ensures)

@@ -31,5 +31,5 @@ module _ (t : ℕ) where
   same-length-3 c = omega (arith, c .before .before .before .before .before .before .operators .kept, c .before .before .before .before .before .before .before .before .before .before .before .before .before .before .before .before .bit-and .kept)
 
   pub returns : lts.Need-returns given (bit-xor-at t) bit-xor.Post
-  unfolding P.parse-bit-xor
+  unfolding P.parse-bitwise-xor
   returns c = then-asked (operators-on BitXor) (c .before .before .before .before .before .before .before .before .before .before .before .before .before .before .before .before .before .before .before .before .before .before .before .before .before .pre .1) (c .before .before .before .before .before .before .before .before .before .before .before .before .before .before .before .before .bit-and .ensures) (c .before .before .before .before .before .before .operators .ensures)

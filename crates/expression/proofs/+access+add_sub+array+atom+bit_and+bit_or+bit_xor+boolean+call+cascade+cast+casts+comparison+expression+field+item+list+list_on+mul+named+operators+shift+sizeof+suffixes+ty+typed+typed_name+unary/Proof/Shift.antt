@@ -31,5 +31,5 @@ module _ (t : ℕ) where
   same-length-3 c = omega (arith, c .before .before .before .before .before .before .operators .kept, c .before .before .before .before .before .before .before .before .before .before .before .before .before .before .before .before .add-sub .kept)
 
   pub returns : lts.Need-returns given (shift-at t) shift.Post
-  unfolding P.parse-shift
+  unfolding P.parse-bit-shift
   returns c = then-asked (operators-on Shift) (c .before .before .before .before .before .before .before .before .before .before .before .before .before .before .before .before .before .before .before .before .before .before .before .before .before .pre .1) (c .before .before .before .before .before .before .before .before .before .before .before .before .before .before .before .before .add-sub .ensures) (c .before .before .before .before .before .before .operators .ensures)
