@@ -176,7 +176,7 @@ module _ {w x : List ℕ} {n count : ℕ} {o r f : List ℕ} {s : State} {t : Fr
       -- a turn that reads a statement
       statement-turn : (rd : List Consumed) (l : Items) → go d (statements-on l) (st-of w x n f rd s) ≡ go d (P.parse-statement >>= λ a. statements-on (P.integrate l a)) (st-of w x n f rd s)
       unfolding go run P.body-turn _>>=_
-      statement-turn rd l = go-loop d (Body l) _ ∙ rw (run, no v m40, no v m0)
+      statement-turn rd l = go-loop d (Body l) (st-of w x n f rd s) ∙ rw (run, no v m40, no v m0)
 
       pub rest-refused : Ended b → LoopOn statements-on w x n d count o r f s o1 r1 f1 b
       rest-refused h = loop-refused statements-on P.parse-statement statement-turn u h

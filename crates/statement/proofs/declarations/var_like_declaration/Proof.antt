@@ -9,8 +9,8 @@ var-like-declaration-spec =
     tie.close
     (tie.spec
     (λ c κs. c .before .before .before .before .before .before .before .before .pre)
-    (λ c κs. record { asked = asked-moved (c .before .before .before .before .before .before .before .before .before .before .before .before .before .before .before .before .before .before .pre) (c .before .before .before .before .before .before .before .before .before .typed-identifier .ensures .moved) (omega (arith, c .before .before .before .before .before .before .before .before .before .typed-identifier .kept)) (omega (arith, c .before .before .before .before .before .before .before .before .before .typed-identifier .kept)) (omega (arith, c .before .before .before .before .before .before .before .before .before .typed-identifier .kept)); pos = c .before .before .before .before .before .before .before .before .before .typed-identifier .ensures .moved .pos; reported = c .before .before .before .before .before .before .before .before .before .typed-identifier .ensures .moved .reported })
-    (λ c. omega (arith, c .before .before .before .before .before .before .initial-value .kept, c .before .before .before .before .before .before .before .before .before .before .before .before .before .before .before .before .typed-identifier .kept))
-    (λ c. omega (arith, c .before .before .before .before .before .before .initial-value .kept, c .before .before .before .before .before .before .before .before .before .before .before .before .before .before .before .before .typed-identifier .kept))
-    (λ c. omega (arith, c .before .before .before .before .before .before .initial-value .kept, c .before .before .before .before .before .before .before .before .before .before .before .before .before .before .before .before .typed-identifier .kept))
-    (λ c. declared-reads (c .before .before .before .before .before .before .before .before .before .before .before .before .before .before .before .before .before .before .before .before .before .before .before .before .before .pre) (c .before .before .before .before .before .before .before .before .before .before .before .before .before .before .before .before .typed-identifier .ensures) (c .before .before .before .before .before .before .initial-value .ensures)))
+    (λ c κs. record { asked = asked-moved (c .before .before .before .before .before .before .before .before .before .before .before .before .before .before .before .before .before .before .pre) (c .before .before .before .before .before .before .before .before .before .typed-name .ensures .moved) (omega (arith, c .before .before .before .before .before .before .before .before .before .typed-name .kept)) (omega (arith, c .before .before .before .before .before .before .before .before .before .typed-name .kept)) (omega (arith, c .before .before .before .before .before .before .before .before .before .typed-name .kept)); pos = c .before .before .before .before .before .before .before .before .before .typed-name .ensures .moved .pos; reported = c .before .before .before .before .before .before .before .before .before .typed-name .ensures .moved .reported })
+    (λ c. omega (arith, c .before .before .before .before .before .before .initial-value .kept, c .before .before .before .before .before .before .before .before .before .before .before .before .before .before .before .before .typed-name .kept))
+    (λ c. omega (arith, c .before .before .before .before .before .before .initial-value .kept, c .before .before .before .before .before .before .before .before .before .before .before .before .before .before .before .before .typed-name .kept))
+    (λ c. omega (arith, c .before .before .before .before .before .before .initial-value .kept, c .before .before .before .before .before .before .before .before .before .before .before .before .before .before .before .before .typed-name .kept))
+    (λ c. declared-reads (c .before .before .before .before .before .before .before .before .before .before .before .before .before .before .before .before .before .before .before .before .before .before .before .before .before .pre) (c .before .before .before .before .before .before .before .before .before .before .before .before .before .before .before .before .typed-name .ensures) (c .before .before .before .before .before .before .initial-value .ensures)))
