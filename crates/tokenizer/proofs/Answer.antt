@@ -2,23 +2,24 @@
 use mathlib.Core.Path.{_≡_, refl, sym, ap, _∙_}
 use mathlib.Core.Logic.{inl, inr}
 use mathlib.Core.Bool.{Bool, true, false, not, _&&_}
-use mathlib.Core.List.{List, [], _++_}
+use mathlib.Core.List.{List, []}
 use mathlib.Core.Option.{Option, none, some}
-use Prim.Native.Nat.{ℕ, _-_, _*_, _<_, _≤_}
+use Prim.Native.Nat.{ℕ, _*_, _<_, _≤_}
 use native.Mathlib.Omega.{arith}
 use borrow.Author.Tests.{lt-ltb, le-ltb, leb-true, not-true, not-false}
 use lib.Dec.{leb}
-use lib.ListN.{length, take, replicate}
-use lib.Seq.{length-take-le}
+use lib.ListN.{length}
 use Rattle.definition.specs.Source.{Ch, characters, is-some, utf8}
 use Rattle.definition.specs.Records.{tokens-words, tokens-text, errors-words}
-use Rattle.definition.specs.Operations.{Tokenised, filled, untouched, tokenised, tokenise}
+use Rattle.definition.specs.Operations.{Tokenised, untouched, tokenised, tokenise}
 use Rattle.definition.specs.Tokenizer as Z
 use Rattle.source.specs.Place.{Stands, rest, origin}
 use Rattle.source.proofs.Laws.{stands-start}
 use Rattle.records.specs.declared.State.{State}
+use Rattle.zeros.specs.Cleared.{Cleared}
+use Rattle.zeros.proofs.Clearing.{cleared-filled}
 use Rattle.tokenizer.specs.declared.Tokenized.{Tokenized}
-use Rattle.tokenizer.specs.Run.{Done, Ran, Cleared, answer, refusal-of}
+use Rattle.tokenizer.specs.Run.{Done, Ran, answer, refusal-of}
 
 -- ---- the slices are wide enough
 
@@ -83,12 +84,6 @@ too-narrow s T E X h e n w f = rw f (sym (of-characters s T E X h e n false (not
 within-limit : (cs : List Ch) → Z.tokenize cs ≡ Z.tokenize-within 2048 cs
 unfolding Z.tokenize
 within-limit cs = refl
-
--- a slice that is cleared behind what it holds
-cleared-filled : (x : List ℕ) {x′ y : List ℕ} (n : ℕ) (ws : List ℕ) → Cleared x′ n y → take n x′ ≡ ws → length x′ ≡ length x → n ≤ length x′ → y ≡ filled (length x) ws
-cleared-filled x {x′} n ws c e l h =
-    let z : length x′ - n ≡ length x - length ws = omega (arith, l, ap length e, length-take-le n x′ h) in
-    c .is ∙ ap (λ (v : ℕ). take n x′ ++ replicate v 0) z ∙ ap (λ (v : List ℕ). v ++ replicate (length x - length ws) 0) e
 
 pub ran-done : {cs : List Ch} {T E X : List ℕ} {f : State} → Ran 2048 cs T E X f → f .how ≡ 0 → Done 2048 cs T E X f
 ran-done (inl d) n = d

@@ -1,9 +1,9 @@
 -- What the turn and the loop promise, and the answer of Tokenise. Assumes nothing.
 use mathlib.Core.Path.{_≡_}
 use mathlib.Core.Logic.{_⊎_}
-use mathlib.Core.List.{List, [], _∷_, _++_}
-use Prim.Native.Nat.{ℕ, _-_, _*_, _<_, _≤_}
-use lib.ListN.{length, take, replicate}
+use mathlib.Core.List.{List, [], _∷_}
+use Prim.Native.Nat.{ℕ, _*_, _<_, _≤_}
+use lib.ListN.{length, take}
 use Rattle.definition.specs.Fallible.{Err}
 use Rattle.definition.specs.Token.{Tok}
 use Rattle.definition.specs.Source.{Ch}
@@ -58,10 +58,6 @@ abbrev pub Ran : ℕ → List Ch → List ℕ → List ℕ → List ℕ → Stat
 Ran most cs T E X f = Done most cs T E X f ⊎ NotDone most cs f
 
 -- ---- the answer
-
--- from n on zeros
-pub record Cleared (x : List ℕ) (n : ℕ) (x′ : List ℕ) : Type 0 where
-  pub is : x′ ≡ take n x ++ replicate (length x - n) 0
 
 -- the number and the counts, with the three slices
 abbrev pub answer : Tokenized → List ℕ → List ℕ → List ℕ → Tokenised

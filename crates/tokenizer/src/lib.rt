@@ -22,13 +22,15 @@ use turns::string_turn;
 use turns::with_errors;
 use turns::word_turn;
 use turns::zero_turn;
+use zeros::clear_bytes;
+use zeros::clear_words;
 ghost use mathlib.Core.Path.{_≡_};
 ghost use Prim.Native.Nat.{_*_, _<_, _≤_};
 ghost use lib.ListN.{length};
 ghost use Rattle.definition.specs.Operations as O;
 ghost use Rattle.source.specs.Place.{Stands, rest, origin};
 ghost use Rattle.turns.specs.Turn.{Ready};
-ghost use Rattle.tokenizer.specs.Run.{Taken, turn-of, Ran, Cleared, answer, refusal-of};
+ghost use Rattle.tokenizer.specs.Run.{Taken, turn-of, Ran, answer, refusal-of};
 
 // ---- the loop
 
@@ -100,30 +102,6 @@ fn run(most: usize, s: &[u8], tokens: &mut [u32], errors: &mut [u32], text: &mut
         if st.how != 0 {
             return st;
         }
-    }
-}
-
-// ---- zeros from `from` on
-
-fn clear_bytes(text: &mut [u8], from: usize)
-    requires { ⌜ from ≤ length (now text) ⌝ }
-    ensures { λ _. ⌜ Cleared (now (text .entry)) from (now (text .exit)) ⌝ }
-{
-    let mut i = from;
-    while i < text.len() {
-        text[i] = 0;
-        i += 1;
-    }
-}
-
-fn clear_words(words: &mut [u32], from: usize)
-    requires { ⌜ from ≤ length (now words) ⌝ }
-    ensures { λ _. ⌜ Cleared (now (words .entry)) from (now (words .exit)) ⌝ }
-{
-    let mut i = from;
-    while i < words.len() {
-        words[i] = 0;
-        i += 1;
     }
 }
 

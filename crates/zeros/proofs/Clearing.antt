@@ -6,7 +6,8 @@ use native.Mathlib.Numerals.{add-one}
 use native.Mathlib.Omega.{arith}
 use lib.ListN.{length, getD, take, drop, set, replicate, length-append, length-set, length-replicate, replicate-append-replicate, drop-of-length-le, take-append-drop}
 use lib.Seq.{drop-cons, set-at, length-take-le}
-use Rattle.tokenizer.specs.Run.{Cleared}
+use Rattle.definition.specs.Operations.{filled}
+use Rattle.zeros.specs.Cleared.{Cleared}
 
 pub record Clearing (x₀ : List ℕ) (from : ℕ) (x : List ℕ) (i : ℕ) : Type 0 where
   pub low : from ≤ i
@@ -44,3 +45,9 @@ module _ {x₀ : List ℕ} {from : ℕ} {x : List ℕ} {i : ℕ} (q : Clearing x
       let z : i ≡ length x₀ = omega (arith, q .size, q .high) in
       let m : length x₀ ≤ i = omega (arith, q .size) in
       record { is = q .is ∙ ap (λ (v : List ℕ). (take from x₀ ++ replicate (i - from) 0) ++ v) (drop-of-length-le x₀ m) ∙ append-nil (take from x₀ ++ replicate (i - from) 0) ∙ ap (λ (v : ℕ). take from x₀ ++ replicate (v - from) 0) z }
+
+-- a slice that is cleared behind what it holds
+pub cleared-filled : (x : List ℕ) {x′ y : List ℕ} (n : ℕ) (ws : List ℕ) → Cleared x′ n y → take n x′ ≡ ws → length x′ ≡ length x → n ≤ length x′ → y ≡ filled (length x) ws
+cleared-filled x {x′} n ws c e l h =
+    let z : length x′ - n ≡ length x - length ws = omega (arith, l, ap length e, length-take-le n x′ h) in
+    c .is ∙ ap (λ (v : ℕ). take n x′ ++ replicate v 0) z ∙ ap (λ (v : List ℕ). v ++ replicate (length x - length ws) 0) e

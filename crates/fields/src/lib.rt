@@ -1,0 +1,74 @@
+// The errors as fields behind the tree: token errors (tag 62), reported errors (60) and the full list (61).
+// The body of each is seven bytes: number, line and column in two bytes each, expected kind, kind got.
+use definition::tag;
+use fallible::entry;
+use node::Numbers;
+use node::write_bare;
+ghost use mathlib.Core.Path.{_≡_};
+ghost use mathlib.Core.Bool.{true};
+ghost use mathlib.Core.List.{[], _∷_};
+ghost use Prim.Native.Nat.{_+_, _*_, _≤_};
+ghost use lib.ListN.{length};
+ghost use Rattle.definition.specs.Records.{errors-of};
+ghost use Rattle.definition.specs.Source.{is-some};
+ghost use Rattle.fallible.specs.Lists.{unpack, errs};
+ghost use Rattle.fields.specs.Errors.{Fielded, TokenFields};
+
+// An error's field; the entry's seven bytes are its body.
+fn error_field(file: &mut [u8], pos: usize, tag: u8, e: usize) -> usize
+    requires { ⌜ pos + 23 ≤ length (now file) ⌝ }
+    ensures { λ r. ⌜ Fielded (now (file .entry)) pos tag (unpack e ∷ []) (now (file .exit)) r ⌝ }
+{
+    let body = [
+        (e / 0x1_0000_0000_0000 % 256) as u8,
+        (e / 0x100_0000_0000 % 256) as u8,
+        (e / 0x1_0000_0000 % 256) as u8,
+        (e / 0x100_0000 % 256) as u8,
+        (e / 0x1_0000 % 256) as u8,
+        (e / 0x100 % 256) as u8,
+        (e % 256) as u8,
+    ];
+    write_bare(file, &body, pos, tag, Numbers::None, 0, 7)
+}
+
+// The fields of a list of `count` errors.
+pub fn error_fields(file: &mut [u8], pos: usize, tag: u8, list: &[usize], count: usize) -> usize
+    requires { ⌜ (pos + 10 * count + 13 ≤ length (now file)) × (count ≤ length (now list)) ⌝ }
+    ensures { λ r. ⌜ Fielded (now (file .entry)) pos tag (errs (now (list .entry)) count) (now (file .exit)) r ⌝ }
+{
+    let mut i = 0;
+    let mut p = pos;
+    while i < count {
+        p = error_field(file, p, tag, list[i]);
+        i += 1;
+    }
+    p
+}
+
+fn wide(x: u32) -> usize
+    ensures { λ r. ⌜ r ≡ x ⌝ }
+{
+    x as usize
+}
+
+// The fields of the token errors, whose records are good: number, place, 0, 0.
+pub fn token_error_fields(file: &mut [u8], pos: usize, errors: &[u32], count: usize) -> usize
+    requires { ⌜ (pos + 10 * count + 13 ≤ length (now file)) × ((4 * count ≤ length (now errors)) × (is-some (errors-of (now errors) 0 count) ≡ true)) ⌝ }
+    ensures { λ r. ⌜ TokenFields (now (file .entry)) pos (now (errors .entry)) count (now (file .exit)) r ⌝ }
+{
+    let mut i = 0;
+    let mut p = pos;
+    while i < count {
+        let k = 4 * i;
+        let e = entry(
+            wide(errors[k]),
+            wide(errors[k + 1]),
+            wide(errors[k + 2]),
+            0,
+            0,
+        );
+        p = error_field(file, p, tag::TOKEN_ERROR, e);
+        i += 1;
+    }
+    p
+}
