@@ -1,0 +1,96 @@
+-- What the functions of a module's items show beyond `Reads`. Assumes nothing.
+use mathlib.Core.Path.{_≡_}
+use mathlib.Core.Bool.{Bool, true, false}
+use mathlib.Core.List.{List, [], _∷_, _++_}
+use Prim.Native.Nat.{ℕ, _+_, _≤_}
+use lib.ListN.{length, take}
+use Rattle.definition.specs.Source.{Place}
+use Rattle.definition.specs.Node.{recs-bytes}
+use Rattle.definition.specs.Fallible.{Err, Ans}
+use Rattle.definition.specs.Token.{head}
+use Rattle.definition.specs.Act as A
+use Rattle.definition.specs.Act.{Items, done, loop, Consumed, Res, gives, refused, after, or-return, _>>=_}
+use Rattle.definition.specs.Parser as P
+use Rattle.definition.specs.Go.{go}
+use Rattle.fallible.specs.declared.State.{State}
+use Rattle.fallible.specs.declared.How.{How}
+use Rattle.fallible.specs.declared.How.the-variants.{Done, Fatal, Refused}
+use Rattle.fallible.specs.declared.Answer.{Answer}
+use Rattle.fallible.specs.Lists.{errs}
+use Rattle.steps.specs.Tokens.{rest, budget}
+use Rattle.steps.specs.Shows.{st-of, Asked, Moved, Shows, node, items}
+use Rattle.grammar.specs.Post.{as-answer}
+use Rattle.statement.specs.Post.{up}
+use Rattle.items.specs.declared.others.AliasWords.{AliasWords}
+use Rattle.items.specs.Rules.{return-rule, signature-rule, function-on}
+
+-- ---- functions
+
+abbrev pub flag : Bool → ℕ
+flag false = 0
+flag true = 1
+
+-- no token pays for a void type
+pub record ReadsType (w x : List ℕ) (n d : ℕ) (p : Place) (o r f : List ℕ) (s : State) (o′ r′ f′ : List ℕ) (a : Answer) : Type 0 where
+  pub moved : Moved w x n (s .pos) (s .reported) (up 7 s) (a .state)
+  pub is : (rd : List Consumed) → Shows node (take (s .pos) o) (errs r (s .reported)) [] [] w x n o′ r′ f′ a (go d (return-rule p) (st-of w x n f rd s))
+
+pub record ReadsSignature (w x : List ℕ) (n d : ℕ) (p : Place) (o r f : List ℕ) (s : State) (o′ r′ f′ : List ℕ) (a : Answer) : Type 0 where
+  pub moved : Moved w x n (s .pos) (s .reported) (up 7 s) (a .state)
+  pub is : (rd : List Consumed) → Shows items (take (s .pos) o) (errs r (s .reported)) [] [] w x n o′ r′ f′ a (go d (signature-rule p) (st-of w x n f rd s))
+
+-- what a signature leaves for them: `fn` and the name have paid
+pub record FunctionAsked (w x : List ℕ) (n : ℕ) (o r f : List ℕ) (name : ℕ) (a : Answer) (i j : ℕ) : Type 0 where
+  pub asked : Asked w x n o r f (a .state)
+  pub within : name ≤ n
+  pub room : a .state .pos + budget w x n (a .state .at) + 41 + length (head (rest w x n name) .text) ≤ length o
+  pub pos : i ≤ a .state .pos
+  pub reported : j ≤ a .state .reported
+
+pub record FunctionOn (w x : List ℕ) (n d external : ℕ) (p : Place) (name i j : ℕ) (o r f : List ℕ) (a : Answer) (o′ r′ f′ : List ℕ) (y : Answer) : Type 0 where
+  pub moved : Moved w x n i j (up (19 + length (head (rest w x n name) .text)) (a .state)) (y .state)
+  pub is : (T : List ℕ) (E : List Err) (q : Res (Ans Items)) → length T ≡ i → length E ≡ j → Shows items T E [] [] w x n o r f a q
+      → Shows node T E [] [] w x n o′ r′ f′ y (after q (λ z S. go d (or-return (function-on p external (head (rest w x n name))) z) S))
+
+-- ---- aliases and paths
+
+pub record Modified (w x : List ℕ) (n distinct internal at : ℕ) (m : AliasWords) : Type 0 where
+  pub words : A.Words
+  pub sum : words .distinct + words .internal ≡ m .words
+  pub few : m .words ≤ 3
+  pub up : at ≤ m .next
+  pub end : m .next ≤ n
+  pub room : budget w x n (m .next) ≤ budget w x n at
+  pub read : List Consumed → List Consumed
+  pub is : (d : ℕ) (rd : List Consumed) (es : List Err)
+      → go d (loop (A.Modifiers (record { distinct = distinct; internal = internal })) done) (record { left = rest w x n at; read = rd; full = es }) ≡ gives words (record { left = rest w x n (m .next); read = read rd; full = es })
+
+-- ---- the module
+
+-- the loop, with the items i; 96 calls may be open
+pub record ModuleOn (w x : List ℕ) (n : ℕ) (count : ℕ) (o r f : List ℕ) (s : State) (o′ r′ f′ : List ℕ) (a : Answer) : Type 0 where
+  pub moved : Moved w x n (s .pos) (s .reported) s (a .state)
+  pub never : a .how ≡ Fatal → ⊥
+  pub is : (rd : List Consumed) (T : List ℕ) (E : List Err) (i : Items) → take (s .pos) o ≡ T ++ recs-bytes (i .recs) → errs r (s .reported) ≡ E ++ i .errors → i .count ≡ count
+      → Shows items T E [] [] w x n o′ r′ f′ a (go 96 (loop (A.Module i) done >>= as-answer) (st-of w x n f rd s))
+
+-- a tree: its items, their records from the file's first byte on, and both lists
+pub record Tree (w x : List ℕ) (n : ℕ) (o r f : List ℕ) (a : Answer) : Type 0 where
+  pub items : Items
+  pub read : List Consumed
+  pub is : P.parse-module (rest w x n 0) ≡ gives items (st-of w x n f read (a .state))
+  pub tree : take (a .state .pos) o ≡ recs-bytes (items .recs)
+  pub rep : errs r (a .state .reported) ≡ items .errors
+  pub count : items .count ≡ a .line
+
+abbrev pub ModuleOf : How → List ℕ → List ℕ → ℕ → List ℕ → List ℕ → List ℕ → Answer → Type 0
+ModuleOf Done w x n o r f a = Tree w x n o r f a
+ModuleOf Fatal w x n o r f a = ⊥
+ModuleOf (Refused m) w x n o r f a = P.parse-module (rest w x n 0) ≡ refused m
+
+pub record ReadsModule (w x : List ℕ) (n : ℕ) (o r f : List ℕ) (a : Answer) : Type 0 where
+  pub room : a .state .pos ≤ budget w x n 0
+  pub reported : a .state .reported ≤ a .state .full
+  pub few : a .state .full ≤ 255
+  pub count : a .line ≤ n
+  pub is : ModuleOf (a .how) w x n o r f a

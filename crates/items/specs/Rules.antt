@@ -1,0 +1,57 @@
+-- The parts of the definition's functions that functions of the code are of their own. Assumes nothing.
+use mathlib.Core.Bool.{not}
+use mathlib.Core.List.{List, [], _∷_, _++_}
+use Prim.Native.Nat.{ℕ}
+use lib.Dec.{leb}
+use Rattle.definition.specs.Source.{Place}
+use Rattle.definition.specs.Node.{byte, two}
+use Rattle.definition.specs.Fallible.{Fallible, Ans}
+use Rattle.definition.specs.Kind as K
+use Rattle.definition.specs.Token.{Tok, _is_}
+use Rattle.definition.specs.Act as A
+use Rattle.definition.specs.Act.{Items, Node, Act, done, peek, next, make, if_then_else_, panic, _>>=_, _>>?_}
+use Rattle.definition.specs.Parser as P
+use Rattle.grammar.specs.Post.{as-answer}
+
+-- the return type of a function at the place p
+abbrev pub return-rule : Place → Act (Ans Node)
+return-rule p = peek λ t. if t is K.RArrow then (next λ _. P.parse-type) else P.good (P.node [] 0x11 p [] []) []
+
+-- the parameters and the return type: the records in reading order, the errors of the type first
+abbrev pub signed : Items → Fallible Node → Items
+signed ps r = record { count = ps .count; recs = ps .recs ++ r .item .recs; errors = r .errors ++ ps .errors }
+
+unfoldable pub signature-rule : Place → Act (Ans Items)
+signature-rule p =
+    P.parse-list A.Parameters >>= λ ps.
+    return-rule p >>? λ r.
+    as-answer (signed ps r)
+
+-- the body, and the function's record
+abbrev pub function-on : Place → ℕ → Tok → Fallible Items → Act (Ans Node)
+function-on p external name x =
+    if leb 1 external then
+    (P.expect K.Semicolon >>? λ _.
+    P.good (P.node (x .item .recs) 0x50 p (byte 1 ∷ two (x .item .count) ∷ []) (name .text)) (x .errors)) else
+    (P.parse-body >>= λ b.
+    P.good (P.node (x .item .recs ++ P.node (b .recs) 0x40 p (two (b .count) ∷ []) [] .recs) 0x50 p (byte 0 ∷ two (x .item .count) ∷ []) (name .text)) (b .errors ++ x .errors))
+
+-- behind `type`
+unfoldable pub alias-rule : ℕ → Place → Act (Ans Node)
+alias-rule words p =
+    next λ n.
+    if n is K.End then panic else
+    if not (n is K.Identifier) then P.raise (P.error 16 (n .place) 0 0) else
+    (P.expect K.Equals >>? λ _.
+    P.parse-type >>? λ ty.
+    P.expect K.Semicolon >>? λ _.
+    P.good (P.node (ty .item .recs) 0x51 p (byte words ∷ []) (n .text)) (ty .errors))
+
+-- behind `use`
+unfoldable pub path-rule : Place → Act (Ans Node)
+path-rule p =
+    next λ n.
+    if n is K.End then panic else
+    if not (n is K.String) then P.raise (P.error 17 (n .place) 0 0) else
+    (P.expect K.Semicolon >>? λ _.
+    P.good (P.node [] 0x52 p [] (n .text)) [])

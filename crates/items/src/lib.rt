@@ -1,0 +1,2 @@
+// The items of a module, and the module.
+mod others;
