@@ -1,1 +1,5 @@
+pub mod Orders
+pub mod Signatures
+pub mod Definitions
 pub mod Aliased
+pub mod Modules

@@ -22,7 +22,7 @@ use Rattle.steps.specs.Shows.{st-of, Asked, Moved, Shows, node, items}
 use Rattle.grammar.specs.Post.{as-answer}
 use Rattle.statement.specs.Post.{up}
 use Rattle.items.specs.declared.others.AliasWords.{AliasWords}
-use Rattle.items.specs.Rules.{return-rule, signature-rule, function-on}
+use Rattle.items.specs.Rules.{return-rule, signature-rule, function-on, items-on}
 
 -- ---- functions
 
@@ -67,30 +67,10 @@ pub record Modified (w x : List ℕ) (n distinct internal at : ℕ) (m : AliasWo
 
 -- ---- the module
 
--- the loop, with the items i; 96 calls may be open
-pub record ModuleOn (w x : List ℕ) (n : ℕ) (count : ℕ) (o r f : List ℕ) (s : State) (o′ r′ f′ : List ℕ) (a : Answer) : Type 0 where
-  pub moved : Moved w x n (s .pos) (s .reported) s (a .state)
-  pub never : a .how ≡ Fatal → ⊥
-  pub is : (rd : List Consumed) (T : List ℕ) (E : List Err) (i : Items) → take (s .pos) o ≡ T ++ recs-bytes (i .recs) → errs r (s .reported) ≡ E ++ i .errors → i .count ≡ count
-      → Shows items T E [] [] w x n o′ r′ f′ a (go 96 (loop (A.Module i) done >>= as-answer) (st-of w x n f rd s))
-
--- a tree: its items, their records from the file's first byte on, and both lists
-pub record Tree (w x : List ℕ) (n : ℕ) (o r f : List ℕ) (a : Answer) : Type 0 where
-  pub items : Items
-  pub read : List Consumed
-  pub is : P.parse-module (rest w x n 0) ≡ gives items (st-of w x n f read (a .state))
-  pub tree : take (a .state .pos) o ≡ recs-bytes (items .recs)
-  pub rep : errs r (a .state .reported) ≡ items .errors
-  pub count : items .count ≡ a .line
-
-abbrev pub ModuleOf : How → List ℕ → List ℕ → ℕ → List ℕ → List ℕ → List ℕ → Answer → Type 0
-ModuleOf Done w x n o r f a = Tree w x n o r f a
-ModuleOf Fatal w x n o r f a = ⊥
-ModuleOf (Refused m) w x n o r f a = P.parse-module (rest w x n 0) ≡ refused m
-
-pub record ReadsModule (w x : List ℕ) (n : ℕ) (o r f : List ℕ) (a : Answer) : Type 0 where
+-- all n tokens read: the records from the file's first byte on, both lists, and the count of items
+pub record ReadsModule (w x : List ℕ) (n d : ℕ) (o r f : List ℕ) (a : Answer) : Type 0 where
   pub room : a .state .pos ≤ budget w x n 0
   pub reported : a .state .reported ≤ a .state .full
   pub few : a .state .full ≤ 255
-  pub count : a .line ≤ n
-  pub is : ModuleOf (a .how) w x n o r f a
+  pub never : a .how ≡ Fatal → ⊥
+  pub is : Shows items [] [] [] [] w x n o r f a (go d (items-on (P.no-items []) >>= as-answer) (record { left = rest w x n 0; read = []; full = [] }))

@@ -9,7 +9,7 @@ use Rattle.definition.specs.Fallible.{Fallible, Ans}
 use Rattle.definition.specs.Kind as K
 use Rattle.definition.specs.Token.{Tok, _is_}
 use Rattle.definition.specs.Act as A
-use Rattle.definition.specs.Act.{Items, Node, Act, done, peek, next, make, if_then_else_, panic, _>>=_, _>>?_}
+use Rattle.definition.specs.Act.{Items, Node, Act, done, peek, next, loop, if_then_else_, panic, _>>=_, _>>?_}
 use Rattle.definition.specs.Parser as P
 use Rattle.grammar.specs.Post.{as-answer}
 
@@ -55,3 +55,7 @@ path-rule p =
     if not (n is K.String) then P.raise (P.error 17 (n .place) 0 0) else
     (P.expect K.Semicolon >>? λ _.
     P.good (P.node [] 0x52 p [] (n .text)) [])
+
+-- the loop of a module
+abbrev pub items-on : Items → Act Items
+items-on i = loop (A.Module i) done

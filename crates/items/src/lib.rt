@@ -1,2 +1,163 @@
 // The items of a module, and the module.
+mod functions;
 mod others;
+
+use definition::kind;
+use definition::parse_error;
+use definition::tag;
+use fallible::Answer;
+use fallible::How;
+use fallible::State;
+use fallible::entry;
+use fallible::raise;
+use functions::function_definition;
+use leaves::counted;
+use node::Numbers;
+use node::Record;
+use others::top_level_var_declaration;
+use others::type_alias;
+use others::use_path;
+use steps::finish;
+use steps::head;
+ghost use Prim.Native.Nat.{_≤_};
+ghost use Rattle.definition.specs.Parser as P;
+ghost use Rattle.steps.specs.Shows.{Asked, Reads, node};
+ghost use Rattle.statement.specs.Post.{LoopOn};
+ghost use Rattle.items.specs.Rules.{items-on};
+ghost use Rattle.items.specs.Items.{ReadsModule};
+
+// parse_top_level_item
+fn top_level_item(
+    tokens: &[u32],
+    text: &[u8],
+    n: usize,
+    file: &mut [u8],
+    rep: &mut [usize],
+    full: &mut [usize],
+    st: State,
+    left: usize,
+) -> Answer
+    requires { ⌜ Asked (now tokens) (now text) n (now file) (now rep) (now full) st ⌝ }
+    ensures { λ r. ⌜ Reads node (now (tokens .entry)) (now (text .entry)) n left P.parse-top-level-item (now (file .entry)) (now (rep .entry)) (now (full .entry)) st (now (file .exit)) (now (rep .exit)) (now (full .exit)) r ⌝ }
+{
+    let at = st.at;
+    let t = head(tokens, text, n, at);
+    if (t.kind == kind::KW_FN) | (t.kind == kind::KW_EXTERN) {
+        return function_definition(tokens, text, n, file, rep, full, st, left);
+    }
+    if (t.kind == kind::KW_TYPE) | (t.kind == kind::KW_DISTINCT) | (t.kind == kind::KW_INTERNAL) {
+        return type_alias(tokens, text, n, file, rep, full, st, left);
+    }
+    if t.kind == kind::KW_USE {
+        return use_path(tokens, text, n, file, rep, full, st);
+    }
+    if t.kind == kind::KW_VAR {
+        return top_level_var_declaration(tokens, text, n, file, rep, full, st, left);
+    }
+    let on = State { at: t.next, ..st };
+    if t.kind == kind::INLINE_ASSEMBLY_FRAGMENT {
+        let a = Answer {
+            how: How::Done,
+            state: on,
+            line: t.line,
+            column: t.column,
+        };
+        return finish(
+            file,
+            text,
+            a,
+            Record {
+                tag: tag::TOP_LEVEL_ASSEMBLY,
+                line: t.line,
+                column: t.column,
+                numbers: Numbers::None,
+                start: t.start,
+                len: t.len,
+            },
+        );
+    }
+    raise(
+        n,
+        rep,
+        full,
+        on,
+        entry(parse_error::TOP_LEVEL, t.line, t.column, 0, t.kind),
+    )
+}
+
+// ---- the module
+
+// {top_level_item} to the end, with so many items read. The answer's `line` is the count.
+fn module_rest(
+    tokens: &[u32],
+    text: &[u8],
+    n: usize,
+    file: &mut [u8],
+    rep: &mut [usize],
+    full: &mut [usize],
+    count: usize,
+    st: State,
+    left: usize,
+) -> Answer
+    requires { ⌜ Asked (now tokens) (now text) n (now file) (now rep) (now full) st × (count ≤ st .at) ⌝ }
+    ensures { λ r. ⌜ LoopOn items-on (now (tokens .entry)) (now (text .entry)) n left count (now (file .entry)) (now (rep .entry)) (now (full .entry)) st (now (file .exit)) (now (rep .exit)) (now (full .exit)) r ⌝ }
+{
+    let at = st.at;
+    let t = head(tokens, text, n, at);
+    if t.kind == kind::END {
+        return Answer {
+            how: How::Done,
+            state: st,
+            line: count,
+            column: 0,
+        };
+    }
+    let b = top_level_item(tokens, text, n, file, rep, full, st, left);
+    let how = b.how;
+    let s = b.state;
+    if let How::Refused(_) = how {
+        return b;
+    }
+    module_rest(
+        tokens,
+        text,
+        n,
+        file,
+        rep,
+        full,
+        counted(how, count),
+        s,
+        left,
+    )
+}
+
+// parse_module: all tokens, from the file's first byte on; `left` calls may be open at once.
+pub fn module(
+    tokens: &[u32],
+    text: &[u8],
+    n: usize,
+    file: &mut [u8],
+    rep: &mut [usize],
+    full: &mut [usize],
+    left: usize,
+) -> Answer
+    requires { ⌜ Asked (now tokens) (now text) n (now file) (now rep) (now full) (record { at = 0; pos = 0; reported = 0; full = 0 }) ⌝ }
+    ensures { λ r. ⌜ ReadsModule (now (tokens .entry)) (now (text .entry)) n left (now (file .exit)) (now (rep .exit)) (now (full .exit)) r ⌝ }
+{
+    module_rest(
+        tokens,
+        text,
+        n,
+        file,
+        rep,
+        full,
+        0,
+        State {
+            at: 0,
+            pos: 0,
+            reported: 0,
+            full: 0,
+        },
+        left,
+    )
+}

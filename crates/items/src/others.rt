@@ -11,7 +11,7 @@ use fallible::raise;
 use fallible::refuse;
 use node::Numbers;
 use node::Record;
-use statement::declaration;
+use statement::declarations::declaration;
 use steps::and_expect;
 use steps::expect;
 use steps::finish;

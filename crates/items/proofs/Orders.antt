@@ -1,0 +1,65 @@
+-- Items with their errors, and the order in which the errors of a function definition are reported. Assumes nothing.
+use mathlib.Core.Path.{_≡_, refl, sym, ap, _∙_}
+use mathlib.Core.List.{List, _++_, append-assoc}
+use Prim.Native.Nat.{ℕ, _≤_, _<_}
+use native.Mathlib.Omega.{arith}
+use native.Mathlib.Decide.{decLe}
+use lib.ListN.{length, take}
+use lib.Seq.{take-at}
+use Rattle.definition.specs.Fallible.{Err, Fallible, Ans}
+use Rattle.definition.specs.Token.{head}
+use Rattle.definition.specs.Act.{Act, Items, St, Res, gives, refused, after, or-return, run, _>>=_}
+use Rattle.definition.specs.Go.{go}
+use Rattle.definition.proofs.Flat.{go-bind}
+use Rattle.fallible.specs.declared.How.{How}
+use Rattle.fallible.specs.declared.How.the-variants.{Done, Fatal, Refused}
+use Rattle.fallible.specs.declared.Answer.{Answer}
+use Rattle.fallible.specs.Lists.{errs}
+use Rattle.fallible.specs.Answers.{AbandonedOf, Abandoned}
+use Rattle.fallible.specs.Orders.{Exchanged}
+use Rattle.fallible.proofs.Exchanges.{exchange-errs}
+use Rattle.steps.specs.Tokens.{rest, spend, budget, Held}
+use Rattle.steps.proofs.Tokens.{rest-nil, alive}
+use Rattle.steps.specs.Shows.{done-of, ExpectedOf, Expected}
+use Rattle.steps.proofs.Answers.{errs-take}
+use Rattle.grammar.specs.Post.{as-answer}
+
+-- an act that gives items, and what follows them and their errors
+pub answered : {B : Type 0} (d : ℕ) (m : Act Items) (k : Fallible Items → Act (Ans B)) (S : St) → go d (m >>= λ i. k (record { item = i; errors = i .errors })) S ≡ after (go d (m >>= as-answer) S) (λ z T. go d (or-return k z) T)
+unfolding go run
+answered d m k S = go-bind d m (λ i. k (record { item = i; errors = i .errors })) S ∙ one (go d m S) ∙ ap (λ (q : Res (Ans Items)). after q (λ z T. go d (or-return k z) T)) (sym (go-bind d m as-answer S))
+  where
+    one : (q : Res Items) → after q (λ i T. go d (k (record { item = i; errors = i .errors })) T) ≡ after (after q (λ i T. go d (as-answer i) T)) (λ z T. go d (or-return k z) T)
+    one (gives i T) = refl
+    one (refused n) = refl
+
+-- where what `?` leaves is there, it is the answer itself
+pub still : {r r′ : List ℕ} {i j k : ℕ} {b c : Answer} → Abandoned r b i j k r′ c → c .how ≡ Done → c ≡ b
+still {r} {r′} {i} {j} {k} {b} {c} v z = one (b .how) (v .is)
+  where
+    one : (h : How) → AbandonedOf h r b i j k r′ c → c ≡ b
+    one Done m = m .0
+    one Fatal m = let y : done-of (c .how) ≡ 0 = rw (m .how) in let u : done-of (c .how) ≡ 1 = rw z in absurd (omega (arith, y, u))
+    one (Refused n) m = m .0
+
+-- `expect` behind an answer keeps its numbers
+pub expected-line : {w x : List ℕ} {n k i j : ℕ} {r f r′ f′ : List ℕ} {a y : Answer} → Expected w x n k i j r f a r′ f′ y → y .line ≡ a .line
+expected-line {w} {x} {n} {k} {i} {j} {r} {f} {r′} {f′} {a} {y} v = one (a .how) (v .is)
+  where
+    one : (h : How) → ExpectedOf h w x n k i j r f a r′ f′ y → y .line ≡ a .line
+    one Done m = rw (m .is)
+    one Fatal m = rw (m .0)
+    one (Refused u) m = rw (m .0)
+
+-- the errors of the later part stand before those of the earlier
+pub turned : {r r′ : List ℕ} {j k m : ℕ} (E es fs : List Err) → Exchanged r j k m r′ → m ≤ length r → j ≤ k → k ≤ m → length E ≡ j → length (E ++ es) ≡ k → errs r m ≡ E ++ (es ++ fs) → errs r′ m ≡ E ++ (fs ++ es)
+turned {r} {r′} {j} {k} {m} E es fs x h jk km lj lk e =
+    exchange-errs x h jk km E es fs
+    (errs-take r j m (omega arith) ∙ ap (λ (l : List Err). take j l) e ∙ take-at E (es ++ fs) j lj)
+    (errs-take r k m km ∙ ap (λ (l : List Err). take k l) (e ∙ sym (append-assoc E es fs)) ∙ take-at (E ++ es) fs k lk)
+    (e ∙ sym (append-assoc E es fs))
+
+-- a token that pays is of some kind
+pub real : {w x : List ℕ} {n : ℕ} (i : ℕ) → Held w x n → 16 ≤ budget w x n i → 0 < head (rest w x n i) .kind
+unfolding spend
+real {w} {x} {n} i q h = elim (decLe n i) [ yes g ↦ let e : budget w x n i ≡ 0 = rw (rest-nil w x n i g) in absurd (omega (arith, e, h)) | no g ↦ alive q (omega (arith, g)) ]
