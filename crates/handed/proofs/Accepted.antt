@@ -13,13 +13,13 @@ use Rattle.definition.specs.Choice.{pick}
 use Rattle.definition.specs.Classes.{between}
 use Rattle.definition.specs.Fallible.{Err}
 use Rattle.definition.specs.Kind as K
-use Rattle.definition.specs.Source.{Place, nowhere}
+use Rattle.definition.specs.Source.{Place, nowhere, is-some}
 use Rattle.definition.specs.Token.{Tok}
 use Rattle.definition.specs.Records.{TokenWords, has-text, words-at, base-fits, text-fits, good-alone, good-behind, comes-after, place-of, text-end, token-before, tokens-of, error-at, good-error, error-of, error-before, errors-of}
 use Rattle.definition.specs.Operations.{Handed, both, handed}
 use Rattle.definition.proofs.Tests.{left-true, right-true, between-bounds, either-true, clash}
 use Rattle.steps.specs.Tokens.{tok-at, from, rest, spend, Sound}
-use Rattle.handed.specs.Tested.{is-some, Tested}
+use Rattle.handed.specs.Tested.{Tested}
 
 never : {A B : Type 0} {x : A} → none ≡ some x → B
 never e = let z : _≡_ {A = ℕ} 0 1 = cc in absurd (omega arith)

@@ -11,14 +11,13 @@ use lib.Dec.{leb, ltb}
 use lib.ListN.{length}
 use Rattle.definition.specs.Choice.{pick}
 use Rattle.definition.specs.Fallible.{Err}
-use Rattle.definition.specs.Source.{Place, nowhere}
+use Rattle.definition.specs.Source.{Place, nowhere, is-some}
 use Rattle.definition.specs.Token.{Tok}
 use Rattle.definition.specs.Records.{TokenWords, words-at, has-text, good-alone, comes-after, good-behind, place-of, text-end, token-of, token-before, tokens-of, error-at, good-error, error-of, error-before, errors-of}
 use Rattle.definition.specs.Operations.{both, handed}
 use Rattle.definition.proofs.Tests.{clash}
 use Rattle.records.specs.Push.{spot}
 use Rattle.handed.specs.declared.Former.{Former}
-use Rattle.handed.specs.Tested.{is-some}
 
 -- an answer that is there if a test passes
 some-chosen : {A : Type 0} (b : Bool) (o : Option A) → is-some {A = A} (elim b as (λ _. Option A) [ true ↦ o | false ↦ none ]) ≡ b && is-some o

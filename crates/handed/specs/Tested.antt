@@ -1,17 +1,12 @@
 -- What Read is handed, tested: what an accepted hand-over gives the parser. Assumes nothing.
 use mathlib.Core.Path.{_≡_}
-use mathlib.Core.Bool.{Bool, true, false}
 use mathlib.Core.List.{List}
-use mathlib.Core.Option.{Option, none, some}
+use mathlib.Core.Option.{some}
 use Prim.Native.Nat.{ℕ, _+_, _*_, _≤_}
 use lib.ListN.{length}
 use Rattle.definition.specs.Records.{errors-of}
 use Rattle.definition.specs.Operations.{Handed}
 use Rattle.steps.specs.Tokens.{Held, rest, budget}
-
-abbrev pub is-some : {A : Type 0} → Option A → Bool
-is-some none = false
-is-some (some a) = true
 
 -- n token records in T with texts in X and m error records in E, accepted as h
 pub record Tested (T : List ℕ) (n : ℕ) (E : List ℕ) (m : ℕ) (X : List ℕ) (h : Handed) : Type 0 where

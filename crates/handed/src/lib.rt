@@ -12,10 +12,9 @@ ghost use Prim.Native.Nat.{_*_, _≤_};
 ghost use lib.ListN.{length};
 ghost use Rattle.definition.specs.Records as R;
 ghost use Rattle.definition.specs.Operations as O;
-ghost use Rattle.definition.specs.Source.{nowhere};
+ghost use Rattle.definition.specs.Source.{nowhere, is-some};
 ghost use Rattle.records.specs.Push.{spot};
 ghost use Rattle.records.specs.Tested.{words-of};
-ghost use Rattle.handed.specs.Tested.{is-some};
 
 // ---- tokens
 

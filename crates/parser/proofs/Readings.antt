@@ -1,0 +1,190 @@
+-- The answers of Read are the definition's: one law for each return of the functions. Assumes nothing.
+use mathlib.Core.Path.{_≡_, refl, sym, ap, _∙_, subst}
+use mathlib.Core.Bool.{Bool, true, false}
+use mathlib.Core.Option.{Option, none, some}
+use mathlib.Core.List.{List, [], _∷_, _++_}
+use Prim.Native.Nat.{ℕ, zero, suc, _+_, _*_, _≤_, _<_}
+use native.Mathlib.Omega.{arith}
+use lib.Dec.{ltb}
+use lib.ListN.{length, take}
+use borrow.Author.Tests.{lt-ltb, le-ltb}
+use Rattle.definition.specs.Source.{is-some}
+use Rattle.definition.specs.Node.{recs-bytes}
+use Rattle.definition.specs.Fallible.{Err, Fallible, Ans, ok, fatal}
+use Rattle.definition.specs.Token.{Tok}
+use Rattle.definition.specs.Records.{errors-of}
+use Rattle.definition.specs.Operations as O
+use Rattle.definition.specs.Operations.{filled, file-bytes}
+use Rattle.definition.specs.Act.{Items, St, Res, gives, refused, after, run, _>>=_}
+use Rattle.definition.specs.Parser as P
+use Rattle.definition.specs.Parser.{parse-module}
+use Rattle.definition.specs.Go.{go}
+use Rattle.definition.proofs.Flat.{go-bind, go-module}
+use Rattle.fallible.specs.declared.State.{State}
+use Rattle.fallible.specs.declared.How.{How}
+use Rattle.fallible.specs.declared.How.the-variants.{Done, Fatal, Refused}
+use Rattle.fallible.specs.declared.Answer.{Answer}
+use Rattle.fallible.specs.Lists.{errs}
+use Rattle.zeros.specs.Cleared.{Cleared}
+use Rattle.zeros.proofs.Clearing.{cleared-filled}
+use Rattle.steps.specs.Tokens.{rest, budget}
+use Rattle.steps.specs.Shows.{st-of, Asked, Shows, ShowsOf, items}
+use Rattle.steps.proofs.Tokens.{rest-cons, rest-nil}
+use Rattle.steps.proofs.Answers.{good-of}
+use Rattle.leaves.proofs.Atoms.{Alive, if-alive}
+use Rattle.grammar.specs.Post.{as-answer}
+use Rattle.handed.specs.Tested.{Tested}
+use Rattle.handed.proofs.Accepted.{There, there, absent, tested}
+use Rattle.items.specs.Rules.{items-on}
+use Rattle.items.specs.Items.{ReadsModule}
+use Rattle.parser.specs.declared.Written.{Written}
+use Rattle.parser.specs.Answer.{refusal-of, answer, file-of, Ending, Ended, ReadHanded}
+
+-- ---- the module's answer
+
+abbrev answered : ℕ → Res Items → Res (Ans Items)
+answered d q = after q (λ i S. go d (as-answer i) S)
+
+item-of : Res (Ans Items) → Items
+item-of (gives (ok y) S) = y .item
+item-of (gives (fatal es) S) = P.no-items []
+item-of (refused n) = P.no-items []
+
+errors-in : Res (Ans Items) → List Err
+errors-in (gives (ok y) S) = y .errors
+errors-in (gives (fatal es) S) = es
+errors-in (refused n) = []
+
+state-in : St → Res (Ans Items) → St
+state-in T (gives y S) = S
+state-in T (refused n) = T
+
+number-of : Res (Ans Items) → ℕ
+number-of (gives y S) = 0
+number-of (refused n) = suc n
+
+-- items as an answer are those items
+gave : (d : ℕ) (q : Res Items) (y : Fallible Items) (T : St) → answered d q ≡ gives (ok y) T → (q ≡ gives (y .item) T) × (y .item .errors ≡ y .errors)
+unfolding go run item-of errors-in state-in number-of
+gave d (gives i S) y T e =
+    let a : i ≡ y .item = ap item-of e in
+    let b : S ≡ T = ap (state-in T) e in
+    (rw (a, b), sym (ap (λ (j : Items). j .errors) a) ∙ ap errors-in e)
+gave d (refused n) y T e = absurd (let z : suc n ≡ 0 = ap number-of e in omega (arith, z))
+
+refuses : (d : ℕ) (q : Res Items) (n : ℕ) → answered d q ≡ refused n → q ≡ refused n
+unfolding go run number-of
+refuses d (gives i S) n e = absurd (let z : 0 ≡ suc n = ap number-of e in omega (arith, z))
+refuses d (refused m) n e = let z : suc m ≡ suc n = ap number-of e in let y : m ≡ n = omega (arith, z) in rw y
+
+module _ {w x : List ℕ} {n : ℕ} {o r f : List ℕ} {a : Answer} (B : ReadsModule w x n 96 o r f a) where
+  -- the module's answer, as the parser's
+  parsed : answered 96 (parse-module (rest w x n 0)) ≡ go 96 (items-on (P.no-items []) >>= as-answer) (record { left = rest w x n 0; read = []; full = [] })
+  parsed = sym (go-bind 96 (items-on (P.no-items [])) as-answer _ ∙ ap (λ (q : Res Items). answered 96 q) (go-module (rest w x n 0)))
+
+  -- a tree: its items, their records from the file's first byte on, and both lists
+  pub record Tree : Type 0 where
+    pub tree : Items
+    pub state : St
+    pub is : parse-module (rest w x n 0) ≡ gives tree state
+    pub full : state .full ≡ errs f (a .state .full)
+    pub recs : take (a .state .pos) o ≡ recs-bytes (tree .recs)
+    pub rep : errs r (a .state .reported) ≡ tree .errors
+    pub count : tree .count ≡ a .line
+
+  pub tree-of : a .how ≡ Done → Tree
+  tree-of z =
+      let g = good-of z (B .is) in
+      let e = gave 96 (parse-module (rest w x n 0)) _ _ (parsed ∙ g .is) in
+      record { tree = g .item; state = st-of w x n f (g .read) (a .state); is = e .0; full = refl; recs = g .tree; rep = g .rep ∙ sym (e .1); count = g .holds }
+
+  pub refused-of : {k : ℕ} → a .how ≡ Refused k → parse-module (rest w x n 0) ≡ refused k
+  refused-of {k} z = refuses 96 (parse-module (rest w x n 0)) k (parsed ∙ subst (λ (h : How). ShowsOf h items [] [] [] [] w x n o r f a _) z (B .is .told))
+
+  pub done-of-module : Alive a → a .how ≡ Done
+  done-of-module l = one (a .how) refl l
+    where
+      one : (h : How) → a .how ≡ h → Alive a → a .how ≡ Done
+      one Done e l = e
+      one Fatal e l = absurd (B .never e)
+      one (Refused k) e l = absurd (if-alive (λ (h : How). h ≡ Refused k → ⊥) (a .how) l (λ z. let y : _≡_ {A = ℕ} 0 1 = cc in omega arith) (λ z. let y : _≡_ {A = ℕ} 0 1 = cc in omega arith) e)
+
+-- ---- the definition's answer for at least one token
+
+written-of : (o : List ℕ) (ts : List Tok) (es : List Err) (i : Items) (S : St) → 0 < length ts → parse-module ts ≡ gives i S → O.read-handed o ts es ≡ record { number = 0; bytes = length (file-bytes es i (S .full)); file = filled (length o) (file-bytes es i (S .full)) }
+unfolding O.read-tokens
+written-of o [] es i S h e = absurd (omega arith)
+written-of o (t ∷ ts) es i S h e = rw e
+
+none-of : (o : List ℕ) (ts : List Tok) (es : List Err) (n : ℕ) → 0 < length ts → parse-module ts ≡ refused n → O.read-handed o ts es ≡ record { number = n; bytes = 0; file = filled (length o) [] }
+unfolding O.read-tokens
+none-of o [] es n h e = absurd (omega arith)
+none-of o (t ∷ ts) es n h e = rw e
+
+some-tokens : (w x : List ℕ) (n : ℕ) → 0 < n → 0 < length (rest w x n 0)
+some-tokens w x n h = rw (rest-cons w x n 0 h) (omega arith)
+
+-- ---- `read_tokens`
+
+module _ {T : List ℕ} {n : ℕ} {E : List ℕ} {m : ℕ} {X o : List ℕ} (q : (65536 ≤ length o) × ((0 < n) × (is-some (O.handed T n E m X) ≡ true))) where
+  accepted : There (O.handed T n E m X)
+  accepted = there (O.handed T n E m X) (q .1 .1)
+
+  good : Tested T n E m X (accepted .value)
+  good = tested T n E m X (accepted .value) (accepted .is)
+
+  pub module-asked : {r f : List ℕ} → 256 ≤ length r → 256 ≤ length f → Asked T X n o r f (record { at = 0; pos = 0; reported = 0; full = 0 })
+  module-asked lr lf = record { asks = record { held = good .held; at = omega arith; reported = omega arith; few = omega arith; reps = lr; fulls = lf }; room = omega (arith, q .0, good .room, good .held .few) }
+
+  pub ending : {d : ℕ} {o1 r1 f1 : List ℕ} {a : Answer} → ReadsModule T X n d o1 r1 f1 a → length o1 ≡ length o → 256 ≤ length r1 → 256 ≤ length f1 → Ending o1 (a .state .pos) E m r1 (a .state .reported) f1 (a .state .full)
+  ending B l lr lf = record {
+    room = omega (arith, q .0, good .room, good .held .few, good .few, B .room, B .reported, B .few, l);
+    words = good .words;
+    good = rw (good .errors);
+    reps = omega (arith, B .reported, B .few, lr);
+    fulls = omega (arith, B .few, lf);
+  }
+
+  module _ {o1 r1 f1 : List ℕ} {a : Answer} (B : ReadsModule T X n 96 o1 r1 f1 a) (l : length o1 ≡ length o) where
+    pub read-refused : {o2 : List ℕ} {k : ℕ} → a .how ≡ Refused k → Cleared o1 0 o2 → ReadHanded T n E m X o o2 (refusal-of k)
+    read-refused {o2} {k} z C h e =
+        let t = tested T n E m X h e in
+        let p : parse-module (h .tokens) ≡ refused k = ap parse-module (sym (t .tokens)) ∙ refused-of B z in
+        let s : 0 < length (h .tokens) = subst (λ (ts : List Tok). 0 < length ts) (t .tokens) (some-tokens T X n (q .1 .0)) in
+        ap (λ (v : List ℕ). answer (refusal-of k) v) (cleared-filled o 0 [] C refl l (omega arith)) ∙ sym (none-of o (h .tokens) (h .errors) k s p)
+
+    pub read-done : {o2 : List ℕ} {b : ℕ} → Alive a → Ended o1 (a .state .pos) (a .line) E m r1 (a .state .reported) f1 (a .state .full) o2 b → ReadHanded T n E m X o o2 (record { number = 0; bytes = b })
+    unfolding file-bytes
+    read-done {o2} {b} z C h e =
+        let t = tested T n E m X h e in
+        let g = tree-of B (done-of-module B z) in
+        let p : parse-module (h .tokens) ≡ gives (g .tree) (g .state) = ap parse-module (sym (t .tokens)) ∙ g .is in
+        let s : 0 < length (h .tokens) = subst (λ (ts : List Tok). 0 < length ts) (t .tokens) (some-tokens T X n (q .1 .0)) in
+        let ws : file-of (take (a .state .pos) o1) (a .line) (h .errors) (errs r1 (a .state .reported)) (errs f1 (a .state .full)) ≡ file-bytes (h .errors) (g .tree) (g .state .full) = rw (g .recs, sym (g .count), g .rep, g .full) in
+        let bytes : b ≡ length (file-bytes (h .errors) (g .tree) (g .state .full)) = C .end (h .errors) (t .errors) ∙ ap length ws in
+        let file : o2 ≡ filled (length o) (file-bytes (h .errors) (g .tree) (g .state .full)) = C .is (h .errors) (t .errors) ∙ ap (λ (v : List ℕ). filled (length o1) v) ws ∙ ap (λ (k : ℕ). filled k (file-bytes (h .errors) (g .tree) (g .state .full))) l in
+        rw (bytes, file) (sym (written-of o (h .tokens) (h .errors) (g .tree) (g .state) s p))
+
+-- ---- `read`
+
+module _ {T : List ℕ} {n : ℕ} {E : List ℕ} {m : ℕ} {X o : List ℕ} where
+  pub read-short : {r : Written} → length o < 65536 → r ≡ refusal-of 3 → answer r o ≡ O.read T n E m X o
+  unfolding O.read
+  read-short h e = rw (e, lt-ltb (length o) 65536 h)
+
+  module _ (h : 65536 ≤ length o) where
+    pub read-bad : {r : Written} → is-some (O.handed T n E m X) ≡ false → r ≡ refusal-of 8 → answer r o ≡ O.read T n E m X o
+    unfolding O.read
+    read-bad g e = rw (e, le-ltb (length o) 65536 h, absent (O.handed T n E m X) g)
+
+    module _ (g : is-some (O.handed T n E m X) ≡ true) where
+      -- the answer for good records
+      handed-is : {r : Written} {o′ : List ℕ} → ReadHanded T n E m X o o′ r → answer r o′ ≡ O.read T n E m X o
+      unfolding O.read
+      handed-is R = let t = there (O.handed T n E m X) g in R (t .value) (t .is) ∙ sym (rw (le-ltb (length o) 65536 h, t .is))
+
+      pub read-none : {r : Written} → n ≡ 0 → r ≡ refusal-of 9 → answer r o ≡ O.read T n E m X o
+      read-none z e = handed-is (λ v y. let k : v .tokens ≡ [] = sym (tested T n E m X v y .tokens) ∙ rest-nil T X n 0 (omega (arith, z)) in rw (e, k))
+
+      pub read-tokens : {r : Written} {o′ : List ℕ} → ReadHanded T n E m X o o′ r → answer r o′ ≡ O.read T n E m X o
+      read-tokens R = handed-is R

@@ -1,0 +1,46 @@
+-- The answer of Read. Assumes nothing.
+use mathlib.Core.Path.{_≡_}
+use mathlib.Core.Bool.{true}
+use mathlib.Core.Option.{some}
+use mathlib.Core.List.{List, _++_}
+use Prim.Native.Nat.{ℕ, _+_, _*_, _≤_}
+use lib.ListN.{length, take}
+use Rattle.definition.specs.Source.{is-some}
+use Rattle.definition.specs.Node.{u16, field}
+use Rattle.definition.specs.Fallible.{Err, errs-bytes}
+use Rattle.definition.specs.Records.{errors-of}
+use Rattle.definition.specs.Operations as O
+use Rattle.definition.specs.Operations.{filled}
+use Rattle.fallible.specs.Lists.{errs}
+use Rattle.parser.specs.declared.Written.{Written}
+
+abbrev pub refusal-of : ℕ → Written
+refusal-of n = record { number = n; bytes = 0 }
+
+abbrev pub answer : Written → List ℕ → O.Written
+answer r o = record { number = r .number; bytes = r .bytes; file = o }
+
+-- ---- behind the tree
+
+-- the module's field of so many items, the token errors, the reported errors, the full list
+abbrev pub file-of : List ℕ → ℕ → List Err → List Err → List Err → List ℕ
+file-of tree count es rep full = tree ++ field 0x5F (u16 count) ++ errs-bytes 0x62 es ++ errs-bytes 0x60 rep ++ errs-bytes 0x61 full
+
+-- there is room for them behind p, and m token errors are good
+pub record Ending (o : List ℕ) (p : ℕ) (E : List ℕ) (m : ℕ) (r : List ℕ) (reported : ℕ) (f : List ℕ) (made : ℕ) : Type 0 where
+  pub room : p + 10 * m + 10 * reported + 10 * made + 18 ≤ length o
+  pub words : 4 * m ≤ length E
+  pub good : is-some (errors-of E 0 m) ≡ true
+  pub reps : reported ≤ length r
+  pub fulls : made ≤ length f
+
+-- they stand there, with zeros behind them, and end at q
+pub record Ended (o : List ℕ) (p count : ℕ) (E : List ℕ) (m : ℕ) (r : List ℕ) (reported : ℕ) (f : List ℕ) (made : ℕ) (o′ : List ℕ) (q : ℕ) : Type 0 where
+  pub end : (es : List Err) → errors-of E 0 m ≡ some es → q ≡ length (file-of (take p o) count es (errs r reported) (errs f made))
+  pub is : (es : List Err) → errors-of E 0 m ≡ some es → o′ ≡ filled (length o) (file-of (take p o) count es (errs r reported) (errs f made))
+
+-- ---- good records
+
+-- the answer is that of their tokens and errors
+abbrev pub ReadHanded : List ℕ → ℕ → List ℕ → ℕ → List ℕ → List ℕ → List ℕ → Written → Type 0
+ReadHanded T n E m X o o′ r = (h : O.Handed) → O.handed T n E m X ≡ some h → answer r o′ ≡ O.read-handed o (h .tokens) (h .errors)

@@ -1,0 +1,126 @@
+// Read: token records to a tree file.
+use definition::limit;
+use definition::refusal;
+use definition::tag;
+use fallible::How;
+use fields::error_fields;
+use fields::token_error_fields;
+use handed::handed;
+use items::module;
+use node::Numbers;
+use node::write_bare;
+use zeros::clear_bytes;
+ghost use mathlib.Core.Path.{_≡_};
+ghost use mathlib.Core.Bool.{true};
+ghost use Prim.Native.Nat.{_<_, _≤_};
+ghost use lib.ListN.{length};
+ghost use Rattle.definition.specs.Source.{is-some};
+ghost use Rattle.definition.specs.Operations as O;
+ghost use Rattle.parser.specs.Answer.{answer, refusal-of, Ending, Ended, ReadHanded};
+
+// The number of a refusal, or 0, and the count of file bytes.
+pub struct Written {
+    pub number: u32,
+    pub bytes: usize,
+}
+
+fn refused(number: u32) -> Written
+    ensures { λ r. ⌜ r ≡ refusal-of number ⌝ }
+{
+    Written { number, bytes: 0 }
+}
+
+fn wide(x: u8) -> u32
+    ensures { λ r. ⌜ r ≡ x ⌝ }
+{
+    x as u32
+}
+
+// Behind the records of `count` items, which stand up to `pos`: the module's field, the errors, and zeros to the end. The file's bytes are counted.
+fn end_file(
+    file: &mut [u8],
+    pos: usize,
+    count: usize,
+    errors: &[u32],
+    error_count: usize,
+    rep: &[usize],
+    reported: usize,
+    full: &[usize],
+    made: usize,
+) -> usize
+    requires { ⌜ Ending (now file) pos (now errors) «error_count» (now rep) reported (now full) made ⌝ }
+    ensures { λ r. ⌜ Ended (now (file .entry)) pos count (now (errors .entry)) «error_count» (now (rep .entry)) reported (now (full .entry)) made (now (file .exit)) r ⌝ }
+{
+    let p = write_bare(file, b"", pos, tag::MODULE, Numbers::Two(count), 0, 0);
+    let q = token_error_fields(file, p, errors, error_count);
+    let r = error_fields(file, q, tag::REPORTED_ERROR, rep, reported);
+    let end = error_fields(file, r, tag::FULL_ERROR, full, made);
+    clear_bytes(file, end);
+    end
+}
+
+// Good records, at least one token: the tree, its errors and zeros; of a refusal zeros alone.
+fn read_tokens(
+    tokens: &[u32],
+    count: usize,
+    errors: &[u32],
+    error_count: usize,
+    text: &[u8],
+    file: &mut [u8],
+) -> Written
+    requires { ⌜ (65536 ≤ length (now file)) × ((0 < count) × (is-some (O.handed (now tokens) count (now errors) «error_count» (now text)) ≡ true)) ⌝ }
+    ensures { λ r. ⌜ ReadHanded (now (tokens .entry)) count (now (errors .entry)) «error_count» (now (text .entry)) (now (file .entry)) (now (file .exit)) r ⌝ }
+{
+    let mut rep: [usize; 256] = [0; 256];
+    let mut full: [usize; 256] = [0; 256];
+    let a = module(
+        tokens,
+        text,
+        count,
+        file,
+        &mut rep,
+        &mut full,
+        limit::NESTING,
+    );
+    let how = a.how;
+    if let How::Refused(number) = how {
+        clear_bytes(file, 0);
+        return refused(wide(number));
+    }
+    let s = a.state;
+    let bytes = end_file(
+        file,
+        s.pos,
+        a.line,
+        errors,
+        error_count,
+        &rep,
+        s.reported,
+        &full,
+        s.full,
+    );
+    Written { number: 0, bytes }
+}
+
+// Read.
+pub fn read(
+    tokens: &[u32],
+    count: usize,
+    errors: &[u32],
+    error_count: usize,
+    text: &[u8],
+    file: &mut [u8],
+) -> Written
+    ensures { λ r. ⌜ answer r (now (file .exit)) ≡ O.read (now (tokens .entry)) count (now (errors .entry)) «error_count» (now (text .entry)) (now (file .entry)) ⌝ }
+{
+    if file.len() < limit::FILE_BYTES {
+        return refused(refusal::SLICE_LENGTH);
+    }
+    if !handed(tokens, count, errors, error_count, text) {
+        return refused(refusal::BAD_RECORD);
+    }
+    if count == 0 {
+        return refused(refusal::NO_TOKENS);
+    }
+    read_tokens(tokens, count, errors, error_count, text, file)
+}
