@@ -121,7 +121,7 @@ fn alias(
 }
 
 // parse_type_alias: modifiers `type` alias
-fn type_alias(
+pub fn type_alias(
     tokens: &[u32],
     text: &[u8],
     n: usize,
@@ -213,7 +213,7 @@ fn path(
 }
 
 // parse_use: `use` path
-fn use_path(
+pub fn use_path(
     tokens: &[u32],
     text: &[u8],
     n: usize,
@@ -237,7 +237,7 @@ fn use_path(
 }
 
 // parse_top_level_var_declaration: `var` declaration
-fn top_level_var_declaration(
+pub fn top_level_var_declaration(
     tokens: &[u32],
     text: &[u8],
     n: usize,
