@@ -1,36 +1,34 @@
 -- Type aliases, `use` and variables at the top level: one law for each return of the functions. Assumes nothing.
 use mathlib.Core.Path.{_≡_, refl, sym, ap, _∙_}
 use mathlib.Core.Bool.{Bool, true, false, not}
-use mathlib.Core.List.{List, [], _∷_, _++_}
-use Prim.Native.Nat.{ℕ, min, _+_, _*_, _≤_, _<_}
+use mathlib.Core.List.{List, [], _∷_}
+use Prim.Native.Nat.{ℕ, min, _+_, _≤_, _<_}
 use native.Mathlib.Omega.{arith}
 use lib.Dec.{ltb}
 use borrow.Author.Tests.{ltb-true, ltb-false}
-use lib.ListN.{length, take}
+use lib.ListN.{length}
 use lib.Seq.{length-take-le}
 use Rattle.definition.specs.Source.{Place}
 use Rattle.definition.specs.Node.{byte}
-use Rattle.definition.specs.Fallible.{Err, Fallible, Ans, ok, fatal}
+use Rattle.definition.specs.Fallible.{Err, Fallible, Ans}
 use Rattle.definition.specs.Kind as K
 use Rattle.definition.specs.Token.{Tok, head, _is_}
 use Rattle.definition.specs.Act as A
-use Rattle.definition.specs.Act.{Act, done, loop, Loop, Left, Modifiers, next, panic, if_then_else_, Node, Consumed, plain, St, Res, gives, refused, after, or-return, run, now-read, advance, _>>=_, _>>?_}
+use Rattle.definition.specs.Act.{Act, done, loop, Loop, Left, Modifiers, next, panic, if_then_else_, Node, Consumed, plain, St, Res, refused, after, or-return, run, _>>=_, _>>?_}
 use Rattle.definition.specs.Parser as P
 use Rattle.definition.specs.Go.{go}
 use Rattle.definition.proofs.Flat.{go-bind, go-loop}
 use Rattle.fallible.proofs.Grown.{errs-length}
 use Rattle.fallible.specs.declared.State.{State}
-use Rattle.fallible.specs.declared.How.{How}
-use Rattle.fallible.specs.declared.How.the-variants.{Done, Fatal, Refused}
+use Rattle.fallible.specs.declared.How.the-variants.{Done}
 use Rattle.fallible.specs.declared.Answer.{Answer}
 use Rattle.fallible.specs.Lists.{unpack, error-at, errs}
 use Rattle.fallible.specs.Answers.{refused-at, raised, Raised}
 use Rattle.node.specs.Put.{Room}
 use Rattle.node.specs.declared.Numbers.the-variants.{None, Byte}
-use Rattle.node.specs.declared.Record.{Record}
 use Rattle.steps.specs.declared.Front.{Front}
 use Rattle.steps.specs.Tokens.{rest, budget, Seen}
-use Rattle.steps.specs.Shows.{st-of, Asks, Asked, Moved, Good, Shows, Reads, node, token, Expects, Expected, Follows, Finished}
+use Rattle.steps.specs.Shows.{st-of, Asked, Moved, Good, Reads, node, token, Expects, Expected, Follows, Finished}
 use Rattle.steps.proofs.Tokens.{yes, no, fore, adv}
 use Rattle.steps.proofs.Moves.{refused-moved, asks-moved, fore-moved, moved-trans}
 use Rattle.steps.proofs.Answers.{Stopped, say, good-of, stops, follows, wrapped}
@@ -48,18 +46,12 @@ use Rattle.items.specs.Items.{Modified}
 
 -- ---- `modifiers`
 
--- the state behind a token
-module _ {w x : List ℕ} {n at : ℕ} {t : Front} (u : Seen w x n at t) where
-  ahead : (rd : List Consumed) (es : List Err) → advance (λ _. plain) (record { left = rest w x n at; read = rd; full = es }) ≡ record { left = rest w x n (t .next); read = past w x n at rd; full = es }
-  ahead rd es = rw (u .tail)
-
 module _ {w x : List ℕ} {n distinct internal at : ℕ} {t : Front} (u : Seen w x n at t) where
-  pub modifiers-none : at ≤ n → distinct ≤ 1 → internal ≤ 2 → (t .kind ≡ 20 → ⊥) → (t .kind ≡ 21 → ⊥) → Modified w x n distinct internal at (record { words = distinct + internal; next = at })
+  pub modifiers-none : at ≤ n → (t .kind ≡ 20 → ⊥) → (t .kind ≡ 21 → ⊥) → Modified w x n distinct internal at (record { words = distinct + internal; next = at })
   unfolding go run P.modifiers-turn
-  modifiers-none h hd hi m20 m21 = record {
+  modifiers-none h m20 m21 = record {
     words = record { distinct = distinct; internal = internal };
     sum = refl;
-    few = omega arith;
     up = omega arith;
     end = h;
     room = omega arith;
@@ -68,31 +60,27 @@ module _ {w x : List ℕ} {n distinct internal at : ℕ} {t : Front} (u : Seen w
   }
 
   module _ {m : AliasWords} where
-    pub modifiers-distinct : t .kind ≡ 20 → Modified w x n 1 internal (t .next) m → Modified w x n distinct internal at m
-    unfolding go run P.modifiers-turn
-    modifiers-distinct h M = record {
+    -- a word is passed
+    modifiers-on : {distinct′ internal′ : ℕ} → Modified w x n distinct′ internal′ (t .next) m
+        → ((d : ℕ) (rd : List Consumed) (es : List Err) → go d (P.modifiers-turn (record { distinct = distinct; internal = internal })) (record { left = rest w x n at; read = rd; full = es }) ≡ go d (loop (Modifiers (record { distinct = distinct′; internal = internal′ })) done) (record { left = rest w x n (t .next); read = past w x n at rd; full = es }))
+        → Modified w x n distinct internal at m
+    modifiers-on M step = record {
       words = M .words;
       sum = M .sum;
-      few = M .few;
       up = omega (arith, M .up, u .up);
       end = M .end;
       room = omega (arith, M .room, u .pays);
       read = λ rd. M .read (past w x n at rd);
-      is = λ d rd es. go-loop d (Modifiers (record { distinct = distinct; internal = internal })) (record { left = rest w x n at; read = rd; full = es }) ∙ rw (run, yes u h) (ap (λ (S : St). go d (loop (Modifiers (record { distinct = 1; internal = internal })) done) S) (ahead u rd es)) ∙ M .is d (past w x n at rd) es;
+      is = λ d rd es. go-loop d (Modifiers (record { distinct = distinct; internal = internal })) (record { left = rest w x n at; read = rd; full = es }) ∙ step d rd es ∙ M .is d (past w x n at rd) es;
     }
+
+    pub modifiers-distinct : t .kind ≡ 20 → Modified w x n 1 internal (t .next) m → Modified w x n distinct internal at m
+    unfolding go run P.modifiers-turn
+    modifiers-distinct h M = modifiers-on M (λ d rd es. rw (run, yes u h, u .tail))
 
     pub modifiers-internal : (t .kind ≡ 20 → ⊥) → t .kind ≡ 21 → Modified w x n distinct 2 (t .next) m → Modified w x n distinct internal at m
     unfolding go run P.modifiers-turn
-    modifiers-internal m20 h M = record {
-      words = M .words;
-      sum = M .sum;
-      few = M .few;
-      up = omega (arith, M .up, u .up);
-      end = M .end;
-      room = omega (arith, M .room, u .pays);
-      read = λ rd. M .read (past w x n at rd);
-      is = λ d rd es. go-loop d (Modifiers (record { distinct = distinct; internal = internal })) (record { left = rest w x n at; read = rd; full = es }) ∙ rw (run, no u m20, yes u h) (ap (λ (S : St). go d (loop (Modifiers (record { distinct = distinct; internal = 2 })) done) S) (ahead u rd es)) ∙ M .is d (past w x n at rd) es;
-    }
+    modifiers-internal m20 h M = modifiers-on M (λ d rd es. rw (run, no u m20, yes u h, u .tail))
 
 -- ---- a keyword, and what follows it
 
@@ -254,21 +242,26 @@ module _ (d line column : ℕ) {w x : List ℕ} {n : ℕ} {o r f : List ℕ} {s 
 
 -- ---- `use_path`, `top_level_var_declaration`
 
+module _ (d : ℕ) {w x : List ℕ} {n : ℕ} (f : List ℕ) (s : State) {t : Front} (u : Seen w x n (s .at) t) (rd : List Consumed) where
+  use-step : go d P.parse-use (st-of w x n f rd s) ≡ go d (P.expect 18 >>? λ _. path-rule (place-at (t .line) (t .column))) (st-of w x n f rd s)
+  unfolding go run P.parse-use path-rule
+  use-step = ap (λ (p : Place). go d (P.expect 18 >>? λ _. path-rule p) (st-of w x n f rd s)) (u .place)
+
+  var-step : go d P.parse-top-level-var-declaration (st-of w x n f rd s) ≡ go d (P.expect 5 >>? λ _. P.declaration 0x53 (place-at (t .line) (t .column))) (st-of w x n f rd s)
+  unfolding go run P.parse-top-level-var-declaration
+  var-step = ap (λ (p : Place). go d (P.expect 5 >>? λ _. P.declaration 0x53 p) (st-of w x n f rd s)) (u .place)
+
 module _ {w x : List ℕ} {n d : ℕ} {o r f r1 f1 : List ℕ} {s : State} {t : Front} {a : Answer} (u : Seen w x n (s .at) t) where
   module _ (X : Expects w x n (λ role. P.expect-as role 18) r f s r1 f1 a) where
     pub use-stops : Stopped a → Reads node w x n d P.parse-use o r f s o r1 f1 a
-    unfolding go run P.parse-use path-rule
-    use-stops nd = keyword-stops (path-rule (place-at (t .line) (t .column))) X (λ rd. ap (λ (p : Place). go d (P.expect 18 >>? λ _. path-rule p) (st-of w x n f rd s)) (u .place)) nd
+    use-stops nd = keyword-stops (path-rule (place-at (t .line) (t .column))) X (use-step d f s u) nd
 
     pub use-on : {o1 r2 f2 : List ℕ} {y : Answer} → a .how ≡ Done → Reads node w x n d (path-rule (place-at (t .line) (t .column))) o r1 f1 (a .state) o1 r2 f2 y → Reads node w x n d P.parse-use o r f s o1 r2 f2 y
-    unfolding go run P.parse-use path-rule
-    use-on z B = keyword-on (path-rule (place-at (t .line) (t .column))) X (λ rd. ap (λ (p : Place). go d (P.expect 18 >>? λ _. path-rule p) (st-of w x n f rd s)) (u .place)) z B
+    use-on z B = keyword-on (path-rule (place-at (t .line) (t .column))) X (use-step d f s u) z B
 
   module _ (X : Expects w x n (λ role. P.expect-as role 5) r f s r1 f1 a) where
     pub var-stops : Stopped a → Reads node w x n d P.parse-top-level-var-declaration o r f s o r1 f1 a
-    unfolding go run P.parse-top-level-var-declaration
-    var-stops nd = keyword-stops (P.declaration 0x53 (place-at (t .line) (t .column))) X (λ rd. ap (λ (p : Place). go d (P.expect 5 >>? λ _. P.declaration 0x53 p) (st-of w x n f rd s)) (u .place)) nd
+    var-stops nd = keyword-stops (P.declaration 0x53 (place-at (t .line) (t .column))) X (var-step d f s u) nd
 
     pub var-on : {o1 r2 f2 : List ℕ} {y : Answer} → a .how ≡ Done → Reads node w x n d (P.declaration 0x53 (place-at (t .line) (t .column))) o r1 f1 (a .state) o1 r2 f2 y → Reads node w x n d P.parse-top-level-var-declaration o r f s o1 r2 f2 y
-    unfolding go run P.parse-top-level-var-declaration
-    var-on z B = keyword-on (P.declaration 0x53 (place-at (t .line) (t .column))) X (λ rd. ap (λ (p : Place). go d (P.expect 5 >>? λ _. P.declaration 0x53 p) (st-of w x n f rd s)) (u .place)) z B
+    var-on z B = keyword-on (P.declaration 0x53 (place-at (t .line) (t .column))) X (var-step d f s u) z B

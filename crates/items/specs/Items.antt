@@ -54,10 +54,10 @@ pub record FunctionOn (w x : List ℕ) (n d external : ℕ) (p : Place) (name i 
 
 -- ---- aliases and paths
 
+-- the loop of the words before `type`, at any nesting: the words, and the place behind them
 pub record Modified (w x : List ℕ) (n distinct internal at : ℕ) (m : AliasWords) : Type 0 where
   pub words : A.Words
   pub sum : words .distinct + words .internal ≡ m .words
-  pub few : m .words ≤ 3
   pub up : at ≤ m .next
   pub end : m .next ≤ n
   pub room : budget w x n (m .next) ≤ budget w x n at

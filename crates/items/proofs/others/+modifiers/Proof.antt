@@ -39,4 +39,4 @@ pub +modifiers-spec : {M : Type 1} → statement M
     (omega (arith, q .0, v .on, v .end, c .if2 .taken), (q .1 .0, (v .end, (q .1 .1 .1 .0, omega arith)))))
     (λ c. modifiers-internal (c .before .before .before .before .before .head .ensures) (c .before .before .before .if1 .left) (c .before .if2 .taken) (c .modifiers2 .ensures))
     (λ c. let q = c .before .before .before .before .before .before .before .pre in omega (arith, q .1 .1 .1))
-    (λ c. let q = c .before .before .before .before .before .before .before .pre in modifiers-none (c .before .before .before .before .head .ensures) (q .1 .1 .0) (q .1 .1 .1 .0) (q .1 .1 .1 .1) (c .before .before .if1 .left) (c .if2 .left))
+    (λ c. let q = c .before .before .before .before .before .before .before .pre in modifiers-none (c .before .before .before .before .head .ensures) (q .1 .1 .0) (c .before .before .if1 .left) (c .if2 .left))
