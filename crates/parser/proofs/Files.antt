@@ -2,7 +2,7 @@
 use mathlib.Core.Path.{_≡_, refl, sym, ap, _∙_}
 use mathlib.Core.Bool.{true}
 use mathlib.Core.Option.{some}
-use mathlib.Core.List.{List, [], _∷_, _++_, append-nil, append-assoc}
+use mathlib.Core.List.{List, [], _∷_, _++_, append-nil}
 use Prim.Native.Nat.{ℕ, _+_, _*_, _≤_}
 use native.Mathlib.Omega.{arith}
 use lib.ListN.{length, take}
@@ -20,15 +20,15 @@ use Rattle.fields.specs.Errors.{Fielded, TokenFields}
 use Rattle.zeros.specs.Cleared.{Cleared}
 use Rattle.zeros.proofs.Clearing.{cleared-filled}
 use Rattle.handed.proofs.Accepted.{There, there, faults}
-use Rattle.parser.specs.Answer.{file-of, Ending, Ended}
+use Rattle.parser.specs.Answer.{file-of, RestRoom, RestWritten}
 
 -- ---- where the fields end
 
-pub token-end : {o o′ E : List ℕ} {p m q : ℕ} → is-some (errors-of E 0 m) ≡ true → TokenFields o p E m o′ q → q ≡ p + 10 * m
-token-end {E = E} {m = m} g A = let t = there (errors-of E 0 m) g in omega (arith, A (t .value) (t .is) .end, faults E m 0 (t .value) (t .is) .size)
+pub token-end : {o o′ : List ℕ} {p q : ℕ} (E : List ℕ) (m : ℕ) → is-some (errors-of E 0 m) ≡ true → TokenFields o p E m o′ q → q ≡ p + 10 * m
+token-end E m g A = let t = there (errors-of E 0 m) g in omega (arith, A (t .value) (t .is) .end, faults E m 0 (t .value) (t .is) .size)
 
-pub list-end : {o o′ l : List ℕ} {p k q tag : ℕ} → Fielded o p tag (errs l k) o′ q → k ≤ length l → q ≡ p + 10 * k
-list-end {l = l} {k = k} B h = omega (arith, B .end, errs-length l k h)
+pub list-end : {o o′ : List ℕ} {p q tag : ℕ} (l : List ℕ) (k : ℕ) → Fielded o p tag (errs l k) o′ q → k ≤ length l → q ≡ p + 10 * k
+list-end l k B h = omega (arith, B .end, errs-length l k h)
 
 -- ---- `end_file`
 
@@ -37,22 +37,18 @@ module-field : (count : ℕ) → rec-bytes (bare-of 0x5F (Two count) []) ≡ fie
 unfolding rec-bytes
 module-field count = simp append-nil refl
 
-joined : (a b c d e : List ℕ) → (((a ++ b) ++ c) ++ d) ++ e ≡ a ++ (b ++ (c ++ (d ++ e)))
-joined a b c d e = simp append-assoc refl
-
-module _ {o o1 o2 o3 o4 o5 E r f : List ℕ} {p p1 p2 p3 p4 count m reported made : ℕ} (q : Ending o p E m r reported f made) (W : Wrote o p (bare-of 0x5F (Two count) []) 5 o1 p1) (A : TokenFields o1 p1 E m o2 p2)
+module _ {o o1 o2 o3 o4 E r f : List ℕ} {p p1 p2 p3 p4 count m reported made : ℕ} (q : RestRoom o p E m r reported f made) (W : Wrote o p (bare-of 0x5F (Two count) []) 5 o1 p1) (A : TokenFields o1 p1 E m o2 p2)
     (B : Fielded o2 p2 0x60 (errs r reported) o3 p3) (C : Fielded o3 p3 0x61 (errs f made) o4 p4) where
   -- what stands up to the end
   front : (es : List Err) → errors-of E 0 m ≡ some es → take p4 o4 ≡ file-of (take p o) count es (errs r reported) (errs f made)
   front es e =
       C .is
       ∙ ap (λ (v : List ℕ). v ++ errs-bytes 0x61 (errs f made)) (B .is ∙ ap (λ (v : List ℕ). v ++ errs-bytes 0x60 (errs r reported)) (A es e .is ∙ ap (λ (v : List ℕ). v ++ errs-bytes 0x62 es) (W .is ∙ ap (λ (v : List ℕ). take p o ++ v) (module-field count))))
-      ∙ joined (take p o) (field 0x5F (u16 count)) (errs-bytes 0x62 es) (errs-bytes 0x60 (errs r reported)) (errs-bytes 0x61 (errs f made))
 
   pub end-room : length o4 ≡ length o → p4 ≤ length o4
-  end-room l = omega (arith, q .room, W .end, token-end (q .good) A, list-end B (q .reps), list-end C (q .fulls), l)
+  end-room l = omega (arith, q .room, W .end, token-end E m (q .good) A, list-end r reported B (q .reps), list-end f made C (q .fulls), l)
 
-  pub ended : Cleared o4 p4 o5 → length o4 ≡ length o → Ended o p count E m r reported f made o5 p4
+  pub ended : {o5 : List ℕ} → Cleared o4 p4 o5 → length o4 ≡ length o → RestWritten o p count E m r reported f made o5 p4
   ended Z l = record {
     end = λ es e. sym (length-take-le p4 o4 (end-room l)) ∙ ap length (front es e);
     is = λ es e. cleared-filled o p4 (file-of (take p o) count es (errs r reported) (errs f made)) Z (front es e) l (end-room l);

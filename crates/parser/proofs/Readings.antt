@@ -31,14 +31,16 @@ use Rattle.steps.specs.Tokens.{rest, budget}
 use Rattle.steps.specs.Shows.{st-of, Asked, Shows, ShowsOf, items}
 use Rattle.steps.proofs.Tokens.{rest-cons, rest-nil}
 use Rattle.steps.proofs.Answers.{good-of}
-use Rattle.leaves.proofs.Atoms.{Alive, if-alive}
+use denote.Enum.Declared.{tagOf}
+use Rattle.fallible.proofs.How.{the-type}
+use Rattle.leaves.proofs.Atoms.{Ended, Alive, if-alive}
 use Rattle.grammar.specs.Post.{as-answer}
 use Rattle.handed.specs.Tested.{Tested}
 use Rattle.handed.proofs.Accepted.{There, there, absent, tested}
 use Rattle.items.specs.Rules.{items-on}
 use Rattle.items.specs.Items.{ReadsModule}
 use Rattle.parser.specs.declared.Written.{Written}
-use Rattle.parser.specs.Answer.{refusal-of, answer, file-of, Ending, Ended, ReadHanded}
+use Rattle.parser.specs.Answer.{refusal-of, refusal-number, answer, file-of, RestRoom, RestWritten, ReadHanded}
 
 -- ---- the module's answer
 
@@ -98,8 +100,16 @@ module _ {w x : List ℕ} {n : ℕ} {o r f : List ℕ} {a : Answer} (B : ReadsMo
       let e = gave 96 (parse-module (rest w x n 0)) _ _ (parsed ∙ g .is) in
       record { tree = g .item; state = st-of w x n f (g .read) (a .state); is = e .0; full = refl; recs = g .tree; rep = g .rep ∙ sym (e .1); count = g .holds }
 
-  pub refused-of : {k : ℕ} → a .how ≡ Refused k → parse-module (rest w x n 0) ≡ refused k
-  refused-of {k} z = refuses 96 (parse-module (rest w x n 0)) k (parsed ∙ subst (λ (h : How). ShowsOf h items [] [] [] [] w x n o r f a _) z (B .is .told))
+  refused-with : (k : ℕ) → a .how ≡ Refused k → parse-module (rest w x n 0) ≡ refused k
+  refused-with k z = refuses 96 (parse-module (rest w x n 0)) k (parsed ∙ subst (λ (h : How). ShowsOf h items [] [] [] [] w x n o r f a (go 96 (items-on (P.no-items []) >>= as-answer) (record { left = rest w x n 0; read = []; full = [] }))) z (B .is .told))
+
+  pub refused-of : Ended a → parse-module (rest w x n 0) ≡ refused (refusal-number (a .how))
+  refused-of e = one (a .how) refl e
+    where
+      one : (h : How) → a .how ≡ h → tagOf the-type h ≡ 2 → parse-module (rest w x n 0) ≡ refused (refusal-number h)
+      one Done z e = absurd (omega arith)
+      one Fatal z e = absurd (omega arith)
+      one (Refused k) z e = refused-with k z
 
   pub done-of-module : Alive a → a .how ≡ Done
   done-of-module l = one (a .how) refl l
@@ -111,80 +121,111 @@ module _ {w x : List ℕ} {n : ℕ} {o r f : List ℕ} {a : Answer} (B : ReadsMo
 
 -- ---- the definition's answer for at least one token
 
+-- what becomes of the parser's answer
+outcome : List Err → Res Items → O.Outcome
+outcome es (gives i S) = O.file (file-bytes es i (S .full))
+outcome es (refused n) = O.refused n
+
+opened : (o : List ℕ) (ts : List Tok) (es : List Err) → 0 < length ts → O.read-handed o ts es ≡ O.written o (outcome es (parse-module ts))
+unfolding O.read-tokens outcome
+opened o [] es h = absurd (omega arith)
+opened o (t ∷ ts) es h = one (parse-module (t ∷ ts))
+  where
+    one : (r : Res Items) → O.written o (elim r as (λ _. O.Outcome) [ gives i S ↦ O.file (file-bytes es i (S .full)) | refused n ↦ O.refused n ]) ≡ O.written o (outcome es r)
+    one (gives i S) = refl
+    one (refused n) = refl
+
 written-of : (o : List ℕ) (ts : List Tok) (es : List Err) (i : Items) (S : St) → 0 < length ts → parse-module ts ≡ gives i S → O.read-handed o ts es ≡ record { number = 0; bytes = length (file-bytes es i (S .full)); file = filled (length o) (file-bytes es i (S .full)) }
-unfolding O.read-tokens
-written-of o [] es i S h e = absurd (omega arith)
-written-of o (t ∷ ts) es i S h e = rw e
+unfolding outcome
+written-of o ts es i S h e = opened o ts es h ∙ ap (λ (r : Res Items). O.written o (outcome es r)) e
 
 none-of : (o : List ℕ) (ts : List Tok) (es : List Err) (n : ℕ) → 0 < length ts → parse-module ts ≡ refused n → O.read-handed o ts es ≡ record { number = n; bytes = 0; file = filled (length o) [] }
-unfolding O.read-tokens
-none-of o [] es n h e = absurd (omega arith)
-none-of o (t ∷ ts) es n h e = rw e
+unfolding outcome
+none-of o ts es n h e = opened o ts es h ∙ ap (λ (r : Res Items). O.written o (outcome es r)) e
 
 some-tokens : (w x : List ℕ) (n : ℕ) → 0 < n → 0 < length (rest w x n 0)
 some-tokens w x n h = rw (rest-cons w x n 0 h) (omega arith)
 
+-- the file of equal parts
+same-file : {A A′ : List ℕ} {c c′ : ℕ} {r r′ f f′ : List Err} (es : List Err) → A ≡ A′ → c ≡ c′ → r ≡ r′ → f ≡ f′ → file-of A c es r f ≡ file-of A′ c′ es r′ f′
+same-file es p q s t = rw (p, q, s, t)
+
 -- ---- `read_tokens`
 
-module _ {T : List ℕ} {n : ℕ} {E : List ℕ} {m : ℕ} {X o : List ℕ} (q : (65536 ≤ length o) × ((0 < n) × (is-some (O.handed T n E m X) ≡ true))) where
+module _ (T : List ℕ) (n : ℕ) (E : List ℕ) (m : ℕ) (X : List ℕ) (g : is-some (O.handed T n E m X) ≡ true) where
   accepted : There (O.handed T n E m X)
-  accepted = there (O.handed T n E m X) (q .1 .1)
+  accepted = there (O.handed T n E m X) g
 
   good : Tested T n E m X (accepted .value)
   good = tested T n E m X (accepted .value) (accepted .is)
 
-  pub module-asked : {r f : List ℕ} → 256 ≤ length r → 256 ≤ length f → Asked T X n o r f (record { at = 0; pos = 0; reported = 0; full = 0 })
-  module-asked lr lf = record { asks = record { held = good .held; at = omega arith; reported = omega arith; few = omega arith; reps = lr; fulls = lf }; room = omega (arith, q .0, good .room, good .held .few) }
+  pub module-asked : {o r f : List ℕ} → 65536 ≤ length o → 256 ≤ length r → 256 ≤ length f → Asked T X n o r f (record { at = 0; pos = 0; reported = 0; full = 0 })
+  module-asked lo lr lf = record { asks = record { held = good .held; at = omega arith; reported = omega arith; few = omega arith; reps = lr; fulls = lf }; room = omega (arith, lo, good .room, good .held .few) }
 
-  pub ending : {d : ℕ} {o1 r1 f1 : List ℕ} {a : Answer} → ReadsModule T X n d o1 r1 f1 a → length o1 ≡ length o → 256 ≤ length r1 → 256 ≤ length f1 → Ending o1 (a .state .pos) E m r1 (a .state .reported) f1 (a .state .full)
-  ending B l lr lf = record {
-    room = omega (arith, q .0, good .room, good .held .few, good .few, B .room, B .reported, B .few, l);
+  pub rest-room : {d : ℕ} {o1 r1 f1 : List ℕ} {a : Answer} → ReadsModule T X n d o1 r1 f1 a → 65536 ≤ length o1 → 256 ≤ length r1 → 256 ≤ length f1 → RestRoom o1 (a .state .pos) E m r1 (a .state .reported) f1 (a .state .full)
+  rest-room B lo lr lf = record {
+    room = omega (arith, lo, good .room, good .held .few, good .few, B .room, B .reported, B .few);
     words = good .words;
     good = rw (good .errors);
     reps = omega (arith, B .reported, B .few, lr);
     fulls = omega (arith, B .few, lf);
   }
 
-  module _ {o1 r1 f1 : List ℕ} {a : Answer} (B : ReadsModule T X n 96 o1 r1 f1 a) (l : length o1 ≡ length o) where
-    pub read-refused : {o2 : List ℕ} {k : ℕ} → a .how ≡ Refused k → Cleared o1 0 o2 → ReadHanded T n E m X o o2 (refusal-of k)
-    read-refused {o2} {k} z C h e =
-        let t = tested T n E m X h e in
-        let p : parse-module (h .tokens) ≡ refused k = ap parse-module (sym (t .tokens)) ∙ refused-of B z in
-        let s : 0 < length (h .tokens) = subst (λ (ts : List Tok). 0 < length ts) (t .tokens) (some-tokens T X n (q .1 .0)) in
-        ap (λ (v : List ℕ). answer (refusal-of k) v) (cleared-filled o 0 [] C refl l (omega arith)) ∙ sym (none-of o (h .tokens) (h .errors) k s p)
+module _ (T : List ℕ) (n : ℕ) (E : List ℕ) (m : ℕ) (X o : List ℕ) {o1 r1 f1 : List ℕ} {a : Answer} (B : ReadsModule T X n 96 o1 r1 f1 a) (some-n : 0 < n) (l : length o1 ≡ length o) where
+  pub read-refused : {o2 : List ℕ} {k : ℕ} {y : Written} → Ended a → Cleared o1 0 o2 → k ≡ refusal-number (a .how) → y ≡ refusal-of k → ReadHanded T n E m X o o2 y
+  read-refused {o2} {k} {y} z C u v h e =
+      let t = tested T n E m X h e in
+      let p : parse-module (h .tokens) ≡ refused k = ap parse-module (sym (t .tokens)) ∙ refused-of B z ∙ ap (λ (i : ℕ). refused i) (sym u) in
+      let s : 0 < length (h .tokens) = subst (λ (ts : List Tok). 0 < length ts) (t .tokens) (some-tokens T X n some-n) in
+      rw v (ap (λ (f : List ℕ). answer (refusal-of k) f) (cleared-filled o 0 [] C refl l (omega arith)) ∙ sym (none-of o (h .tokens) (h .errors) k s p))
 
-    pub read-done : {o2 : List ℕ} {b : ℕ} → Alive a → Ended o1 (a .state .pos) (a .line) E m r1 (a .state .reported) f1 (a .state .full) o2 b → ReadHanded T n E m X o o2 (record { number = 0; bytes = b })
-    unfolding file-bytes
-    read-done {o2} {b} z C h e =
-        let t = tested T n E m X h e in
-        let g = tree-of B (done-of-module B z) in
-        let p : parse-module (h .tokens) ≡ gives (g .tree) (g .state) = ap parse-module (sym (t .tokens)) ∙ g .is in
-        let s : 0 < length (h .tokens) = subst (λ (ts : List Tok). 0 < length ts) (t .tokens) (some-tokens T X n (q .1 .0)) in
-        let ws : file-of (take (a .state .pos) o1) (a .line) (h .errors) (errs r1 (a .state .reported)) (errs f1 (a .state .full)) ≡ file-bytes (h .errors) (g .tree) (g .state .full) = rw (g .recs, sym (g .count), g .rep, g .full) in
-        let bytes : b ≡ length (file-bytes (h .errors) (g .tree) (g .state .full)) = C .end (h .errors) (t .errors) ∙ ap length ws in
-        let file : o2 ≡ filled (length o) (file-bytes (h .errors) (g .tree) (g .state .full)) = C .is (h .errors) (t .errors) ∙ ap (λ (v : List ℕ). filled (length o1) v) ws ∙ ap (λ (k : ℕ). filled k (file-bytes (h .errors) (g .tree) (g .state .full))) l in
-        rw (bytes, file) (sym (written-of o (h .tokens) (h .errors) (g .tree) (g .state) s p))
+  pub read-done : {o2 : List ℕ} {b : ℕ} → Alive a → RestWritten o1 (a .state .pos) (a .line) E m r1 (a .state .reported) f1 (a .state .full) o2 b → ReadHanded T n E m X o o2 (record { number = 0; bytes = b })
+  unfolding file-bytes
+  read-done {o2} {b} z C h e =
+      let t = tested T n E m X h e in
+      let g = tree-of B (done-of-module B z) in
+      let p : parse-module (h .tokens) ≡ gives (g .tree) (g .state) = ap parse-module (sym (t .tokens)) ∙ g .is in
+      let s : 0 < length (h .tokens) = subst (λ (ts : List Tok). 0 < length ts) (t .tokens) (some-tokens T X n some-n) in
+      let ws : file-of (take (a .state .pos) o1) (a .line) (h .errors) (errs r1 (a .state .reported)) (errs f1 (a .state .full)) ≡ file-bytes (h .errors) (g .tree) (g .state .full) = same-file (h .errors) (g .recs) (sym (g .count)) (g .rep) (sym (g .full)) in
+      let bytes : b ≡ length (file-bytes (h .errors) (g .tree) (g .state .full)) = C .end (h .errors) (t .errors) ∙ ap length ws in
+      let file : o2 ≡ filled (length o) (file-bytes (h .errors) (g .tree) (g .state .full)) = C .is (h .errors) (t .errors) ∙ ap (λ (v : List ℕ). filled (length o1) v) ws ∙ ap (λ (k : ℕ). filled k (file-bytes (h .errors) (g .tree) (g .state .full))) l in
+      rw (bytes, file) (sym (written-of o (h .tokens) (h .errors) (g .tree) (g .state) s p))
 
 -- ---- `read`
 
-module _ {T : List ℕ} {n : ℕ} {E : List ℕ} {m : ℕ} {X o : List ℕ} where
+-- the tests of the file slice and of the records
+tested-by : Bool → Option O.Handed → List ℕ → O.Written
+tested-by true x o = O.kept 3 o
+tested-by false none o = O.kept 8 o
+tested-by false (some h) o = O.read-handed o (h .tokens) (h .errors)
+
+module _ (T : List ℕ) (n : ℕ) (E : List ℕ) (m : ℕ) (X o : List ℕ) where
+  read-is : O.read T n E m X o ≡ tested-by (ltb (length o) 65536) (O.handed T n E m X) o
+  unfolding O.read tested-by
+  read-is = one (ltb (length o) 65536) (O.handed T n E m X)
+    where
+      one : (b : Bool) (x : Option O.Handed) → _≡_ {A = O.Written} (elim b as (λ _. O.Written) [ true ↦ O.kept 3 o | false ↦ elim x as (λ _. O.Written) [ none ↦ O.kept 8 o | some h ↦ O.read-handed o (h .tokens) (h .errors) ] ]) (tested-by b x o)
+      one true x = refl
+      one false none = refl
+      one false (some h) = refl
+
   pub read-short : {r : Written} → length o < 65536 → r ≡ refusal-of 3 → answer r o ≡ O.read T n E m X o
-  unfolding O.read
-  read-short h e = rw (e, lt-ltb (length o) 65536 h)
+  unfolding tested-by
+  read-short h e = rw e (sym (read-is ∙ ap (λ (b : Bool). tested-by b (O.handed T n E m X) o) (lt-ltb (length o) 65536 h)))
 
   module _ (h : 65536 ≤ length o) where
+    -- with a file slice that is long enough
+    read-long : O.read T n E m X o ≡ tested-by false (O.handed T n E m X) o
+    read-long = read-is ∙ ap (λ (b : Bool). tested-by b (O.handed T n E m X) o) (le-ltb (length o) 65536 h)
+
     pub read-bad : {r : Written} → is-some (O.handed T n E m X) ≡ false → r ≡ refusal-of 8 → answer r o ≡ O.read T n E m X o
-    unfolding O.read
-    read-bad g e = rw (e, le-ltb (length o) 65536 h, absent (O.handed T n E m X) g)
+    unfolding tested-by
+    read-bad g e = rw e (sym (read-long ∙ ap (λ (x : Option O.Handed). tested-by false x o) (absent (O.handed T n E m X) g)))
 
     module _ (g : is-some (O.handed T n E m X) ≡ true) where
-      -- the answer for good records
-      handed-is : {r : Written} {o′ : List ℕ} → ReadHanded T n E m X o o′ r → answer r o′ ≡ O.read T n E m X o
-      unfolding O.read
-      handed-is R = let t = there (O.handed T n E m X) g in R (t .value) (t .is) ∙ sym (rw (le-ltb (length o) 65536 h, t .is))
+      pub read-good : {r : Written} {o′ : List ℕ} → ReadHanded T n E m X o o′ r → answer r o′ ≡ O.read T n E m X o
+      unfolding tested-by
+      read-good R = let t = there (O.handed T n E m X) g in R (t .value) (t .is) ∙ sym (read-long ∙ ap (λ (x : Option O.Handed). tested-by false x o) (t .is))
 
       pub read-none : {r : Written} → n ≡ 0 → r ≡ refusal-of 9 → answer r o ≡ O.read T n E m X o
-      read-none z e = handed-is (λ v y. let k : v .tokens ≡ [] = sym (tested T n E m X v y .tokens) ∙ rest-nil T X n 0 (omega (arith, z)) in rw (e, k))
-
-      pub read-tokens : {r : Written} {o′ : List ℕ} → ReadHanded T n E m X o o′ r → answer r o′ ≡ O.read T n E m X o
-      read-tokens R = handed-is R
+      read-none z e = read-good (λ v y. let k : v .tokens ≡ [] = sym (tested T n E m X v y .tokens) ∙ rest-nil T X n 0 (omega (arith, z)) in rw (e, k))

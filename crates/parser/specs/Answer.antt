@@ -11,11 +11,18 @@ use Rattle.definition.specs.Fallible.{Err, errs-bytes}
 use Rattle.definition.specs.Records.{errors-of}
 use Rattle.definition.specs.Operations as O
 use Rattle.definition.specs.Operations.{filled}
+use Rattle.fallible.specs.declared.How.{How}
+use Rattle.fallible.specs.declared.How.the-variants.{Done, Fatal, Refused}
 use Rattle.fallible.specs.Lists.{errs}
 use Rattle.parser.specs.declared.Written.{Written}
 
 abbrev pub refusal-of : ℕ → Written
 refusal-of n = record { number = n; bytes = 0 }
+
+abbrev pub refusal-number : How → ℕ
+refusal-number Done = 0
+refusal-number Fatal = 0
+refusal-number (Refused n) = n
 
 abbrev pub answer : Written → List ℕ → O.Written
 answer r o = record { number = r .number; bytes = r .bytes; file = o }
@@ -27,7 +34,7 @@ abbrev pub file-of : List ℕ → ℕ → List Err → List Err → List Err →
 file-of tree count es rep full = tree ++ field 0x5F (u16 count) ++ errs-bytes 0x62 es ++ errs-bytes 0x60 rep ++ errs-bytes 0x61 full
 
 -- there is room for them behind p, and m token errors are good
-pub record Ending (o : List ℕ) (p : ℕ) (E : List ℕ) (m : ℕ) (r : List ℕ) (reported : ℕ) (f : List ℕ) (made : ℕ) : Type 0 where
+pub record RestRoom (o : List ℕ) (p : ℕ) (E : List ℕ) (m : ℕ) (r : List ℕ) (reported : ℕ) (f : List ℕ) (made : ℕ) : Type 0 where
   pub room : p + 10 * m + 10 * reported + 10 * made + 18 ≤ length o
   pub words : 4 * m ≤ length E
   pub good : is-some (errors-of E 0 m) ≡ true
@@ -35,7 +42,7 @@ pub record Ending (o : List ℕ) (p : ℕ) (E : List ℕ) (m : ℕ) (r : List �
   pub fulls : made ≤ length f
 
 -- they stand there, with zeros behind them, and end at q
-pub record Ended (o : List ℕ) (p count : ℕ) (E : List ℕ) (m : ℕ) (r : List ℕ) (reported : ℕ) (f : List ℕ) (made : ℕ) (o′ : List ℕ) (q : ℕ) : Type 0 where
+pub record RestWritten (o : List ℕ) (p count : ℕ) (E : List ℕ) (m : ℕ) (r : List ℕ) (reported : ℕ) (f : List ℕ) (made : ℕ) (o′ : List ℕ) (q : ℕ) : Type 0 where
   pub end : (es : List Err) → errors-of E 0 m ≡ some es → q ≡ length (file-of (take p o) count es (errs r reported) (errs f made))
   pub is : (es : List Err) → errors-of E 0 m ≡ some es → o′ ≡ filled (length o) (file-of (take p o) count es (errs r reported) (errs f made))
 

@@ -16,7 +16,7 @@ ghost use Prim.Native.Nat.{_<_, _≤_};
 ghost use lib.ListN.{length};
 ghost use Rattle.definition.specs.Source.{is-some};
 ghost use Rattle.definition.specs.Operations as O;
-ghost use Rattle.parser.specs.Answer.{answer, refusal-of, Ending, Ended, ReadHanded};
+ghost use Rattle.parser.specs.Answer.{answer, refusal-of, refusal-number, RestRoom, RestWritten, ReadHanded};
 
 // The number of a refusal, or 0, and the count of file bytes.
 pub struct Written {
@@ -30,10 +30,15 @@ fn refused(number: u32) -> Written
     Written { number, bytes: 0 }
 }
 
-fn wide(x: u8) -> u32
-    ensures { λ r. ⌜ r ≡ x ⌝ }
+// The number of a refusal; 0 for none.
+fn number_of(how: How) -> u32
+    ensures { λ r. ⌜ r ≡ refusal-number how ⌝ }
 {
-    x as u32
+    match how {
+        How::Done => 0,
+        How::Fatal => 0,
+        How::Refused(number) => number as u32,
+    }
 }
 
 // Behind the records of `count` items, which stand up to `pos`: the module's field, the errors, and zeros to the end. The file's bytes are counted.
@@ -48,8 +53,8 @@ fn end_file(
     full: &[usize],
     made: usize,
 ) -> usize
-    requires { ⌜ Ending (now file) pos (now errors) «error_count» (now rep) reported (now full) made ⌝ }
-    ensures { λ r. ⌜ Ended (now (file .entry)) pos count (now (errors .entry)) «error_count» (now (rep .entry)) reported (now (full .entry)) made (now (file .exit)) r ⌝ }
+    requires { ⌜ RestRoom (now file) pos (now errors) «error_count» (now rep) reported (now full) made ⌝ }
+    ensures { λ r. ⌜ RestWritten (now (file .entry)) pos count (now (errors .entry)) «error_count» (now (rep .entry)) reported (now (full .entry)) made (now (file .exit)) r ⌝ }
 {
     let p = write_bare(file, b"", pos, tag::MODULE, Numbers::Two(count), 0, 0);
     let q = token_error_fields(file, p, errors, error_count);
@@ -83,9 +88,9 @@ fn read_tokens(
         limit::NESTING,
     );
     let how = a.how;
-    if let How::Refused(number) = how {
+    if let How::Refused(_) = how {
         clear_bytes(file, 0);
-        return refused(wide(number));
+        return refused(number_of(how));
     }
     let s = a.state;
     let bytes = end_file(
