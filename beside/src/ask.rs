@@ -1,7 +1,7 @@
 //! The oracle's answer to any bytes, confirmed by the unchanged build.
 
-use crate::show;
-use formats::{Answer, PANIC, SCRIPT_LIMIT};
+use crate::{rules, show};
+use formats::{Answer, Handed, PANIC, SCRIPT_LIMIT};
 
 pub fn answer(script: &[u8]) -> Answer {
     if script.len() > SCRIPT_LIMIT {
@@ -30,6 +30,23 @@ fn confirmed(text: &str, answer: &Answer) -> bool {
         Err(10) | Err(12) => plain::tokenised(text) == answer.tokenised,
         Err(number) => [4, 6, 7].contains(&number),
     }
+}
+
+/// Read's answer to any records: the file, or the refusal.
+pub fn read(handed: &Handed) -> Result<Vec<u8>, u8> {
+    let records = rules::tested(handed)?;
+    let answer = marked::read_records(&records);
+    let confirmed = match answer {
+        Ok(_) => plain::read_records(&records) == answer,
+        Err(11) => plain::read_records(&records) == Err(PANIC),
+        Err(number) => [10, 12].contains(&number),
+    };
+    if !confirmed {
+        eprintln!("the marked copy and the unchanged build differ on these records:");
+        show::handed(handed).iter().for_each(|line| eprintln!("{line}"));
+        std::process::exit(3);
+    }
+    answer
 }
 
 /// Keeps the panics that the oracle's steps may meet from being printed.

@@ -3,8 +3,9 @@
 use crate::ask;
 use crate::classes::{self, Class};
 use crate::compare::Tally;
+use crate::rules;
 use crate::show;
-use formats::{Field, Token, TokenError, Tokens};
+use formats::{Field, Tokens};
 
 /// Prints the scripts of which a statement is wrong; whether there are none.
 pub fn run(classes: &[Class]) -> bool {
@@ -29,7 +30,7 @@ fn broken(records: &Tokens, file: &[u8]) -> Vec<String> {
     let tree = fields.iter().filter(|(tag, _)| *tag < 0x60).count();
     let statements = [
         ("a token record is bad", good_tokens(records)),
-        ("a token error record is bad", records.errors.iter().all(good_error)),
+        ("a token error record is bad", records.errors.iter().all(rules::good_error)),
         ("the tree has more than two records more than there are tokens", tree <= records.tokens.len() + 2),
         ("an error has 0:0 or not, against its number", full.iter().all(|e| place_fits(e))),
         ("an error has kinds or not, against its number", full.iter().all(|e| kinds_fit(e))),
@@ -40,51 +41,18 @@ fn broken(records: &Tokens, file: &[u8]) -> Vec<String> {
     statements.iter().filter(|(_, holds)| !holds).map(|(text, _)| text.to_string()).collect()
 }
 
-/// Read's tests of token records.
+/// Read's tests of token records, and that nothing stands between the texts.
 fn good_tokens(records: &Tokens) -> bool {
-    let mut before = (0, 0);
     let mut end = 0;
-    let mut good = records.tokens.len() <= 2048;
-    for token in &records.tokens {
-        good &= good_token(token, &records.text) && (token[1], token[2]) > before;
-        before = (token[1], token[2]);
-        if has_text(token) {
-            good &= token[3] == end;
-            end += token[4];
+    for token in records.tokens.iter().filter(|token| rules::has_text(token)) {
+        if token[3] != end {
+            return false;
         }
+        end += token[4];
     }
-    good && end as usize == records.text.len() && end <= 16_384
-}
-
-fn has_text(token: &Token) -> bool {
-    matches!(token[0], 1 | 2 | 3 | 54)
-}
-
-fn good_token(token: &Token, text: &[u8]) -> bool {
-    let [kind, line, column, start, length, base, seventh, eighth] = *token;
-    let own = &text[start as usize..(start + length) as usize];
-    let base_fits = if kind == 2 { matches!(base, 2 | 10 | 16) && digits(own, base) } else { base == 0 };
-    (1..=54).contains(&kind)
-        && in_script(line)
-        && in_script(column)
-        && base_fits
-        && (has_text(token) || (start == 0 && length == 0))
-        && std::str::from_utf8(own).is_ok()
-        && seventh == 0
-        && eighth == 0
-}
-
-fn digits(text: &[u8], base: u32) -> bool {
-    let text = if base == 10 { text.strip_prefix(b"-").unwrap_or(text) } else { text };
-    !text.is_empty() && text.iter().all(|c| (*c as char).is_digit(base))
-}
-
-fn in_script(number: u32) -> bool {
-    (1..=16_384).contains(&number)
-}
-
-fn good_error(error: &TokenError) -> bool {
-    (1..=4).contains(&error[0]) && in_script(error[1]) && in_script(error[2]) && error[3] == 0
+    records.tokens.len() <= 2_048
+        && end as usize == records.text.len()
+        && rules::good_tokens(&records.tokens, &records.text)
 }
 
 fn place_fits(error: &[u8]) -> bool {

@@ -14,6 +14,31 @@ pub struct Tokens {
     pub text: Vec<u8>,
 }
 
+/// What Read is handed: the slices, what is stated of them, and the length of the file slice.
+#[derive(Clone, Debug)]
+pub struct Handed {
+    pub tokens: Vec<u32>,
+    pub token_count: u64,
+    pub errors: Vec<u32>,
+    pub error_count: u64,
+    pub text: Vec<u8>,
+    pub file: usize,
+}
+
+impl Handed {
+    /// Records in slices of their own length.
+    pub fn new(records: &Tokens) -> Self {
+        Handed {
+            tokens: records.tokens.concat(),
+            token_count: records.tokens.len() as u64,
+            errors: records.errors.concat(),
+            error_count: records.errors.len() as u64,
+            text: records.text.clone(),
+            file: FILE_SIZE,
+        }
+    }
+}
+
 /// An error of the parser: number, line, column, expected kind, kind met.
 #[derive(Clone, Copy, Debug, PartialEq, Eq)]
 pub struct Error {
@@ -41,6 +66,10 @@ pub const PANIC: u8 = 255;
 
 pub const SCRIPT_LIMIT: usize = 16_384;
 pub const FILE_SIZE: usize = 65_536;
+
+/// The largest line and column, and the largest end of a text.
+pub const PLACE_LIMIT: u32 = 16_384;
+pub const TEXT_LIMIT: usize = 16_384;
 
 /// The spelling of the kinds in the Rust, from kind 1 on.
 pub const KINDS: [&str; 54] = [

@@ -1,5 +1,6 @@
 //! Runs beside the Rust: see README.md.
 
+mod altered;
 mod ask;
 mod claims;
 mod classes;
@@ -10,7 +11,9 @@ mod facts;
 mod fixed;
 mod grammar;
 mod lists;
+mod made;
 mod random;
+mod rules;
 mod show;
 
 use std::io::{self, Read, Write};
@@ -19,8 +22,8 @@ const USAGE: &str = "usage: beside coverage CLASS..
        beside claims CLASS..
        beside program PROGRAM CLASS..
        beside lib CLASS..
-       beside list tokens|files CLASS..
-       beside case tokens|files NUMBER < LIST
+       beside list tokens|files|records CLASS..
+       beside case tokens|files|records NUMBER < LIST
        beside definitions COUNT LONGEST CLASS..
        beside show < SCRIPT";
 
@@ -54,7 +57,7 @@ fn run() -> Result<bool, String> {
             out.flush().expect("the list can't be written");
             Ok(true)
         }
-        ["case", sort @ ("tokens" | "files"), at] => {
+        ["case", sort @ ("tokens" | "files" | "records"), at] => {
             lists::print_case(sort, number(at)?, &input())?;
             Ok(true)
         }

@@ -3,6 +3,7 @@
 #![feature(try_trait_v2, never_type, type_changing_struct_update)]
 #![allow(warnings)]
 
+pub mod decode;
 pub mod encode;
 pub mod fallible;
 pub mod marks;
@@ -62,6 +63,11 @@ pub fn answer(script: &str) -> Answer {
             Answer { tokenised: Ok(records), whole }
         }
     }
+}
+
+/// Read's answer to good records, at least one token.
+pub fn read_records(records: &Tokens) -> Result<Vec<u8>, u8> {
+    read(decode::tokens(records), records)
 }
 
 fn read(tokens: Vec<tokenizer::Token>, records: &Tokens) -> Result<Vec<u8>, u8> {

@@ -1,6 +1,6 @@
 //! Scripts and answers in readable lines.
 
-use formats::{Tokens, KINDS};
+use formats::{Handed, Tokens, KINDS};
 
 /// A script in quotes; a long one is cut in its middle.
 pub fn script(bytes: &[u8]) -> String {
@@ -109,4 +109,21 @@ pub fn tokenised(answer: &Result<Tokens, u8>) -> Vec<String> {
 fn token(t: &formats::Token, text: &[u8]) -> String {
     let own = &text[t[3] as usize..(t[3] + t[4]) as usize];
     format!("{} at {}:{} \"{}\" start {} base {}", kind(t[0]), t[1], t[2], own.escape_ascii(), t[3], t[5])
+}
+
+/// What Read is handed, a line for each record of its slices, stated or not.
+pub fn handed(handed: &Handed) -> Vec<String> {
+    let mut lines = vec![format!(
+        "{} tokens in {} words, {} errors in {} words, {} bytes of text, a file slice of {}",
+        handed.token_count,
+        handed.tokens.len(),
+        handed.error_count,
+        handed.errors.len(),
+        handed.text.len(),
+        handed.file
+    )];
+    lines.extend(handed.tokens.chunks(8).map(|words| format!("token {words:?}")));
+    lines.extend(handed.errors.chunks(4).map(|words| format!("token error {words:?}")));
+    lines.push(format!("text {}", script(&handed.text)));
+    lines
 }

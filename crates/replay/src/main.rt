@@ -1,17 +1,14 @@
 // Reads a list of scripts with the answers that Tokenise should give (beside/README.md has its format) from
 // standard input, and writes how many agree and how many differ, and the number of the first that differs.
 // In a case that agrees, Token text gave the part of each token too, and the empty part where it should.
+use cases::Counts;
+use cases::Found;
+use cases::fill;
+use cases::long;
+use cases::pair;
+use cases::three;
+use cases::wide;
 use libc::STDIN_FILENO;
-use libc::STDOUT_FILENO;
-
-fn wide(b: u8) -> u32 {
-    b as u32
-}
-
-// A number in two bytes, high byte first.
-fn pair(high: u8, low: u8) -> u32 {
-    wide(high) % 256 * 256 + wide(low) % 256
-}
 
 // Whether the next twelve bytes of the input are the token record at an index.
 fn token_agrees(tokens: &[u32], at: usize) -> bool {
@@ -99,15 +96,6 @@ fn same_start(a: &[u8], b: &[u8], n: usize) -> bool {
     check::same(&a[from..n], &b[from..n])
 }
 
-// Reads so many bytes to the start of a slice; whether they were there.
-fn fill(space: &mut [u8], n: usize) -> bool {
-    if space.len() < n {
-        return false;
-    }
-    let from = 0;
-    io::read_full(STDIN_FILENO, &mut space[from..n]) == n
-}
-
 // Whether the next bytes of the input, so many, are the text.
 fn text_agrees(text: &[u8], count: u32) -> bool {
     let mut space = [0u8; 16384];
@@ -123,10 +111,6 @@ fn text_agrees(text: &[u8], count: u32) -> bool {
 fn textless(tokens: &[u32], text: &[u8], at: usize) -> bool {
     let got = records::token_text(tokens, text, at);
     got.len() == 0
-}
-
-fn long(word: u32) -> usize {
-    word as usize
 }
 
 // Whether a token's text is the part of the text that its record names, and nothing where the slice ends inside it.
@@ -215,16 +199,10 @@ fn texts_agree(tokens: &[u32], text: &[u8], count: u32) -> bool {
 
 // ---- cases
 
-enum Found {
-    Agrees,
-    Differs,
-    End,
-}
-
-// Tokenises the first bytes of a slice, then reads the answer that should come of them.
-fn answer(space: &[u8], n: usize) -> Found {
+// Tokenises the first bytes of a slice, then reads the answer that should come of them; whether it did.
+fn answer_agrees(space: &[u8], n: usize) -> bool {
     if space.len() < n {
-        return Found::End;
+        return false;
     }
     let from = 0;
     let mut tokens = [0u32; 16384];
@@ -233,7 +211,7 @@ fn answer(space: &[u8], n: usize) -> Found {
     let got = tokenizer::tokenize(&space[from..n], &mut tokens, &mut errors, &mut text);
     let mut b = [0u8; 7];
     if io::read_full(STDIN_FILENO, &mut b) != 7 {
-        return Found::End;
+        return false;
     }
     let token_count = pair(b[1], b[2]);
     let error_count = pair(b[3], b[4]);
@@ -243,95 +221,58 @@ fn answer(space: &[u8], n: usize) -> Found {
     let text_same = text_agrees(&text, text_count);
     let texts_same = texts_agree(&tokens, &text, token_count);
     if got.number != wide(b[0]) {
-        return Found::Differs;
+        return false;
     }
     if got.tokens != token_count as usize {
-        return Found::Differs;
+        return false;
     }
     if got.errors != error_count as usize {
-        return Found::Differs;
+        return false;
     }
     if got.bytes != text_count as usize {
-        return Found::Differs;
+        return false;
     }
-    if !tokens_same {
-        return Found::Differs;
-    }
-    if !errors_same {
-        return Found::Differs;
-    }
-    if !text_same {
-        return Found::Differs;
-    }
-    if !texts_same {
-        return Found::Differs;
-    }
-    Found::Agrees
+    tokens_same & errors_same & text_same & texts_same
 }
 
 fn case() -> Found {
-    let mut space = [0u8; 20000];
     let mut b = [0u8; 3];
-    if io::read_full(STDIN_FILENO, &mut b) != 3 {
+    let got = io::read_full(STDIN_FILENO, &mut b);
+    if got == 0 {
         return Found::End;
     }
-    let n = (wide(b[0]) % 256 * 65536 + pair(b[1], b[2]) % 65536) as usize;
+    if got != 3 {
+        return Found::Differs;
+    }
+    let mut space = [0u8; 20000];
+    let n = long(three(b[0], b[1], b[2]));
     if !fill(&mut space, n) {
-        return Found::End;
+        return Found::Differs;
     }
-    answer(&space, n)
-}
-
-// `first` is the number, from 0, of the first case that differs.
-struct Counts {
-    agree: u64,
-    differ: u64,
-    first: u64,
+    cases::compared(answer_agrees(&space, n))
 }
 
 // A list has fewer cases than this.
 const MOST: u64 = 1000000000;
 
 fn all_cases() -> Counts {
-    let mut agree: u64 = 0;
-    let mut differ: u64 = 0;
-    let mut first: u64 = 0;
+    let mut counts = cases::none();
     for turn in 0..MOST {
         match case() {
             Found::Agrees => {
-                agree = std::num::wrapping_add_u64(agree, 1);
+                counts = cases::one_agrees(counts);
             }
             Found::Differs => {
-                if differ == 0 {
-                    first = agree;
-                }
-                differ = std::num::wrapping_add_u64(differ, 1);
+                counts = cases::one_differs(counts);
             }
             Found::End => {
-                return Counts {
-                    agree,
-                    differ,
-                    first,
-                };
+                return counts;
             }
         }
     }
-    Counts {
-        agree,
-        differ,
-        first,
-    }
+    counts
 }
 
 fn main() {
-    let counts = all_cases();
-    if counts.differ != 0 {
-        io::write_all(STDOUT_FILENO, b"the first that differs: ");
-        io::print_decimal(STDOUT_FILENO, counts.first);
-        io::write_all(STDOUT_FILENO, b"\n");
-    }
-    io::print_decimal(STDOUT_FILENO, counts.agree);
-    io::write_all(STDOUT_FILENO, b" agree, ");
-    io::print_decimal(STDOUT_FILENO, counts.differ);
-    io::write_all(STDOUT_FILENO, b" differ\n");
+    cases::print(all_cases());
 }

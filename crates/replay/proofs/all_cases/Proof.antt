@@ -5,10 +5,13 @@ use Rattle.replay.proofs.all_cases.Statement.{statement}
 use Rattle.replay.proofs.all_cases.Tie as tie
 
 abbrev Inv-loop : tie.InvT-loop
-Inv-loop agree₀ differ₀ first₀ turn₀ agree differ first turn = Unit {0}
+Inv-loop counts₀ turn₀ counts turn = Unit {0}
 
 abbrev μ-loop : tie.MeasureT-loop
-μ-loop agree₀ differ₀ first₀ turn₀ agree differ first turn = 1000000000 - turn
+μ-loop counts₀ turn₀ counts turn = 1000000000 - turn
+
+none-requires : tie.Need-none-requires Inv-loop μ-loop
+none-requires c κs = tt
 
 loop-holds : tie.Need-loop-holds Inv-loop μ-loop
 loop-holds c = tt
@@ -19,14 +22,14 @@ case-requires c κs = tt
 enum-told : tie.Need-enum-told Inv-loop μ-loop
 enum-told c = search needs
 
-wrapping-add-u64-requires : tie.Need-wrapping-add-u64-requires Inv-loop μ-loop
-wrapping-add-u64-requires c κs = tt
+one-agrees-requires : tie.Need-one-agrees-requires Inv-loop μ-loop
+one-agrees-requires c κs = tt
 
 enum-told-2 : tie.Need-enum-told-2 Inv-loop μ-loop
 enum-told-2 c = search needs
 
-wrapping-add-u64-requires-2 : tie.Need-wrapping-add-u64-requires-2 Inv-loop μ-loop
-wrapping-add-u64-requires-2 c κs = tt
+one-differs-requires : tie.Need-one-differs-requires Inv-loop μ-loop
+one-differs-requires c κs = tt
 
 enum-told-3 : tie.Need-enum-told-3 Inv-loop μ-loop
 enum-told-3 c = search needs
@@ -52,12 +55,13 @@ all-cases-spec =
     (tie.spec
     Inv-loop
     μ-loop
+    none-requires
     loop-holds
     case-requires
     enum-told
-    wrapping-add-u64-requires
+    one-agrees-requires
     enum-told-2
-    wrapping-add-u64-requires-2
+    one-differs-requires
     enum-told-3
     returns
     add-turn

@@ -1,0 +1,203 @@
+// Reads a list of records with the answers that Read should give (beside/README.md has its format) from
+// standard input, and writes how many agree and how many differ, and the number of the first that differs.
+use cases::Counts;
+use cases::Found;
+use cases::four;
+use cases::long;
+use cases::three;
+use cases::wide;
+use libc::STDIN_FILENO;
+
+// What the file slice holds before each call.
+const FILLER: u8 = 165;
+
+// ---- what opens a case
+
+// The lengths of the slices, the counts that are stated, and the answer without the tree file.
+struct Opening {
+    token_words: usize,
+    error_words: usize,
+    text_bytes: usize,
+    file_bytes: usize,
+    tokens: usize,
+    errors: usize,
+    number: u32,
+    bytes: usize,
+}
+
+// A number in eight bytes.
+fn eight(high: u32, low: u32) -> usize {
+    long(high) % 4294967296 * 4294967296 + long(low) % 4294967296
+}
+
+fn opened(b: &[u8; 32]) -> Opening {
+    Opening {
+        token_words: long(three(b[0], b[1], b[2])),
+        error_words: long(three(b[3], b[4], b[5])),
+        text_bytes: long(three(b[6], b[7], b[8])),
+        file_bytes: long(three(b[9], b[10], b[11])),
+        tokens: eight(
+            four(b[12], b[13], b[14], b[15]),
+            four(b[16], b[17], b[18], b[19]),
+        ),
+        errors: eight(
+            four(b[20], b[21], b[22], b[23]),
+            four(b[24], b[25], b[26], b[27]),
+        ),
+        number: wide(b[28]),
+        bytes: long(three(b[29], b[30], b[31])),
+    }
+}
+
+// ---- slices
+
+// Reads a word to an index; whether it was there.
+fn read_word(words: &mut [u32], at: usize) -> bool {
+    if words.len() <= at {
+        return false;
+    }
+    let mut b = [0u8; 4];
+    if io::read_full(STDIN_FILENO, &mut b) != 4 {
+        return false;
+    }
+    words[at] = four(b[0], b[1], b[2], b[3]);
+    true
+}
+
+// Reads so many words to the start of a slice; whether they were there.
+fn read_words(words: &mut [u32], count: usize) -> bool {
+    for at in 0..count {
+        if !read_word(words, at) {
+            return false;
+        }
+    }
+    true
+}
+
+// What the file slice has behind the tree file: it is untouched where Read refuses before any work.
+fn behind(number: u32) -> u8 {
+    if (number == 3) | (number == 8) | (number == 9) {
+        FILLER
+    } else {
+        0
+    }
+}
+
+// ---- cases
+
+// Whether Read gives the answer of a case; `expected` is the file slice at exit.
+fn read_agrees(
+    tokens: &[u32],
+    errors: &[u32],
+    text: &[u8],
+    file: &mut [u8],
+    expected: &[u8],
+    o: Opening,
+) -> bool {
+    let got = parser::read(tokens, o.tokens, errors, o.errors, text, file);
+    if got.number != o.number {
+        return false;
+    }
+    if got.bytes != o.bytes {
+        return false;
+    }
+    check::same(file, expected)
+}
+
+// The same with the slices cut to their lengths.
+fn parts_agree(
+    tokens: &[u32],
+    errors: &[u32],
+    text: &[u8],
+    file: &mut [u8],
+    expected: &[u8],
+    o: Opening,
+) -> bool {
+    let from = 0;
+    let token_words = o.token_words;
+    if tokens.len() < token_words {
+        return false;
+    }
+    let error_words = o.error_words;
+    if errors.len() < error_words {
+        return false;
+    }
+    let text_bytes = o.text_bytes;
+    if text.len() < text_bytes {
+        return false;
+    }
+    let file_bytes = o.file_bytes;
+    if file.len() < file_bytes {
+        return false;
+    }
+    if expected.len() < file_bytes {
+        return false;
+    }
+    read_agrees(
+        &tokens[from..token_words],
+        &errors[from..error_words],
+        &text[from..text_bytes],
+        &mut file[from..file_bytes],
+        &expected[from..file_bytes],
+        o,
+    )
+}
+
+// Reads the slices and the tree file of a case, all of them before the call, and compares.
+fn slices_agree(o: Opening) -> bool {
+    let mut tokens = [0u32; 17000];
+    let mut errors = [0u32; 2000];
+    let mut text = [0u8; 20000];
+    let mut file = [FILLER; 70000];
+    let mut expected = [behind(o.number); 70000];
+    if !read_words(&mut tokens, o.token_words) {
+        return false;
+    }
+    if !read_words(&mut errors, o.error_words) {
+        return false;
+    }
+    if !cases::fill(&mut text, o.text_bytes) {
+        return false;
+    }
+    if !cases::fill(&mut expected, o.bytes) {
+        return false;
+    }
+    parts_agree(&tokens, &errors, &text, &mut file, &expected, o)
+}
+
+fn case() -> Found {
+    let mut b = [0u8; 32];
+    let got = io::read_full(STDIN_FILENO, &mut b);
+    if got == 0 {
+        return Found::End;
+    }
+    if got != 32 {
+        return Found::Differs;
+    }
+    cases::compared(slices_agree(opened(&b)))
+}
+
+// A list has fewer cases than this.
+const MOST: u64 = 1000000000;
+
+fn all_cases() -> Counts {
+    let mut counts = cases::none();
+    for turn in 0..MOST {
+        match case() {
+            Found::Agrees => {
+                counts = cases::one_agrees(counts);
+            }
+            Found::Differs => {
+                counts = cases::one_differs(counts);
+            }
+            Found::End => {
+                return counts;
+            }
+        }
+    }
+    counts
+}
+
+fn main() {
+    cases::print(all_cases());
+}
