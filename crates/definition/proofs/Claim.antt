@@ -1,26 +1,23 @@
 -- Demand 3, two scripts with one tree. Assumes nothing.
 use mathlib.Core.Path.{_≡_, refl, sym, ap, ap₂, _∙_, subst}
 use mathlib.Core.Bool.{Bool, true, false, _&&_, _||_}
-use mathlib.Core.Option.{none, some}
 use mathlib.Core.List.{List, [], _∷_, _++_, map}
-use Prim.Native.Nat.{ℕ, zero, suc, _+_, _≤_, _<_}
+use Prim.Native.Nat.{ℕ, _+_, _<_}
 use native.Mathlib.Omega.{arith}
 use lib.Dec.{eqb}
 use lib.ListN.{length}
 use borrow.Author.Tests.{eqb-true}
 use lib.Seq.{take-at}
 use Rattle.definition.specs.Choice.{pick}
-use Rattle.definition.specs.Source.{characters}
-use Rattle.definition.specs.Node.{Rec, u16, field, recs-bytes}
+use Rattle.definition.specs.Node.{u16, field, recs-bytes}
 use Rattle.definition.specs.Fallible.{Err}
 use Rattle.definition.specs.Kind as K
 use Rattle.definition.specs.Token.{Tok, number}
-use Rattle.definition.specs.Tokenizer.{tokenize}
-use Rattle.definition.specs.Act.{Role, plain, group, final, size, Consumed, Items}
+use Rattle.definition.specs.Act.{Role, plain, group, final, size, Consumed}
 use Rattle.definition.specs.Parser.{parse-module}
 use Rattle.definition.specs.Records.{has-text}
 use Rattle.definition.specs.Operations.{file-bytes, whole}
-use Rattle.definition.specs.Demand.{tree, full-entries, file-of, tokens-of-script, read-by, reading, is-modifier, is-struck, strike, is-size, both-sizes, value, Same, Agree, none-left, one-more, OneReading}
+use Rattle.definition.specs.Demand.{tree, full-entries, file-of, tokens-of-script, read-by, reading, is-modifier, is-struck, strike, is-size, value, Same, Agree, none-left, one-more, OneReading}
 use Rattle.definition.proofs.Later.{toks}
 use Rattle.definition.proofs.Strip.{Norm, symbol, named, integer, sized, is-named, spelling, norm, strip}
 use Rattle.definition.proofs.Fit.{AllFit, clean-fit}

@@ -1,17 +1,17 @@
 -- The induction for readings that make no error: an error is an end, and no answer is fatal. Assumes nothing.
-use mathlib.Core.Path.{_≡_, refl, sym, ap, _∙_, subst}
-use mathlib.Core.Bool.{Bool, true, false}
-use mathlib.Core.List.{List, [], _∷_, _++_}
-use Prim.Native.Nat.{ℕ, zero, suc, _+_, _≤_, _<_}
+use mathlib.Core.Path.{refl}
+use mathlib.Core.Bool.{true, false}
+use mathlib.Core.List.{List, [], _∷_}
+use Prim.Native.Nat.{ℕ, zero, suc, _≤_}
 use native.Mathlib.Omega.{arith}
 use lib.Dec.{ltb}
 use lib.ListN.{length, length-append}
-use Rattle.definition.specs.Fallible.{Err, Fallible, Ans, ok, fatal}
+use Rattle.definition.specs.Fallible.{Err, Ans, fatal}
 use Rattle.definition.specs.Token.{Tok, head, tail}
-use Rattle.definition.specs.Act.{Node, Items, Goal, Loop, Module, Left, Act, done, peek, take, make, if_then_else_, call, loop, panic, St, Res, gives, refused, after, advance, push, run}
+use Rattle.definition.specs.Act.{Node, Goal, Loop, Module, Left, Act, done, peek, take, make, if_then_else_, call, loop, panic, St, Res, gives, refused, advance, push, run}
 use Rattle.definition.specs.Parser.{rule, turn, loops, parse, parse-module, no-items}
 use Rattle.definition.proofs.Later.{Later, later-refl, later-trans, later-advance, later-push, later-full, After, weaken}
-use Rattle.definition.proofs.Ind.{join, limit, wp, each, each-ans, EachAns, Each}
+use Rattle.definition.proofs.Ind.{join, limit, wp, each, each-ans}
 
 -- no error was made on the way
 abbrev pub Clean : St → St → Type 0

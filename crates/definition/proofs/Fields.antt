@@ -1,16 +1,15 @@
 -- The walk over a file's fields: it finds the tree, and counts the entries of the full list. Assumes nothing.
-use mathlib.Core.Path.{_≡_, refl, sym, ap, _∙_, subst}
-use mathlib.Core.Bool.{Bool, true, false}
+use mathlib.Core.Path.{_≡_, refl, sym, ap, _∙_}
+use mathlib.Core.Bool.{true, false}
 use mathlib.Core.List.{List, [], _∷_, _++_, append-nil, append-assoc}
-use Prim.Native.Nat.{ℕ, zero, suc, _+_, _*_, _-_, _/_, _%_, _≤_, _<_}
+use Prim.Native.Nat.{ℕ, zero, suc, _+_, _-_, _≤_, _<_}
 use native.Mathlib.Omega.{arith}
 use native.Mathlib.Nat.{zero-add, suc-add}
 use borrow.Author.Tests.{ne-eqb}
 use lib.Dec.{eqb}
 use lib.ListN.{length, take, drop, length-append}
 use lib.Seq.{take-at, drop-at}
-use Rattle.definition.specs.Source.{Place}
-use Rattle.definition.specs.Node.{u16, place-bytes, at-place, nums-bytes, field, Rec, rec-bytes, recs-bytes}
+use Rattle.definition.specs.Node.{u16, at-place, nums-bytes, field, Rec, rec-bytes, recs-bytes}
 use Rattle.definition.specs.Fallible.{Err, err-body, err-bytes, errs-bytes}
 use Rattle.definition.specs.Act.{Items}
 use Rattle.definition.specs.Operations.{file-bytes}

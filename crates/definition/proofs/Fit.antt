@@ -1,21 +1,20 @@
 -- The records of a clean reading fit their fields: each has the layout of its tag, and its numbers fit their bytes. Assumes nothing.
-use mathlib.Core.Path.{_≡_, refl, sym, ap, _∙_, subst}
-use mathlib.Core.Bool.{Bool, true, false, not, _&&_, _||_}
+use mathlib.Core.Path.{_≡_, refl, sym, ap, subst}
+use mathlib.Core.Bool.{Bool, true, false, not, _||_}
 use mathlib.Core.Option.{Option, none, some}
 use mathlib.Core.List.{List, [], _∷_, _++_}
-use Prim.Native.Nat.{ℕ, zero, suc, _+_, _^_, _≤_, _<_}
+use Prim.Native.Nat.{ℕ, _+_, _^_, _≤_, _<_}
 use native.Mathlib.Omega.{arith}
-use lib.Dec.{eqb, ltb, leb, T, ltb→lt}
-use lib.ListN.{length, length-append}
-use Rattle.definition.specs.Ascii.{ascii}
+use lib.Dec.{eqb, ltb, T, ltb→lt}
+use lib.ListN.{length}
 use Rattle.definition.specs.Kind as K
-use Rattle.definition.specs.Source.{Place, nowhere}
+use Rattle.definition.specs.Source.{Place}
 use Rattle.definition.specs.Node.{Num, byte, two, eight, Rec}
 use Rattle.definition.specs.Fallible.{Err, Fallible, Ans, ok, fatal}
 use Rattle.definition.specs.Token.{Tok, head, tail, _is_, number, dashed, end-token}
-use Rattle.definition.specs.Act.{Node, Items, Goal, Statement, Expression, Unary, Type', Loop, Module, Body, ListOf, Operators, Casts, Suffixes, Modifiers, Listed, Parameters, Arguments, StructFields, ArrayValues, StructValues, Level, BitOr, BitXor, BitAnd, Shift, AddSub, Mul, Left, Words, Role, plain, group, final, size, Consumed, Act, done, peek, next, if_then_else_, call, loop, St, Res, gives, advance, push, _>>=_, _>>?_, or-return}
+use Rattle.definition.specs.Act.{Node, Items, Goal, Statement, Expression, Unary, Type', Loop, Module, Body, ListOf, Operators, Casts, Suffixes, Modifiers, Listed, Parameters, Arguments, StructFields, ArrayValues, StructValues, Level, BitOr, BitXor, BitAnd, Shift, AddSub, Mul, Left, Words, Role, plain, group, size, Act, done, next, call, loop, St, Res, gives, advance, _>>=_, _>>?_, or-return}
 use Rattle.definition.specs.Parser as P
-use Rattle.definition.proofs.Later.{Later, toks, later-left, later-refl, later-trans, later-advance, After, weaken}
+use Rattle.definition.proofs.Later.{Later, toks, later-left, later-refl, later-advance, After}
 use Rattle.definition.proofs.Ind.{wp, wp-bind, wp-mono, wp-later}
 use Rattle.definition.proofs.Shown.{is-kind}
 use Rattle.definition.proofs.Clean.{Clean, clean-module}

@@ -1,19 +1,19 @@
 -- The turns that loops are allowed do not show: a loop is one turn of it, and the loops in that turn. Assumes nothing.
-use mathlib.Core.Path.{_≡_, refl, sym, ap, _∙_, subst}
+use mathlib.Core.Path.{_≡_, refl, sym, _∙_, subst}
 use mathlib.Core.Bool.{Bool, true, false}
-use mathlib.Core.List.{List, [], _∷_, _++_}
-use Prim.Native.Nat.{ℕ, zero, suc, _+_, _≤_, _<_}
+use mathlib.Core.List.{List, []}
+use Prim.Native.Nat.{ℕ, zero, suc, _+_, _≤_}
 use native.Mathlib.Omega.{arith}
 use lib.Dec.{ltb}
 use lib.ListN.{length}
-use Rattle.definition.specs.Fallible.{Err, Fallible, Ans, ok, fatal}
-use Rattle.definition.specs.Token.{Tok, head, tail}
-use Rattle.definition.specs.Act.{Node, Items, Goal, Loop, Left, Act, done, peek, take, make, if_then_else_, call, loop, panic, St, Res, gives, refused, after, advance, push, run, or-return, _>>=_, _>>?_}
+use Rattle.definition.specs.Fallible.{Ans}
+use Rattle.definition.specs.Token.{Tok, head}
+use Rattle.definition.specs.Act.{Node, Goal, Loop, Left, Act, done, peek, take, make, if_then_else_, call, loop, panic, St, Res, gives, refused, after, advance, push, run, _>>=_}
 use Rattle.definition.specs.Go.{go, turns}
 use Rattle.definition.specs.Parser.{rule, turn, loops, parse, parse-module, no-items}
-use Rattle.definition.proofs.Later.{Later, later-left, later-refl, After, weaken}
-use Rattle.definition.proofs.Clean.{loops-later, parse-later}
-use Rattle.definition.proofs.Total.{rank, rank-le, Enough, any, plenty, turn-enough, parse-after, Called}
+use Rattle.definition.proofs.Later.{Later, After, weaken}
+use Rattle.definition.proofs.Clean.{loops-later}
+use Rattle.definition.proofs.Total.{rank, rank-le, Enough, any, turn-enough, parse-after, Called}
 use Rattle.definition.proofs.Walk.{run-bind}
 
 -- what follows an answer needs to agree only on answers that can be

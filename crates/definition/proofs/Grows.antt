@@ -1,20 +1,18 @@
 -- A call reads a token, where there is one. Assumes nothing.
-use mathlib.Core.Path.{_≡_, refl, sym, ap, _∙_, subst}
+use mathlib.Core.Path.{_≡_, refl}
 use mathlib.Core.Bool.{Bool, true, false}
-use mathlib.Core.List.{List, [], _∷_, _++_}
-use Prim.Native.Nat.{ℕ, zero, suc, _+_, _≤_, _<_}
+use mathlib.Core.List.{List, [], _∷_}
+use Prim.Native.Nat.{ℕ, _≤_, _<_}
 use native.Mathlib.Omega.{arith}
-use native.Mathlib.Nat.{le-refl}
-use lib.Dec.{eqb, T}
 use lib.ListN.{length}
 use Rattle.definition.specs.Kind as K
-use Rattle.definition.specs.Token.{Tok, head, tail, _is_, end-token}
+use Rattle.definition.specs.Token.{Tok, head, tail, _is_}
 use Rattle.definition.specs.Fallible.{Ans, Err, ok, fatal}
-use Rattle.definition.specs.Act.{Node, Goal, Statement, Expression, Unary, Type', Loop, Left, Act, done, peek, take, make, if_then_else_, call, loop, panic, St, Role, advance, push, _>>=_}
+use Rattle.definition.specs.Act.{Node, Goal, Statement, Expression, Unary, Type', Loop, Left, Act, done, peek, take, make, if_then_else_, call, loop, panic, St, advance, push, _>>=_}
 use Rattle.definition.specs.Parser as P
-use Rattle.definition.specs.Parser.{rule, turn, statement-rule, expression-rule, unary-rule, type-rule, parse-return, declaration, parse-body, parse-if, expression-statement, parse-call, parse-sizeof, parse-field-access-or-index, parse-atom, prefix, parse-comparison}
+use Rattle.definition.specs.Parser.{rule, turn, statement-rule, expression-rule, unary-rule, type-rule, parse-body, expression-statement, parse-call, parse-sizeof, parse-field-access-or-index, parse-atom, prefix, parse-comparison}
 use Rattle.definition.proofs.Later.{Later, later-left}
-use Rattle.definition.proofs.Ind.{wp, wp-always, wp-mono, to-each, parse-ind}
+use Rattle.definition.proofs.Ind.{wp, wp-always, wp-mono, to-each}
 
 abbrev pub Shorter : St → St → Type 0
 Shorter s₀ s = length (s .left) < length (s₀ .left)

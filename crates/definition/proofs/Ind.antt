@@ -1,16 +1,15 @@
 -- The induction over the parser: what is shown of each rule and each turn, given the same of the calls and loops in it, holds of all. Assumes nothing.
-use mathlib.Core.Path.{_≡_, refl, sym, ap, _∙_}
+use mathlib.Core.Path.{_≡_, refl}
 use mathlib.Core.Bool.{Bool, true, false}
-use mathlib.Core.List.{List, [], _∷_, _++_}
-use Prim.Native.Nat.{ℕ, zero, suc, _+_, _≤_, _<_}
-use native.Mathlib.Omega.{arith}
+use mathlib.Core.List.{List, []}
+use Prim.Native.Nat.{ℕ, zero, suc}
 use lib.Dec.{ltb}
-use lib.ListN.{length, length-append}
+use lib.ListN.{length}
 use Rattle.definition.specs.Fallible.{Err, Fallible, Ans, ok, fatal}
-use Rattle.definition.specs.Token.{Tok, head, tail}
+use Rattle.definition.specs.Token.{Tok, head}
 use Rattle.definition.specs.Act.{Node, Items, Words, Goal, Loop, Module, Body, ListOf, Operators, Casts, Suffixes, Modifiers, Left, Act, done, peek, take, make, if_then_else_, call, loop, panic, St, Res, gives, refused, after, advance, push, run, _>>=_, _>>?_, or-return}
 use Rattle.definition.specs.Parser.{rule, turn, loops, parse, parse-module, no-items}
-use Rattle.definition.proofs.Later.{Later, later-refl, later-trans, later-advance, later-push, later-full, After}
+use Rattle.definition.proofs.Later.{Later, later-refl, later-trans, later-advance, later-push, After}
 
 -- an answer of a call or a loop, and what follows it
 pub join : {A B : Type 0} (P : A → St → Type 0) (Q : B → St → Type 0) (r : Res A) (f : A → St → Res B) → After P r → ((a : A) (s : St) → P a s → After Q (f a s)) → After Q (after r f)

@@ -3,14 +3,14 @@ use mathlib.Core.Path.{_≡_, refl, sym, ap, ap₂, _∙_, subst}
 use mathlib.Core.Bool.{Bool, true, false}
 use mathlib.Core.Option.{Option, none, some}
 use mathlib.Core.List.{List, [], _∷_, _++_, append-assoc}
-use Prim.Native.Nat.{ℕ, zero, suc, _+_, _*_, _/_, _%_, _^_, _≤_, _<_}
+use Prim.Native.Nat.{ℕ, _+_, _/_, _%_, _^_, _≤_, _<_}
 use native.Mathlib.Omega.{arith}
 use native.Mathlib.Nat.{div-div-eq-div-mul, div-lt-iff-lt-mul}
-use lib.Dec.{eqb, T, eqb-refl, lit<}
+use lib.Dec.{eqb, lit<}
 use lib.ListN.{length, length-append}
 use Rattle.definition.specs.Source.{Place}
-use Rattle.definition.specs.Node.{Num, byte, two, eight, Rec, u16, u64, place-bytes, at-place, num-bytes, nums-bytes, field, rec-bytes, recs-bytes}
-use Rattle.definition.proofs.Fit.{width, widths, placed, shape, layout, one-of, choose, SmallPlace, SmallAt, SmallNums, Fit, Fits}
+use Rattle.definition.specs.Node.{Num, byte, two, eight, Rec, u16, at-place, nums-bytes, field, rec-bytes, recs-bytes}
+use Rattle.definition.proofs.Fit.{widths, placed, shape, layout, one-of, choose, SmallAt, SmallNums, Fit, Fits}
 
 u16-inj : (m n : ℕ) → m < 65536 → n < 65536 → m / 256 % 256 ≡ n / 256 % 256 → m % 256 ≡ n % 256 → m ≡ n
 u16-inj m n h k p q = omega arith

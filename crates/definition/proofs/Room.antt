@@ -3,20 +3,20 @@ use mathlib.Core.Path.{_≡_, refl, sym, ap, _∙_, subst}
 use mathlib.Core.Bool.{Bool, true, false}
 use mathlib.Core.Option.{Option, none, some}
 use mathlib.Core.List.{List, [], _∷_, _++_, append-nil}
-use Prim.Native.Nat.{ℕ, zero, suc, _+_, _*_, _≤_, _<_, min}
+use Prim.Native.Nat.{ℕ, zero, suc, _+_, _*_, _≤_}
 use native.Mathlib.Omega.{arith}
-use lib.Dec.{eqb, ltb, T, ltb→lt}
+use lib.Dec.{ltb, T, ltb→lt}
 use lib.ListN.{length, length-append}
 use Rattle.definition.specs.Kind as K
 use Rattle.definition.specs.Source.{Place}
-use Rattle.definition.specs.Node.{Num, byte, two, eight, Rec, u16, at-place, nums-bytes, field, rec-bytes, recs-bytes}
-use Rattle.definition.specs.Fallible.{Err, errs-bytes, Fallible, Ans}
-use Rattle.definition.specs.Token.{Tok, head, tail, _is_}
-use Rattle.definition.specs.Act.{Node, Items, Goal, Loop, Module, Body, ListOf, Operators, Casts, Suffixes, Modifiers, Left, Act, done, peek, take, make, if_then_else_, call, loop, panic, St, Res, gives, refused, after, advance, push, run}
+use Rattle.definition.specs.Node.{Num, byte, two, eight, Rec, at-place, nums-bytes, rec-bytes, recs-bytes}
+use Rattle.definition.specs.Fallible.{Err, errs-bytes, Ans}
+use Rattle.definition.specs.Token.{Tok, head, _is_}
+use Rattle.definition.specs.Act.{Node, Items, Goal, Loop, Module, Body, ListOf, Operators, Casts, Suffixes, Modifiers, Left, Act, done, peek, take, make, if_then_else_, call, loop, panic, St, Res, gives, refused, advance, push, run}
 use Rattle.definition.specs.Parser as P
 use Rattle.definition.specs.Parser.{rule, turn, loops, parse, parse-module}
-use Rattle.definition.specs.Operations.{Written, whole, file-bytes}
-use Rattle.definition.proofs.Later.{Later, toks, After, weaken}
+use Rattle.definition.specs.Operations.{whole, file-bytes}
+use Rattle.definition.proofs.Later.{Later, toks, After}
 use Rattle.definition.proofs.Ind.{wp, wp-always, wp-bind, module-ind, join}
 use Rattle.definition.proofs.Shown.{is-kind}
 use Rattle.definition.proofs.Size as Z

@@ -1,24 +1,22 @@
 -- What it is for records to show tokens, and the laws by which shown parts make a shown whole. Assumes nothing.
 use mathlib.Core.Path.{_≡_, refl, sym, ap, _∙_, subst}
 use mathlib.Core.Bool.{Bool, true, false, not, _&&_, _||_}
-use mathlib.Core.Option.{Option, none, some}
 use mathlib.Core.List.{List, [], _∷_, _++_, append-nil, append-assoc}
-use Prim.Native.Nat.{ℕ, zero, suc, _+_, _≤_, _<_}
+use Prim.Native.Nat.{ℕ, zero, suc, _+_}
 use native.Mathlib.Omega.{arith}
 use lib.Dec.{eqb, ltb, T, eqb→eq, eqb-refl, ltb→lt}
-use lib.ListN.{length}
 use Rattle.definition.specs.Choice.{pick}
 use Rattle.definition.specs.Kind as K
-use Rattle.definition.specs.Source.{Place, nowhere}
-use Rattle.definition.specs.Node.{Num, byte, two, eight, Rec}
-use Rattle.definition.specs.Fallible.{Err, Fallible, Ans, ok, fatal}
+use Rattle.definition.specs.Source.{Place}
+use Rattle.definition.specs.Node.{two, Rec}
+use Rattle.definition.specs.Fallible.{Err, Fallible, ok}
 use Rattle.definition.specs.Token.{Tok, head, tail, _is_, end-token, number}
-use Rattle.definition.specs.Act.{Node, Items, Role, plain, group, final, size, Consumed, St, now-read, advance}
+use Rattle.definition.specs.Act.{Node, Items, Role, plain, size, Consumed, St, now-read, advance}
 use Rattle.definition.specs.Parser as P
 use Rattle.definition.proofs.Strip.{Norm, symbol, named, integer, sized, is-named, spelling, norm, strip}
 use Rattle.definition.specs.Demand.{is-modifier}
 use Rattle.definition.proofs.Later.{Later, toks}
-use Rattle.definition.proofs.Unparse.{Entry, entry, Gathered, gathered, gather, add, unparse, unparse-append, step, same-place, sym1, comma, extend, gather-one-more}
+use Rattle.definition.proofs.Unparse.{Entry, entry, Gathered, gathered, gather, unparse, unparse-append, step, same-place, sym1, extend, gather-one-more}
 
 -- ---- places: no two tokens left have the same
 

@@ -1,7 +1,7 @@
 -- Two facts of every call and loop. The records of a tree take at most 16 bytes for each token, and the tokens' texts. The errors that are reported are among those made, none more often
 -- than it was made: so for the sum over any weights of errors, `f`. Assumes nothing.
-use mathlib.Core.Path.{_≡_, refl, sym, ap, _∙_, subst}
-use mathlib.Core.Bool.{Bool, true, false, not, _||_}
+use mathlib.Core.Path.{_≡_, refl, sym, subst}
+use mathlib.Core.Bool.{true, false}
 use mathlib.Core.Option.{Option, none, some}
 use mathlib.Core.List.{List, [], _∷_, _++_}
 use Prim.Native.Nat.{ℕ, zero, suc, _+_, _*_, _-_, _≤_, _<_, min}
@@ -12,12 +12,12 @@ use Rattle.definition.specs.Ascii.{ascii}
 use Rattle.definition.specs.Source.{Place}
 use Rattle.definition.specs.Node.{Num, byte, two, eight, Rec}
 use Rattle.definition.specs.Fallible.{Err, Fallible, Ans, ok, fatal}
-use Rattle.definition.specs.Token.{Tok, head, tail, _is_, end-token}
-use Rattle.definition.specs.Act.{Node, Items, Goal, Statement, Expression, Unary, Type', Loop, Module, Body, ListOf, Operators, Casts, Suffixes, Modifiers, Listed, Parameters, Arguments, StructFields, ArrayValues, StructValues, Level, BitOr, BitXor, BitAnd, Shift, AddSub, Mul, Left, Words, Act, St, advance, push, plain, next, done, _>>=_, _>>?_, or-return}
+use Rattle.definition.specs.Token.{Tok, head, tail, _is_}
+use Rattle.definition.specs.Act.{Node, Items, Goal, Statement, Expression, Unary, Type', Loop, Module, Body, ListOf, Operators, Casts, Suffixes, Modifiers, Listed, Parameters, Arguments, StructFields, ArrayValues, StructValues, Level, BitOr, BitXor, BitAnd, Shift, AddSub, Mul, Left, Words, Act, St, advance, push, plain, next, done, _>>=_, _>>?_}
 use Rattle.definition.specs.Parser as P
 use Rattle.definition.specs.Parser.{rule, turn, statement-rule, expression-rule, unary-rule, type-rule, list-turn, body-turn, module-turn, operators-turn, casts-turn, suffixes-turn, modifiers-turn, Typed, parse, parse-module}
 use Rattle.definition.proofs.Later.{Later, After, weaken}
-use Rattle.definition.proofs.Ind.{wp, wp-bind, wp-mono, follow, try, parse-ind, module-ind}
+use Rattle.definition.proofs.Ind.{wp, wp-mono, follow, try, parse-ind, module-ind}
 
 abbrev pub place-size : Option Place → ℕ
 place-size none = 0

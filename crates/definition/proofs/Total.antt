@@ -1,21 +1,21 @@
 -- The turns that loops are allowed are enough: a reading answers, or is refused with 10, 11 or 12. Assumes nothing.
-use mathlib.Core.Path.{_≡_, refl, sym, ap, _∙_, subst}
-use mathlib.Core.Bool.{Bool, true, false, not, _||_}
+use mathlib.Core.Path.{_≡_, refl, ap, subst}
+use mathlib.Core.Bool.{Bool, true, false}
 use mathlib.Core.List.{List, [], _∷_, _++_}
 use Prim.Native.Nat.{ℕ, zero, suc, _+_, _≤_, _<_}
 use native.Mathlib.Omega.{arith}
-use lib.Dec.{eqb, ltb, T, ltb→lt}
+use lib.Dec.{ltb, T, ltb→lt}
 use lib.ListN.{length, length-append}
 use Rattle.definition.specs.Classes.{between}
 use Rattle.definition.specs.Kind as K
-use Rattle.definition.specs.Fallible.{Err, Fallible, Ans, ok, fatal}
+use Rattle.definition.specs.Fallible.{Ans, ok, fatal}
 use Rattle.definition.specs.Node.{byte}
 use Rattle.definition.specs.Token.{Tok, head, tail, _is_, end-token}
-use Rattle.definition.specs.Act.{Node, Items, Goal, Statement, Expression, Unary, Type', Loop, Module, Body, ListOf, Operators, Casts, Suffixes, Modifiers, Listed, Parameters, Arguments, StructFields, ArrayValues, StructValues, Level, BitOr, BitXor, BitAnd, Shift, AddSub, Mul, Left, Words, Consumed, Act, done, peek, take, make, if_then_else_, call, loop, panic, St, Res, gives, refused, after, plain, advance, push, run, next, _>>=_, _>>?_}
+use Rattle.definition.specs.Act.{Node, Goal, Loop, Module, Body, ListOf, Operators, Casts, Suffixes, Modifiers, Listed, Parameters, Arguments, StructFields, ArrayValues, StructValues, Level, BitOr, BitXor, BitAnd, Shift, AddSub, Mul, Left, Consumed, Act, done, peek, take, make, if_then_else_, call, loop, panic, St, Res, gives, refused, after, plain, advance, push, run, next, _>>=_, _>>?_}
 use Rattle.definition.specs.Parser as P
 use Rattle.definition.specs.Parser.{rule, turn, loops, parse, parse-module}
 use Rattle.definition.proofs.Later.{Later, toks, later-left, later-refl, later-trans, later-advance, later-push, After, weaken}
-use Rattle.definition.proofs.Ind.{wp, wp-always, wp-mono, parse-ind, module-ind, to-each}
+use Rattle.definition.proofs.Ind.{parse-ind}
 use Rattle.definition.proofs.Clean.{loops-later, parse-later}
 use Rattle.definition.proofs.Shown.{is-kind}
 use Rattle.definition.proofs.Grows as Gr

@@ -1,26 +1,26 @@
 -- In a reading that makes no error, the tree's records show the stripped tokens that were read. Assumes nothing.
 use mathlib.Core.Path.{_≡_, refl, sym, ap, _∙_, subst}
-use mathlib.Core.Bool.{Bool, true, false, not, _&&_, _||_}
-use mathlib.Core.Option.{Option, none, some}
+use mathlib.Core.Bool.{Bool, true, false, not}
+use mathlib.Core.Option.{none, some}
 use mathlib.Core.List.{List, [], _∷_, _++_, append-nil, append-assoc}
-use Prim.Native.Nat.{ℕ, zero, suc, _+_, _≤_, _<_}
+use Prim.Native.Nat.{ℕ, zero, suc, _+_, _<_}
 use native.Mathlib.Omega.{arith}
-use lib.Dec.{eqb, ltb, leb, T}
-use lib.ListN.{length, length-append}
+use lib.Dec.{leb, T}
+use lib.ListN.{length}
 use Rattle.definition.specs.Choice.{pick}
 use Rattle.definition.specs.Kind as K
 use Rattle.definition.specs.Source.{Place, nowhere}
-use Rattle.definition.specs.Node.{Num, byte, two, eight, Rec}
+use Rattle.definition.specs.Node.{byte, two, Rec}
 use Rattle.definition.specs.Fallible.{Err, Fallible, Ans, ok, fatal}
-use Rattle.definition.specs.Token.{Tok, head, tail, _is_, number, dashed}
-use Rattle.definition.specs.Act.{Node, Items, Goal, Statement, Expression, Unary, Type', Loop, Module, Body, ListOf, Operators, Casts, Suffixes, Modifiers, Listed, Parameters, Arguments, StructFields, ArrayValues, StructValues, Level, BitOr, BitXor, BitAnd, Shift, AddSub, Mul, Left, Words, Role, plain, group, final, size, Act, done, peek, next, if_then_else_, call, loop, St, Res, gives, advance, push, _>>=_, _>>?_, or-return}
+use Rattle.definition.specs.Token.{Tok, head, tail, _is_}
+use Rattle.definition.specs.Act.{Node, Items, Goal, Statement, Expression, Unary, Type', Loop, Module, Body, ListOf, Operators, Casts, Suffixes, Modifiers, Listed, Parameters, Arguments, StructFields, ArrayValues, StructValues, Level, BitOr, BitXor, BitAnd, Shift, AddSub, Mul, Left, Words, Role, plain, group, final, size, Act, done, peek, next, if_then_else_, call, loop, St, Res, gives, advance, _>>=_, _>>?_, or-return}
 use Rattle.definition.specs.Parser as P
-use Rattle.definition.proofs.Strip.{Norm, symbol, named, integer, sized, strip, norm, spelling}
-use Rattle.definition.proofs.Later.{Later, later-refl, later-trans, later-advance, After, weaken}
+use Rattle.definition.proofs.Strip.{Norm, symbol, named, integer, sized, strip, norm}
+use Rattle.definition.proofs.Later.{Later, later-refl, After}
 use Rattle.definition.proofs.Ind.{wp, wp-bind, wp-mono, wp-later}
-use Rattle.definition.proofs.Unparse.{Entry, entry, Gathered, gathered, gather, unparse, unparse-append, step, same-place, sym1, comma, extend, dereference, on-call, on-list, arithmetic, comparison, returning}
+use Rattle.definition.proofs.Unparse.{Entry, entry, Gathered, gathered, gather, unparse, unparse-append, step, sym1, comma, extend, on-call, on-list, arithmetic, comparison, returning}
 use Rattle.definition.proofs.Shown.{Fresh, Distinct, fresh-tail, distinct-tail, fresh-later, distinct-later, fresh-head, differs, same-self, Grew, grew-refl, _▸_, grew-as, took, symbol-norm, took-modifier, took-size, is-kind, is-symbol, took-symbol, took-name, took-integer, Shows, shows-as, after0, after1, shows2, after2, after3, ShowsItems, items-none, items-more, items-join}
-use Rattle.definition.proofs.Clean.{Clean, Known, Never, clean-module}
+use Rattle.definition.proofs.Clean.{Clean, clean-module}
 
 -- ---- what is shown of an answer
 

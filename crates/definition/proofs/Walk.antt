@@ -1,16 +1,14 @@
 -- How the code's proofs go through the definition: an act step by step, by the tests and answers that the code met. Assumes nothing.
-use mathlib.Core.Path.{_≡_, refl, sym, ap, _∙_, subst}
+use mathlib.Core.Path.{_≡_, refl}
 use mathlib.Core.Bool.{Bool, true, false, not}
-use mathlib.Core.List.{List, [], _∷_, _++_}
-use Prim.Native.Nat.{ℕ, zero, suc, _+_, _≤_, _<_}
+use mathlib.Core.List.{List, [], _∷_}
+use Prim.Native.Nat.{ℕ, suc}
 use lib.Dec.{ltb}
 use lib.ListN.{length}
 use Rattle.definition.specs.Kind as K
-use Rattle.definition.specs.Source.{Place}
-use Rattle.definition.specs.Node.{Rec}
 use Rattle.definition.specs.Fallible.{Err, Fallible, Ans, ok, fatal}
-use Rattle.definition.specs.Token.{Tok, head, tail, _is_}
-use Rattle.definition.specs.Act.{Node, Items, Goal, Statement, Expression, Unary, Type', Loop, Left, Casts, Act, done, peek, take, make, if_then_else_, call, loop, panic, St, Res, gives, refused, after, plain, advance, push, run, _>>=_, _>>?_, or-return}
+use Rattle.definition.specs.Token.{head, _is_}
+use Rattle.definition.specs.Act.{Node, Goal, Unary, Type', Loop, Left, Casts, Act, done, peek, take, make, if_then_else_, call, loop, panic, St, Res, gives, refused, after, plain, advance, push, run, _>>=_}
 use Rattle.definition.specs.Parser as P
 use Rattle.definition.specs.Parser.{parse, loops}
 

@@ -1,5 +1,5 @@
 -- The classes of characters. All are asked of bytes below 128 alone: a character above 127 is refused before. Assumes nothing.
-use mathlib.Core.Bool.{Bool, true, false, _&&_, _||_}
+use mathlib.Core.Bool.{Bool, _&&_, _||_}
 use Prim.Native.Nat.{ℕ}
 use lib.Dec.{eqb, leb}
 use Rattle.definition.specs.Ascii.{char}

@@ -1,8 +1,7 @@
 -- A function of the parser carried out, where n more calls of the four may be opened. Assumes nothing.
 use Prim.Native.Nat.{ℕ, suc}
 use lib.ListN.{length}
-use Rattle.definition.specs.Fallible.{Ans}
-use Rattle.definition.specs.Act.{Node, Goal, Loop, Left, Act, St, Res, run}
+use Rattle.definition.specs.Act.{Loop, Left, Act, St, Res, run}
 use Rattle.definition.specs.Parser.{loops, parse}
 
 unfoldable pub turns : ℕ → (l : Loop) → St → Res (Left l)

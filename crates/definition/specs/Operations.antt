@@ -1,11 +1,11 @@
 -- The operations: for all that is handed in, the number, the counts and each slice at exit. Token text stands in Records.antt. Assumes nothing.
-use mathlib.Core.Bool.{Bool, true, false, _&&_}
+use mathlib.Core.Bool.{true, false, _&&_}
 use mathlib.Core.List.{List, [], _∷_, _++_}
 use mathlib.Core.Option.{Option, none, some}
-use Prim.Native.Nat.{ℕ, zero, suc, _*_, _-_}
+use Prim.Native.Nat.{ℕ, _*_, _-_}
 use lib.Dec.{ltb, leb}
 use lib.ListN.{length, replicate}
-use Rattle.definition.specs.Source.{Ch, nowhere, characters}
+use Rattle.definition.specs.Source.{nowhere, characters}
 use Rattle.definition.specs.Node.{u16, field, recs-bytes}
 use Rattle.definition.specs.Fallible.{Err, errs-bytes}
 use Rattle.definition.specs.Token.{Tok}

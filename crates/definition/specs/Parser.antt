@@ -1,7 +1,7 @@
 -- The parser, function by function as in `parser.rs`. Assumes nothing.
 use mathlib.Core.Bool.{Bool, true, false, _||_, not}
 use mathlib.Core.List.{List, [], _∷_, _++_}
-use mathlib.Core.Option.{Option, none, some}
+use mathlib.Core.Option.{none, some}
 use Prim.Native.Nat.{ℕ, zero, suc, _+_, _^_}
 use lib.Dec.{leb, ltb}
 use lib.ListN.{length}

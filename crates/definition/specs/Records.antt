@@ -7,7 +7,7 @@ use lib.Dec.{eqb, ltb, leb}
 use lib.ListN.{length, take, drop, getD}
 use Rattle.definition.specs.Choice.{pick}
 use Rattle.definition.specs.Classes.{between, is-digit-of}
-use Rattle.definition.specs.Source.{Place, nowhere, utf8}
+use Rattle.definition.specs.Source.{Place, utf8}
 use Rattle.definition.specs.Fallible.{Err}
 use Rattle.definition.specs.Kind as K
 use Rattle.definition.specs.Token.{Tok, dashed}

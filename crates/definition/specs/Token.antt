@@ -1,7 +1,7 @@
 -- A token, and the value of a number's text. Assumes nothing.
 use mathlib.Core.Bool.{Bool, true, false}
 use mathlib.Core.List.{List, [], _∷_}
-use Prim.Native.Nat.{ℕ, zero, suc, _+_, _*_, _-_}
+use Prim.Native.Nat.{ℕ, _+_, _*_, _-_}
 use lib.Dec.{eqb, leb}
 use Rattle.definition.specs.Ascii.{char}
 use Rattle.definition.specs.Source.{Place, nowhere}

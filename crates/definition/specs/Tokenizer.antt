@@ -1,5 +1,5 @@
 -- `tokenize` of `tokenizer.rs`, one turn of its loop after the other. Assumes nothing.
-use mathlib.Core.Bool.{Bool, true, false, _&&_, _||_}
+use mathlib.Core.Bool.{Bool, true, false, _&&_}
 use mathlib.Core.List.{List, [], _∷_, _++_}
 use Prim.Native.Nat.{ℕ, zero, suc, _+_}
 use Prim.Native.String as S

@@ -1,22 +1,19 @@
 -- How an answer is made, and what `abandon` makes of one. Assumes nothing.
-use mathlib.Core.Path.{_≡_, refl, sym, ap, _∙_}
-use mathlib.Core.Bool.{true, false}
+use mathlib.Core.Path.{_≡_, refl, sym}
 use mathlib.Core.List.{List, [], _∷_, _++_}
 use mathlib.Core.Logic.{⊎-elim}
 use Prim.Native.Nat.{ℕ, _+_, _-_, _≤_, _<_}
 use native.Mathlib.Omega.{arith}
-use lib.Dec.{ltb}
-use lib.ListN.{take, drop, length}
+use lib.ListN.{take, drop}
 use borrow.Author.Tests.{lt-ltb, le-ltb}
 use types.Run.{OneOf}
 use denote.Enum.Declared.{tagOf}
-use Rattle.definition.specs.Choice.{pick}
 use Rattle.fallible.specs.declared.State.{State}
 use Rattle.fallible.specs.declared.How.{How}
 use Rattle.fallible.specs.declared.How.the-variants.{Done, Fatal, Refused}
 use Rattle.fallible.specs.declared.Answer.{Answer}
 use Rattle.fallible.proofs.How.{the-type}
-use Rattle.fallible.specs.Answers.{refused-at, one-more, making, Cut, AbandonedOf, Abandoned, Cuts}
+use Rattle.fallible.specs.Answers.{refused-at, one-more, making, AbandonedOf, Abandoned, Cuts}
 
 -- there is room for an error, or none
 pub made : (h : How) (n : ℕ) (s : State) → s .full < 255 → record { how = h; state = one-more s; line = 0; column = 0 } ≡ making h n s

@@ -1,8 +1,7 @@
 -- An entry holds its numbers. Assumes nothing.
-use mathlib.Core.Path.{_≡_, refl, sym, ap, _∙_}
+use mathlib.Core.Path.{_≡_}
 use Prim.Native.Nat.{ℕ, _+_, _*_, _/_, _%_, _<_}
 use native.Mathlib.Omega.{arith}
-use Rattle.definition.specs.Fallible.{Err}
 use Rattle.fallible.specs.Lists.{unpack, error-at}
 
 pub entry-is : (a b c d e : ℕ) → a < 256 → b < 65536 → c < 65536 → d < 256 → e < 256 → unpack ((((a * 65536 + b) * 65536 + c) * 256 + d) * 256 + e) ≡ error-at a b c d e

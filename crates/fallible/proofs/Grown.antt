@@ -1,11 +1,10 @@
 -- A list whose front grows by a store. Assumes nothing.
-use mathlib.Core.Path.{_≡_, refl, sym, ap, _∙_}
+use mathlib.Core.Path.{_≡_, ap, _∙_}
 use mathlib.Core.List.{List, [], _∷_, _++_, map, map-append}
-use Prim.Native.Nat.{ℕ, suc, _+_, _≤_, _<_}
+use Prim.Native.Nat.{ℕ, _+_, _≤_, _<_}
 use native.Mathlib.Numerals.{add-one}
 use lib.ListN.{length, take, set, length-map}
 use lib.Seq.{take-suc-set, length-take-le}
-use Rattle.definition.specs.Fallible.{Err}
 use Rattle.fallible.specs.Lists.{unpack, errs}
 
 -- the front up to n, stored at n: one more

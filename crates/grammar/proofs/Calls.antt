@@ -1,11 +1,9 @@
 -- Prefix operators, calls, `sizeof`, groups. Assumes nothing.
 use mathlib.Core.Path.{_≡_, refl, sym, ap, _∙_, subst}
-use mathlib.Core.Bool.{Bool, true, false}
 use mathlib.Core.Option.{some}
-use mathlib.Core.List.{List, [], _∷_, _++_, append-nil, append-assoc}
+use mathlib.Core.List.{List, [], _∷_, _++_, append-nil}
 use Prim.Native.Nat.{ℕ, min, _+_, _*_, _-_, _≤_, _<_}
 use native.Mathlib.Omega.{arith}
-use lib.Dec.{eqb}
 use lib.ListN.{length, take}
 use lib.Seq.{take-at, length-take-le}
 use borrow.Author.Tests.{eq-eqb, ne-eqb}
@@ -15,9 +13,9 @@ use Rattle.definition.specs.Fallible.{Err, Fallible, Ans, ok, fatal}
 use Rattle.definition.specs.Kind as K
 use Rattle.definition.specs.Token.{Tok, head, _is_}
 use Rattle.definition.specs.Act as A
-use Rattle.definition.specs.Act.{Act, done, Node, Items, Goal, Unary, Arguments, Consumed, Role, plain, group, St, Res, gives, refused, after, or-return, run, now-read, advance, next, _>>=_, _>>?_}
+use Rattle.definition.specs.Act.{Act, done, Node, Items, Unary, Arguments, Consumed, Role, plain, group, St, Res, gives, refused, after, or-return, run, now-read, _>>=_, _>>?_}
 use Rattle.definition.specs.Parser as P
-use Rattle.definition.specs.Go.{go, turns}
+use Rattle.definition.specs.Go.{go}
 use Rattle.definition.proofs.Flat.{go-bind}
 use Rattle.fallible.proofs.Grown.{errs-length}
 use Rattle.fallible.specs.declared.State.{State}
@@ -27,15 +25,14 @@ use Rattle.fallible.specs.declared.Answer.{Answer}
 use Rattle.fallible.specs.Lists.{errs}
 use Rattle.fallible.specs.Answers.{silent}
 use Rattle.node.specs.Put.{rec-of, size-of, Room}
-use Rattle.node.specs.declared.Numbers.{Numbers}
 use Rattle.node.specs.declared.Numbers.the-variants.{None, Two}
 use Rattle.node.specs.declared.Record.{Record}
 use Rattle.steps.specs.declared.Front.{Front}
 use Rattle.steps.specs.Tokens.{rest, budget, Seen}
-use Rattle.steps.specs.Shows.{st-of, Asked, Moved, View, Good, Bad, ShowsOf, Shows, done-of, Reads, Goes, GoesOn, node, items, token, Expects, Follows, Expected, FinishedOf, Finished}
+use Rattle.steps.specs.Shows.{st-of, Asked, Moved, View, Good, Bad, ShowsOf, Shows, Reads, Goes, GoesOn, node, items, token, Expects, Follows, Expected, Finished}
 use Rattle.steps.proofs.Tokens.{alive, yes, no, fore, adv}
 use Rattle.steps.proofs.Moves.{asks-moved, fore-moved, moved-trans}
-use Rattle.steps.proofs.Answers.{Stopped, say, good-of, is-good, stops, follows, wrapped, finishes, tree-join, errs-join, errs-take}
+use Rattle.steps.proofs.Answers.{Stopped, say, good-of, stops, follows, wrapped, finishes, tree-join, errs-join, errs-take}
 use Rattle.steps.proofs.Constructs.{down}
 use Rattle.steps.proofs.Following.{expecting, expects-behind}
 use Rattle.leaves.specs.Leaves.{Prefix, ClosingOf, Closing, ClosedOf, Closed}

@@ -1,31 +1,28 @@
 -- What follows an operand: nothing, another operand and the record of both, or that and the next turn of a loop. Assumes nothing.
-use mathlib.Core.Path.{_≡_, refl, sym, ap, _∙_, subst}
+use mathlib.Core.Path.{_≡_, refl, sym, ap, _∙_}
 use mathlib.Core.Option.{some}
-use mathlib.Core.List.{List, [], _∷_, _++_}
-use Prim.Native.Nat.{ℕ, min, _+_, _*_, _≤_, _<_}
+use mathlib.Core.List.{List, []}
+use Prim.Native.Nat.{ℕ, min, _+_, _*_, _≤_}
 use native.Mathlib.Omega.{arith}
-use lib.ListN.{length, take}
-use lib.Seq.{length-take-le}
+use lib.ListN.{length}
 use Rattle.definition.specs.Source.{Place}
-use Rattle.definition.specs.Node.{Num, Rec, recs-bytes}
+use Rattle.definition.specs.Node.{Num}
 use Rattle.definition.specs.Fallible.{Err, Fallible, Ans, ok}
-use Rattle.definition.specs.Act.{Act, done, Node, Consumed, St, Res, gives, after, or-return, run, _>>=_, _>>?_}
+use Rattle.definition.specs.Act.{Act, done, Node, Consumed, Res, gives, after, or-return, _>>?_}
 use Rattle.definition.specs.Go.{go}
 use Rattle.definition.proofs.Flat.{go-bind}
 use Rattle.fallible.proofs.Grown.{errs-length}
 use Rattle.fallible.specs.declared.State.{State}
-use Rattle.fallible.specs.declared.How.{How}
 use Rattle.fallible.specs.declared.How.the-variants.{Done}
 use Rattle.fallible.specs.declared.Answer.{Answer}
-use Rattle.fallible.specs.Lists.{errs}
 use Rattle.fallible.specs.Answers.{Abandoned, Cuts}
 use Rattle.node.specs.Put.{rec-of, size-of, Room}
 use Rattle.node.specs.declared.Record.{Record}
 use Rattle.steps.specs.declared.Front.{Front}
-use Rattle.steps.specs.Tokens.{rest, budget, Seen}
+use Rattle.steps.specs.Tokens.{budget, Seen}
 use Rattle.steps.specs.Shows.{st-of, Asked, Moved, View, Good, Shows, Reads, Goes, GoesOn, node, Finished}
 use Rattle.steps.proofs.Tokens.{fore}
-use Rattle.steps.proofs.Moves.{asked-seen, asked-moved, moved-trans}
+use Rattle.steps.proofs.Moves.{asked-moved, moved-trans}
 use Rattle.steps.proofs.Answers.{Stopped, say, good-of, is-good, stops, follows, abandons, wrapped, finishes}
 use Rattle.steps.proofs.Constructs.{seam, then-goes}
 

@@ -1,28 +1,21 @@
 -- The levels of an expression: boolean and, comparison, the arithmetic operators, casts. Assumes nothing.
-use mathlib.Core.Path.{_≡_, refl, sym, ap, _∙_, subst}
-use mathlib.Core.Bool.{Bool, true, false}
-use mathlib.Core.Option.{some}
+use mathlib.Core.Path.{_≡_, refl, ap, _∙_}
 use mathlib.Core.List.{List, [], _∷_, _++_}
-use Prim.Native.Nat.{ℕ, min, _+_, _*_, _-_, _≤_, _<_}
+use Prim.Native.Nat.{ℕ, _+_, _-_}
 use native.Mathlib.Omega.{arith}
-use lib.Dec.{eqb}
-use lib.ListN.{length, take}
 use borrow.Author.Tests.{eq-eqb, ne-eqb}
-use Rattle.definition.specs.Source.{Place}
-use Rattle.definition.specs.Node.{Num, byte, Rec}
-use Rattle.definition.specs.Fallible.{Err, Fallible, Ans, ok}
+use Rattle.definition.specs.Node.{byte}
+use Rattle.definition.specs.Fallible.{Fallible, Ans, ok}
 use Rattle.definition.specs.Kind as K
 use Rattle.definition.specs.Token.{Tok, head, _is_}
 use Rattle.definition.specs.Act as A
-use Rattle.definition.specs.Act.{Act, done, loop, Operators, Casts, Node, Consumed, plain, St, Res, gives, after, or-return, run, now-read, advance, next, _>>=_, _>>?_}
+use Rattle.definition.specs.Act.{Act, done, Operators, Casts, Node, Consumed, plain, St, run, now-read, next, _>>?_}
 use Rattle.definition.specs.Parser as P
-use Rattle.definition.specs.Go.{go, turns}
-use Rattle.definition.proofs.Flat.{go-bind, go-loop}
-use Rattle.fallible.specs.declared.State.{State}
+use Rattle.definition.specs.Go.{go}
+use Rattle.definition.proofs.Flat.{go-loop}
 use Rattle.fallible.specs.declared.How.the-variants.{Done}
 use Rattle.fallible.specs.declared.Answer.{Answer}
 use Rattle.fallible.specs.Answers.{Abandoned}
-use Rattle.node.specs.Put.{rec-of, size-of}
 use Rattle.node.specs.declared.Numbers.{Numbers}
 use Rattle.node.specs.declared.Numbers.the-variants.{None, Byte}
 use Rattle.node.specs.declared.Record.{Record}

@@ -1,33 +1,31 @@
 -- The loop of parse_field_access_or_index: `.name`, `.*`, `[index]`. Assumes nothing.
-use mathlib.Core.Path.{_≡_, refl, sym, ap, _∙_, subst}
+use mathlib.Core.Path.{_≡_, refl, sym, ap, _∙_}
 use mathlib.Core.Option.{some}
-use mathlib.Core.List.{List, [], _∷_, _++_, append-assoc}
-use Prim.Native.Nat.{ℕ, min, _+_, _*_, _-_, _≤_, _<_}
+use mathlib.Core.List.{List, [], _∷_, _++_}
+use Prim.Native.Nat.{ℕ, _+_, _*_, _-_}
 use native.Mathlib.Omega.{arith}
-use lib.ListN.{length, take, drop}
+use lib.ListN.{length, take}
 use Rattle.definition.specs.Source.{Place}
-use Rattle.definition.specs.Node.{Num, Rec, recs-bytes}
 use Rattle.definition.specs.Fallible.{Err, Fallible, Ans, ok}
 use Rattle.definition.specs.Kind as K
 use Rattle.definition.specs.Token.{Tok, head, _is_}
 use Rattle.definition.specs.Act as Act
-use Rattle.definition.specs.Act.{Act, done, loop, Suffixes, Node, Consumed, plain, St, Res, gives, after, or-return, run, now-read, advance, _>>?_}
+use Rattle.definition.specs.Act.{Act, loop, Suffixes, Node, Consumed, plain, St, Res, gives, after, or-return, run, _>>?_}
 use Rattle.definition.specs.Parser as P
-use Rattle.definition.specs.Go.{go, turns}
+use Rattle.definition.specs.Go.{go}
 use Rattle.definition.proofs.Flat.{go-bind, go-loop}
 use Rattle.fallible.proofs.Grown.{errs-length}
 use Rattle.fallible.specs.declared.State.{State}
-use Rattle.fallible.specs.declared.How.{How}
-use Rattle.fallible.specs.declared.How.the-variants.{Done, Refused}
+use Rattle.fallible.specs.declared.How.the-variants.{Done}
 use Rattle.fallible.specs.declared.Answer.{Answer}
 use Rattle.fallible.specs.Lists.{errs, unpack, error-at}
-use Rattle.fallible.specs.Answers.{refused-at, one-more, making, noted, Raised, Abandoned}
-use Rattle.node.specs.Put.{rec-of, size-of}
+use Rattle.fallible.specs.Answers.{refused-at, noted, Raised, Abandoned}
+use Rattle.node.specs.Put.{rec-of}
 use Rattle.node.specs.declared.Numbers.the-variants.{None}
 use Rattle.node.specs.declared.Record.{Record}
 use Rattle.steps.specs.declared.Front.{Front}
 use Rattle.steps.specs.Tokens.{rest, budget, Seen}
-use Rattle.steps.specs.Shows.{st-of, Asks, Asked, Moved, View, Good, ShowsOf, Shows, Reads, Goes, GoesOn, node, Follows, Expected, Finished}
+use Rattle.steps.specs.Shows.{st-of, Asks, Moved, Shows, Reads, Goes, GoesOn, node, Follows, Expected, Finished}
 use Rattle.steps.proofs.Tokens.{yes, no, fore, adv}
 use Rattle.steps.proofs.Moves.{asks-fore, fore-moved, refused-moved, making-moved, moved-trans, asks-moved}
 use Rattle.steps.proofs.Answers.{say, good-of, is-good, follows, abandons, wrapped, finishes, errs-join}

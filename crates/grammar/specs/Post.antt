@@ -1,13 +1,13 @@
 -- What the functions of the cycle show beyond `Reads` and `Goes`. Assumes nothing.
 use mathlib.Core.Path.{_≡_}
-use mathlib.Core.List.{List, [], _∷_, _++_}
+use mathlib.Core.List.{List, [], _++_}
 use Prim.Native.Nat.{ℕ, min, _+_, _*_, _<_, _≤_}
 use lib.Dec.{eqb}
 use lib.ListN.{length, take}
 use Rattle.definition.specs.Ascii.{ascii}
 use Rattle.definition.specs.Choice.{pick}
 use Rattle.definition.specs.Source.{Place}
-use Rattle.definition.specs.Node.{Rec, recs-bytes}
+use Rattle.definition.specs.Node.{recs-bytes}
 use Rattle.definition.specs.Fallible.{Err, Fallible, Ans, ok}
 use Rattle.definition.specs.Kind as K
 use Rattle.definition.specs.Token.{Tok, head}
@@ -23,7 +23,7 @@ use Rattle.fallible.specs.declared.How.the-variants.{Done, Fatal, Refused}
 use Rattle.fallible.specs.declared.Answer.{Answer}
 use Rattle.fallible.specs.Lists.{errs}
 use Rattle.steps.specs.Tokens.{rest, budget, Held}
-use Rattle.steps.specs.Shows.{st-of, Moved, Shows, done-of, node, typed, items}
+use Rattle.steps.specs.Shows.{st-of, Moved, Shows, done-of, typed, items}
 
 abbrev pub place-at : ℕ → ℕ → Place
 place-at line column = record { line = line; column = column }

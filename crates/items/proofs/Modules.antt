@@ -1,15 +1,13 @@
 -- The items of a module, and the module: one law for each return of the functions. Assumes nothing.
 use mathlib.Core.Path.{_≡_, refl, sym, ap, _∙_}
 use mathlib.Core.Bool.{Bool, true, false, _||_}
-use mathlib.Core.List.{List, [], _∷_, _++_}
-use Prim.Native.Nat.{ℕ, min, _+_, _*_, _≤_, _<_}
+use mathlib.Core.List.{List, []}
+use Prim.Native.Nat.{ℕ, _≤_}
 use native.Mathlib.Omega.{arith}
 use lib.Dec.{eqb}
-use lib.ListN.{length, take}
 use Rattle.definition.specs.Node.{recs-bytes}
-use Rattle.definition.specs.Fallible.{Err, Ans, ok}
 use Rattle.definition.specs.Token.{head, _is_}
-use Rattle.definition.specs.Act.{Act, Items, Node, done, loop, Module, plain, Consumed, St, Res, gives, after, run, _>>=_}
+use Rattle.definition.specs.Act.{Items, Module, plain, Consumed, Res, gives, after, run, _>>=_}
 use Rattle.definition.specs.Parser as P
 use Rattle.definition.specs.Go.{go}
 use Rattle.definition.proofs.Flat.{go-bind, go-loop}
@@ -21,7 +19,7 @@ use Rattle.fallible.specs.Answers.{raised, Raised}
 use Rattle.node.specs.declared.Numbers.the-variants.{None}
 use Rattle.steps.specs.declared.Front.{Front}
 use Rattle.steps.specs.Tokens.{rest, Seen}
-use Rattle.steps.specs.Shows.{st-of, Asked, Moved, Shows, Reads, node, items, Finished}
+use Rattle.steps.specs.Shows.{st-of, Asked, Reads, node, items, Finished}
 use Rattle.steps.proofs.Tokens.{yes, no, fore, adv}
 use Rattle.steps.proofs.Moves.{stays}
 use Rattle.steps.proofs.Answers.{say}

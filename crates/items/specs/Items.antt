@@ -1,20 +1,18 @@
 -- What the functions of a module's items show beyond `Reads`. Assumes nothing.
 use mathlib.Core.Path.{_≡_}
 use mathlib.Core.Bool.{Bool, true, false}
-use mathlib.Core.List.{List, [], _∷_, _++_}
+use mathlib.Core.List.{List, []}
 use Prim.Native.Nat.{ℕ, _+_, _≤_}
 use lib.ListN.{length, take}
 use Rattle.definition.specs.Source.{Place}
-use Rattle.definition.specs.Node.{recs-bytes}
 use Rattle.definition.specs.Fallible.{Err, Ans}
 use Rattle.definition.specs.Token.{head}
 use Rattle.definition.specs.Act as A
-use Rattle.definition.specs.Act.{Items, done, loop, Consumed, Res, gives, refused, after, or-return, _>>=_}
+use Rattle.definition.specs.Act.{Items, done, loop, Consumed, Res, gives, after, or-return, _>>=_}
 use Rattle.definition.specs.Parser as P
 use Rattle.definition.specs.Go.{go}
 use Rattle.fallible.specs.declared.State.{State}
-use Rattle.fallible.specs.declared.How.{How}
-use Rattle.fallible.specs.declared.How.the-variants.{Done, Fatal, Refused}
+use Rattle.fallible.specs.declared.How.the-variants.{Fatal}
 use Rattle.fallible.specs.declared.Answer.{Answer}
 use Rattle.fallible.specs.Lists.{errs}
 use Rattle.steps.specs.Tokens.{rest, budget}

@@ -1,6 +1,6 @@
 -- The parts of the definition's functions that functions of the code are of their own. Assumes nothing.
 use mathlib.Core.Bool.{not}
-use mathlib.Core.List.{List, [], _∷_, _++_}
+use mathlib.Core.List.{[], _∷_, _++_}
 use Prim.Native.Nat.{ℕ}
 use lib.Dec.{leb}
 use Rattle.definition.specs.Source.{Place}

@@ -1,7 +1,7 @@
 // node.rs: the records of the tree, written as fields into the lent file slice. Each function answers where the next byte goes.
 ghost use mathlib.Core.Path.{_≡_};
-ghost use mathlib.Core.List.{List, [], _∷_, _++_};
-ghost use Prim.Native.Nat.{ℕ, _+_, _<_, _≤_};
+ghost use mathlib.Core.List.{[], _∷_};
+ghost use Prim.Native.Nat.{_+_, _<_, _≤_};
 ghost use lib.ListN.{length, take, drop};
 ghost use Rattle.definition.specs.Node.{u16, u64, nums-bytes};
 ghost use Rattle.node.specs.Put.{Grew, Room, nums-of, width-of, placed, Wrote, rec-of, size-of, bare-of, bare-size};

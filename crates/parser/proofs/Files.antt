@@ -2,7 +2,7 @@
 use mathlib.Core.Path.{_≡_, refl, sym, ap, _∙_}
 use mathlib.Core.Bool.{true}
 use mathlib.Core.Option.{some}
-use mathlib.Core.List.{List, [], _∷_, _++_, append-nil}
+use mathlib.Core.List.{List, [], _++_, append-nil}
 use Prim.Native.Nat.{ℕ, _+_, _*_, _≤_}
 use native.Mathlib.Omega.{arith}
 use lib.ListN.{length, take}
@@ -11,7 +11,6 @@ use Rattle.definition.specs.Source.{is-some}
 use Rattle.definition.specs.Node.{u16, field, rec-bytes}
 use Rattle.definition.specs.Fallible.{Err, errs-bytes}
 use Rattle.definition.specs.Records.{errors-of}
-use Rattle.definition.specs.Operations.{filled}
 use Rattle.node.specs.Put.{Wrote, bare-of}
 use Rattle.node.specs.declared.Numbers.the-variants.{Two}
 use Rattle.fallible.specs.Lists.{errs}
@@ -19,7 +18,7 @@ use Rattle.fallible.proofs.Grown.{errs-length}
 use Rattle.fields.specs.Errors.{Fielded, TokenFields}
 use Rattle.zeros.specs.Cleared.{Cleared}
 use Rattle.zeros.proofs.Clearing.{cleared-filled}
-use Rattle.handed.proofs.Accepted.{There, there, faults}
+use Rattle.handed.proofs.Accepted.{there, faults}
 use Rattle.parser.specs.Answer.{file-of, RestRoom, RestWritten}
 
 -- ---- where the fields end

@@ -2,8 +2,8 @@
 use mathlib.Core.Path.{_≡_, refl, sym, ap, _∙_, subst}
 use mathlib.Core.Bool.{Bool, true, false}
 use mathlib.Core.Option.{Option, none, some}
-use mathlib.Core.List.{List, [], _∷_, _++_}
-use Prim.Native.Nat.{ℕ, zero, suc, _+_, _*_, _≤_, _<_}
+use mathlib.Core.List.{List, [], _∷_}
+use Prim.Native.Nat.{ℕ, suc, _≤_, _<_}
 use native.Mathlib.Omega.{arith}
 use lib.Dec.{ltb}
 use lib.ListN.{length, take}
@@ -12,7 +12,6 @@ use Rattle.definition.specs.Source.{is-some}
 use Rattle.definition.specs.Node.{recs-bytes}
 use Rattle.definition.specs.Fallible.{Err, Fallible, Ans, ok, fatal}
 use Rattle.definition.specs.Token.{Tok}
-use Rattle.definition.specs.Records.{errors-of}
 use Rattle.definition.specs.Operations as O
 use Rattle.definition.specs.Operations.{filled, file-bytes}
 use Rattle.definition.specs.Act.{Items, St, Res, gives, refused, after, run, _>>=_}
@@ -20,15 +19,14 @@ use Rattle.definition.specs.Parser as P
 use Rattle.definition.specs.Parser.{parse-module}
 use Rattle.definition.specs.Go.{go}
 use Rattle.definition.proofs.Flat.{go-bind, go-module}
-use Rattle.fallible.specs.declared.State.{State}
 use Rattle.fallible.specs.declared.How.{How}
 use Rattle.fallible.specs.declared.How.the-variants.{Done, Fatal, Refused}
 use Rattle.fallible.specs.declared.Answer.{Answer}
 use Rattle.fallible.specs.Lists.{errs}
 use Rattle.zeros.specs.Cleared.{Cleared}
 use Rattle.zeros.proofs.Clearing.{cleared-filled}
-use Rattle.steps.specs.Tokens.{rest, budget}
-use Rattle.steps.specs.Shows.{st-of, Asked, Shows, ShowsOf, items}
+use Rattle.steps.specs.Tokens.{rest}
+use Rattle.steps.specs.Shows.{st-of, Asked, ShowsOf, items}
 use Rattle.steps.proofs.Tokens.{rest-cons, rest-nil}
 use Rattle.steps.proofs.Answers.{good-of}
 use denote.Enum.Declared.{tagOf}
@@ -222,10 +220,14 @@ module _ (T : List ℕ) (n : ℕ) (E : List ℕ) (m : ℕ) (X o : List ℕ) wher
     unfolding tested-by
     read-bad g e = rw e (sym (read-long ∙ ap (λ (x : Option O.Handed). tested-by false x o) (absent (O.handed T n E m X) g)))
 
+    -- with good records it is what is done with their tokens and errors
+    pub read-accepted : {v : O.Handed} → O.handed T n E m X ≡ some v → O.read T n E m X o ≡ O.read-handed o (v .tokens) (v .errors)
+    unfolding tested-by
+    read-accepted e = read-long ∙ ap (λ (x : Option O.Handed). tested-by false x o) e
+
     module _ (g : is-some (O.handed T n E m X) ≡ true) where
       pub read-good : {r : Written} {o′ : List ℕ} → ReadHanded T n E m X o o′ r → answer r o′ ≡ O.read T n E m X o
-      unfolding tested-by
-      read-good R = let t = there (O.handed T n E m X) g in R (t .value) (t .is) ∙ sym (read-long ∙ ap (λ (x : Option O.Handed). tested-by false x o) (t .is))
+      read-good R = let t = there (O.handed T n E m X) g in R (t .value) (t .is) ∙ sym (read-accepted (t .is))
 
       pub read-none : {r : Written} → n ≡ 0 → r ≡ refusal-of 9 → answer r o ≡ O.read T n E m X o
       read-none z e = read-good (λ v y. let k : v .tokens ≡ [] = sym (tested T n E m X v y .tokens) ∙ rest-nil T X n 0 (omega (arith, z)) in rw (e, k))

@@ -1,17 +1,14 @@
 -- Statements that begin with an expression: one law for each return of the functions. Assumes nothing.
 use mathlib.Core.Path.{_≡_, refl, sym, ap, _∙_, subst}
-use mathlib.Core.Bool.{Bool, true, false}
+use mathlib.Core.Bool.{false}
 use mathlib.Core.List.{List, [], _∷_, _++_, append-nil}
-use Prim.Native.Nat.{ℕ, min, _+_, _*_, _≤_, _<_}
+use Prim.Native.Nat.{ℕ, _+_, _*_, _≤_, _<_}
 use native.Mathlib.Omega.{arith}
 use lib.ListN.{length, take, length-append}
 use lib.Seq.{length-take-le}
-use Rattle.definition.specs.Source.{Place, nowhere}
-use Rattle.definition.specs.Node.{recs-bytes}
+use Rattle.definition.specs.Source.{Place}
 use Rattle.definition.specs.Fallible.{Err, Fallible, Ans, ok}
-use Rattle.definition.specs.Kind as K
-use Rattle.definition.specs.Token.{head}
-use Rattle.definition.specs.Act.{Act, done, if_then_else_, Node, Consumed, plain, St, Res, gives, after, or-return, run, _>>?_}
+use Rattle.definition.specs.Act.{Act, done, if_then_else_, Node, Consumed, plain, St, gives, or-return, run, _>>?_}
 use Rattle.definition.specs.Parser as P
 use Rattle.definition.specs.Go.{go}
 use Rattle.definition.proofs.Flat.{go-bind}
@@ -20,23 +17,23 @@ use Rattle.fallible.specs.declared.State.{State}
 use Rattle.fallible.specs.declared.How.{How}
 use Rattle.fallible.specs.declared.How.the-variants.{Done, Fatal, Refused}
 use Rattle.fallible.specs.declared.Answer.{Answer}
-use Rattle.fallible.specs.Lists.{unpack, error-at, errs}
-use Rattle.fallible.specs.Answers.{raised, Raised, Abandoned, Cuts}
+use Rattle.fallible.specs.Lists.{errs}
+use Rattle.fallible.specs.Answers.{Abandoned, Cuts}
 use Rattle.node.specs.Put.{Room}
 use Rattle.node.specs.declared.Numbers.the-variants.{None}
 use Rattle.node.specs.declared.Record.{Record}
 use Rattle.steps.specs.declared.Front.{Front}
-use Rattle.steps.specs.Tokens.{rest, budget, Seen}
-use Rattle.steps.specs.Shows.{st-of, Asked, Asks, Moved, View, Shows, Reads, node, Expected, Follows, done-of, FinishedOf, Finished}
+use Rattle.steps.specs.Tokens.{budget, Seen}
+use Rattle.steps.specs.Shows.{st-of, Asked, Moved, View, Shows, Reads, node, Expected, Follows, done-of, FinishedOf, Finished}
 use Rattle.steps.proofs.Tokens.{yes, no, fore, adv}
-use Rattle.steps.proofs.Moves.{making-moved, fore-moved, moved-trans, asks-moved, abandoned-moved}
-use Rattle.steps.proofs.Answers.{Stopped, say, good-of, is-good, follows, abandons, wrapped, finishes, raise-shows}
+use Rattle.steps.proofs.Moves.{fore-moved, moved-trans, asks-moved, abandoned-moved}
+use Rattle.steps.proofs.Answers.{Stopped, say, good-of, is-good, follows, abandons, wrapped, finishes}
 use Rattle.steps.proofs.Constructs.{then-stops}
 use Rattle.steps.proofs.Following.{expects-behind}
 use Rattle.grammar.specs.Post.{place-at}
 use Rattle.grammar.proofs.Levels.{past}
 use Rattle.grammar.proofs.Calls.{expect-seam}
-use Rattle.statement.specs.Post.{Starts, Behind}
+use Rattle.statement.specs.Post.{Behind}
 use Rattle.statement.proofs.Spare.{expression-spares}
 
 -- a record of a statement at a place

@@ -1,15 +1,14 @@
 -- Bodies: one law for each return of the functions. Assumes nothing.
 use mathlib.Core.Path.{_≡_, refl, sym, ap, _∙_, subst}
-use mathlib.Core.Bool.{true, false}
 use mathlib.Core.List.{List, [], _∷_, _++_, append-nil}
 use mathlib.Core.Logic.{⊎-elim}
-use Prim.Native.Nat.{ℕ, min, _+_, _*_, _≤_, _<_}
+use Prim.Native.Nat.{ℕ, _+_, _≤_}
 use native.Mathlib.Omega.{arith}
 use lib.ListN.{length, take}
 use types.Run.{OneOf}
 use denote.Enum.Declared.{tagOf}
 use Rattle.definition.specs.Node.{recs-bytes}
-use Rattle.definition.specs.Fallible.{Err, Fallible, Ans, ok, fatal}
+use Rattle.definition.specs.Fallible.{Err, Ans, ok, fatal}
 use Rattle.definition.specs.Token.{Tok, head}
 use Rattle.definition.specs.Act.{Act, Items, Node, done, make, loop, Body, plain, Consumed, St, Res, gives, refused, after, run, _>>=_}
 use Rattle.definition.specs.Parser as P
@@ -23,8 +22,8 @@ use Rattle.fallible.specs.declared.Answer.{Answer}
 use Rattle.fallible.specs.Lists.{unpack, error-at, errs}
 use Rattle.fallible.specs.Answers.{noted, Raised}
 use Rattle.steps.specs.declared.Front.{Front}
-use Rattle.steps.specs.Tokens.{rest, budget, Seen}
-use Rattle.steps.specs.Shows.{st-of, Asks, Asked, Moved, View, Good, Bad, ShowsOf, Shows, Reads, Expects, node, token, items}
+use Rattle.steps.specs.Tokens.{rest, Seen}
+use Rattle.steps.specs.Shows.{st-of, Asked, Moved, View, Good, Bad, ShowsOf, Shows, Reads, Expects, node, token, items}
 use Rattle.steps.proofs.Tokens.{yes, no, fore, adv}
 use Rattle.steps.proofs.Moves.{fore-moved, making-moved, asked-moved}
 use Rattle.steps.proofs.Answers.{say, good-of, tree-join, errs-join}

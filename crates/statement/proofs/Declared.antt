@@ -1,20 +1,18 @@
 -- Compounds and declarations: one law for each return of the functions. Assumes nothing.
 use mathlib.Core.Path.{_≡_, refl, sym, ap, _∙_, subst}
-use mathlib.Core.Bool.{Bool, true, false}
-use mathlib.Core.Option.{some}
-use mathlib.Core.List.{List, [], _∷_, _++_, append-nil, append-assoc}
-use Prim.Native.Nat.{ℕ, min, _+_, _*_, _≤_, _<_}
+use mathlib.Core.List.{List, [], _∷_}
+use Prim.Native.Nat.{ℕ, _+_, _≤_, _<_}
 use native.Mathlib.Omega.{arith}
 use lib.Dec.{eqb}
 use lib.ListN.{length, take, drop, length-drop}
 use lib.Seq.{length-take-le}
 use Rattle.definition.specs.Ascii.{ascii}
 use Rattle.definition.specs.Source.{Place, nowhere}
-use Rattle.definition.specs.Node.{two, recs-bytes}
-use Rattle.definition.specs.Fallible.{Err, Fallible, Ans, ok, fatal}
-use Rattle.definition.specs.Token.{Tok, head}
+use Rattle.definition.specs.Node.{two}
+use Rattle.definition.specs.Fallible.{Err, Fallible, Ans}
+use Rattle.definition.specs.Token.{head}
 use Rattle.definition.specs.Act as A
-use Rattle.definition.specs.Act.{Act, Items, Node, done, peek, if_then_else_, plain, Consumed, St, Res, gives, refused, after, or-return, run, _>>=_, _>>?_}
+use Rattle.definition.specs.Act.{Act, Items, Node, peek, if_then_else_, plain, Consumed, Res, gives, refused, after, or-return, run, _>>?_}
 use Rattle.definition.specs.Parser as P
 use Rattle.definition.specs.Go.{go}
 use Rattle.definition.proofs.Flat.{go-bind}
@@ -24,14 +22,12 @@ use Rattle.fallible.specs.declared.How.{How}
 use Rattle.fallible.specs.declared.How.the-variants.{Done, Fatal, Refused}
 use Rattle.fallible.specs.declared.Answer.{Answer}
 use Rattle.fallible.specs.Lists.{unpack, error-at, errs}
-use Rattle.fallible.specs.Answers.{raised, Raised, Abandoned}
-use Rattle.node.specs.Put.{Wrote, bare-of}
+use Rattle.fallible.specs.Answers.{raised, Raised}
 use Rattle.node.specs.declared.Numbers.the-variants.{None, Two}
-use Rattle.node.specs.declared.Record.{Record}
 use Rattle.steps.specs.declared.Front.{Front}
 use Rattle.steps.specs.Tokens.{rest, budget, Seen}
-use Rattle.steps.specs.Shows.{st-of, Asks, Asked, Moved, Good, ShowsOf, Shows, Reads, node, items, typed, token, Expects, Expected, done-of, FinishedOf, Finished}
-use Rattle.steps.proofs.Tokens.{yes, no, fore, adv}
+use Rattle.steps.specs.Shows.{st-of, Asks, Asked, Moved, ShowsOf, Shows, Reads, node, items, typed, Expects, Expected, done-of, FinishedOf, Finished}
+use Rattle.steps.proofs.Tokens.{yes, no}
 use Rattle.steps.proofs.Moves.{making-moved, asks-moved}
 use Rattle.steps.proofs.Answers.{Stopped, say, good-of, stops, follows, wrapped, finishes, wrote, raise-shows, not-done, done-le}
 use Rattle.steps.proofs.Following.{expects-behind}

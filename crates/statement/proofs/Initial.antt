@@ -1,13 +1,11 @@
 -- Initial values: one law for each return of `bare`, `initial_value` and `var_like_declaration`. Assumes nothing.
 use mathlib.Core.Path.{_≡_, refl, sym, ap, _∙_, subst}
 use mathlib.Core.List.{List, [], _∷_, _++_, append-nil, append-assoc}
-use Prim.Native.Nat.{ℕ, min, _+_, _*_, _≤_, _<_}
+use Prim.Native.Nat.{ℕ, _+_, _≤_, _<_}
 use native.Mathlib.Omega.{arith}
-use lib.ListN.{length, take, drop}
 use lib.Seq.{length-take-le}
 use Rattle.definition.specs.Node.{Rec, recs-bytes}
-use Rattle.definition.specs.Fallible.{Err, Fallible, Ans, ok, fatal}
-use Rattle.definition.specs.Token.{head}
+use Rattle.definition.specs.Fallible.{Err, Fallible, Ans, ok}
 use Rattle.definition.specs.Act.{Act, Node, plain, Consumed, St, Res, gives, after, or-return, run, _>>?_}
 use Rattle.definition.specs.Parser as P
 use Rattle.definition.specs.Go.{go}
@@ -22,11 +20,11 @@ use Rattle.fallible.specs.Answers.{Abandoned}
 use Rattle.node.specs.Put.{Wrote, bare-of, bare-size}
 use Rattle.node.specs.declared.Numbers.the-variants.{None}
 use Rattle.steps.specs.declared.Front.{Front}
-use Rattle.steps.specs.Tokens.{rest, budget, Seen}
-use Rattle.steps.specs.Shows.{st-of, Asked, Moved, View, Good, ShowsOf, Shows, Reads, GoesOn, node, typed, done-of}
+use Rattle.steps.specs.Tokens.{budget, Seen}
+use Rattle.steps.specs.Shows.{st-of, Asked, ShowsOf, Shows, Reads, GoesOn, node, typed, done-of}
 use Rattle.steps.proofs.Tokens.{yes, no, fore, adv}
 use Rattle.steps.proofs.Answers.{Stopped, say, good-of, is-good, stops, follows, abandons, wrote, not-done, done-le}
-use Rattle.grammar.specs.Post.{name-of, ReadsTyped}
+use Rattle.grammar.specs.Post.{ReadsTyped}
 use Rattle.grammar.proofs.Levels.{past}
 use Rattle.statement.specs.Rules.{value-on}
 use Rattle.statement.specs.Post.{up, BaredOf, Bared, ValueOn, ReadsDeclared}

@@ -1,7 +1,7 @@
 -- What a part that is there has used up: an expression spares eight bytes of what its tokens pay for, so there is room for the record of a statement that ends with it; an expected token is passed. Assumes nothing.
 use mathlib.Core.Path.{_≡_, refl, sym, ap, _∙_, subst}
-use mathlib.Core.List.{List, [], _∷_, _++_}
-use Prim.Native.Nat.{ℕ, _+_, _*_, _≤_, _<_}
+use mathlib.Core.List.{List, [], _∷_}
+use Prim.Native.Nat.{ℕ, _+_, _≤_, _<_}
 use native.Mathlib.Omega.{arith}
 use native.Mathlib.Decide.{decLe}
 use lib.ListN.{length, take, length-append}
@@ -20,7 +20,7 @@ use Rattle.fallible.specs.declared.State.{State}
 use Rattle.fallible.specs.declared.How.the-variants.{Done}
 use Rattle.fallible.specs.declared.Answer.{Answer}
 use Rattle.steps.specs.Tokens.{rest, spend, budget}
-use Rattle.steps.specs.Shows.{st-of, Asked, Good, Reads, Expects, done-of, node}
+use Rattle.steps.specs.Shows.{Asked, Good, Reads, Expects, done-of, node}
 use Rattle.steps.proofs.Answers.{good-of}
 
 -- what the definition says of it

@@ -1,19 +1,18 @@
 -- Statements that a keyword begins: one law for each return of the functions. Assumes nothing.
-use mathlib.Core.Path.{_≡_, refl, sym, ap, _∙_, subst}
+use mathlib.Core.Path.{_≡_, refl, sym, ap, _∙_}
 use mathlib.Core.Bool.{Bool, true, false}
-use mathlib.Core.Option.{some}
 use mathlib.Core.List.{List, [], _∷_, _++_, append-nil, append-assoc}
-use Prim.Native.Nat.{ℕ, min, _+_, _*_, _-_, _≤_, _<_}
+use Prim.Native.Nat.{ℕ, min, _+_, _-_, _≤_}
 use native.Mathlib.Omega.{arith}
 use lib.ListN.{length, take}
 use lib.Seq.{length-take-le}
 use borrow.Author.Tests.{eq-eqb, ne-eqb}
 use Rattle.definition.specs.Source.{Place}
-use Rattle.definition.specs.Node.{Num, byte, two, Rec, recs-bytes}
+use Rattle.definition.specs.Node.{byte, two, recs-bytes}
 use Rattle.definition.specs.Fallible.{Err, Fallible, Ans, ok, fatal}
 use Rattle.definition.specs.Kind as K
 use Rattle.definition.specs.Token.{Tok, head, _is_}
-use Rattle.definition.specs.Act.{Act, done, peek, next, if_then_else_, Node, Items, Consumed, plain, St, Res, gives, refused, after, or-return, run, now-read, advance, _>>=_, _>>?_}
+use Rattle.definition.specs.Act.{Act, done, peek, next, if_then_else_, Node, Items, Consumed, plain, St, Res, gives, refused, after, or-return, run, advance, _>>=_, _>>?_}
 use Rattle.definition.specs.Parser as P
 use Rattle.definition.specs.Go.{go}
 use Rattle.definition.proofs.Flat.{go-bind}
@@ -24,17 +23,16 @@ use Rattle.fallible.specs.declared.How.the-variants.{Done, Fatal, Refused}
 use Rattle.fallible.specs.declared.Answer.{Answer}
 use Rattle.fallible.specs.Lists.{unpack, error-at, errs}
 use Rattle.fallible.specs.Answers.{raised, Raised, Abandoned, Cuts}
-use Rattle.node.specs.Put.{Room, rec-of, size-of}
+use Rattle.node.specs.Put.{Room}
 use Rattle.node.specs.declared.Numbers.the-variants.{None, Byte, Two}
-use Rattle.node.specs.declared.Record.{Record}
 use Rattle.steps.specs.declared.Front.{Front}
 use Rattle.steps.specs.Tokens.{rest, budget, Seen}
-use Rattle.steps.specs.Shows.{st-of, Asked, Moved, Good, ShowsOf, Shows, Reads, node, items, token, Expects, Expected, Follows, Finished}
+use Rattle.steps.specs.Shows.{st-of, Asked, Moved, ShowsOf, Shows, Reads, node, items, token, Expects, Expected, Finished}
 use Rattle.steps.proofs.Tokens.{yes, no, fore, adv}
 use Rattle.steps.proofs.Moves.{making-moved, fore-moved, moved-trans, asks-moved, asked-seen, asked-moved}
-use Rattle.steps.proofs.Answers.{Stopped, say, good-of, is-good, stops, follows, abandons, wrapped, finishes, raise-shows}
+use Rattle.steps.proofs.Answers.{Stopped, say, good-of, stops, follows, abandons, wrapped, finishes, raise-shows}
 use Rattle.steps.proofs.Constructs.{then-stops}
-use Rattle.steps.proofs.Following.{expecting, expects-behind}
+use Rattle.steps.proofs.Following.{expects-behind}
 use Rattle.leaves.specs.Leaves.{there}
 use Rattle.leaves.proofs.Errors.{raise-same}
 use Rattle.leaves.proofs.Atoms.{leaf-reads, texted, untexted}

@@ -1,7 +1,7 @@
 -- What the functions of statements show beyond `Reads`. Assumes nothing.
 use mathlib.Core.Path.{_≡_}
 use mathlib.Core.Option.{some}
-use mathlib.Core.List.{List, [], _∷_, _++_}
+use mathlib.Core.List.{List, [], _++_}
 use Prim.Native.Nat.{ℕ, min, _+_, _*_, _≤_}
 use lib.ListN.{length, take}
 use Rattle.definition.specs.Node.{Rec, recs-bytes}

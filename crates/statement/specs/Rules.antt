@@ -1,5 +1,5 @@
 -- The parts of the definition's functions that functions of the code are of their own. Assumes nothing.
-use mathlib.Core.List.{List, [], _∷_, _++_}
+use mathlib.Core.List.{[], _∷_, _++_}
 use Prim.Native.Nat.{ℕ}
 use Rattle.definition.specs.Source.{Place}
 use Rattle.definition.specs.Node.{two}
@@ -7,7 +7,7 @@ use Rattle.definition.specs.Fallible.{Fallible, Ans}
 use Rattle.definition.specs.Kind as K
 use Rattle.definition.specs.Token.{_is_}
 use Rattle.definition.specs.Act as A
-use Rattle.definition.specs.Act.{Node, Act, done, peek, next, if_then_else_, _>>=_, _>>?_}
+use Rattle.definition.specs.Act.{Node, Act, peek, next, if_then_else_, _>>=_, _>>?_}
 use Rattle.definition.specs.Parser as P
 
 -- the values of a compound, and its record

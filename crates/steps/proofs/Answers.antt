@@ -4,22 +4,21 @@ use mathlib.Core.Bool.{Bool, true, false}
 use mathlib.Core.Option.{none, some}
 use mathlib.Core.List.{List, [], _∷_, _++_, append-nil, append-assoc, map, map-append}
 use mathlib.Core.Logic.{⊎-elim}
-use Prim.Native.Nat.{ℕ, zero, suc, _+_, _*_, _-_, _≤_, _<_}
+use Prim.Native.Nat.{ℕ, zero, suc, _+_, _-_, _≤_}
 use native.Mathlib.Omega.{arith}
 use lib.Dec.{ltb}
-use lib.ListN.{length, take, drop, length-append}
+use lib.ListN.{length, take, drop}
 use lib.Seq.{take-take, take-at, drop-at}
-use borrow.Author.Tests.{ltb-true, ltb-false, lt-ltb, le-ltb}
+use borrow.Author.Tests.{ltb-true}
 use types.Run.{OneOf}
 use denote.Enum.Declared.{tagOf}
 use Rattle.definition.specs.Choice.{pick}
 use Rattle.definition.specs.Source.{Place, nowhere}
 use Rattle.definition.specs.Node.{Num, Rec, rec-bytes, recs-bytes}
 use Rattle.definition.specs.Fallible.{Err, Fallible, Ans, ok, fatal}
-use Rattle.definition.specs.Act.{Act, Node, done, make, Consumed, St, Res, gives, refused, after, or-return, run, push, _>>=_, _>>?_}
+use Rattle.definition.specs.Act.{Act, Node, Consumed, St, Res, gives, after, or-return, run}
 use Rattle.definition.specs.Parser as P
-use Rattle.definition.specs.Go.{go, turns}
-use Rattle.definition.proofs.Flat.{go-bind}
+use Rattle.definition.specs.Go.{go}
 use Rattle.fallible.proofs.How.{the-type}
 use Rattle.fallible.proofs.Grown.{errs-length}
 use Rattle.fallible.specs.declared.State.{State}
@@ -27,11 +26,11 @@ use Rattle.fallible.specs.declared.How.{How}
 use Rattle.fallible.specs.declared.How.the-variants.{Done, Fatal, Refused}
 use Rattle.fallible.specs.declared.Answer.{Answer}
 use Rattle.fallible.specs.Lists.{unpack, errs}
-use Rattle.fallible.specs.Answers.{refused-at, one-more, making, raised, Raised, Cut, AbandonedOf, Abandoned}
-use Rattle.node.specs.Put.{Wrote, rec-of, size-of}
+use Rattle.fallible.specs.Answers.{refused-at, one-more, raised, Raised, Cut, AbandonedOf, Abandoned}
+use Rattle.node.specs.Put.{Wrote, rec-of}
 use Rattle.node.specs.declared.Record.{Record}
 use Rattle.steps.specs.Tokens.{rest}
-use Rattle.steps.specs.Shows.{st-of, Asks, View, Good, Bad, ShowsOf, Shows, done-of, node, FinishedOf, Finished}
+use Rattle.steps.specs.Shows.{st-of, Asks, View, Good, ShowsOf, Shows, done-of, node, FinishedOf, Finished}
 
 -- an answer that is not there
 abbrev pub Stopped : Answer → Type 0

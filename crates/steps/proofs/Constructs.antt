@@ -1,36 +1,26 @@
 -- Constructs of several parts: what follows an answer, an operand joined to another, a call counted. Assumes nothing.
-use mathlib.Core.Path.{_≡_, refl, sym, ap, _∙_, subst}
-use mathlib.Core.Bool.{Bool, true, false}
-use mathlib.Core.List.{List, [], _∷_, _++_, append-nil}
-use Prim.Native.Nat.{ℕ, zero, suc, min, _+_, _*_, _-_, _≤_, _<_}
+use mathlib.Core.Path.{_≡_, refl, sym, _∙_}
+use mathlib.Core.List.{List}
+use Prim.Native.Nat.{ℕ, zero, suc, min, _+_, _-_, _≤_}
 use native.Mathlib.Omega.{arith}
 use native.Mathlib.Decide.{decLe}
-use lib.ListN.{length, take}
+use lib.ListN.{length}
 use lib.Seq.{length-take-le}
-use Rattle.definition.specs.Source.{Place}
-use Rattle.definition.specs.Node.{Num, Rec, recs-bytes}
-use Rattle.definition.specs.Fallible.{Err, Fallible, Ans, ok, fatal}
-use Rattle.definition.specs.Token.{Tok, head}
-use Rattle.definition.specs.Act.{Act, done, call, Goal, Node, Consumed, St, Res, gives, refused, after, or-return, run, _>>=_, _>>?_}
-use Rattle.definition.specs.Parser as P
+use Rattle.definition.specs.Fallible.{Fallible, Ans, ok, fatal}
+use Rattle.definition.specs.Token.{head}
+use Rattle.definition.specs.Act.{Act, done, call, Goal, St, Res, gives, refused, after, or-return, run, _>>?_}
 use Rattle.definition.specs.Parser.{parse, rule}
 use Rattle.definition.specs.Go.{go}
 use Rattle.definition.proofs.Flat.{go-call, go-rule, go-bind}
 use Rattle.fallible.proofs.Grown.{errs-length}
 use Rattle.fallible.specs.declared.State.{State}
-use Rattle.fallible.specs.declared.How.{How}
-use Rattle.fallible.specs.declared.How.the-variants.{Done, Fatal, Refused}
 use Rattle.fallible.specs.declared.Answer.{Answer}
-use Rattle.fallible.specs.Lists.{errs}
-use Rattle.fallible.specs.Answers.{refused-at, Abandoned}
-use Rattle.node.specs.Put.{rec-of}
-use Rattle.node.specs.declared.Record.{Record}
-use Rattle.steps.specs.declared.Front.{Front}
-use Rattle.steps.specs.Tokens.{rest, budget, Seen}
-use Rattle.steps.specs.Shows.{st-of, Asks, Asked, Moved, View, Good, Bad, ShowsOf, Shows, Reads, Goes, GoesOn, node, Finished}
-use Rattle.steps.proofs.Tokens.{rest-nil, fore}
+use Rattle.fallible.specs.Answers.{refused-at}
+use Rattle.steps.specs.Tokens.{rest}
+use Rattle.steps.specs.Shows.{Asks, View, Reads, Goes, node}
+use Rattle.steps.proofs.Tokens.{rest-nil}
 use Rattle.steps.proofs.Moves.{refused-moved}
-use Rattle.steps.proofs.Answers.{Stopped, say, good-of, is-good, stops, follows, abandons, wrapped, finishes}
+use Rattle.steps.proofs.Answers.{Stopped, say, stops, follows}
 
 -- a token that is there stands within the list
 pub within : (w x : List ℕ) (n i : ℕ) → i ≤ n → i + min (head (rest w x n i) .kind) 1 ≤ n

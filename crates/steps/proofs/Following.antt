@@ -1,25 +1,24 @@
 -- `expect(..)?` behind an answer: it is asked for of what the answer shows. Assumes nothing.
 use mathlib.Core.Path.{_≡_, refl, sym, ap, _∙_, subst}
-use mathlib.Core.List.{List, [], _∷_, _++_, append-nil}
-use Prim.Native.Nat.{ℕ, _+_, _≤_, _<_}
+use mathlib.Core.List.{List, [], _++_}
+use Prim.Native.Nat.{ℕ, _+_}
 use native.Mathlib.Omega.{arith}
 use lib.ListN.{length, take}
-use Rattle.definition.specs.Node.{Rec, recs-bytes}
-use Rattle.definition.specs.Fallible.{Err, Fallible, Ans, ok, fatal}
-use Rattle.definition.specs.Token.{Tok, head}
-use Rattle.definition.specs.Act.{Act, Role, done, Consumed, St, Res, gives, refused, after, or-return, run, _>>?_}
+use Rattle.definition.specs.Node.{Rec}
+use Rattle.definition.specs.Fallible.{Err, Fallible, Ans, ok}
+use Rattle.definition.specs.Token.{head}
+use Rattle.definition.specs.Act.{Act, Role, done, St, Res, after, or-return, run, _>>?_}
 use Rattle.definition.specs.Parser as P
 use Rattle.definition.specs.Go.{go}
 use Rattle.definition.proofs.Flat.{go-bind}
 use Rattle.fallible.proofs.Grown.{errs-length}
-use Rattle.fallible.specs.declared.State.{State}
 use Rattle.fallible.specs.declared.How.{How}
 use Rattle.fallible.specs.declared.How.the-variants.{Done, Fatal, Refused}
 use Rattle.fallible.specs.declared.Answer.{Answer}
 use Rattle.fallible.specs.Lists.{errs}
-use Rattle.fallible.specs.Answers.{AbandonedOf, Abandoned}
+use Rattle.fallible.specs.Answers.{AbandonedOf}
 use Rattle.steps.specs.Tokens.{rest}
-use Rattle.steps.specs.Shows.{st-of, View, Good, Bad, ShowsOf, Shows, token, Expects, Follows, Followed, ExpectedOf, Expected}
+use Rattle.steps.specs.Shows.{st-of, View, Good, Bad, ShowsOf, Shows, token, Follows, Followed, ExpectedOf, Expected}
 use Rattle.steps.proofs.Answers.{abandons, follows}
 
 -- what follows the item

@@ -1,7 +1,7 @@
 -- The numbers of states, from one to a later one. Assumes nothing.
-use mathlib.Core.Path.{_≡_, refl, sym, ap, _∙_}
-use mathlib.Core.List.{List, []}
-use Prim.Native.Nat.{ℕ, min, _+_, _*_, _≤_, _<_}
+use mathlib.Core.Path.{_≡_, refl, ap}
+use mathlib.Core.List.{List}
+use Prim.Native.Nat.{ℕ, _<_}
 use native.Mathlib.Omega.{arith}
 use lib.ListN.{length}
 use mathlib.Core.Bool.{Bool, true, false}
@@ -10,12 +10,11 @@ use borrow.Author.Tests.{ltb-true}
 use Rattle.definition.specs.Choice.{pick}
 use Rattle.fallible.specs.declared.State.{State}
 use Rattle.fallible.specs.declared.How.{How}
-use Rattle.fallible.specs.declared.How.the-variants.{Done, Fatal, Refused}
 use Rattle.fallible.specs.declared.Answer.{Answer}
-use Rattle.fallible.specs.Answers.{refused-at, one-more, making, Raised, Abandoned, Cuts}
+use Rattle.fallible.specs.Answers.{refused-at, one-more, making, Abandoned}
 use Rattle.steps.specs.declared.Front.{Front}
-use Rattle.steps.specs.Tokens.{rest, spend, budget, Seen}
-use Rattle.steps.specs.Shows.{Asks, Asked, Moved, Follows}
+use Rattle.steps.specs.Tokens.{spend, budget, Seen}
+use Rattle.steps.specs.Shows.{Asks, Asked, Moved}
 use Rattle.steps.proofs.Tokens.{rest-nil, fore}
 
 -- at the end nothing is left to pay for

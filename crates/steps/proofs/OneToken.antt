@@ -1,20 +1,19 @@
 -- One token asked for: it is there, another is, or none. Assumes nothing.
-use mathlib.Core.Path.{_≡_, refl, sym, ap, _∙_, subst}
+use mathlib.Core.Path.{_≡_, refl, sym, ap, subst}
 use mathlib.Core.Bool.{Bool, true, false}
 use mathlib.Core.List.{List, [], _∷_, _++_, append-nil}
-use Prim.Native.Nat.{ℕ, min, _+_, _*_, _≤_, _<_}
+use Prim.Native.Nat.{ℕ, _+_, _≤_, _<_}
 use native.Mathlib.Omega.{arith}
 use mathlib.Core.Logic.{⊎-elim}
 use lib.Dec.{ltb}
 use types.Run.{OneOf}
 use denote.Enum.Declared.{tagOf}
-use lib.ListN.{length, take}
+use lib.ListN.{take}
 use Rattle.definition.specs.Choice.{pick}
 use Rattle.definition.specs.Node.{recs-bytes}
 use Rattle.definition.specs.Fallible.{Err, Ans}
-use Rattle.definition.specs.Kind as K
 use Rattle.definition.specs.Token.{Tok, head}
-use Rattle.definition.specs.Act.{Act, Role, plain, Consumed, St, Res, now-read, run}
+use Rattle.definition.specs.Act.{Act, Role, plain, Consumed, St, now-read, run}
 use Rattle.definition.specs.Parser as P
 use Rattle.definition.specs.Go.{go}
 use Rattle.fallible.specs.declared.State.{State}

@@ -1,5 +1,5 @@
 -- The tokens of the records, read one by one. Assumes nothing.
-use mathlib.Core.Path.{_≡_, refl, sym, ap, _∙_}
+use mathlib.Core.Path.{_≡_, sym, _∙_}
 use mathlib.Core.Bool.{true, false}
 use mathlib.Core.List.{List, [], _∷_, _++_}
 use Prim.Native.Nat.{ℕ, suc, _+_, _*_, _-_, _≤_, _<_}
@@ -11,7 +11,7 @@ use Rattle.definition.specs.Token.{Tok, head, tail, _is_}
 use Rattle.definition.specs.Act.{Role, Consumed, advance, now-read}
 use Rattle.fallible.specs.declared.State.{State}
 use Rattle.steps.specs.declared.Front.{Front}
-use Rattle.steps.specs.Tokens.{tok-at, from, rest, spend, budget, Held, Seen}
+use Rattle.steps.specs.Tokens.{tok-at, from, rest, spend, Held, Seen}
 use Rattle.steps.specs.Shows.{st-of}
 
 -- ---- tokens

@@ -1,13 +1,12 @@
 -- How an answer of the code stands for an answer of the definition. Assumes nothing.
 use mathlib.Core.Path.{_≡_}
-use mathlib.Core.List.{List, [], _∷_, _++_}
-use Prim.Native.Nat.{ℕ, min, _+_, _*_, _<_, _≤_}
+use mathlib.Core.List.{List, [], _++_}
+use Prim.Native.Nat.{ℕ, min, _+_, _*_, _≤_}
 use lib.ListN.{length, take}
-use Rattle.definition.specs.Source.{Place}
 use Rattle.definition.specs.Node.{Rec, recs-bytes}
 use Rattle.definition.specs.Fallible.{Err, Fallible, Ans, ok, fatal}
 use Rattle.definition.specs.Token.{Tok, head}
-use Rattle.definition.specs.Act.{Act, done, Consumed, Items, Node, Role, St, Res, gives, refused, after, or-return, _>>?_}
+use Rattle.definition.specs.Act.{Act, Consumed, Items, Node, Role, St, Res, gives, refused, after, or-return}
 use Rattle.definition.specs.Parser as P
 use Rattle.definition.specs.Go.{go}
 use Rattle.node.specs.Put.{Wrote, rec-of, size-of}

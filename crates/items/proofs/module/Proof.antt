@@ -1,6 +1,5 @@
 use Rattle.items.proofs.Modules.{module-reads}
 use borrow.Author.Needs.{needs}
-use native.Mathlib.Omega.{arith}
 use Rattle.items.proofs.module.Statement.{statement}
 use Rattle.items.proofs.module.Tie as tie
 

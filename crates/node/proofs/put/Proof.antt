@@ -3,8 +3,6 @@ use native.Mathlib.Omega.{arith}
 use borrow.Author.Needs.{needs}
 use Rattle.node.proofs.put.Statement.{statement}
 use Rattle.node.proofs.put.Tie as tie
-use Rattle.node.proofs.put.Reads as reads
-use Rattle.node.proofs.put.Lts as lts
 
 -- src/lib.rt:13:5
 slice-write-file : tie.Need-slice-write-file

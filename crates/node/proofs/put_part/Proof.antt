@@ -5,8 +5,6 @@ use Prim.Native.Nat.{_-_}
 use borrow.Author.Needs.{needs}
 use Rattle.node.proofs.put_part.Statement.{statement}
 use Rattle.node.proofs.put_part.Tie as tie
-use Rattle.node.proofs.put_part.Reads as reads
-use Rattle.node.proofs.put_part.Lts as lts
 
 abbrev Inv-loop : tie.InvT-loop
 Inv-loop file₀ text pos start len i₀ file i = Copying file₀ text pos start len file i

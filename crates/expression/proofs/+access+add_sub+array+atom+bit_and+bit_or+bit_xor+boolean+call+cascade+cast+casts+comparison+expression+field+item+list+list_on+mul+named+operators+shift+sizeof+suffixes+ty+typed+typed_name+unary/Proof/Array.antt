@@ -1,5 +1,4 @@
 -- The needs of `array`.
-use Rattle.definition.specs.Parser as P
 use Rattle.steps.proofs.Moves.{asked-seen, asks-fore}
 use Rattle.grammar.proofs.Types.{array-no-integer, array-no-size, array-open, array-done, raise-asked, size-asked, bracket-asked, array-room}
 use borrow.Author.Needs.{needs}

@@ -1,6 +1,5 @@
 -- The needs of `atom`.
 use mathlib.Core.Path.{sym, _∙_}
-use Rattle.definition.specs.Parser as P
 use Rattle.steps.proofs.Moves.{asked-seen, asks-moved, fore-moved, moved-trans}
 use Rattle.grammar.proofs.Calls.{atom-group}
 use Rattle.steps.proofs.Moves.{asked-seen, asks-moved}

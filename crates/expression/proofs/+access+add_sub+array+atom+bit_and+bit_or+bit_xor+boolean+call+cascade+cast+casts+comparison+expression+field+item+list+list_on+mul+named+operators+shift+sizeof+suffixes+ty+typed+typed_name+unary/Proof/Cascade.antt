@@ -1,5 +1,4 @@
 -- The needs of `cascade`.
-use Rattle.definition.specs.Parser as P
 use borrow.Author.Needs.{needs}
 use native.Mathlib.Omega.{arith}
 use Prim.Native.Nat.{ℕ}

@@ -1,5 +1,4 @@
 -- The needs of `casts`.
-use Rattle.definition.specs.Parser as P
 use Rattle.steps.proofs.Moves.{asked-seen}
 use Rattle.grammar.proofs.Joins.{goes-stops, join-cuts, join-room, joined-on}
 use Rattle.grammar.proofs.Levels.{casts-none, casts-more}

@@ -1,6 +1,5 @@
 -- The needs of `expression`.
 use Rattle.definition.specs.Act.{Expression}
-use Rattle.definition.specs.Parser as P
 use Rattle.steps.proofs.Constructs.{deep, down}
 use Rattle.steps.proofs.Constructs.{deep}
 use borrow.Author.Needs.{needs}

@@ -1,5 +1,4 @@
 -- The needs of `field`.
-use Rattle.definition.specs.Parser as P
 use Rattle.grammar.proofs.Names.{field-follows, field-asked, field-stops, field-room, field-done}
 use borrow.Author.Needs.{needs}
 use native.Mathlib.Omega.{arith}

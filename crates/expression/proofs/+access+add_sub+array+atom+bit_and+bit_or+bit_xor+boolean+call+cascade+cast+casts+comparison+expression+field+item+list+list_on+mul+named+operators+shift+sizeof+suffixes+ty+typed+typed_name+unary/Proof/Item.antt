@@ -1,5 +1,4 @@
 -- The needs of `item`.
-use Rattle.definition.specs.Parser as P
 use Rattle.grammar.proofs.Lists.{item-parameter, item-argument, item-field, item-value, item-named-value}
 use borrow.Author.Needs.{needs}
 use native.Mathlib.Omega.{arith}

@@ -1,5 +1,4 @@
 -- The needs of `list`.
-use Rattle.definition.specs.Parser as P
 use Rattle.grammar.proofs.Lists.{list-refused, list-asked, list-on}
 use borrow.Author.Needs.{needs}
 use native.Mathlib.Omega.{arith}

@@ -1,5 +1,4 @@
 -- The needs of `list_on`.
-use Rattle.definition.specs.Parser as P
 use Rattle.grammar.proofs.Types.{raise-asked}
 use Rattle.grammar.proofs.Lists.{rest-end, rest-closed, rest-item, rest-comma, rest-next, comma-asks, rest-asked}
 use borrow.Author.Needs.{needs}

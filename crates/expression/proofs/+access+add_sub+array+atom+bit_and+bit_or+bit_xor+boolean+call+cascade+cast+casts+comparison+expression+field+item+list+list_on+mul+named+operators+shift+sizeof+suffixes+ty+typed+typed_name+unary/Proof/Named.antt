@@ -1,5 +1,4 @@
 -- The needs of `named`.
-use Rattle.definition.specs.Parser as P
 use Rattle.grammar.proofs.Names.{named-reads, named-room}
 use native.Mathlib.Omega.{arith}
 use Prim.Native.Nat.{ℕ}

@@ -1,6 +1,5 @@
 -- The needs of `sizeof`.
 use mathlib.Core.Path.{refl}
-use Rattle.definition.specs.Parser as P
 use Rattle.steps.proofs.Moves.{asked-seen, asked-moved, asks-fore, fore-moved, moved-trans}
 use Rattle.grammar.proofs.Joins.{room-at}
 use Rattle.grammar.proofs.Calls.{sizeof-other, sizeof-stop, sizeof-asks, sizeof-done}

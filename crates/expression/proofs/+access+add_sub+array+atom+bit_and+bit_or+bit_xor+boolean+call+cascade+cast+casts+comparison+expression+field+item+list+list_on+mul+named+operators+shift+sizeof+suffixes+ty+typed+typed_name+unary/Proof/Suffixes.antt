@@ -1,6 +1,5 @@
 -- The needs of `suffixes`.
 use mathlib.Core.Path.{refl}
-use Rattle.definition.specs.Parser as P
 use Rattle.steps.proofs.Moves.{asked-seen}
 use Rattle.grammar.proofs.Joins.{goes-stops, join-cuts, turn-on}
 use Rattle.grammar.proofs.Suffixes.{suffix-none, suffix-star, star-moved, dot-end, dot-name, dot-moved, dot-other, index-asks, index-moved, suffix-index}

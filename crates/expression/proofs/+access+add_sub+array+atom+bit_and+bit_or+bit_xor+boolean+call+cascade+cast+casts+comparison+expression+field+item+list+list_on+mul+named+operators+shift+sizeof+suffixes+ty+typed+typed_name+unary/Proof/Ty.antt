@@ -1,5 +1,4 @@
 -- The needs of `ty`.
-use Rattle.definition.specs.Parser as P
 use Rattle.steps.proofs.Moves.{asked-seen}
 use Rattle.grammar.proofs.Types.{type-deep, type-name, type-star, type-array, type-struct, type-end, type-other, room-token, star-room, struct-room, raise-asked, array-asked}
 use borrow.Author.Needs.{needs}

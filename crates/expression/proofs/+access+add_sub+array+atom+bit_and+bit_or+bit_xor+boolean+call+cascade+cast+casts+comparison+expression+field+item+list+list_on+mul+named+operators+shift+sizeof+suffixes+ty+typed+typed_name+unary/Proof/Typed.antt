@@ -1,5 +1,4 @@
 -- The needs of `typed`.
-use Rattle.definition.specs.Parser as P
 use Rattle.grammar.proofs.Names.{typed-colon, typed-type, colon-cuts, type-asked, type-cuts}
 use borrow.Author.Needs.{needs}
 use native.Mathlib.Omega.{arith}

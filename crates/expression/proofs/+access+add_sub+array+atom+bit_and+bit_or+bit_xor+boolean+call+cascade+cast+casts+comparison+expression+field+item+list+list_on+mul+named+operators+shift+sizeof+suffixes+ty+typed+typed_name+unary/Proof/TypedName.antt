@@ -1,5 +1,4 @@
 -- The needs of `typed_name`.
-use Rattle.definition.specs.Parser as P
 use Rattle.steps.proofs.Moves.{asked-seen}
 use Rattle.grammar.proofs.Types.{raise-asked}
 use Rattle.grammar.proofs.Names.{identifier-name, identifier-end, identifier-refused, identifier-noted, noted-moved, noted-asked}

@@ -1,6 +1,5 @@
 -- The needs of `unary`.
 use Rattle.definition.specs.Act.{Unary}
-use Rattle.definition.specs.Parser as P
 use Rattle.steps.proofs.Moves.{asked-seen}
 use Rattle.steps.proofs.Constructs.{deep}
 use Rattle.grammar.proofs.Calls.{unary-none, unary-prefix}

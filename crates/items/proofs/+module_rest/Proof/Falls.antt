@@ -1,5 +1,5 @@
 -- What falls with each call: the tokens left, and then the order of the functions.
-use Prim.Native.Nat.{ℕ, _<_, _+_, _*_, _-_}
+use Prim.Native.Nat.{ℕ, _<_, _-_}
 use borrow.Fn.Kinds.{In}
 use borrow.Fn.PlainCycle.{Measures, is, falls, and}
 use Rattle.items.proofs.module_rest.Reads as module-rest
