@@ -1,4 +1,4 @@
--- One law for each return of `item`, `list` and `list_rest`. Assumes nothing.
+-- One law for each return of `item`, `list` and `list_on`. Assumes nothing.
 use mathlib.Core.Path.{_≡_, refl, sym, ap, _∙_, subst}
 use mathlib.Core.List.{List, [], _∷_, _++_, append-nil}
 use mathlib.Core.Logic.{⊎-elim}
@@ -57,11 +57,11 @@ module _ {w x : List ℕ} {n d : ℕ} {o r f o1 r1 f1 : List ℕ} {s : State} {a
 -- ---- refusals
 
 -- a refused answer is not fatal
-not-fatal : (h : How) → tagOf the-type h ≡ 2 → h ≡ Fatal → ⊥
+pub not-fatal : (h : How) → tagOf the-type h ≡ 2 → h ≡ Fatal → ⊥
 not-fatal h e z = let y : tagOf the-type h ≡ 1 = rw z in omega arith
 
 -- a refusal is one for what follows, too
-refusal : {A : Type 0} {K : View A} {T : List ℕ} {E : List Err} {w x : List ℕ} {n : ℕ} {o r f o′ r′ f′ : List ℕ} {T′ : List ℕ} {E′ : List Err} {a : Answer} {q : Res (Ans A)} {q′ : Res (Ans Items)} → Ended a → ((m : ℕ) → q ≡ refused m → q′ ≡ refused m)
+pub refusal : {A : Type 0} {K : View A} {T : List ℕ} {E : List Err} {w x : List ℕ} {n : ℕ} {o r f o′ r′ f′ : List ℕ} {T′ : List ℕ} {E′ : List Err} {a : Answer} {q : Res (Ans A)} {q′ : Res (Ans Items)} → Ended a → ((m : ℕ) → q ≡ refused m → q′ ≡ refused m)
     → Shows {A = A} K T E [] [] w x n o r f a q → Shows items T′ E′ [] [] w x n o′ r′ f′ a q′
 refusal {A} {K} {T} {E} {w} {x} {n} {o} {r} {f} {o′} {r′} {f′} {T′} {E′} {a} {q} {q′} e h v = record { told = one (a .how) e (v .told) }
   where
@@ -111,7 +111,7 @@ module _ {w x : List ℕ} {n wanted : ℕ} (k : A.Listed) {o r f r1 f1 : List �
       one rd Fatal h i = rw (i .is) (u .is (i .read) (take (s .pos) o) (errs r (s .reported)) (P.no-items (i .errors)) (i .tree ∙ sym (append-nil (take (s .pos) o))) (i .rep) refl)
       one rd (Refused m) h i = absurd (⊎-elim (λ z. omega arith) (λ z. omega arith) h)
 
--- ---- `list_rest`
+-- ---- `list_on`
 
 -- the items as an answer
 abbrev answered : ℕ → Res Items → Res (Ans Items)

@@ -1,4 +1,4 @@
--- One law for each return of `bare_name`, `typed`, `typed_identifier`, `named_type` and `struct_field`. Assumes nothing.
+-- One law for each return of `bare_name`, `typed`, `typed_name`, `named` and `field`. Assumes nothing.
 use mathlib.Core.Path.{_≡_, refl, sym, ap, _∙_}
 use mathlib.Core.List.{List, [], _∷_, _++_, append-nil}
 use mathlib.Core.Logic.{⊎-elim}
@@ -153,7 +153,7 @@ module _ (n : ℕ) {e : ℕ} {r f r′ f′ : List ℕ} {s : State} {b : Answer}
   pub note-none : Stopped b → (255 ≤ s .full) × (b ≡ refused-at n s 12)
   note-none nd = made-so Done n s (λ y. Stopped y → (255 ≤ s .full) × (y ≡ refused-at n s 12)) (g .is) (λ l y. absurd (⊎-elim (λ z. omega arith) (λ z. omega arith) y)) (λ l _. (l, refl)) nd
 
--- ---- `typed_identifier`
+-- ---- `typed_name`
 
 -- the name under another term
 renamed : {u u′ : List ℕ} {T : List ℕ} {E : List Err} {w x : List ℕ} {n : ℕ} {o r f : List ℕ} {a : Answer} {q : Res (Ans P.Typed)} → u ≡ u′ → Shows (typed u′) T E [] [] w x n o r f a q → Shows (typed u) T E [] [] w x n o r f a q
@@ -212,7 +212,7 @@ module _ {w x : List ℕ} {n : ℕ} {o r f : List ℕ} {s : State} {t : Front} (
             is = λ rd. renamed {u′ = ascii "<?>"} (rw (ne-eqb _ _ (λ y. m1 (sym (v .kind) ∙ y)))) (say (unnamed d rd ∙ makes (asks-fore (q .asks) v) g d _ _ (h .0)) (k .is (past plain w x n s rd) (ascii "<?>") (errs r (s .reported)) (unpack e ∷ []) (len-rep q) (g .rep (h .0))));
           }
 
--- ---- `named_type`
+-- ---- `named`
 
 -- behind a typed identifier
 abbrev name-on : Fallible P.Typed → Act (Ans Node)
@@ -308,7 +308,7 @@ expected-stops {A} {B} {K} {L} {T} {E} {w} {x} {n} {k} {i} {j} {o} {r} {f} {r′
     one Fatal e m = let na : Stopped a = rw (m .0) at nd in rw (m .0, m .1 .0, m .1 .1) (stops d (λ e. P.expect k >>? on e) q na u)
     one (Refused c) e m = let na : Stopped a = rw (m .0) at nd in rw (m .0, m .1 .0, m .1 .1) (stops d (λ e. P.expect k >>? on e) q na u)
 
--- ---- `struct_field`
+-- ---- `field`
 
 -- behind the value, and behind `=`
 abbrev value-on : Fallible Tok → Fallible Node → Act (Ans Node)

@@ -1,4 +1,4 @@
--- The steps that types, names and lists share; one law for each return of `ty` and `array_type`. Assumes nothing.
+-- The steps that types, names and lists share; one law for each return of `ty` and `array`. Assumes nothing.
 use mathlib.Core.Path.{_≡_, refl, sym, ap, _∙_}
 use mathlib.Core.Bool.{Bool, true, false, not}
 use mathlib.Core.Option.{some}
@@ -179,7 +179,7 @@ module _ {w x : List ℕ} {n d : ℕ} {o r f : List ℕ} {s : State} (q : Asked 
             unfolding go run P.type-rule
             type-other z i g = down Type' nz (raise-reads (q .asks) v plain g (d - 1) (λ rd. rw (run, no v m1, no v m24, no v m43, no v m16, no v z) (raise-same (d - 1) (rw (v .place, v .kind) (sym i)) (adv s v (λ _. plain) f rd))))
 
--- ---- `array_type`, behind `[`, of a type at a line and a column
+-- ---- `array`, behind `[`, of a type at a line and a column
 
 not-false : (b : Bool) → not b ≡ false → b ≡ true
 not-false true e = refl

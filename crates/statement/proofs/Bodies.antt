@@ -33,22 +33,8 @@ use Rattle.leaves.proofs.Atoms.{Ended, Alive}
 use Rattle.grammar.specs.Post.{as-answer}
 use Rattle.grammar.proofs.Levels.{past}
 use Rattle.grammar.proofs.Types.{moved-onward, paid}
+use Rattle.grammar.proofs.Lists.{not-fatal, refusal}
 use Rattle.statement.specs.Post.{ReadsBody, LoopOn, statements-on}
-
--- ---- refusals
-
-not-fatal : (h : How) → tagOf the-type h ≡ 2 → h ≡ Fatal → ⊥
-not-fatal h e z = let y : tagOf the-type h ≡ 1 = rw z in omega arith
-
--- a refusal is one for what follows, too
-refusal : {A : Type 0} {K : View A} {T : List ℕ} {E : List Err} {w x : List ℕ} {n : ℕ} {o r f o′ r′ f′ : List ℕ} {T′ : List ℕ} {E′ : List Err} {a : Answer} {q : Res (Ans A)} {q′ : Res (Ans Items)} → Ended a → ((m : ℕ) → q ≡ refused m → q′ ≡ refused m)
-    → Shows {A = A} K T E [] [] w x n o r f a q → Shows items T′ E′ [] [] w x n o′ r′ f′ a q′
-refusal {A} {K} {T} {E} {w} {x} {n} {o} {r} {f} {o′} {r′} {f′} {T′} {E′} {a} {q} {q′} e h v = record { told = one (a .how) e (v .told) }
-  where
-    one : (k : How) → tagOf the-type k ≡ 2 → ShowsOf k K T E [] [] w x n o r f a q → ShowsOf k items T′ E′ [] [] w x n o′ r′ f′ a q′
-    one Done e g = absurd (omega arith)
-    one Fatal e g = absurd (omega arith)
-    one (Refused m) e g = h m g
 
 -- ---- `body`
 

@@ -39,7 +39,8 @@ use Rattle.statement.specs.Post.{Starts, named-of, NamedOf, Named, Reads
 
 -- ---- `values`
 
-list-seam : (d tag : ℕ) (p : Place) (q : Res Items)
+-- items and their record, of a list or a body: two ways to say it
+pub list-seam : (d tag : ℕ) (p : Place) (q : Res Items)
     → after q (λ i S. go d (P.good (P.node (i .recs) tag p (two (i .count) ∷ []) []) (i .errors)) S) ≡ after (after q (λ i S. go d (as-answer i) S)) (λ z S. go d (or-return (wrapped items [] [] tag (λ _. p) (λ i. two (i .count) ∷ []) []) z) S)
 unfolding go run
 list-seam d tag p (gives i S) = refl

@@ -12,7 +12,7 @@ use Rattle.definition.specs.Node.{byte, two, recs-bytes}
 use Rattle.definition.specs.Fallible.{Err, Fallible, Ans, ok, fatal}
 use Rattle.definition.specs.Kind as K
 use Rattle.definition.specs.Token.{Tok, head, _is_}
-use Rattle.definition.specs.Act.{Act, done, peek, next, if_then_else_, Node, Items, Consumed, plain, St, Res, gives, refused, after, or-return, run, advance, _>>=_, _>>?_}
+use Rattle.definition.specs.Act.{Act, done, peek, next, if_then_else_, Node, Consumed, plain, St, Res, gives, refused, after, or-return, run, advance, _>>=_, _>>?_}
 use Rattle.definition.specs.Parser as P
 use Rattle.definition.specs.Go.{go}
 use Rattle.definition.proofs.Flat.{go-bind}
@@ -27,7 +27,7 @@ use Rattle.node.specs.Put.{Room}
 use Rattle.node.specs.declared.Numbers.the-variants.{None, Byte, Two}
 use Rattle.steps.specs.declared.Front.{Front}
 use Rattle.steps.specs.Tokens.{rest, budget, Seen}
-use Rattle.steps.specs.Shows.{st-of, Asked, Moved, ShowsOf, Shows, Reads, node, items, token, Expects, Expected, Finished}
+use Rattle.steps.specs.Shows.{st-of, Asked, Moved, ShowsOf, Shows, Reads, node, token, Expects, Expected, Finished}
 use Rattle.steps.proofs.Tokens.{yes, no, fore, adv}
 use Rattle.steps.proofs.Moves.{making-moved, fore-moved, moved-trans, asks-moved, asked-seen, asked-moved}
 use Rattle.steps.proofs.Answers.{Stopped, say, good-of, stops, follows, abandons, wrapped, finishes, raise-shows}
@@ -41,6 +41,7 @@ use Rattle.grammar.proofs.Levels.{past}
 use Rattle.grammar.proofs.Calls.{wraps-token, expect-seam}
 use Rattle.statement.specs.Rules.{guarded-rule}
 use Rattle.statement.specs.Post.{Starts, ReadsBody}
+use Rattle.statement.proofs.Declared.{list-seam}
 
 -- the place of the token that begins a statement
 abbrev pub here : List ℕ → List ℕ → ℕ → State → Place
@@ -133,14 +134,6 @@ if-parts p c a =
 
 if-joined : (d : ℕ) (p : Place) (c b : Fallible Node) (S : St) → go d (if-parts p c b) S ≡ go d (else-on p (guarding c b)) S
 if-joined d p c b S = simp append-assoc refl
-
--- ---- a body and its record: two ways to say it
-
-body-seam : (d tag : ℕ) (p : Place) (q : Res Items)
-    → after q (λ i S. go d (P.good (P.node (i .recs) tag p (two (i .count) ∷ []) []) (i .errors)) S) ≡ after (after q (λ i S. go d (as-answer i) S)) (λ z S. go d (or-return (wrapped items [] [] tag (λ _. p) (λ i. two (i .count) ∷ []) []) z) S)
-unfolding go run
-body-seam d tag p (gives i S) = refl
-body-seam d tag p (refused n) = refl
 
 -- ---- `expect` reports nothing where the token is there
 
@@ -246,7 +239,7 @@ module _ {w x : List ℕ} {n d : ℕ} {o r f : List ℕ} {s : State} {t : Front}
         moved = record { at = omega (arith, F .at, B .moved); end = omega (arith, F .at, B .moved); pos = omega (arith, F .low, B .moved); room = omega (arith, F .high, B .spare, q .kind); reported = omega (arith, F .reported, B .moved); less = omega (arith, F .reported, F .full, B .moved); full = omega (arith, F .full, B .moved); few = omega (arith, F .full, B .moved) };
         on = omega (arith, F .at, B .on);
         is = λ rd.
-            say (block-step d (st-of w x n f rd s) (q .kind) ∙ go-bind d P.parse-body _ (st-of w x n f rd s) ∙ body-seam d 0x40 (here w x n s) (go d P.parse-body (st-of w x n f rd s)))
+            say (block-step d (st-of w x n f rd s) (q .kind) ∙ go-bind d P.parse-body _ (st-of w x n f rd s) ∙ list-seam d 0x40 (here w x n s) (go d P.parse-body (st-of w x n f rd s)))
             (finishes d (λ _. here w x n s) (λ i. two (i .count) ∷ []) [] F (λ i e. rw (e, u .place)) (say (sym (go-bind d P.parse-body as-answer _)) (B .is rd)));
       }
 
