@@ -4,7 +4,7 @@ use crate::random::Random;
 use crate::{damage, fixed, grammar};
 
 const NAMES: &str = "valid damaged soup bytes utf8 boundary limit-length limit-places limit-tokens limit-errors \
-                     limit-entries limit-nesting limit-sizes paper sequences";
+                     limit-entries limit-nesting limit-sizes paper sequences short";
 
 /// What `coverage` runs, and any command that is given no class.
 pub const DEFAULT: [&str; 8] =
@@ -32,7 +32,7 @@ fn class(word: &str) -> Result<Class, String> {
         return Err(format!("no class is named {name}; there are: {NAMES}"));
     }
     let standard = match name.as_str() {
-        "sequences" => 2,
+        "sequences" | "short" => 2,
         "utf8" => 128,
         _ => 1000,
     };
@@ -55,6 +55,7 @@ pub fn scripts(class: &Class, each: &mut dyn FnMut(&[u8])) {
         "boundary" => return fixed::boundary(each),
         "utf8" => return damage::utf8(class.count, each),
         "sequences" => return damage::sequences(class.count, each),
+        "short" => return damage::short(class.count, each),
         "valid" => valid,
         "damaged" => damage::damaged,
         "soup" => damage::soup,

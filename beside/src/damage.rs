@@ -205,3 +205,13 @@ fn all_of_length(count: usize, each: &mut dyn FnMut(&str)) {
         each(&words.join(" "));
     }
 }
+
+/// All scripts of up to so many bytes.
+pub fn short(length: usize, each: &mut dyn FnMut(&[u8])) {
+    for count in 0..=length {
+        for number in 0..1_usize << (8 * count) {
+            let script: Vec<u8> = (0..count).map(|at| (number >> (8 * at)) as u8).collect();
+            each(&script);
+        }
+    }
+}

@@ -1,0 +1,35 @@
+// Reads a script from standard input and writes its tree file to standard output. Refused, it writes 7F 00 01 and
+// the number. Where standard input cannot be read to its end, it writes nothing.
+use definition::limit;
+use libc::STDIN_FILENO;
+use libc::STDOUT_FILENO;
+
+// Whether standard input has ended: one more read does not fail, and finds nothing.
+fn at_end() -> bool {
+    let mut b = [0u8; 1];
+    libc::read(STDIN_FILENO, &mut b) == 0
+}
+
+fn write_refusal(number: u32) {
+    let field = [0x7Fu8, 0, 1, (number % 256) as u8];
+    io::write_all(STDOUT_FILENO, &field);
+}
+
+fn main() {
+    // A byte more than a script may have, so that a longer input is refused and not cut.
+    let mut script = [0u8; 16385];
+    let mut file = [0u8; 65536];
+    let n = io::read_full(STDIN_FILENO, &mut script);
+    if n <= limit::SCRIPT_BYTES {
+        if !at_end() {
+            return;
+        }
+    }
+    let w = reader::read_script(&script[..n], &mut file);
+    if w.number != 0 {
+        write_refusal(w.number);
+        return;
+    }
+    let bytes = w.bytes;
+    io::write_all(STDOUT_FILENO, &file[..bytes]);
+}

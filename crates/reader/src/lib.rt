@@ -1,0 +1,57 @@
+// The whole operation: a script to its tree file.
+use definition::limit;
+use definition::refusal;
+use parser::Written;
+use parser::read;
+use tokenizer::tokenize;
+use zeros::clear_bytes;
+ghost use mathlib.Core.Path.{_≡_};
+ghost use Rattle.definition.specs.Operations as O;
+ghost use Rattle.parser.specs.Answer.{answer};
+
+// A refusal behind the tests: the file is zeros.
+fn cleared(number: u32, file: &mut [u8]) -> Written
+    ensures { λ r. ⌜ answer r (now (file .exit)) ≡ O.written (now (file .entry)) (O.refused number) ⌝ }
+{
+    clear_bytes(file, 0);
+    Written { number, bytes: 0 }
+}
+
+// The whole operation, with token slices of its own.
+pub fn read_script(script: &[u8], file: &mut [u8]) -> Written
+    ensures { λ r. ⌜ answer r (now (file .exit)) ≡ O.whole (now (script .entry)) (now (file .entry)) ⌝ }
+{
+    let mut tokens: [u32; 16384] = [0; 16384];
+    let mut errors: [u32; 1024] = [0; 1024];
+    let mut text: [u8; 16384] = [0; 16384];
+    let t = tokenize(script, &mut tokens, &mut errors, &mut text);
+    if (t.number == refusal::SCRIPT_LENGTH) | (t.number == refusal::NOT_UTF8) {
+        return Written {
+            number: t.number,
+            bytes: 0,
+        };
+    }
+    if file.len() < limit::FILE_BYTES {
+        return Written {
+            number: refusal::SLICE_LENGTH,
+            bytes: 0,
+        };
+    }
+    if t.number != 0 {
+        return cleared(t.number, file);
+    }
+    if t.tokens == 0 {
+        return cleared(refusal::NO_TOKENS, file);
+    }
+    read(&tokens, t.tokens, &errors, t.errors, &text, file)
+}
+
+// The entry for C: the number, the file's bytes through `bytes`.
+#[no_mangle]
+pub extern "C" fn dn_read(script: &[u8], file: &mut [u8], bytes: &mut usize) -> u32
+    ensures { λ r. ⌜ record { number = r; bytes = now (bytes .exit); file = now (file .exit) } ≡ O.whole (now (script .entry)) (now (file .entry)) ⌝ }
+{
+    let w = read_script(script, file);
+    *bytes = w.bytes;
+    w.number
+}
