@@ -181,15 +181,13 @@ fn quoted(bytes: &[u8], each: &mut dyn FnMut(&[u8])) {
     each(&[b"use \"", bytes, b"\";"].concat());
 }
 
-/// All sequences of lexemes up to a length, and those up to two of them in two other places.
+/// All sequences of lexemes up to a length, each in three places.
 pub fn sequences(length: usize, each: &mut dyn FnMut(&[u8])) {
     for count in 0..=length {
         all_of_length(count, &mut |words| {
             each(words.as_bytes());
-            if count <= 2 {
-                each(format!("fn f(){{ {words} }}").as_bytes());
-                each(format!("var x: T = {words}").as_bytes());
-            }
+            each(format!("fn f(){{ {words} }}").as_bytes());
+            each(format!("var x: T = {words}").as_bytes());
         });
     }
 }
