@@ -3,7 +3,7 @@ use mathlib.Core.Path.{_≡_, refl, sym, ap, _∙_, subst}
 use mathlib.Core.Bool.{Bool, true, false, _&&_, _||_}
 use mathlib.Core.Option.{Option, none, some}
 use mathlib.Core.List.{List, [], _∷_}
-use Prim.Native.Nat.{ℕ, _+_, _≤_, _<_}
+use Prim.Native.Nat.{ℕ, _≤_, _<_}
 use native.Mathlib.Omega.{arith}
 use lib.Dec.{eqb, ltb, leb}
 use lib.ListN.{length}
@@ -14,7 +14,8 @@ use Rattle.definition.specs.Token.{Tok}
 use Rattle.definition.specs.Tokenizer as Z
 use Rattle.definition.specs.Tokenizer.{tokenize}
 use Rattle.definition.specs.Operations as O
-use Rattle.definition.specs.Operations.{Tokenised, untouched, tokenise, tokenised, handed, kept, written, read, read-handed, read-tokens, read-tokenised, whole}
+use Rattle.definition.specs.Operations.{Tokenised, untouched, tokenise, tokenised, handed, kept, written, read, read-tokens, read-tokenised, whole}
+use Rattle.definition.proofs.Tests.{clash}
 use Rattle.definition.proofs.ReadBack.{read-back}
 use Rattle.definition.proofs.Readings.{tokenize-refuses}
 use Rattle.zeros.specs.Cleared.{Cleared}
@@ -125,29 +126,26 @@ own-two k e = rw (ne-eqb k 1 (λ z. omega (arith, e, z)), eq-eqb k 2 e)
 own-none : (k : ℕ) → (k ≡ 1 → ⊥) → (k ≡ 2 → ⊥) → own k ≡ false
 own-none k a b = rw (ne-eqb k 1 a, ne-eqb k 2 b)
 
-clash : {b : Bool} → b ≡ true → b ≡ false → ⊥
-clash p q = omega (arith, ap {B = ℕ} (λ (b : Bool). elim b as (λ _. ℕ) [ true ↦ 1 | false ↦ 0 ]) (sym p ∙ q))
-
 module _ {s o : List ℕ} {R : Tokenised} where
   -- the tests of the script
   pub whole-untouched : Case s o R → own (R .number) ≡ true → kept (R .number) o ≡ whole s o
   whole-untouched (long n e) h = ap (λ (k : ℕ). kept k o) n ∙ sym e
   whole-untouched (foreign n e) h = ap (λ (k : ℕ). kept k o) n ∙ sym e
-  whole-untouched (stopped n e g) h = absurd (clash h (own-none (R .number) (λ z. omega (arith, n, z)) (λ z. omega (arith, n, z))))
-  whole-untouched (tokens ts es n k b e g) h = absurd (clash h (own-none (R .number) (λ z. omega (arith, n, z)) (λ z. omega (arith, n, z))))
+  whole-untouched (stopped n e g) h = clash (sym h ∙ own-none (R .number) (λ z. omega (arith, n, z)) (λ z. omega (arith, n, z)))
+  whole-untouched (tokens ts es n k b e g) h = clash (sym h ∙ own-none (R .number) (λ z. omega (arith, n, z)) (λ z. omega (arith, n, z)))
 
   module _ (m : own (R .number) ≡ false) where
     -- the test of the file slice
     pub whole-short : Case s o R → length o < 65536 → kept 3 o ≡ whole s o
-    whole-short (long n e) h = absurd (clash (own-one (R .number) n) m)
-    whole-short (foreign n e) h = absurd (clash (own-two (R .number) n) m)
+    whole-short (long n e) h = clash (sym (own-one (R .number) n) ∙ m)
+    whole-short (foreign n e) h = clash (sym (own-two (R .number) n) ∙ m)
     whole-short (stopped n e g) h = sym (e h)
     whole-short (tokens ts es n k b e g) h = sym (e h)
 
     module _ (l : 65536 ≤ length o) where
       pub whole-stopped : Case s o R → (R .number ≡ 0 → ⊥) → written o (O.refused (R .number)) ≡ whole s o
-      whole-stopped (long n e) z = absurd (clash (own-one (R .number) n) m)
-      whole-stopped (foreign n e) z = absurd (clash (own-two (R .number) n) m)
+      whole-stopped (long n e) z = clash (sym (own-one (R .number) n) ∙ m)
+      whole-stopped (foreign n e) z = clash (sym (own-two (R .number) n) ∙ m)
       whole-stopped (stopped n e g) z = sym (g l)
       whole-stopped (tokens ts es n k b e g) z = absurd (z n)
 

@@ -2,11 +2,11 @@
 use mathlib.Core.Path.{_≡_, refl, sym, ap, _∙_}
 use mathlib.Core.Bool.{Bool, true, false}
 use mathlib.Core.Option.{Option, none, some}
-use mathlib.Core.List.{List, [], _∷_, _++_, map}
-use Prim.Native.Nat.{ℕ, _+_, _-_, _≤_}
+use mathlib.Core.List.{List, [], _∷_, map}
+use Prim.Native.Nat.{ℕ, _-_, _≤_}
 use native.Mathlib.Omega.{arith}
 use lib.Dec.{ltb}
-use lib.ListN.{length, take, replicate, length-replicate}
+use lib.ListN.{length, replicate, length-replicate}
 use lib.Seq.{take-at}
 use borrow.Author.Tests.{le-ltb}
 use Rattle.definition.specs.Source.{Ch, characters}
@@ -14,7 +14,7 @@ use Rattle.definition.specs.Tokenizer.{tokenize}
 use Rattle.definition.specs.Operations as O
 use Rattle.definition.specs.Operations.{written, read-tokenised, whole}
 use Rattle.definition.specs.Table as T
-use Rattle.definition.specs.Table.{Row, File, answered, table, holds}
+use Rattle.definition.specs.Table.{Row, answered, table, holds}
 use Rattle.parser.specs.declared.Written.{Written}
 use Rattle.parser.specs.Answer.{answer}
 use Rattle.reader.proofs.Cases.{whole-by, whole-is}
