@@ -39,8 +39,8 @@ extern "C" {
  * No pointer may be NULL, also where a length is 0, and the script, the file slice and *bytes must
  * not overlap. The bytes themselves may be any. The script is not changed, nothing behind the two
  * lengths is touched, no memory is allocated, and nothing is kept between calls, so that threads
- * may call it at the same time with slices of their own. Give each a stack of 4 MiB: no theorem
- * bounds it; the most that was measured is 2.4 MiB, of a script with 1,850 suffixes of one atom.
+ * may call it at the same time with slices of their own. Give each a stack of 1 MiB: no theorem
+ * bounds it; the most that was measured is below 400 KiB (bench/README.md).
  */
 uint32_t dn_read(const uint8_t *script, size_t script_len,
                  uint8_t *file, size_t file_len, size_t *bytes);

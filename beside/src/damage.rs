@@ -17,6 +17,12 @@ const ODD: [&str; 26] = [
     "asm x", "asm é", "é", "aé", "1é", "-é", "- ", "-x", "--", "// c\n", "//", "0b2",
 ];
 
+/// All of them, as a dictionary of libFuzzer.
+pub fn dictionary() -> String {
+    let bytes = |lexeme: &str| lexeme.bytes().map(|byte| format!("\\x{byte:02X}")).collect::<String>();
+    LEXEMES.iter().chain(&ODD).map(|lexeme| format!("\"{}\"\n", bytes(lexeme))).collect()
+}
+
 fn any_lexeme(random: &mut Random) -> String {
     let lexeme = match random.below(20) {
         0 => random.pick(&ODD),

@@ -10,6 +10,8 @@ mod damage;
 mod facts;
 mod fixed;
 mod grammar;
+#[cfg(library)]
+mod linked;
 mod lists;
 mod made;
 mod random;
@@ -25,6 +27,7 @@ const USAGE: &str = "usage: beside coverage CLASS..
        beside list tokens|files|records CLASS..
        beside case tokens|files|records NUMBER < LIST
        beside definitions COUNT LONGEST CLASS..
+       beside dictionary
        beside show < SCRIPT";
 
 fn main() {
@@ -55,6 +58,10 @@ fn run() -> Result<bool, String> {
             let mut out = io::BufWriter::new(io::stdout().lock());
             lists::write(sort, &classes::parse(&words[2..])?, &mut out)?;
             out.flush().expect("the list can't be written");
+            Ok(true)
+        }
+        ["dictionary"] => {
+            print!("{}", damage::dictionary());
             Ok(true)
         }
         ["case", sort @ ("tokens" | "files" | "records"), at] => {

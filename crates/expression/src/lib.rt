@@ -13,6 +13,7 @@ use fallible::refuse;
 use fallible::silence;
 use leaves::Level;
 use leaves::Listed;
+use leaves::arithmetic;
 use leaves::array_size;
 use leaves::close;
 use leaves::closer;
@@ -35,7 +36,7 @@ ghost use Prim.Native.Nat.{_+_, _<_, _≤_};
 ghost use Rattle.definition.specs.Parser as P;
 ghost use Rattle.steps.specs.Shows.{Asked, Reads, GoesOn, Goes, node};
 ghost use Rattle.leaves.specs.Leaves.{listed-of, level-of};
-ghost use Rattle.grammar.specs.Post.{place-at, NameRoom, BareNamed, ReadsTyped, TypedOn, ReadsList, ListOn, operators-on, casts-on, suffixes-on};
+ghost use Rattle.grammar.specs.Post.{place-at, NameRoom, BareNamed, ReadsTyped, TypedOn, ReadsList, operators-on};
 
 // parse_expression, one of the four functions whose open calls are counted.
 pub fn expression(
@@ -160,7 +161,8 @@ fn comparison(
     )
 }
 
-// parse_bitwise_or: bit_xor {`|` bit_xor}
+// parse_bitwise_or: bit_xor {`|` bit_xor}. All levels begin with the operand that is read here: where no operator of theirs
+// is behind it, it is the answer of each; else the loop of each goes on behind the answer of the level below.
 fn bit_or(
     tokens: &[u32],
     text: &[u8],
@@ -174,7 +176,82 @@ fn bit_or(
     requires { ⌜ Asked (now tokens) (now text) n (now file) (now rep) (now full) st ⌝ }
     ensures { λ r. ⌜ Reads node (now (tokens .entry)) (now (text .entry)) n left P.parse-bitwise-or (now (file .entry)) (now (rep .entry)) (now (full .entry)) st (now (file .exit)) (now (rep .exit)) (now (full .exit)) r ⌝ }
 {
-    let a = bit_xor(tokens, text, n, file, rep, full, st, left);
+    let a = cast(tokens, text, n, file, rep, full, st, left);
+    let how = a.how;
+    let How::Done = how else {
+        return a;
+    };
+    let s = a.state;
+    let at = s.at;
+    let t = head(tokens, text, n, at);
+    if !arithmetic(t.kind) {
+        return a;
+    }
+    let b = operators(
+        tokens,
+        text,
+        n,
+        file,
+        rep,
+        full,
+        Level::Mul,
+        a,
+        st.pos,
+        st.reported,
+        left,
+    );
+    let c = operators(
+        tokens,
+        text,
+        n,
+        file,
+        rep,
+        full,
+        Level::AddSub,
+        b,
+        st.pos,
+        st.reported,
+        left,
+    );
+    let d = operators(
+        tokens,
+        text,
+        n,
+        file,
+        rep,
+        full,
+        Level::BitShift,
+        c,
+        st.pos,
+        st.reported,
+        left,
+    );
+    let e = operators(
+        tokens,
+        text,
+        n,
+        file,
+        rep,
+        full,
+        Level::BitwiseAnd,
+        d,
+        st.pos,
+        st.reported,
+        left,
+    );
+    let g = operators(
+        tokens,
+        text,
+        n,
+        file,
+        rep,
+        full,
+        Level::BitwiseXor,
+        e,
+        st.pos,
+        st.reported,
+        left,
+    );
     operators(
         tokens,
         text,
@@ -183,7 +260,7 @@ fn bit_or(
         rep,
         full,
         Level::BitwiseOr,
-        a,
+        g,
         st.pos,
         st.reported,
         left,
@@ -374,51 +451,53 @@ fn operators(
     rep: &mut [usize],
     full: &mut [usize],
     level: Level,
-    a: Answer,
+    first: Answer,
     i: usize,
     j: usize,
     left: usize,
 ) -> Answer
-    requires { ⌜ GoesOn (now tokens) (now text) n (now file) (now rep) (now full) a i j ⌝ }
-    ensures { λ r. ⌜ Goes node node (now (tokens .entry)) (now (text .entry)) n left (operators-on (level-of level)) i j (now (file .entry)) (now (rep .entry)) (now (full .entry)) a (now (file .exit)) (now (rep .exit)) (now (full .exit)) r ⌝ }
+    requires { ⌜ GoesOn (now tokens) (now text) n (now file) (now rep) (now full) first i j ⌝ }
+    ensures { λ r. ⌜ Goes node node (now (tokens .entry)) (now (text .entry)) n left (operators-on (level-of level)) i j (now (file .entry)) (now (rep .entry)) (now (full .entry)) first (now (file .exit)) (now (rep .exit)) (now (full .exit)) r ⌝ }
 {
-    let how = a.how;
-    let How::Done = how else {
-        return a;
-    };
-    let s = a.state;
-    let at = s.at;
-    let t = head(tokens, text, n, at);
-    let op = operator(level, t.kind);
-    if op == 0 {
-        return a;
+    let mut a = first;
+    loop {
+        let how = a.how;
+        let How::Done = how else {
+            return a;
+        };
+        let s = a.state;
+        let at = s.at;
+        let t = head(tokens, text, n, at);
+        let op = operator(level, t.kind);
+        if op == 0 {
+            return a;
+        }
+        let b = cascade(
+            tokens,
+            text,
+            n,
+            file,
+            rep,
+            full,
+            level,
+            State { at: t.next, ..s },
+            left,
+        );
+        let c = abandon(rep, b, i, j, s.reported);
+        a = finish(
+            file,
+            text,
+            c,
+            Record {
+                tag: tag::ARITHMETIC_BIN_OP,
+                line: t.line,
+                column: t.column,
+                numbers: Numbers::Byte(op - 1),
+                start: 0,
+                len: 0,
+            },
+        );
     }
-    let b = cascade(
-        tokens,
-        text,
-        n,
-        file,
-        rep,
-        full,
-        level,
-        State { at: t.next, ..s },
-        left,
-    );
-    let c = abandon(rep, b, i, j, s.reported);
-    let d = finish(
-        file,
-        text,
-        c,
-        Record {
-            tag: tag::ARITHMETIC_BIN_OP,
-            line: t.line,
-            column: t.column,
-            numbers: Numbers::Byte(op - 1),
-            start: 0,
-            len: 0,
-        },
-    );
-    operators(tokens, text, n, file, rep, full, level, d, i, j, left)
 }
 
 // unary {`as` type}
@@ -435,72 +514,43 @@ fn cast(
     requires { ⌜ Asked (now tokens) (now text) n (now file) (now rep) (now full) st ⌝ }
     ensures { λ r. ⌜ Reads node (now (tokens .entry)) (now (text .entry)) n left P.parse-cast (now (file .entry)) (now (rep .entry)) (now (full .entry)) st (now (file .exit)) (now (rep .exit)) (now (full .exit)) r ⌝ }
 {
-    let a = unary(tokens, text, n, file, rep, full, st, left);
-    casts(
-        tokens,
-        text,
-        n,
-        file,
-        rep,
-        full,
-        a,
-        st.pos,
-        st.reported,
-        left,
-    )
-}
-
-// The loop of parse_cast.
-fn casts(
-    tokens: &[u32],
-    text: &[u8],
-    n: usize,
-    file: &mut [u8],
-    rep: &mut [usize],
-    full: &mut [usize],
-    a: Answer,
-    i: usize,
-    j: usize,
-    left: usize,
-) -> Answer
-    requires { ⌜ GoesOn (now tokens) (now text) n (now file) (now rep) (now full) a i j ⌝ }
-    ensures { λ r. ⌜ Goes node node (now (tokens .entry)) (now (text .entry)) n left casts-on i j (now (file .entry)) (now (rep .entry)) (now (full .entry)) a (now (file .exit)) (now (rep .exit)) (now (full .exit)) r ⌝ }
-{
-    let how = a.how;
-    let How::Done = how else {
-        return a;
-    };
-    let s = a.state;
-    let at = s.at;
-    let t = head(tokens, text, n, at);
-    if t.kind != kind::KW_AS {
-        return a;
+    let mut a = unary(tokens, text, n, file, rep, full, st, left);
+    loop {
+        let how = a.how;
+        let How::Done = how else {
+            return a;
+        };
+        let s = a.state;
+        let at = s.at;
+        let t = head(tokens, text, n, at);
+        if t.kind != kind::KW_AS {
+            return a;
+        }
+        let b = ty(
+            tokens,
+            text,
+            n,
+            file,
+            rep,
+            full,
+            State { at: t.next, ..s },
+            left,
+        );
+        let c = abandon(rep, b, st.pos, st.reported, s.reported);
+        a = finish(
+            file,
+            text,
+            c,
+            Record {
+                tag: tag::CAST,
+                line: t.line,
+                column: t.column,
+                numbers: Numbers::None,
+                start: 0,
+                len: 0,
+            },
+        );
     }
-    let b = ty(
-        tokens,
-        text,
-        n,
-        file,
-        rep,
-        full,
-        State { at: t.next, ..s },
-        left,
-    );
-    let c = abandon(rep, b, i, j, s.reported);
-    let d = finish(
-        file,
-        text,
-        c,
-        Record {
-            tag: tag::CAST,
-            line: t.line,
-            column: t.column,
-            numbers: Numbers::None,
-            start: 0,
-            len: 0,
-        },
-    );
-    casts(tokens, text, n, file, rep, full, d, i, j, left)
 }
 
 // (`&` | `*` | `~` | `!`) unary | call; counted.
@@ -667,102 +717,104 @@ fn access(
     requires { ⌜ Asked (now tokens) (now text) n (now file) (now rep) (now full) st ⌝ }
     ensures { λ r. ⌜ Reads node (now (tokens .entry)) (now (text .entry)) n left P.parse-field-access-or-index (now (file .entry)) (now (rep .entry)) (now (full .entry)) st (now (file .exit)) (now (rep .exit)) (now (full .exit)) r ⌝ }
 {
-    let a = atom(tokens, text, n, file, rep, full, st, left);
-    suffixes(
-        tokens,
-        text,
-        n,
-        file,
-        rep,
-        full,
-        a,
-        st.pos,
-        st.reported,
-        left,
-    )
-}
-
-// Its loop.
-fn suffixes(
-    tokens: &[u32],
-    text: &[u8],
-    n: usize,
-    file: &mut [u8],
-    rep: &mut [usize],
-    full: &mut [usize],
-    a: Answer,
-    i: usize,
-    j: usize,
-    left: usize,
-) -> Answer
-    requires { ⌜ GoesOn (now tokens) (now text) n (now file) (now rep) (now full) a i j ⌝ }
-    ensures { λ r. ⌜ Goes node node (now (tokens .entry)) (now (text .entry)) n left suffixes-on i j (now (file .entry)) (now (rep .entry)) (now (full .entry)) a (now (file .exit)) (now (rep .exit)) (now (full .exit)) r ⌝ }
-{
-    let how = a.how;
-    let How::Done = how else {
-        return a;
-    };
-    let s = a.state;
-    let at = s.at;
-    let t = head(tokens, text, n, at);
-    if t.kind == kind::DOT {
-        let u = head(tokens, text, n, t.next);
-        let on = State { at: u.next, ..s };
-        if u.kind == kind::END {
-            return refuse(n, s, 11);
-        }
-        if u.kind != kind::IDENTIFIER {
-            let b = note(
-                n,
-                rep,
-                full,
-                on,
-                entry(parse_error::IDENTIFIER, u.line, u.column, 0, 0),
-            );
-            let h = b.how;
-            let e = b.state;
-            return Answer {
-                how: h,
-                state: e,
+    let mut a = atom(tokens, text, n, file, rep, full, st, left);
+    loop {
+        let how = a.how;
+        let How::Done = how else {
+            return a;
+        };
+        let s = a.state;
+        let at = s.at;
+        let t = head(tokens, text, n, at);
+        if t.kind == kind::DOT {
+            let u = head(tokens, text, n, t.next);
+            let on = State { at: u.next, ..s };
+            if u.kind == kind::END {
+                return refuse(n, s, 11);
+            }
+            if u.kind != kind::IDENTIFIER {
+                let b = note(
+                    n,
+                    rep,
+                    full,
+                    on,
+                    entry(parse_error::IDENTIFIER, u.line, u.column, 0, 0),
+                );
+                let h = b.how;
+                let e = b.state;
+                return Answer {
+                    how: h,
+                    state: e,
+                    line: a.line,
+                    column: a.column,
+                };
+            }
+            let c = Answer {
+                how,
+                state: on,
                 line: a.line,
                 column: a.column,
             };
+            a = finish(
+                file,
+                text,
+                c,
+                Record {
+                    tag: tag::FIELD_ACCESS,
+                    line: t.line,
+                    column: t.column,
+                    numbers: Numbers::None,
+                    start: u.start,
+                    len: u.len,
+                },
+            );
+            continue;
         }
-        let c = Answer {
-            how,
-            state: on,
-            line: a.line,
-            column: a.column,
-        };
-        let d = finish(
-            file,
+        let on = State { at: t.next, ..s };
+        if t.kind == kind::DOT_STAR {
+            let c = Answer {
+                how,
+                state: on,
+                line: a.line,
+                column: a.column,
+            };
+            a = finish(
+                file,
+                text,
+                c,
+                Record {
+                    tag: tag::POINTER_DEREFERENCE,
+                    line: t.line,
+                    column: t.column,
+                    numbers: Numbers::None,
+                    start: 0,
+                    len: 0,
+                },
+            );
+            continue;
+        }
+        if t.kind != kind::L_BRACKET {
+            return a;
+        }
+        let b = expression(tokens, text, n, file, rep, full, on, left);
+        let c = abandon(rep, b, st.pos, st.reported, s.reported);
+        let d = and_expect(
+            tokens,
             text,
+            n,
+            rep,
+            full,
             c,
-            Record {
-                tag: tag::FIELD_ACCESS,
-                line: t.line,
-                column: t.column,
-                numbers: Numbers::None,
-                start: u.start,
-                len: u.len,
-            },
+            kind::R_BRACKET,
+            st.pos,
+            st.reported,
         );
-        return suffixes(tokens, text, n, file, rep, full, d, i, j, left);
-    }
-    let on = State { at: t.next, ..s };
-    if t.kind == kind::DOT_STAR {
-        let c = Answer {
-            how,
-            state: on,
-            line: a.line,
-            column: a.column,
-        };
-        let d = finish(
+        a = finish(
             file,
             text,
-            c,
+            d,
             Record {
-                tag: tag::POINTER_DEREFERENCE,
+                tag: tag::INDEX,
                 line: t.line,
                 column: t.column,
                 numbers: Numbers::None,
@@ -770,28 +822,7 @@ fn suffixes(
                 len: 0,
             },
         );
-        return suffixes(tokens, text, n, file, rep, full, d, i, j, left);
     }
-    if t.kind != kind::L_BRACKET {
-        return a;
-    }
-    let b = expression(tokens, text, n, file, rep, full, on, left);
-    let c = abandon(rep, b, i, j, s.reported);
-    let d = and_expect(tokens, text, n, rep, full, c, kind::R_BRACKET, i, j);
-    let e = finish(
-        file,
-        text,
-        d,
-        Record {
-            tag: tag::INDEX,
-            line: t.line,
-            column: t.column,
-            numbers: Numbers::None,
-            start: 0,
-            len: 0,
-        },
-    );
-    suffixes(tokens, text, n, file, rep, full, e, i, j, left)
 }
 
 // A literal, or a group.
@@ -1224,79 +1255,46 @@ pub fn list(
     let open = opener(what);
     let a = expect(tokens, text, n, rep, full, st, open);
     let how = a.how;
-    let s = a.state;
     if let How::Refused(_) = how {
         return a;
     }
-    list_on(tokens, text, n, file, rep, full, what, 0, s, left)
-}
-
-// Its loop, with so many items read.
-fn list_on(
-    tokens: &[u32],
-    text: &[u8],
-    n: usize,
-    file: &mut [u8],
-    rep: &mut [usize],
-    full: &mut [usize],
-    what: Listed,
-    count: usize,
-    st: State,
-    left: usize,
-) -> Answer
-    requires { ⌜ Asked (now tokens) (now text) n (now file) (now rep) (now full) st × (count ≤ st .at) ⌝ }
-    ensures { λ r. ⌜ ListOn (now (tokens .entry)) (now (text .entry)) n left (listed-of what) count (now (file .entry)) (now (rep .entry)) (now (full .entry)) st (now (file .exit)) (now (rep .exit)) (now (full .exit)) r ⌝ }
-{
-    let at = st.at;
-    let t = head(tokens, text, n, at);
-    if t.kind == kind::END {
-        let b = note(
-            n,
-            rep,
-            full,
-            st,
-            entry(parse_error::LIST_AT_END, 0, 0, 0, 0),
-        );
-        let how = b.how;
-        let s = b.state;
-        return Answer {
-            how,
-            state: s,
-            line: count,
-            column: 0,
-        };
-    }
     let close = closer(what);
-    if t.kind == close {
-        return Answer {
-            how: How::Done,
-            state: State { at: t.next, ..st },
-            line: count,
-            column: 0,
+    let mut count = 0;
+    let mut s = a.state;
+    loop {
+        let at = s.at;
+        let t = head(tokens, text, n, at);
+        if t.kind == kind::END {
+            let b = note(n, rep, full, s, entry(parse_error::LIST_AT_END, 0, 0, 0, 0));
+            let h = b.how;
+            let e = b.state;
+            return Answer {
+                how: h,
+                state: e,
+                line: count,
+                column: 0,
+            };
+        }
+        if t.kind == close {
+            return Answer {
+                how: How::Done,
+                state: State { at: t.next, ..s },
+                line: count,
+                column: 0,
+            };
+        }
+        let b = item(tokens, text, n, file, rep, full, what, s, left);
+        let h = b.how;
+        let e = b.state;
+        if let How::Refused(_) = h {
+            return b;
+        }
+        let c = comma(tokens, text, n, rep, full, e, close);
+        let g = c.how;
+        let How::Done = g else {
+            return c;
         };
+        count = counted(h, count);
+        s = c.state;
     }
-    let b = item(tokens, text, n, file, rep, full, what, st, left);
-    let how = b.how;
-    let s = b.state;
-    if let How::Refused(_) = how {
-        return b;
-    }
-    let c = comma(tokens, text, n, rep, full, s, close);
-    let h = c.how;
-    let e = c.state;
-    let How::Done = h else {
-        return c;
-    };
-    list_on(
-        tokens,
-        text,
-        n,
-        file,
-        rep,
-        full,
-        what,
-        counted(how, count),
-        e,
-        left,
-    )
 }

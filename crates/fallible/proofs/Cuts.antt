@@ -1,26 +1,33 @@
 -- How an answer is made, and what `abandon` makes of one. Assumes nothing.
-use mathlib.Core.Path.{_≡_, refl, sym}
-use mathlib.Core.List.{List, [], _∷_, _++_}
+use mathlib.Core.Path.{_≡_, refl, sym, ap, _∙_}
+use mathlib.Core.List.{List, [], _∷_}
 use mathlib.Core.Logic.{⊎-elim}
 use Prim.Native.Nat.{ℕ, _+_, _-_, _≤_, _<_}
 use native.Mathlib.Omega.{arith}
-use lib.ListN.{take, drop}
 use borrow.Author.Tests.{lt-ltb, le-ltb}
 use types.Run.{OneOf}
 use denote.Enum.Declared.{tagOf}
+use Rattle.fallible.specs.declared.Tally.{Tally}
 use Rattle.fallible.specs.declared.State.{State}
 use Rattle.fallible.specs.declared.How.{How}
 use Rattle.fallible.specs.declared.How.the-variants.{Done, Fatal, Refused}
 use Rattle.fallible.specs.declared.Answer.{Answer}
 use Rattle.fallible.proofs.How.{the-type}
-use Rattle.fallible.specs.Answers.{refused-at, one-more, making, AbandonedOf, Abandoned, Cuts}
+use Rattle.fallible.specs.Tallies.{Pushed, Propagated}
+use Rattle.fallible.specs.Answers.{refused-at, making, Raised, AbandonedOf, Abandoned, Cuts}
 
--- there is room for an error, or none
-pub made : (h : How) (n : ℕ) (s : State) → s .full < 255 → record { how = h; state = one-more s; line = 0; column = 0 } ≡ making h n s
-made h n s l = sym (rw (lt-ltb (s .full) 255 l))
+-- there is room for an error, and it is entered
+pub made : (h : How) (n : ℕ) (s : State) {r f r′ f′ : List ℕ} {e : ℕ} {t : Tally} → s .full < 255 → Pushed r f (record { reported = s .reported; full = s .full }) e r′ f′ t
+    → Raised (making h n s) r f s e r′ f′ (record { how = h; state = record { at = s .at; pos = s .pos; reported = t .reported; full = t .full }; line = 0; column = 0 })
+made h n s l p = record {
+  is = ap (λ (t : Tally). record { how = h; state = record { at = s .at; pos = s .pos; reported = t .reported; full = t .full }; line = 0; column = 0 }) (p .is) ∙ sym (rw (lt-ltb (s .full) 255 l));
+  rep = λ _. p .rep;
+  full = λ _. p .full;
+}
 
-pub none-made : (h : How) (n : ℕ) (s : State) → 255 ≤ s .full → refused-at n s 12 ≡ making h n s
-none-made h n s l = sym (rw (le-ltb (s .full) 255 l))
+-- there is none
+pub none-made : (h : How) (n : ℕ) (s : State) {r f : List ℕ} {e : ℕ} {a : Answer} → 255 ≤ s .full → a ≡ refused-at n s 12 → Raised (making h n s) r f s e r f a
+none-made h n s l z = record { is = z ∙ sym (rw (le-ltb (s .full) 255 l)); rep = λ k. absurd (omega (arith, k)); full = λ k. absurd (omega (arith, k)) }
 
 -- an answer that is not fatal stays as it is
 pub same : {r : List ℕ} {a : Answer} {i j k : ℕ} → Cuts r a i j k → OneOf (0 ∷ 2 ∷ []) (tagOf the-type (a .how)) → Abandoned r a i j k r a
@@ -32,6 +39,8 @@ same {r} {a} {i} {j} {k} c h = record { at = refl; full = refl; low = omega arit
     go (Refused m) h = (refl, refl)
 
 -- a fatal one is cut
-pub cut : {r r′ : List ℕ} {a : Answer} {i j k m : ℕ} → Cuts r a i j k → a .how ≡ Fatal → (m ≡ j + (a .state .reported - k)) × (take m r′ ≡ take j r ++ drop k (take (a .state .reported) r))
-    → Abandoned r a i j k r′ (record { how = a .how; state = record { at = a .state .at; pos = i; reported = m; full = a .state .full }; line = 0; column = 0 })
-cut {r} {r′} {a} {i} {j} {k} {m} c h s = record { at = refl; full = refl; low = omega arith; high = omega arith; first = omega arith; last = omega arith; is = rw h (record { how = refl; pos = refl; reported = s .0; is = s .1 }) }
+pub cut : {r r′ : List ℕ} {a : Answer} {i j k : ℕ} {t : Tally} → Cuts r a i j k → a .how ≡ Fatal → Propagated r (record { reported = j; full = a .state .full }) k (a .state .reported) r′ t
+    → Abandoned r a i j k r′ (record { how = a .how; state = record { at = a .state .at; pos = i; reported = t .reported; full = t .full }; line = 0; column = 0 })
+cut {r} {r′} {a} {i} {j} {k} {t} c h p =
+    let m : t .reported ≡ j + (a .state .reported - k) = ap (λ (t : Tally). t .reported) (p .is) in
+    record { at = refl; full = ap (λ (t : Tally). t .full) (p .is); low = omega arith; high = omega arith; first = omega arith; last = omega arith; is = rw h (record { how = refl; pos = refl; reported = m; is = p .rep }) }

@@ -110,3 +110,6 @@ room-at q m e = record { room = omega (arith, q .room, m .room); part = omega ar
 
 pub turn-on : {w x : List ℕ} {n i j : ℕ} {o r f o2 r2 f2 : List ℕ} {a y : Answer} → GoesOn w x n o r f a i j → Moved w x n i j (a .state) (y .state) → length o2 ≡ length o → length r2 ≡ length r → length f2 ≡ length f → GoesOn w x n o2 r2 f2 y i j
 turn-on q m a b c = record { asked = asked-moved (q .asked) m a b c; pos = m .pos; reported = m .reported }
+
+pub goes-further : {A B : Type 0} {K : View A} {L : View B} {w x : List ℕ} {n d i j : ℕ} {k : Fallible A → Act (Ans B)} {o r f o2 r2 f2 : List ℕ} {a y : Answer} → GoesOn w x n o r f a i j → Goes K L w x n d k i j o r f a o2 r2 f2 y → length o2 ≡ length o → length r2 ≡ length r → length f2 ≡ length f → GoesOn w x n o2 r2 f2 y i j
+goes-further q g a b c = turn-on q (g .moved) a b c

@@ -14,6 +14,7 @@ use Rattle.definition.specs.Parser as P
 use Rattle.definition.specs.Go.{go}
 use Rattle.definition.proofs.Flat.{go-loop}
 use Rattle.fallible.specs.declared.How.the-variants.{Done}
+use Rattle.fallible.specs.declared.State.{State}
 use Rattle.fallible.specs.declared.Answer.{Answer}
 use Rattle.fallible.specs.Answers.{Abandoned}
 use Rattle.node.specs.declared.Numbers.{Numbers}
@@ -21,11 +22,11 @@ use Rattle.node.specs.declared.Numbers.the-variants.{None, Byte}
 use Rattle.node.specs.declared.Record.{Record}
 use Rattle.steps.specs.declared.Front.{Front}
 use Rattle.steps.specs.Tokens.{rest, Seen}
-use Rattle.steps.specs.Shows.{st-of, Reads, Goes, GoesOn, node, Finished}
+use Rattle.steps.specs.Shows.{st-of, Asked, Reads, Goes, GoesOn, node, Finished}
 use Rattle.steps.proofs.Tokens.{yes, no, fore, adv}
 use Rattle.leaves.specs.Leaves.{Operator}
 use Rattle.grammar.specs.Post.{operators-on, casts-on}
-use Rattle.grammar.proofs.Joins.{goes-none, goes-joined, goes-turn}
+use Rattle.grammar.proofs.Joins.{then-asked, goes-none, goes-joined, goes-turn}
 
 -- the record of an operator
 abbrev pub at-operator : Front → ℕ → Numbers → Record
@@ -104,3 +105,18 @@ module _ {w x : List ℕ} {n d i j : ℕ} {o r f : List ℕ} {a : Answer} {t : F
   casts-more h B C F G =
       goes-turn (head (rest w x n (a .state .at)) .place) [] q z u B C F (omega arith) (rw (u .place)) (past w x n (a .state .at)) (λ e b. P.binary 0x26 [] (head (rest w x n (a .state .at)) .place) e b) (λ e b. refl)
       (λ e rd. go-loop d (Casts e) (st-of w x n f rd (a .state)) ∙ rw (run, yes u h) (ap (λ (S : St). go d (P.parse-type >>? λ b. casts-on (P.binary 0x26 [] (head (rest w x n (a .state .at)) .place) e b)) S) (adv (a .state) u (λ _. plain) f rd))) G
+
+-- ---- the six levels
+
+-- an operand, and the loop of each level behind the answer of the one before
+module _ {w x : List ℕ} {n d : ℕ} {o r f o1 r1 f1 : List ℕ} {s : State} {a : Answer} (q : Asked w x n o r f s) (R : Reads node w x n d P.parse-cast o r f s o1 r1 f1 a) where
+  pub levels : {o2 r2 f2 o3 r3 f3 o4 r4 f4 o5 r5 f5 o6 r6 f6 o7 r7 f7 : List ℕ} {b2 b3 b4 b5 b6 y : Answer} → Goes node node w x n d (operators-on A.Mul) (s .pos) (s .reported) o1 r1 f1 a o2 r2 f2 b2 → Goes node node w x n d (operators-on A.AddSub) (s .pos) (s .reported) o2 r2 f2 b2 o3 r3 f3 b3
+      → Goes node node w x n d (operators-on A.Shift) (s .pos) (s .reported) o3 r3 f3 b3 o4 r4 f4 b4 → Goes node node w x n d (operators-on A.BitAnd) (s .pos) (s .reported) o4 r4 f4 b4 o5 r5 f5 b5 → Goes node node w x n d (operators-on A.BitXor) (s .pos) (s .reported) o5 r5 f5 b5 o6 r6 f6 b6
+      → Goes node node w x n d (operators-on A.BitOr) (s .pos) (s .reported) o6 r6 f6 b6 o7 r7 f7 y → Reads node w x n d P.parse-bitwise-or o r f s o7 r7 f7 y
+  unfolding P.parse-mul P.parse-add-sub P.parse-bit-shift P.parse-bitwise-and P.parse-bitwise-xor P.parse-bitwise-or
+  levels g h i j k l =
+      then-asked (operators-on A.BitOr) q (then-asked (operators-on A.BitXor) q (then-asked (operators-on A.BitAnd) q (then-asked (operators-on A.Shift) q (then-asked (operators-on A.AddSub) q (then-asked (operators-on A.Mul) q R g) h) i) j) k) l
+
+  -- each gives what it is given
+  pub levels-pass : ((l : A.Level) → Goes node node w x n d (operators-on l) (s .pos) (s .reported) o1 r1 f1 a o1 r1 f1 a) → Reads node w x n d P.parse-bitwise-or o r f s o1 r1 f1 a
+  levels-pass g = levels (g A.Mul) (g A.AddSub) (g A.Shift) (g A.BitAnd) (g A.BitXor) (g A.BitOr)

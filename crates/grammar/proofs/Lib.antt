@@ -1,7 +1,9 @@
 pub mod Types
 pub mod Names
+pub mod Loops
 pub mod Lists
 pub mod Joins
+pub mod Turns
 pub mod Levels
 pub mod Calls
 pub mod Suffixes

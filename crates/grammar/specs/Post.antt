@@ -91,9 +91,15 @@ pub record ReadsList (w x : List ℕ) (n d : ℕ) (k : A.Listed) (o r f : List �
   pub never : a .how ≡ Fatal → ⊥
   pub is : (rd : List Consumed) → Shows items (take (s .pos) o) (errs r (s .reported)) [] [] w x n o′ r′ f′ a (go d (P.parse-list k >>= as-answer) (st-of w x n f rd s))
 
--- the loop, with the items i
-pub record ListOn (w x : List ℕ) (n d : ℕ) (k : A.Listed) (count : ℕ) (o r f : List ℕ) (s : State) (o′ r′ f′ : List ℕ) (a : Answer) : Type 0 where
+-- ---- loops that collect items
+
+-- the loop `on`, where so many items are read
+pub record LoopOn (on : Items → Act Items) (w x : List ℕ) (n d : ℕ) (count : ℕ) (o r f : List ℕ) (s : State) (o′ r′ f′ : List ℕ) (a : Answer) : Type 0 where
   pub moved : Moved w x n (s .pos) (s .reported) s (a .state)
   pub never : a .how ≡ Fatal → ⊥
   pub is : (rd : List Consumed) (T : List ℕ) (E : List Err) (i : Items) → take (s .pos) o ≡ T ++ recs-bytes (i .recs) → errs r (s .reported) ≡ E ++ i .errors → i .count ≡ count
-      → Shows items T E [] [] w x n o′ r′ f′ a (go d (loop (ListOf k i) done >>= as-answer) (st-of w x n f rd s))
+      → Shows items T E [] [] w x n o′ r′ f′ a (go d (on i >>= as-answer) (st-of w x n f rd s))
+
+-- the loop of a list
+abbrev pub listed-on : A.Listed → Items → Act Items
+listed-on k i = loop (ListOf k i) done

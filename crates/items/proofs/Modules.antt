@@ -26,9 +26,8 @@ use Rattle.steps.proofs.Answers.{say}
 use Rattle.leaves.specs.Leaves.{there, Counted}
 use Rattle.leaves.proofs.Errors.{raise-same, raise-reads}
 use Rattle.leaves.proofs.Atoms.{leaf-reads, texted, Ended, Alive}
-use Rattle.grammar.specs.Post.{as-answer}
-use Rattle.statement.specs.Post.{LoopOn}
-use Rattle.statement.proofs.Bodies.{loop-refused, loop-next}
+use Rattle.grammar.specs.Post.{as-answer, LoopOn}
+use Rattle.grammar.proofs.Loops.{loop-refused, loop-next}
 use Rattle.items.specs.Rules.{items-on}
 use Rattle.items.specs.Items.{ReadsModule}
 
@@ -71,7 +70,7 @@ module _ {w x : List ℕ} {n d : ℕ} {o r f : List ℕ} {s : State} {t : Front}
           unfolding go run P.parse-top-level-item
           item-other m54 i g = raise-reads (q .asks) u plain g d (λ rd. rw (run, either u 4 19 mf, any u 15 20 21 ma, no u m18, no u m5, no u m54) (raise-same d (rw (u .place, u .kind) (sym i)) (adv s u (λ _. plain) f rd)))
 
--- ---- `module_rest`
+-- ---- `module`
 
 module _ {w x : List ℕ} {n d count : ℕ} {o r f : List ℕ} {s : State} {t : Front} (q : Asked w x n o r f s × (count ≤ s .at)) (v : Seen w x n (s .at) t) where
   pub module-end : t .kind ≡ 0 → LoopOn items-on w x n d count o r f s o r f (record { how = Done; state = s; line = count; column = 0 })
@@ -91,7 +90,7 @@ module _ {w x : List ℕ} {n d count : ℕ} {o r f : List ℕ} {s : State} {t : 
     item-turn rd l = go-loop d (Module l) (st-of w x n f rd s) ∙ rw (run, no v m0)
 
     pub module-refused : Ended b → LoopOn items-on w x n d count o r f s o1 r1 f1 b
-    module-refused h = loop-refused items-on P.parse-top-level-item item-turn u h
+    module-refused h = loop-refused items-on items-on P.parse-top-level-item item-turn u h
 
     pub module-next : {k : ℕ} {o3 r3 f3 : List ℕ} {y : Answer} → Alive b → Counted (b .how) count k → LoopOn items-on w x n d k o1 r1 f1 (b .state) o3 r3 f3 y → LoopOn items-on w x n d count o r f s o3 r3 f3 y
     module-next h c l = loop-next items-on P.parse-top-level-item item-turn u h c l

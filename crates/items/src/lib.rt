@@ -19,11 +19,8 @@ use others::type_alias;
 use others::use_path;
 use steps::finish;
 use steps::head;
-ghost use Prim.Native.Nat.{_≤_};
 ghost use Rattle.definition.specs.Parser as P;
 ghost use Rattle.steps.specs.Shows.{Asked, Reads, node};
-ghost use Rattle.statement.specs.Post.{LoopOn};
-ghost use Rattle.items.specs.Rules.{items-on};
 ghost use Rattle.items.specs.Items.{ReadsModule};
 
 // parse_top_level_item
@@ -87,51 +84,7 @@ fn top_level_item(
 
 // ---- the module
 
-// {top_level_item} to the end, with so many items read. The answer's `line` is the count.
-fn module_rest(
-    tokens: &[u32],
-    text: &[u8],
-    n: usize,
-    file: &mut [u8],
-    rep: &mut [usize],
-    full: &mut [usize],
-    count: usize,
-    st: State,
-    left: usize,
-) -> Answer
-    requires { ⌜ Asked (now tokens) (now text) n (now file) (now rep) (now full) st × (count ≤ st .at) ⌝ }
-    ensures { λ r. ⌜ LoopOn items-on (now (tokens .entry)) (now (text .entry)) n left count (now (file .entry)) (now (rep .entry)) (now (full .entry)) st (now (file .exit)) (now (rep .exit)) (now (full .exit)) r ⌝ }
-{
-    let at = st.at;
-    let t = head(tokens, text, n, at);
-    if t.kind == kind::END {
-        return Answer {
-            how: How::Done,
-            state: st,
-            line: count,
-            column: 0,
-        };
-    }
-    let b = top_level_item(tokens, text, n, file, rep, full, st, left);
-    let how = b.how;
-    let s = b.state;
-    if let How::Refused(_) = how {
-        return b;
-    }
-    module_rest(
-        tokens,
-        text,
-        n,
-        file,
-        rep,
-        full,
-        counted(how, count),
-        s,
-        left,
-    )
-}
-
-// parse_module: all tokens, from the file's first byte on; `left` calls may be open at once.
+// parse_module: {top_level_item} to the end, from the file's first byte on; `left` calls may be open at once. The answer's `line` is the count of items.
 pub fn module(
     tokens: &[u32],
     text: &[u8],
@@ -144,20 +97,31 @@ pub fn module(
     requires { ⌜ Asked (now tokens) (now text) n (now file) (now rep) (now full) (record { at = 0; pos = 0; reported = 0; full = 0 }) ⌝ }
     ensures { λ r. ⌜ ReadsModule (now (tokens .entry)) (now (text .entry)) n left (now (file .exit)) (now (rep .exit)) (now (full .exit)) r ⌝ }
 {
-    module_rest(
-        tokens,
-        text,
-        n,
-        file,
-        rep,
-        full,
-        0,
-        State {
-            at: 0,
-            pos: 0,
-            reported: 0,
-            full: 0,
-        },
-        left,
-    )
+    let mut count = 0;
+    let mut st = State {
+        at: 0,
+        pos: 0,
+        reported: 0,
+        full: 0,
+    };
+    loop {
+        let at = st.at;
+        let t = head(tokens, text, n, at);
+        if t.kind == kind::END {
+            return Answer {
+                how: How::Done,
+                state: st,
+                line: count,
+                column: 0,
+            };
+        }
+        let b = top_level_item(tokens, text, n, file, rep, full, st, left);
+        let how = b.how;
+        let s = b.state;
+        if let How::Refused(_) = how {
+            return b;
+        }
+        count = counted(how, count);
+        st = s;
+    }
 }

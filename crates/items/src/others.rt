@@ -30,28 +30,30 @@ struct AliasWords {
     next: usize,
 }
 
-// {`distinct` | `internal`}, with those read before.
-fn modifiers(
-    tokens: &[u32],
-    text: &[u8],
-    n: usize,
-    distinct: u8,
-    internal: u8,
-    at: usize,
-) -> AliasWords
-    requires { ⌜ Held (now tokens) (now text) n × ((at ≤ n) × ((distinct ≤ 1) × (internal ≤ 2))) ⌝ }
-    ensures { λ r. ⌜ Modified (now (tokens .entry)) (now (text .entry)) n distinct internal at r ⌝ }
+// {`distinct` | `internal`}, from the token `from` on.
+fn modifiers(tokens: &[u32], text: &[u8], n: usize, from: usize) -> AliasWords
+    requires { ⌜ Held (now tokens) (now text) n × (from ≤ n) ⌝ }
+    ensures { λ r. ⌜ Modified (now (tokens .entry)) (now (text .entry)) n 0 0 from r ⌝ }
 {
-    let t = head(tokens, text, n, at);
-    if t.kind == kind::KW_DISTINCT {
-        return modifiers(tokens, text, n, 1, internal, t.next);
-    }
-    if t.kind == kind::KW_INTERNAL {
-        return modifiers(tokens, text, n, distinct, 2, t.next);
-    }
-    AliasWords {
-        words: distinct + internal,
-        next: at,
+    let mut distinct = 0;
+    let mut internal = 0;
+    let mut at = from;
+    loop {
+        let t = head(tokens, text, n, at);
+        if t.kind == kind::KW_DISTINCT {
+            distinct = 1;
+            at = t.next;
+            continue;
+        }
+        if t.kind == kind::KW_INTERNAL {
+            internal = 2;
+            at = t.next;
+            continue;
+        }
+        return AliasWords {
+            words: distinct + internal,
+            next: at,
+        };
     }
 }
 
@@ -136,7 +138,7 @@ pub fn type_alias(
 {
     let at = st.at;
     let t = head(tokens, text, n, at);
-    let m = modifiers(tokens, text, n, 0, 0, at);
+    let m = modifiers(tokens, text, n, at);
     let a = expect(
         tokens,
         text,

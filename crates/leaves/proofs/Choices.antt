@@ -1,6 +1,6 @@
 -- Which operator, comparison or prefix a kind is. Assumes nothing.
-use mathlib.Core.Path.{_≡_, refl, sym, _∙_, subst}
-use mathlib.Core.Bool.{Bool, true, false}
+use mathlib.Core.Path.{_≡_, refl, sym, ap, _∙_, subst}
+use mathlib.Core.Bool.{Bool, true, false, _||_}
 use mathlib.Core.List.{List, [], _∷_}
 use Prim.Native.Nat.{ℕ, min, _+_, _-_, _≤_}
 use native.Mathlib.Omega.{arith}
@@ -8,12 +8,13 @@ use lib.Dec.{eqb}
 use borrow.Author.Tests.{eq-eqb, ne-eqb, eqb-false}
 use Rattle.definition.specs.Fallible.{Ans}
 use Rattle.definition.specs.Token.{Tok, head}
+use Rattle.definition.specs.Act as A
 use Rattle.definition.specs.Act.{Node, Act, St, run}
 use Rattle.definition.specs.Kind as K
 use Rattle.definition.specs.Parser as P
 use Rattle.definition.specs.Go.{go}
 use Rattle.leaves.specs.declared.Level.{Level}
-use Rattle.leaves.specs.Leaves.{level-of, Operator, Prefix}
+use Rattle.leaves.specs.Leaves.{level-of, Operator, is-arithmetic, Prefix}
 
 -- where a table has the kind k, at r - 1; nowhere where r is 0
 pub record Finds (ops : List P.Op) (k r : ℕ) : Type 0 where
@@ -37,6 +38,33 @@ finds h g i = record { small = h; real = g; is = i .is }
 -- at the code's level
 pub at-level : {v v′ : Level} {k r : ℕ} → v ≡ v′ → r ≤ 8 → min r 1 ≤ k → Finds (P.mapping (level-of v′)) k r → Operator (P.mapping (level-of v)) k r
 at-level {v} {v′} {k} {r} e h g i = subst (λ (z : Level). Operator (P.mapping (level-of z)) k r) (sym e) (finds h g i)
+
+-- ---- no operator of any level
+
+neither : (a b : Bool) → (a || b) ≡ false → (a ≡ false) × (b ≡ false)
+neither true b e = absurd (omega (arith, ap {B = ℕ} (λ (x : Bool). elim x as (λ _. ℕ) [ true ↦ 1 | false ↦ 0 ]) e))
+neither false b e = (refl, e)
+
+module _ {k : ℕ} (bar : k ≡ K.Bar → ⊥) (caret : k ≡ K.Caret → ⊥) (ampersand : k ≡ K.Ampersand → ⊥) (left : k ≡ K.LeftShift → ⊥) (right : k ≡ K.RightShift → ⊥) (plus : k ≡ K.Plus → ⊥) (minus : k ≡ K.Minus → ⊥) (star : k ≡ K.Star → ⊥) where
+  nowhere : (l : A.Level) → Finds (P.mapping l) k 0
+  nowhere A.BitOr = miss bar none
+  nowhere A.BitXor = miss caret none
+  nowhere A.BitAnd = miss ampersand none
+  nowhere A.Shift = miss left (miss right none)
+  nowhere A.AddSub = miss plus (miss minus none)
+  nowhere A.Mul = miss star none
+
+pub no-operator : (k : ℕ) → is-arithmetic k ≡ false → (l : A.Level) → Operator (P.mapping l) k 0
+no-operator k e l =
+    let star = neither _ (eqb k K.Star) e in
+    let minus = neither _ (eqb k K.Minus) (star .0) in
+    let plus = neither _ (eqb k K.Plus) (minus .0) in
+    let right = neither _ (eqb k K.RightShift) (plus .0) in
+    let left = neither _ (eqb k K.LeftShift) (right .0) in
+    let ampersand = neither _ (eqb k K.Ampersand) (left .0) in
+    let caret = neither _ (eqb k K.Caret) (ampersand .0) in
+    finds (omega arith) (omega arith)
+    (nowhere (eqb-false k K.Bar (caret .0)) (eqb-false k K.Caret (caret .1)) (eqb-false k K.Ampersand (ampersand .1)) (eqb-false k K.LeftShift (left .1)) (eqb-false k K.RightShift (right .1)) (eqb-false k K.Plus (plus .1)) (eqb-false k K.Minus (minus .1)) (eqb-false k K.Star (star .1)) l)
 
 -- the prefix operators as a table, of their tags
 abbrev pub prefixes : List P.Op

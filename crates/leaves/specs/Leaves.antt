@@ -8,6 +8,7 @@ use Rattle.definition.specs.Fallible.{Err, Ans}
 use Rattle.definition.specs.Token.{Tok, head, dashed, number}
 use Rattle.definition.specs.Act as A
 use Rattle.definition.specs.Act.{Items, Node, Act, done, loop, ListOf, Consumed, St, refused}
+use Rattle.definition.specs.Kind as K
 use Rattle.definition.specs.Parser as P
 use Rattle.definition.specs.Go.{go}
 use Rattle.fallible.specs.declared.State.{State}
@@ -89,6 +90,10 @@ pub record Operator (ops : List P.Op) (k r : ℕ) : Type 0 where
   pub small : r ≤ 8
   pub real : min r 1 ≤ k
   pub is : (t : Tok) → t .kind ≡ k → (found : ℕ → Act (Ans Node)) (other : Act (Ans Node)) (d : ℕ) (S : St) → go d (P.find t ops found other) S ≡ go d (elim (eqb r 0) [ true ↦ other | false ↦ found (r - 1) ]) S
+
+-- the kind k is an operator of a level
+abbrev pub is-arithmetic : ℕ → Bool
+is-arithmetic k = eqb k K.Bar || eqb k K.Caret || eqb k K.Ampersand || eqb k K.LeftShift || eqb k K.RightShift || eqb k K.Plus || eqb k K.Minus || eqb k K.Star
 
 -- the kind k has the prefix tag r, or none where r is 0
 pub record Prefix (k r : ℕ) : Type 0 where

@@ -21,7 +21,7 @@ ghost use Rattle.definition.specs.Parser as P;
 ghost use Rattle.definition.specs.Token.{digit};
 ghost use Rattle.node.specs.Put.{Room};
 ghost use Rattle.steps.specs.Shows.{Asks, Reads, Finished, node};
-ghost use Rattle.leaves.specs.Leaves.{listed-of, Counted, Commas, Valued, level-of, Operator, Prefix, there, Literal, Closed};
+ghost use Rattle.leaves.specs.Leaves.{is-arithmetic, listed-of, Counted, Commas, Valued, level-of, Operator, Prefix, there, Literal, Closed};
 
 // The lists of parse_bounded_list_of.
 pub enum Listed {
@@ -206,6 +206,20 @@ pub fn operator(level: Level, k: u32) -> u8
         }
         Level::Mul => if k == kind::STAR { 3 } else { 0 },
     }
+}
+
+// Whether a kind is an operator of any level.
+pub fn arithmetic(k: u32) -> bool
+    ensures { λ r. ⌜ r ≡ is-arithmetic k ⌝ }
+{
+    (k == kind::BAR)
+        | (k == kind::CARET)
+        | (k == kind::AMPERSAND)
+        | (k == kind::LEFT_SHIFT)
+        | (k == kind::RIGHT_SHIFT)
+        | (k == kind::PLUS)
+        | (k == kind::MINUS)
+        | (k == kind::STAR)
 }
 
 // The comparison that a kind is, one more than its position in `ComparisonBinOp`; 0 where it is none.

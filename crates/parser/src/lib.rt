@@ -65,7 +65,7 @@ fn end_file(
 }
 
 // Good records, at least one token: the tree, its errors and zeros; of a refusal zeros alone.
-fn read_tokens(
+pub fn read_tokens(
     tokens: &[u32],
     count: usize,
     errors: &[u32],

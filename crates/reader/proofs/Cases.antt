@@ -8,20 +8,20 @@ use native.Mathlib.Omega.{arith}
 use lib.Dec.{eqb, ltb, leb}
 use lib.ListN.{length}
 use borrow.Author.Tests.{lt-ltb, le-ltb, ltb-false, le-leb, eq-eqb, ne-eqb}
-use Rattle.definition.specs.Source.{Ch, characters}
+use Rattle.definition.specs.Source.{Ch, characters, is-some}
 use Rattle.definition.specs.Fallible.{Err}
 use Rattle.definition.specs.Token.{Tok}
 use Rattle.definition.specs.Tokenizer as Z
 use Rattle.definition.specs.Tokenizer.{tokenize}
 use Rattle.definition.specs.Operations as O
-use Rattle.definition.specs.Operations.{Tokenised, untouched, tokenise, tokenised, handed, kept, written, read, read-tokens, read-tokenised, whole}
+use Rattle.definition.specs.Operations.{Tokenised, untouched, tokenise, tokenised, handed, kept, written, read-tokens, read-tokenised, whole}
 use Rattle.definition.proofs.Tests.{clash}
 use Rattle.definition.proofs.ReadBack.{read-back}
 use Rattle.definition.proofs.Readings.{tokenize-refuses}
 use Rattle.zeros.specs.Cleared.{Cleared}
 use Rattle.zeros.proofs.Clearing.{cleared-filled}
-use Rattle.parser.specs.Answer.{answer}
-use Rattle.parser.proofs.Readings.{read-accepted}
+use Rattle.parser.specs.declared.Written.{Written}
+use Rattle.parser.specs.Answer.{answer, ReadHanded}
 
 -- What Tokenise answers of the script s, in slices that are long enough, and what the whole operation does with it on the file slice o.
 pub data Case (s o : List ℕ) (R : Tokenised) : Type 0 where
@@ -134,6 +134,13 @@ module _ {s o : List ℕ} {R : Tokenised} where
   whole-untouched (stopped n e g) h = clash (sym h ∙ own-none (R .number) (λ z. omega (arith, n, z)) (λ z. omega (arith, n, z)))
   whole-untouched (tokens ts es n k b e g) h = clash (sym h ∙ own-none (R .number) (λ z. omega (arith, n, z)) (λ z. omega (arith, n, z)))
 
+  -- the records are good
+  pub whole-handed : Case s o R → R .number ≡ 0 → is-some (handed (R .toks) (R .tokens) (R .errs) (R .errors) (R .text)) ≡ true
+  whole-handed (long n e) z = absurd (omega (arith, n, z))
+  whole-handed (foreign n e) z = absurd (omega (arith, n, z))
+  whole-handed (stopped n e g) z = absurd (omega (arith, n, z))
+  whole-handed (tokens ts es n k b e g) z = ap is-some b
+
   module _ (m : own (R .number) ≡ false) where
     -- the test of the file slice
     pub whole-short : Case s o R → length o < 65536 → kept 3 o ≡ whole s o
@@ -157,9 +164,9 @@ module _ {s o : List ℕ} {R : Tokenised} where
       whole-none (tokens [] es n k b e g) z y = sym (g l)
       whole-none (tokens (t ∷ ts) es n k b e g) z y = absurd (omega (arith, k, y))
 
-      pub whole-read : Case s o R → R .number ≡ 0 → (R .tokens ≡ 0 → ⊥) → read (R .toks) (R .tokens) (R .errs) (R .errors) (R .text) o ≡ whole s o
-      whole-read (long n e) z y = absurd (omega (arith, n, z))
-      whole-read (foreign n e) z y = absurd (omega (arith, n, z))
-      whole-read (stopped n e g) z y = absurd (omega (arith, n, z))
-      whole-read (tokens [] es n k b e g) z y = absurd (y k)
-      whole-read (tokens (t ∷ ts) es n k b e g) z y = read-accepted (R .toks) (R .tokens) (R .errs) (R .errors) (R .text) o l b ∙ sym (g l)
+      pub whole-read : {o′ : List ℕ} {w : Written} → Case s o R → R .number ≡ 0 → (R .tokens ≡ 0 → ⊥) → ReadHanded (R .toks) (R .tokens) (R .errs) (R .errors) (R .text) o o′ w → answer w o′ ≡ whole s o
+      whole-read (long n e) z y h = absurd (omega (arith, n, z))
+      whole-read (foreign n e) z y h = absurd (omega (arith, n, z))
+      whole-read (stopped n e g) z y h = absurd (omega (arith, n, z))
+      whole-read (tokens [] es n k b e g) z y h = absurd (y k)
+      whole-read (tokens (t ∷ ts) es n k b e g) z y h = h _ b ∙ sym (g l)

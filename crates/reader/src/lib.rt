@@ -2,7 +2,7 @@
 use definition::limit;
 use definition::refusal;
 use parser::Written;
-use parser::read;
+use parser::read_tokens;
 use tokenizer::tokenize;
 use zeros::clear_bytes;
 ghost use mathlib.Core.Path.{_≡_};
@@ -17,7 +17,7 @@ fn cleared(number: u32, file: &mut [u8]) -> Written
     Written { number, bytes: 0 }
 }
 
-// The whole operation, with token slices of its own.
+// The whole operation, with token slices of its own: Tokenise's records are good, so they are not tested again.
 pub fn read_script(script: &[u8], file: &mut [u8]) -> Written
     ensures { λ r. ⌜ answer r (now (file .exit)) ≡ O.whole (now (script .entry)) (now (file .entry)) ⌝ }
 {
@@ -43,7 +43,7 @@ pub fn read_script(script: &[u8], file: &mut [u8]) -> Written
     if t.tokens == 0 {
         return cleared(refusal::NO_TOKENS, file);
     }
-    read(&tokens, t.tokens, &errors, t.errors, &text, file)
+    read_tokens(&tokens, t.tokens, &errors, t.errors, &text, file)
 }
 
 // The entry for C: the number, the file's bytes through `bytes`.

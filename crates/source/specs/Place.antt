@@ -2,13 +2,19 @@
 use mathlib.Core.Path.{_≡_}
 use mathlib.Core.List.{List, [], _∷_}
 use mathlib.Core.Option.{Option, none, some}
-use Prim.Native.Nat.{ℕ, _+_, _-_, _≤_}
+use Prim.Native.Nat.{ℕ, max, _+_, _-_, _≤_}
 use lib.Dec.{eqb, ltb}
 use lib.ListN.{length, getD, take, drop}
 use Rattle.definition.specs.Source.{Place, Ch, Lead, single, with-more, wrong, lead, decode, fresh}
 use Rattle.definition.specs.Choice.{pick}
 use Rattle.source.specs.declared.Need.{Need}
 use Rattle.source.specs.declared.Cursor.{Cursor}
+
+-- ---- the highest byte
+
+unfoldable pub highest-of : List ℕ → ℕ
+highest-of [] = 0
+highest-of (b ∷ bs) = max b (highest-of bs)
 
 -- ---- what a byte asks for
 

@@ -3,7 +3,7 @@ ghost use mathlib.Core.Path.{_≡_};
 ghost use Prim.Native.Nat.{_+_, _<_, _≤_};
 ghost use lib.ListN.{length};
 ghost use Rattle.definition.specs.Source.{lead, utf8};
-ghost use Rattle.source.specs.Place.{need-of, next-need, needed, more, Stands, Stepped};
+ghost use Rattle.source.specs.Place.{highest-of, need-of, next-need, needed, more, Stands, Stepped};
 
 // ---- UTF-8
 
@@ -76,10 +76,29 @@ fn next_need(n: Need, b: u8) -> Need
     asks(missing - 1, 0x80, 0xBF)
 }
 
-// Whether the bytes are UTF-8.
+// The highest byte.
+fn highest(s: &[u8]) -> u8
+    ensures { λ r. ⌜ r ≡ highest-of (now (s .entry)) ⌝ }
+{
+    let mut high = 0u8;
+    let mut i = 0;
+    while i < s.len() {
+        let b = s[i];
+        if high < b {
+            high = b;
+        }
+        i += 1;
+    }
+    high
+}
+
+// Whether the bytes are UTF-8. Those below 128 are; else each byte is held to what those before it ask for.
 pub fn valid(s: &[u8]) -> bool
     ensures { λ r. ⌜ r ≡ utf8 (now (s .entry)) ⌝ }
 {
+    if highest(s) < 0x80 {
+        return true;
+    }
     let mut n = asks(0, 0x80, 0xBF);
     let mut i = 0;
     while i < s.len() {

@@ -86,13 +86,6 @@ pub record ReadsBody (w x : List ℕ) (n d : ℕ) (o r f : List ℕ) (s : State)
   pub never : a .how ≡ Fatal → ⊥
   pub is : (rd : List Consumed) → Shows items (take (s .pos) o) (errs r (s .reported)) [] [] w x n o′ r′ f′ a (go d (P.parse-body >>= as-answer) (st-of w x n f rd s))
 
--- a loop that collects items, with the items i
-pub record LoopOn (on : Items → Act Items) (w x : List ℕ) (n d : ℕ) (count : ℕ) (o r f : List ℕ) (s : State) (o′ r′ f′ : List ℕ) (a : Answer) : Type 0 where
-  pub moved : Moved w x n (s .pos) (s .reported) s (a .state)
-  pub never : a .how ≡ Fatal → ⊥
-  pub is : (rd : List Consumed) (T : List ℕ) (E : List Err) (i : Items) → take (s .pos) o ≡ T ++ recs-bytes (i .recs) → errs r (s .reported) ≡ E ++ i .errors → i .count ≡ count
-      → Shows items T E [] [] w x n o′ r′ f′ a (go d (on i >>= as-answer) (st-of w x n f rd s))
-
 -- the loop of a body
 abbrev pub statements-on : Items → Act Items
 statements-on i = loop (Body i) done

@@ -25,12 +25,12 @@ use simple::var_statement;
 use steps::expect;
 use steps::finish;
 use steps::head;
-ghost use Prim.Native.Nat.{_≤_};
 ghost use Rattle.definition.specs.Kind as K;
 ghost use Rattle.definition.specs.Parser as P;
 ghost use Rattle.steps.specs.Shows.{Asked, Reads, node};
 ghost use Rattle.statement.specs.Rules.{guarded-rule};
-ghost use Rattle.statement.specs.Post.{Starts, ReadsBody, LoopOn, statements-on};
+ghost use Rattle.grammar.specs.Post.{LoopOn};
+ghost use Rattle.statement.specs.Post.{Starts, ReadsBody, statements-on};
 
 // ---- bodies
 
@@ -52,7 +52,7 @@ pub fn body(
     let how = a.how;
     let s = a.state;
     match how {
-        How::Done => body_rest(tokens, text, n, file, rep, full, 0, s, left),
+        How::Done => body_rest(tokens, text, n, file, rep, full, s, left),
         How::Fatal => Answer {
             how: How::Done,
             state: s,
@@ -63,7 +63,7 @@ pub fn body(
     }
 }
 
-// Its loop, with so many statements read.
+// Its loop.
 fn body_rest(
     tokens: &[u32],
     text: &[u8],
@@ -71,57 +71,51 @@ fn body_rest(
     file: &mut [u8],
     rep: &mut [usize],
     full: &mut [usize],
-    count: usize,
-    st: State,
+    from: State,
     left: usize,
 ) -> Answer
-    requires { ⌜ Asked (now tokens) (now text) n (now file) (now rep) (now full) st × (count ≤ st .at) ⌝ }
-    ensures { λ r. ⌜ LoopOn statements-on (now (tokens .entry)) (now (text .entry)) n left count (now (file .entry)) (now (rep .entry)) (now (full .entry)) st (now (file .exit)) (now (rep .exit)) (now (full .exit)) r ⌝ }
+    requires { ⌜ Asked (now tokens) (now text) n (now file) (now rep) (now full) from ⌝ }
+    ensures { λ r. ⌜ LoopOn statements-on (now (tokens .entry)) (now (text .entry)) n left 0 (now (file .entry)) (now (rep .entry)) (now (full .entry)) from (now (file .exit)) (now (rep .exit)) (now (full .exit)) r ⌝ }
 {
-    let at = st.at;
-    let t = head(tokens, text, n, at);
-    if t.kind == kind::R_BRACE {
-        return Answer {
-            how: How::Done,
-            state: State { at: t.next, ..st },
-            line: count,
-            column: 0,
-        };
-    }
-    if t.kind == kind::END {
-        let b = note(
-            n,
-            rep,
-            full,
-            st,
-            entry(parse_error::BODY_AT_END, 0, 0, 0, 0),
-        );
+    let mut count = 0;
+    let mut st = from;
+    loop {
+        let at = st.at;
+        let t = head(tokens, text, n, at);
+        if t.kind == kind::R_BRACE {
+            return Answer {
+                how: How::Done,
+                state: State { at: t.next, ..st },
+                line: count,
+                column: 0,
+            };
+        }
+        if t.kind == kind::END {
+            let b = note(
+                n,
+                rep,
+                full,
+                st,
+                entry(parse_error::BODY_AT_END, 0, 0, 0, 0),
+            );
+            let how = b.how;
+            let s = b.state;
+            return Answer {
+                how,
+                state: s,
+                line: count,
+                column: 0,
+            };
+        }
+        let b = statement(tokens, text, n, file, rep, full, st, left);
         let how = b.how;
         let s = b.state;
-        return Answer {
-            how,
-            state: s,
-            line: count,
-            column: 0,
-        };
+        if let How::Refused(_) = how {
+            return b;
+        }
+        count = counted(how, count);
+        st = s;
     }
-    let b = statement(tokens, text, n, file, rep, full, st, left);
-    let how = b.how;
-    let s = b.state;
-    if let How::Refused(_) = how {
-        return b;
-    }
-    body_rest(
-        tokens,
-        text,
-        n,
-        file,
-        rep,
-        full,
-        counted(how, count),
-        s,
-        left,
-    )
 }
 
 // ---- statements

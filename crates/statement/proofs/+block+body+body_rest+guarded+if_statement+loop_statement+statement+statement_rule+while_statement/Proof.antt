@@ -54,7 +54,7 @@ pub +block+body+body-rest+guarded+if-statement+loop-statement+statement+statemen
     μ-while-statement
     (λ t. block-lts.spec (N-block.given t) (block-at t) block.Post (N-block.head-requires t) (N-block.body-requires t) (N-block.finish-requires t) (N-block.same-length t) (N-block.same-length-2 t) (N-block.same-length-3 t) (N-block.returns t))
     (λ t. body-lts.spec (N-body.given t) (body-at t) body.Post (N-body.expect-requires t) (N-body.enum-told t) (N-body.body-rest-requires t) (N-body.enum-told-2 t) (N-body.enum-told-3 t) (N-body.same-length t) (N-body.same-length-2 t) (N-body.same-length-3 t) (N-body.returns t) (N-body.same-length-4 t) (N-body.same-length-5 t) (N-body.returns-2 t) (N-body.same-length-6 t) (N-body.same-length-7 t) (N-body.returns-3 t))
-    (λ t. body-rest-lts.spec (N-body-rest.given t) (body-rest-at t) body-rest.Post (N-body-rest.head-requires t) (N-body-rest.returns t) (N-body-rest.entry-requires t) (N-body-rest.note-requires t) (N-body-rest.same-length t) (N-body-rest.same-length-2 t) (N-body-rest.returns-2 t) (N-body-rest.statement-requires t) (N-body-rest.enum-told t) (N-body-rest.same-length-3 t) (N-body-rest.same-length-4 t) (N-body-rest.same-length-5 t) (N-body-rest.returns-3 t) (N-body-rest.counted-requires t) (N-body-rest.body-rest-requires t) (N-body-rest.same-length-6 t) (N-body-rest.same-length-7 t) (N-body-rest.same-length-8 t) (N-body-rest.returns-4 t))
+    (λ t. body-rest-lts.spec (N-body-rest.given t) (body-rest-at t) body-rest.Post N-body-rest.Inv-loop N-body-rest.μ-loop (N-body-rest.loop-holds t) (N-body-rest.head-requires t) (N-body-rest.same-length t) (N-body-rest.same-length-2 t) (N-body-rest.same-length-3 t) (N-body-rest.returns t) (N-body-rest.entry-requires t) (N-body-rest.note-requires t) (N-body-rest.same-length-4 t) (N-body-rest.same-length-5 t) (N-body-rest.same-length-6 t) (N-body-rest.returns-2 t) (N-body-rest.statement-requires t) (N-body-rest.enum-told t) (N-body-rest.same-length-7 t) (N-body-rest.same-length-8 t) (N-body-rest.same-length-9 t) (N-body-rest.returns-3 t) (N-body-rest.counted-requires t) (N-body-rest.loop-less t) (N-body-rest.loop-again t))
     (λ t. guarded-lts.spec (N-guarded.given t) (guarded-at t) guarded.Post (N-guarded.expression-requires t) (N-guarded.enum-told t) (N-guarded.same-length t) (N-guarded.same-length-2 t) (N-guarded.same-length-3 t) (N-guarded.returns t) (N-guarded.statement-requires t) (N-guarded.abandon-requires t) (N-guarded.same-length-4 t) (N-guarded.same-length-5 t) (N-guarded.same-length-6 t) (N-guarded.returns-2 t))
     (λ t. if-statement-lts.spec (N-if-statement.given t) (if-statement-at t) if-statement.Post (N-if-statement.head-requires t) (N-if-statement.guarded-requires t) (N-if-statement.enum-told t) (N-if-statement.same-length t) (N-if-statement.same-length-2 t) (N-if-statement.same-length-3 t) (N-if-statement.returns t) (N-if-statement.head-requires-2 t) (N-if-statement.finish-requires t) (N-if-statement.same-length-4 t) (N-if-statement.same-length-5 t) (N-if-statement.same-length-6 t) (N-if-statement.returns-2 t) (N-if-statement.statement-requires t) (N-if-statement.abandon-requires t) (N-if-statement.finish-requires-2 t) (N-if-statement.same-length-7 t) (N-if-statement.same-length-8 t) (N-if-statement.same-length-9 t) (N-if-statement.returns-3 t))
     (λ t. loop-statement-lts.spec (N-loop-statement.given t) (loop-statement-at t) loop-statement.Post (N-loop-statement.head-requires t) (N-loop-statement.statement-requires t) (N-loop-statement.finish-requires t) (N-loop-statement.same-length t) (N-loop-statement.same-length-2 t) (N-loop-statement.same-length-3 t) (N-loop-statement.returns t))

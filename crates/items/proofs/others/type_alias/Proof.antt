@@ -11,7 +11,7 @@ type-alias-spec =
     tie.close
     (tie.spec
     (λ c κs. (c .before .before .before .before .before .pre .asks .held, c .before .before .before .before .before .pre .asks .at))
-    (λ c κs. (c .before .before .before .before .before .before .pre .asks .held, (c .before .before .before .before .before .before .pre .asks .at, (omega arith, omega arith))))
+    (λ c κs. (c .before .before .before .before .before .before .pre .asks .held, c .before .before .before .before .before .before .pre .asks .at))
     (λ c κs. (asks-moved (c .before .before .before .before .before .before .before .before .before .pre .asks) (modified-moved (c .before .before .before .before .before .before .before .before .before .pre) (c .before .before .modifiers .ensures)) refl refl, (omega arith, omega arith)))
     (λ c. search needs)
     (λ c. omega (arith, c .before .before .before .before .before .expect .kept))

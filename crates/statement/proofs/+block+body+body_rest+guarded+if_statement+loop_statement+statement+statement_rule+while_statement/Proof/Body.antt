@@ -1,5 +1,7 @@
 -- The needs of `body`.
-use Rattle.statement.proofs.Bodies.{body-asked, body-refused, body-none, body-on}
+use mathlib.Core.Path.{refl}
+use Rattle.steps.proofs.Moves.{asked-moved}
+use Rattle.statement.proofs.Bodies.{body-refused, body-none, body-on}
 use Rattle.statement.proofs.Spare.{passed}
 use borrow.Author.Needs.{needs}
 use native.Mathlib.Omega.{arith}
@@ -21,7 +23,7 @@ module _ (t : ℕ) where
   enum-told c = search needs
 
   pub body-rest-requires : lts.Need-body-rest-requires given (body-at t) body.Post
-  body-rest-requires c κs = (omega (arith, c .before .before .before .before .before .before .before .before .before .before .before .before .before .before .before .before .before .before .pre .0, c .before .before .before .before .before .before .before .before .before .before .expect .ensures .moved .end, passed (c .before .before .before .before .before .before .before .before .before .before .expect .ensures) (c .before .before .before .enum-told .given .1)), body-asked (c .before .before .before .before .before .before .before .before .before .before .before .before .before .before .before .before .before .before .pre .1) (c .before .before .before .before .before .before .before .before .before .before .expect .ensures .moved) (omega (arith, c .before .before .before .before .before .before .before .before .before .before .expect .kept)) (omega (arith, c .before .before .before .before .before .before .before .before .before .before .expect .kept)))
+  body-rest-requires c κs = (omega (arith, c .before .before .before .before .before .before .before .before .before .before .before .before .before .before .before .before .before .before .pre .0, c .before .before .before .before .before .before .before .before .before .before .expect .ensures .moved .end, passed (c .before .before .before .before .before .before .before .before .before .before .expect .ensures) (c .before .before .before .enum-told .given .1)), asked-moved (c .before .before .before .before .before .before .before .before .before .before .before .before .before .before .before .before .before .before .pre .1) (c .before .before .before .before .before .before .before .before .before .before .expect .ensures .moved) refl (omega (arith, c .before .before .before .before .before .before .before .before .before .before .expect .kept)) (omega (arith, c .before .before .before .before .before .before .before .before .before .before .expect .kept)))
 
   pub enum-told-2 : lts.Need-enum-told-2 given (body-at t) body.Post
   enum-told-2 c = search needs

@@ -1,9 +1,13 @@
 -- The needs of `body_rest`.
 use Rattle.grammar.proofs.Types.{raise-asked}
-use Rattle.statement.proofs.Bodies.{rest-closed, rest-end, rest-refused, rest-next, loop-asked}
+use Rattle.grammar.proofs.Turns.{ItemsTurned, at-start, one-turn}
+use Rattle.grammar.specs.Post.{LoopOn}
+use Rattle.grammar.proofs.Loops.{loop-asked}
+use Rattle.statement.specs.Post.{statements-on}
+use Rattle.statement.proofs.Bodies.{rest-closed, rest-end, rest-refused, rest-next}
 use borrow.Author.Needs.{needs}
 use native.Mathlib.Omega.{arith}
-use Prim.Native.Nat.{ℕ}
+use Prim.Native.Nat.{ℕ, _-_}
 use Rattle.statement.proofs.+block+body+body_rest+guarded+if_statement+loop_statement+statement+statement_rule+while_statement.Lts-body_rest as lts
 use Rattle.statement.proofs.body_rest.Reads as body-rest
 use Rattle.statement.proofs.statement.Reads as statement′
@@ -11,65 +15,77 @@ use Rattle.fallible.proofs.entry.Reads as entry-reads
 use Rattle.fallible.proofs.note.Reads as note-reads
 use Rattle.leaves.proofs.counted.Reads as counted-reads
 use Rattle.steps.proofs.head.Reads as head-reads
-use Rattle.statement.proofs.+block+body+body_rest+guarded+if_statement+loop_statement+statement+statement_rule+while_statement.Proof.Falls.{body-rest-at, body-rest-below, statement-below}
+use Rattle.statement.proofs.+block+body+body_rest+guarded+if_statement+loop_statement+statement+statement_rule+while_statement.Proof.Falls.{body-rest-at, statement-below}
+
+abbrev pub Inv-loop : lts.InvT-loop
+Inv-loop w x n o₀ r₀ f₀ d count₀ s₀ o r f count s = ItemsTurned (LoopOn statements-on w x n d) w x n count₀ o₀ r₀ f₀ s₀ count o r f s
+
+abbrev pub μ-loop : lts.MeasureT-loop
+μ-loop w x n o₀ r₀ f₀ d count₀ s₀ o r f count s = n - s .at
 
 module _ (t : ℕ) where
   abbrev pub given : lts.Claims
-  given = (head-reads.Asked, head-reads.Learnt, entry-reads.Asked, entry-reads.Learnt, note-reads.Asked, note-reads.Learnt, statement-below t, statement′.Post, counted-reads.Asked, counted-reads.Learnt, body-rest-below t, body-rest.Post)
+  given = (head-reads.Asked, head-reads.Learnt, entry-reads.Asked, entry-reads.Learnt, note-reads.Asked, note-reads.Learnt, statement-below t, statement′.Post, counted-reads.Asked, counted-reads.Learnt)
 
-  pub head-requires : lts.Need-head-requires given (body-rest-at t) body-rest.Post
-  head-requires c κs = (c .before .before .before .before .before .pre .1 .0 .asks .held, c .before .before .before .before .before .pre .1 .0 .asks .at)
+  pub loop-holds : lts.Need-loop-holds given (body-rest-at t) body-rest.Post Inv-loop μ-loop
+  loop-holds c = ((c .before .before .before .before .before .pre .1, omega arith), at-start)
 
-  pub returns : lts.Need-returns given (body-rest-at t) body-rest.Post
-  returns c = rest-closed (c .before .before .before .before .before .before .before .before .pre .1) (c .before .before .head .ensures) (c .if1 .taken)
+  pub head-requires : lts.Need-head-requires given (body-rest-at t) body-rest.Post Inv-loop μ-loop
+  head-requires c κs = (c .loop .inv .0 .0 .asks .held, c .loop .inv .0 .0 .asks .at)
 
-  pub entry-requires : lts.Need-entry-requires given (body-rest-at t) body-rest.Post
+  pub same-length : lts.Need-same-length given (body-rest-at t) body-rest.Post Inv-loop μ-loop
+  same-length c = omega (arith, c .before .before .before .loop .inv .1)
+
+  pub same-length-2 : lts.Need-same-length-2 given (body-rest-at t) body-rest.Post Inv-loop μ-loop
+  same-length-2 c = omega (arith, c .before .before .before .loop .inv .1)
+
+  pub same-length-3 : lts.Need-same-length-3 given (body-rest-at t) body-rest.Post Inv-loop μ-loop
+  same-length-3 c = omega (arith, c .before .before .before .loop .inv .1)
+
+  pub returns : lts.Need-returns given (body-rest-at t) body-rest.Post Inv-loop μ-loop
+  returns c = c .before .before .before .loop .inv .1 .rest (rest-closed (c .before .before .before .loop .inv .0) (c .before .before .head .ensures) (c .if1 .taken))
+
+  pub entry-requires : lts.Need-entry-requires given (body-rest-at t) body-rest.Post Inv-loop μ-loop
   entry-requires c κs = omega arith
 
-  pub note-requires : lts.Need-note-requires given (body-rest-at t) body-rest.Post
-  note-requires c κs = raise-asked (c .before .before .before .before .before .before .before .before .before .before .before .before .before .pre .1 .0)
+  pub note-requires : lts.Need-note-requires given (body-rest-at t) body-rest.Post Inv-loop μ-loop
+  note-requires c κs = raise-asked (c .before .before .before .before .before .before .before .before .loop .inv .0 .0)
 
-  pub same-length : lts.Need-same-length given (body-rest-at t) body-rest.Post
-  same-length c = omega (arith, c .before .before .before .before .before .note .kept)
+  pub same-length-4 : lts.Need-same-length-4 given (body-rest-at t) body-rest.Post Inv-loop μ-loop
+  same-length-4 c = omega (arith, c .before .before .before .before .before .before .before .before .before .before .before .before .before .before .loop .inv .1)
 
-  pub same-length-2 : lts.Need-same-length-2 given (body-rest-at t) body-rest.Post
-  same-length-2 c = omega (arith, c .before .before .before .before .before .note .kept)
+  pub same-length-5 : lts.Need-same-length-5 given (body-rest-at t) body-rest.Post Inv-loop μ-loop
+  same-length-5 c = omega (arith, c .before .before .before .before .before .before .before .before .before .before .before .before .before .before .loop .inv .1, c .before .before .before .before .before .note .kept)
 
-  pub returns-2 : lts.Need-returns-2 given (body-rest-at t) body-rest.Post
-  returns-2 c = rest-end (c .before .before .before .before .before .before .before .before .before .before .before .before .before .before .before .before .before .before .before .pre .1) (c .before .before .before .before .before .before .before .before .before .before .before .before .before .head .ensures) (c .before .before .before .before .before .before .before .before .before .before .before .if1 .left) (c .before .before .before .before .before .before .before .before .before .if2 .taken) (c .before .before .before .before .before .before .entry .ensures) (c .before .before .before .before .before .note .ensures)
+  pub same-length-6 : lts.Need-same-length-6 given (body-rest-at t) body-rest.Post Inv-loop μ-loop
+  same-length-6 c = omega (arith, c .before .before .before .before .before .before .before .before .before .before .before .before .before .before .loop .inv .1, c .before .before .before .before .before .note .kept)
 
-  pub statement-requires : lts.Need-statement-requires given (body-rest-at t) body-rest.Post
-  statement-requires c κs = (omega (arith, c .before .before .before .before .before .before .before .before .before .before .before .before .before .pre .0), c .before .before .before .before .before .before .before .before .before .before .before .before .before .pre .1 .0)
+  pub returns-2 : lts.Need-returns-2 given (body-rest-at t) body-rest.Post Inv-loop μ-loop
+  returns-2 c = c .before .before .before .before .before .before .before .before .before .before .before .before .before .before .loop .inv .1 .rest (rest-end (c .before .before .before .before .before .before .before .before .before .before .before .before .before .before .loop .inv .0) (c .before .before .before .before .before .before .before .before .before .before .before .before .before .head .ensures) (c .before .before .before .before .before .before .before .before .before .before .before .if1 .left) (c .before .before .before .before .before .before .before .before .before .if2 .taken) (c .before .before .before .before .before .before .entry .ensures) (c .before .before .before .before .before .note .ensures))
 
-  pub enum-told : lts.Need-enum-told given (body-rest-at t) body-rest.Post
+  pub statement-requires : lts.Need-statement-requires given (body-rest-at t) body-rest.Post Inv-loop μ-loop
+  statement-requires c κs = (omega (arith, c .before .before .before .before .before .before .before .before .before .before .before .before .before .before .pre .0, c .before .before .before .before .before .before .before .before .loop .inv .1 .on), c .before .before .before .before .before .before .before .before .loop .inv .0 .0)
+
+  pub enum-told : lts.Need-enum-told given (body-rest-at t) body-rest.Post Inv-loop μ-loop
   enum-told c = search needs
 
-  pub same-length-3 : lts.Need-same-length-3 given (body-rest-at t) body-rest.Post
-  same-length-3 c = omega (arith, c .before .before .before .before .before .before .before .before .before .statement .kept)
+  pub same-length-7 : lts.Need-same-length-7 given (body-rest-at t) body-rest.Post Inv-loop μ-loop
+  same-length-7 c = omega (arith, c .before .before .before .before .before .before .before .before .before .before .before .before .before .before .before .before .before .before .loop .inv .1, c .before .before .before .before .before .before .before .before .before .statement .kept)
 
-  pub same-length-4 : lts.Need-same-length-4 given (body-rest-at t) body-rest.Post
-  same-length-4 c = omega (arith, c .before .before .before .before .before .before .before .before .before .statement .kept)
+  pub same-length-8 : lts.Need-same-length-8 given (body-rest-at t) body-rest.Post Inv-loop μ-loop
+  same-length-8 c = omega (arith, c .before .before .before .before .before .before .before .before .before .before .before .before .before .before .before .before .before .before .loop .inv .1, c .before .before .before .before .before .before .before .before .before .statement .kept)
 
-  pub same-length-5 : lts.Need-same-length-5 given (body-rest-at t) body-rest.Post
-  same-length-5 c = omega (arith, c .before .before .before .before .before .before .before .before .before .statement .kept)
+  pub same-length-9 : lts.Need-same-length-9 given (body-rest-at t) body-rest.Post Inv-loop μ-loop
+  same-length-9 c = omega (arith, c .before .before .before .before .before .before .before .before .before .before .before .before .before .before .before .before .before .before .loop .inv .1, c .before .before .before .before .before .before .before .before .before .statement .kept)
 
-  pub returns-3 : lts.Need-returns-3 given (body-rest-at t) body-rest.Post
-  returns-3 c = rest-refused (c .before .before .before .before .before .before .before .before .before .before .before .before .before .before .before .before .before .before .before .before .before .before .before .pre .1) (c .before .before .before .before .before .before .before .before .before .before .before .before .before .before .before .before .before .head .ensures) (c .before .before .before .before .before .before .before .before .before .before .before .before .before .before .before .if1 .left) (c .before .before .before .before .before .before .before .before .before .before .before .before .before .if2 .left) (c .before .before .before .before .before .before .before .before .before .statement .ensures) (c .before .match .keys1)
+  pub returns-3 : lts.Need-returns-3 given (body-rest-at t) body-rest.Post Inv-loop μ-loop
+  returns-3 c = c .before .before .before .before .before .before .before .before .before .before .before .before .before .before .before .before .before .before .loop .inv .1 .rest (rest-refused (c .before .before .before .before .before .before .before .before .before .before .before .before .before .before .before .before .before .before .loop .inv .0) (c .before .before .before .before .before .before .before .before .before .before .before .before .before .before .before .before .before .head .ensures) (c .before .before .before .before .before .before .before .before .before .before .before .before .before .before .before .if1 .left) (c .before .before .before .before .before .before .before .before .before .before .before .before .before .if2 .left) (c .before .before .before .before .before .before .before .before .before .statement .ensures) (c .before .match .keys1))
 
-  pub counted-requires : lts.Need-counted-requires given (body-rest-at t) body-rest.Post
-  counted-requires c κs = omega (arith, c .before .before .before .before .before .before .before .before .before .before .before .before .before .before .before .before .before .before .before .before .before .before .before .before .before .pre .1 .1, c .before .before .before .before .before .before .before .before .before .before .before .before .before .before .before .before .before .before .before .before .before .before .before .before .before .pre .1 .0 .asks .at, c .before .before .before .before .before .before .before .before .before .before .before .before .before .before .before .before .before .before .before .before .before .before .before .before .before .pre .1 .0 .asks .held .few)
+  pub counted-requires : lts.Need-counted-requires given (body-rest-at t) body-rest.Post Inv-loop μ-loop
+  counted-requires c κs = omega (arith, c .before .before .before .before .before .before .before .before .before .before .before .before .before .before .before .before .before .loop .inv .0 .1, c .before .before .before .before .before .before .before .before .before .before .before .before .before .before .before .before .before .loop .inv .0 .0 .asks .at, c .before .before .before .before .before .before .before .before .before .before .before .before .before .before .before .before .before .loop .inv .0 .0 .asks .held .few)
 
-  pub body-rest-requires : lts.Need-body-rest-requires given (body-rest-at t) body-rest.Post
-  body-rest-requires c κs = (omega (arith, c .before .before .before .before .before .before .before .before .before .before .before .before .before .before .before .before .before .before .before .before .before .before .before .before .before .before .pre .0, c .before .before .before .before .before .before .before .before .before .before .before .before .before .before .before .before .before .before .before .before .before .before .before .before .before .before .pre .1 .0 .asks .at, c .before .before .before .before .before .before .before .before .before .before .before .before .before .before .before .before .before .before .before .before .head .ensures .kind, c .before .before .before .before .before .before .before .before .before .before .before .before .before .before .before .before .if2 .left, c .before .before .before .before .before .before .before .before .before .before .before .before .statement .ensures .on, c .before .before .before .before .before .before .before .before .before .before .before .before .statement .ensures .moved), loop-asked (c .before .before .before .before .before .before .before .before .before .before .before .before .before .before .before .before .before .before .before .before .before .before .before .before .before .before .pre .1) (c .before .before .before .before .before .before .before .before .before .before .before .before .before .before .before .before .before .before .before .before .head .ensures) (c .before .before .before .before .before .before .before .before .before .before .before .before .before .before .before .before .if2 .left) (c .before .before .before .before .before .before .before .before .before .before .before .before .statement .ensures) (c .counted .ensures) (omega (arith, c .before .before .before .before .before .before .before .before .before .before .before .before .statement .kept)) (omega (arith, c .before .before .before .before .before .before .before .before .before .before .before .before .statement .kept)) (omega (arith, c .before .before .before .before .before .before .before .before .before .before .before .before .statement .kept)))
+  pub loop-less : lts.Need-loop-less given (body-rest-at t) body-rest.Post Inv-loop μ-loop
+  loop-less c = omega (arith, c .before .before .before .before .before .before .before .before .before .before .before .before .before .before .before .before .before .before .loop .inv .0 .0 .asks .at, c .before .before .before .before .before .before .before .before .before .before .before .before .before .before .before .before .before .head .ensures .kind, c .before .before .before .before .before .before .before .before .before .before .before .before .before .if2 .left, c .before .before .before .before .before .before .before .before .before .statement .ensures .on, c .before .before .before .before .before .before .before .before .before .statement .ensures .moved)
 
-  pub same-length-6 : lts.Need-same-length-6 given (body-rest-at t) body-rest.Post
-  same-length-6 c = omega (arith, c .before .before .before .before .before .before .body-rest .kept, c .before .before .before .before .before .before .before .before .before .before .before .before .before .before .before .before .before .before .before .statement .kept)
-
-  pub same-length-7 : lts.Need-same-length-7 given (body-rest-at t) body-rest.Post
-  same-length-7 c = omega (arith, c .before .before .before .before .before .before .body-rest .kept, c .before .before .before .before .before .before .before .before .before .before .before .before .before .before .before .before .before .before .before .statement .kept)
-
-  pub same-length-8 : lts.Need-same-length-8 given (body-rest-at t) body-rest.Post
-  same-length-8 c = omega (arith, c .before .before .before .before .before .before .body-rest .kept, c .before .before .before .before .before .before .before .before .before .before .before .before .before .before .before .before .before .before .before .statement .kept)
-
-  pub returns-4 : lts.Need-returns-4 given (body-rest-at t) body-rest.Post
-  returns-4 c = rest-next (c .before .before .before .before .before .before .before .before .before .before .before .before .before .before .before .before .before .before .before .before .before .before .before .before .before .before .before .before .before .before .before .before .before .pre .1) (c .before .before .before .before .before .before .before .before .before .before .before .before .before .before .before .before .before .before .before .before .before .before .before .before .before .before .before .head .ensures) (c .before .before .before .before .before .before .before .before .before .before .before .before .before .before .before .before .before .before .before .before .before .before .before .before .before .if1 .left) (c .before .before .before .before .before .before .before .before .before .before .before .before .before .before .before .before .before .before .before .before .before .before .before .if2 .left) (c .before .before .before .before .before .before .before .before .before .before .before .before .before .before .before .before .before .before .before .statement .ensures) (c .before .before .before .before .before .before .before .before .before .before .before .match .keys2) (c .before .before .before .before .before .before .before .counted .ensures) (c .before .before .before .before .before .before .body-rest .ensures)
+  pub loop-again : lts.Need-loop-again given (body-rest-at t) body-rest.Post Inv-loop μ-loop
+  loop-again c = (loop-asked (c .before .before .before .before .before .before .before .before .before .before .before .before .before .before .before .before .before .before .loop .inv .0) (c .before .before .before .before .before .before .before .before .before .before .before .before .before .before .before .before .before .head .ensures) (c .before .before .before .before .before .before .before .before .before .before .before .before .before .if2 .left) (c .before .before .before .before .before .before .before .before .before .statement .ensures) (c .counted .ensures) (omega (arith, c .before .before .before .before .before .before .before .before .before .statement .kept)) (omega (arith, c .before .before .before .before .before .before .before .before .before .statement .kept)) (omega (arith, c .before .before .before .before .before .before .before .before .before .statement .kept)), one-turn (c .before .before .before .before .before .before .before .before .before .before .before .before .before .before .before .before .before .before .loop .inv .1) (omega (arith, c .before .before .before .before .before .before .before .before .before .statement .kept)) (omega (arith, c .before .before .before .before .before .before .before .before .before .statement .kept)) (omega (arith, c .before .before .before .before .before .before .before .before .before .statement .kept)) (c .before .before .before .before .before .before .before .before .before .statement .ensures .moved .at) (λ _ _ _ _ g. rest-next (c .before .before .before .before .before .before .before .before .before .before .before .before .before .before .before .before .before .before .loop .inv .0) (c .before .before .before .before .before .before .before .before .before .before .before .before .before .before .before .before .before .head .ensures) (c .before .before .before .before .before .before .before .before .before .before .before .before .before .before .before .if1 .left) (c .before .before .before .before .before .before .before .before .before .before .before .before .before .if2 .left) (c .before .before .before .before .before .before .before .before .before .statement .ensures) (c .before .match .keys2) (c .counted .ensures) g))

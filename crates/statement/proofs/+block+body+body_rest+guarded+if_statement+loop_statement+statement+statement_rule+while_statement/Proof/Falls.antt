@@ -28,7 +28,7 @@ abbrev pub μ-body : Measures 5 body-kinds.ps ℕ
 μ-body κs a = 32 * (a .1 .1 .0 - a .1 .1 .1 .1 .1 .1 .0 .at) + 1
 
 abbrev pub μ-body-rest : Measures 5 body-rest-kinds.ps ℕ
-μ-body-rest κs a = 32 * (a .1 .1 .0 - a .1 .1 .1 .1 .1 .1 .1 .0 .at) + 5
+μ-body-rest κs a = 32 * (a .1 .1 .0 - a .1 .1 .1 .1 .1 .1 .0 .at) + 5
 
 abbrev pub μ-guarded : Measures 5 guarded-kinds.ps ℕ
 μ-guarded κs a = 32 * (a .1 .1 .0 - a .1 .1 .1 .1 .1 .1 .0 .at) + 5

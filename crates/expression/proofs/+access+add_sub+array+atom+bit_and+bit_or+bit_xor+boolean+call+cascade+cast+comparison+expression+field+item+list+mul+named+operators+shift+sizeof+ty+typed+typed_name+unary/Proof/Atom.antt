@@ -1,0 +1,54 @@
+-- The needs of `atom`.
+use mathlib.Core.Path.{sym, _∙_}
+use Rattle.steps.proofs.Moves.{asked-seen, asks-moved, fore-moved, moved-trans}
+use Rattle.grammar.proofs.Calls.{atom-group}
+use Rattle.steps.proofs.Moves.{asked-seen, asks-moved}
+use native.Mathlib.Omega.{arith}
+use Prim.Native.Nat.{ℕ}
+use Rattle.expression.proofs.+access+add_sub+array+atom+bit_and+bit_or+bit_xor+boolean+call+cascade+cast+comparison+expression+field+item+list+mul+named+operators+shift+sizeof+ty+typed+typed_name+unary.Lts-atom as lts
+use Rattle.expression.proofs.atom.Reads as atom
+use Rattle.expression.proofs.expression.Reads as expression
+use Rattle.leaves.proofs.close.Reads as close-reads
+use Rattle.leaves.proofs.literal.Reads as literal-reads
+use Rattle.steps.proofs.head.Reads as head-reads
+use Rattle.expression.proofs.+access+add_sub+array+atom+bit_and+bit_or+bit_xor+boolean+call+cascade+cast+comparison+expression+field+item+list+mul+named+operators+shift+sizeof+ty+typed+typed_name+unary.Proof.Falls.{atom-at, expression-below}
+
+module _ (t : ℕ) where
+  abbrev pub given : lts.Claims
+  given = (head-reads.Asked, head-reads.Learnt, literal-reads.Asked, literal-reads.Learnt, expression-below t, expression.Post, close-reads.Asked, close-reads.Learnt)
+
+  pub head-requires : lts.Need-head-requires given (atom-at t) atom.Post
+  head-requires c κs = (c .before .before .before .before .before .pre .1 .asks .held, c .before .before .before .before .before .pre .1 .asks .at)
+
+  pub literal-requires : lts.Need-literal-requires given (atom-at t) atom.Post
+  literal-requires c κs = record { asked = c .before .before .before .before .before .before .before .before .before .before .before .pre .1; bare = λ e. c .before .before .before .if1 .taken (sym (c .before .before .before .before .before .head .ensures .kind) ∙ e) }
+
+  pub same-length : lts.Need-same-length given (atom-at t) atom.Post
+  same-length c = omega (arith, c .before .before .before .before .before .before .literal .kept)
+
+  pub same-length-2 : lts.Need-same-length-2 given (atom-at t) atom.Post
+  same-length-2 c = omega (arith, c .before .before .before .before .before .before .literal .kept)
+
+  pub same-length-3 : lts.Need-same-length-3 given (atom-at t) atom.Post
+  same-length-3 c = omega (arith, c .before .before .before .before .before .before .literal .kept)
+
+  pub returns : lts.Need-returns given (atom-at t) atom.Post
+  returns c = c .before .before .before .before .before .before .literal .ensures _
+
+  pub expression-requires : lts.Need-expression-requires given (atom-at t) atom.Post
+  expression-requires c κs = (omega (arith, c .before .before .before .before .before .before .before .before .before .before .before .pre .0, c .before .before .before .before .before .before .before .before .before .before .before .pre .1 .asks .at, c .before .before .before .before .before .head .ensures, c .before .before .before .if1 .left), asked-seen (c .before .before .before .before .before .before .before .before .before .before .before .pre .1) (c .before .before .before .before .before .head .ensures))
+
+  pub close-requires : lts.Need-close-requires given (atom-at t) atom.Post
+  close-requires c κs = asks-moved (c .before .before .before .before .before .before .before .before .before .before .before .before .before .before .before .before .before .before .before .before .pre .1 .asks) (moved-trans (fore-moved (c .before .before .before .before .before .before .before .before .before .before .before .before .before .before .before .before .before .before .before .before .pre .1 .asks) (c .before .before .before .before .before .before .before .before .before .before .before .before .before .before .head .ensures)) (c .before .before .before .before .before .before .before .before .expression .ensures .moved)) (omega (arith, c .before .before .before .before .before .before .before .before .expression .kept)) (omega (arith, c .before .before .before .before .before .before .before .before .expression .kept))
+
+  pub same-length-4 : lts.Need-same-length-4 given (atom-at t) atom.Post
+  same-length-4 c = omega (arith, c .before .before .before .before .close .kept, c .before .before .before .before .before .before .before .before .before .before .before .before .before .expression .kept)
+
+  pub same-length-5 : lts.Need-same-length-5 given (atom-at t) atom.Post
+  same-length-5 c = omega (arith, c .before .before .before .before .close .kept, c .before .before .before .before .before .before .before .before .before .before .before .before .before .expression .kept)
+
+  pub same-length-6 : lts.Need-same-length-6 given (atom-at t) atom.Post
+  same-length-6 c = omega (arith, c .before .before .before .before .close .kept, c .before .before .before .before .before .before .before .before .before .before .before .before .before .expression .kept)
+
+  pub returns-2 : lts.Need-returns-2 given (atom-at t) atom.Post
+  returns-2 c = atom-group (c .before .before .before .before .before .before .before .before .before .before .before .before .before .before .before .before .before .before .before .before .before .before .before .before .before .pre .1) (c .before .before .before .before .before .before .before .before .before .before .before .before .before .before .before .before .before .before .before .head .ensures) (c .before .before .before .before .before .before .before .before .before .before .before .before .before .before .before .before .before .if1 .left) (c .before .before .before .before .before .before .before .before .before .before .before .before .before .expression .ensures) (c .before .before .before .before .close .ensures)

@@ -1,0 +1,77 @@
+-- The needs of `boolean`.
+use Rattle.definition.specs.Parser as P
+use Rattle.steps.proofs.Moves.{asked-seen, asked-moved}
+use Rattle.steps.proofs.Constructs.{then-stops}
+use Rattle.grammar.proofs.Joins.{then-asked, goes-on, join-cuts, join-room}
+use Rattle.grammar.proofs.Levels.{and-on, and-none, and-found}
+use borrow.Author.Needs.{needs}
+use native.Mathlib.Omega.{arith}
+use Prim.Native.Nat.{ℕ}
+use Rattle.expression.proofs.+access+add_sub+array+atom+bit_and+bit_or+bit_xor+boolean+call+cascade+cast+comparison+expression+field+item+list+mul+named+operators+shift+sizeof+ty+typed+typed_name+unary.Lts-boolean as lts
+use Rattle.expression.proofs.boolean.Reads as boolean
+use Rattle.expression.proofs.comparison.Reads as comparison
+use Rattle.fallible.proofs.abandon.Reads as abandon-reads
+use Rattle.steps.proofs.finish.Reads as finish-reads
+use Rattle.steps.proofs.head.Reads as head-reads
+use Rattle.expression.proofs.+access+add_sub+array+atom+bit_and+bit_or+bit_xor+boolean+call+cascade+cast+comparison+expression+field+item+list+mul+named+operators+shift+sizeof+ty+typed+typed_name+unary.Proof.Falls.{boolean-at, comparison-below}
+
+module _ (t : ℕ) where
+  abbrev pub given : lts.Claims
+  given = (comparison-below t, comparison.Post, head-reads.Asked, head-reads.Learnt, abandon-reads.Asked, abandon-reads.Learnt, finish-reads.Asked, finish-reads.Learnt)
+
+  pub comparison-requires : lts.Need-comparison-requires given (boolean-at t) boolean.Post
+  comparison-requires c κs = (omega (arith, c .before .before .before .before .before .before .before .before .pre .0), c .before .before .before .before .before .before .before .before .pre .1)
+
+  pub enum-told : lts.Need-enum-told given (boolean-at t) boolean.Post
+  enum-told c = search needs
+
+  pub same-length : lts.Need-same-length given (boolean-at t) boolean.Post
+  same-length c = omega (arith, c .before .before .before .before .before .before .before .comparison .kept)
+
+  pub same-length-2 : lts.Need-same-length-2 given (boolean-at t) boolean.Post
+  same-length-2 c = omega (arith, c .before .before .before .before .before .before .before .comparison .kept)
+
+  pub same-length-3 : lts.Need-same-length-3 given (boolean-at t) boolean.Post
+  same-length-3 c = omega (arith, c .before .before .before .before .before .before .before .comparison .kept)
+
+  pub returns : lts.Need-returns given (boolean-at t) boolean.Post
+  unfolding P.expression-rule
+  returns c = then-stops and-on (c .before .before .before .before .before .before .before .comparison .ensures) (c .match .keys2)
+
+  pub head-requires : lts.Need-head-requires given (boolean-at t) boolean.Post
+  head-requires c κs = (c .before .before .before .before .before .before .before .before .before .before .before .before .before .before .before .before .before .before .pre .1 .asks .held, omega (arith, c .before .before .before .before .before .before .before .before .before .comparison .ensures .moved .end))
+
+  pub same-length-4 : lts.Need-same-length-4 given (boolean-at t) boolean.Post
+  same-length-4 c = omega (arith, c .before .before .before .before .before .before .before .before .before .before .before .before .comparison .kept)
+
+  pub same-length-5 : lts.Need-same-length-5 given (boolean-at t) boolean.Post
+  same-length-5 c = omega (arith, c .before .before .before .before .before .before .before .before .before .before .before .before .comparison .kept)
+
+  pub same-length-6 : lts.Need-same-length-6 given (boolean-at t) boolean.Post
+  same-length-6 c = omega (arith, c .before .before .before .before .before .before .before .before .before .before .before .before .comparison .kept)
+
+  pub returns-2 : lts.Need-returns-2 given (boolean-at t) boolean.Post
+  unfolding P.expression-rule
+  returns-2 c = then-asked and-on (c .before .before .before .before .before .before .before .before .before .before .before .before .before .before .before .before .before .before .before .before .before .pre .1) (c .before .before .before .before .before .before .before .before .before .before .before .before .comparison .ensures) (and-none (goes-on (c .before .before .before .before .before .before .before .before .before .before .before .before .before .before .before .before .before .before .before .before .before .pre .1) (c .before .before .before .before .before .before .before .before .before .before .before .before .comparison .ensures) (omega (arith, c .before .before .before .before .before .before .before .before .before .before .before .before .comparison .kept)) (omega (arith, c .before .before .before .before .before .before .before .before .before .before .before .before .comparison .kept)) (omega (arith, c .before .before .before .before .before .before .before .before .before .before .before .before .comparison .kept))) (c .before .before .before .before .enum-told .given .1) (c .before .before .head .ensures) (c .if1 .taken))
+
+  pub comparison-requires-2 : lts.Need-comparison-requires-2 given (boolean-at t) boolean.Post
+  comparison-requires-2 c κs = (omega (arith, c .before .before .before .before .before .before .before .before .before .before .before .before .before .before .before .before .before .before .before .before .before .before .before .before .pre .0, c .before .before .before .before .before .before .before .before .before .before .before .before .before .before .before .before .before .before .before .before .before .before .before .before .pre .1 .asks .at, c .before .before .before .before .before .before .before .before .before .before .before .before .before .before .before .comparison .ensures .moved .at, c .before .before .before .before .before .head .ensures, c .before .before .before .if1 .left), asked-seen (asked-moved (c .before .before .before .before .before .before .before .before .before .before .before .before .before .before .before .before .before .before .before .before .before .before .before .before .pre .1) (c .before .before .before .before .before .before .before .before .before .before .before .before .before .before .before .comparison .ensures .moved) (omega (arith, c .before .before .before .before .before .before .before .before .before .before .before .before .before .before .before .comparison .kept)) (omega (arith, c .before .before .before .before .before .before .before .before .before .before .before .before .before .before .before .comparison .kept)) (omega (arith, c .before .before .before .before .before .before .before .before .before .before .before .before .before .before .before .comparison .kept))) (c .before .before .before .before .before .head .ensures))
+
+  pub abandon-requires : lts.Need-abandon-requires given (boolean-at t) boolean.Post
+  abandon-requires c κs = join-cuts (goes-on (c .before .before .before .before .before .before .before .before .before .before .before .before .before .before .before .before .before .before .before .before .before .before .before .before .before .before .before .before .before .before .before .before .pre .1) (c .before .before .before .before .before .before .before .before .before .before .before .before .before .before .before .before .before .before .before .before .before .before .before .comparison .ensures) (omega (arith, c .before .before .before .before .before .before .before .before .before .before .before .before .before .before .before .before .before .before .before .before .before .before .before .comparison .kept)) (omega (arith, c .before .before .before .before .before .before .before .before .before .before .before .before .before .before .before .before .before .before .before .before .before .before .before .comparison .kept)) (omega (arith, c .before .before .before .before .before .before .before .before .before .before .before .before .before .before .before .before .before .before .before .before .before .before .before .comparison .kept))) (c .before .before .before .before .before .before .before .before .before .before .before .before .before .head .ensures) (c .before .before .before .before .before .before .before .comparison2 .ensures) (omega (arith, c .before .before .before .before .before .before .before .comparison2 .kept))
+
+  pub finish-requires : lts.Need-finish-requires given (boolean-at t) boolean.Post
+  finish-requires c κs = join-room (goes-on (c .before .before .before .before .before .before .before .before .before .before .before .before .before .before .before .before .before .before .before .before .before .before .before .before .before .before .before .before .before .before .before .before .before .before .before .before .pre .1) (c .before .before .before .before .before .before .before .before .before .before .before .before .before .before .before .before .before .before .before .before .before .before .before .before .before .before .before .comparison .ensures) (omega (arith, c .before .before .before .before .before .before .before .before .before .before .before .before .before .before .before .before .before .before .before .before .before .before .before .before .before .before .before .comparison .kept)) (omega (arith, c .before .before .before .before .before .before .before .before .before .before .before .before .before .before .before .before .before .before .before .before .before .before .before .before .before .before .before .comparison .kept)) (omega (arith, c .before .before .before .before .before .before .before .before .before .before .before .before .before .before .before .before .before .before .before .before .before .before .before .before .before .before .before .comparison .kept))) (c .before .before .before .before .before .before .before .before .before .before .before .before .before .before .before .before .before .head .ensures) (c .before .before .before .before .before .before .before .before .before .before .before .comparison2 .ensures) (c .before .before .before .abandon .ensures) (omega (arith, c .before .before .before .before .before .before .before .before .before .before .before .comparison2 .kept))
+
+  pub same-length-7 : lts.Need-same-length-7 given (boolean-at t) boolean.Post
+  same-length-7 c = omega (arith, c .before .before .finish .kept, c .before .before .before .before .before .before .abandon .kept, c .before .before .before .before .before .before .before .before .before .before .before .before .before .before .comparison2 .kept, c .before .before .before .before .before .before .before .before .before .before .before .before .before .before .before .before .before .before .before .before .before .before .before .before .before .before .before .before .before .before .comparison .kept)
+
+  pub same-length-8 : lts.Need-same-length-8 given (boolean-at t) boolean.Post
+  same-length-8 c = omega (arith, c .before .before .finish .kept, c .before .before .before .before .before .before .abandon .kept, c .before .before .before .before .before .before .before .before .before .before .before .before .before .before .comparison2 .kept, c .before .before .before .before .before .before .before .before .before .before .before .before .before .before .before .before .before .before .before .before .before .before .before .before .before .before .before .before .before .before .comparison .kept)
+
+  pub same-length-9 : lts.Need-same-length-9 given (boolean-at t) boolean.Post
+  same-length-9 c = omega (arith, c .before .before .finish .kept, c .before .before .before .before .before .before .abandon .kept, c .before .before .before .before .before .before .before .before .before .before .before .before .before .before .comparison2 .kept, c .before .before .before .before .before .before .before .before .before .before .before .before .before .before .before .before .before .before .before .before .before .before .before .before .before .before .before .before .before .before .comparison .kept)
+
+  pub returns-3 : lts.Need-returns-3 given (boolean-at t) boolean.Post
+  unfolding P.expression-rule
+  returns-3 c = then-asked and-on (c .before .before .before .before .before .before .before .before .before .before .before .before .before .before .before .before .before .before .before .before .before .before .before .before .before .before .before .before .before .before .before .before .before .before .before .before .before .before .before .pre .1) (c .before .before .before .before .before .before .before .before .before .before .before .before .before .before .before .before .before .before .before .before .before .before .before .before .before .before .before .before .before .before .comparison .ensures) (and-found (goes-on (c .before .before .before .before .before .before .before .before .before .before .before .before .before .before .before .before .before .before .before .before .before .before .before .before .before .before .before .before .before .before .before .before .before .before .before .before .before .before .before .pre .1) (c .before .before .before .before .before .before .before .before .before .before .before .before .before .before .before .before .before .before .before .before .before .before .before .before .before .before .before .before .before .before .comparison .ensures) (omega (arith, c .before .before .before .before .before .before .before .before .before .before .before .before .before .before .before .before .before .before .before .before .before .before .before .before .before .before .before .before .before .before .comparison .kept)) (omega (arith, c .before .before .before .before .before .before .before .before .before .before .before .before .before .before .before .before .before .before .before .before .before .before .before .before .before .before .before .before .before .before .comparison .kept)) (omega (arith, c .before .before .before .before .before .before .before .before .before .before .before .before .before .before .before .before .before .before .before .before .before .before .before .before .before .before .before .before .before .before .comparison .kept))) (c .before .before .before .before .before .before .before .before .before .before .before .before .before .before .before .before .before .before .before .before .before .before .enum-told .given .1) (c .before .before .before .before .before .before .before .before .before .before .before .before .before .before .before .before .before .before .before .before .head .ensures) (c .before .before .before .before .before .before .before .before .before .before .before .before .before .before .before .before .before .before .if1 .left) (c .before .before .before .before .before .before .before .before .before .before .before .before .before .before .comparison2 .ensures) (c .before .before .before .before .before .before .abandon .ensures) (c .before .before .finish .ensures))

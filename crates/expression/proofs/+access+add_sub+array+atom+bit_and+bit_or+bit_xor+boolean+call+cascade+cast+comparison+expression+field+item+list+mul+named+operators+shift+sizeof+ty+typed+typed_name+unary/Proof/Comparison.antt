@@ -1,0 +1,84 @@
+-- The needs of `comparison`.
+use Rattle.definition.specs.Parser as P
+use Rattle.steps.proofs.Moves.{asked-seen, asked-moved}
+use Rattle.steps.proofs.Constructs.{then-stops}
+use Rattle.grammar.proofs.Joins.{then-asked, goes-on, join-cuts, join-room}
+use Rattle.grammar.proofs.Levels.{compare-on, compare-none, compare-found}
+use borrow.Author.Needs.{needs}
+use native.Mathlib.Omega.{arith}
+use Prim.Native.Nat.{ℕ}
+use Rattle.expression.proofs.+access+add_sub+array+atom+bit_and+bit_or+bit_xor+boolean+call+cascade+cast+comparison+expression+field+item+list+mul+named+operators+shift+sizeof+ty+typed+typed_name+unary.Lts-comparison as lts
+use Rattle.expression.proofs.bit_or.Reads as bit-or
+use Rattle.expression.proofs.comparison.Reads as comparison
+use Rattle.fallible.proofs.abandon.Reads as abandon-reads
+use Rattle.leaves.proofs.comparison_operator.Reads as comparison-operator-reads
+use Rattle.steps.proofs.finish.Reads as finish-reads
+use Rattle.steps.proofs.head.Reads as head-reads
+use Rattle.expression.proofs.+access+add_sub+array+atom+bit_and+bit_or+bit_xor+boolean+call+cascade+cast+comparison+expression+field+item+list+mul+named+operators+shift+sizeof+ty+typed+typed_name+unary.Proof.Falls.{bit-or-below, comparison-at}
+
+module _ (t : ℕ) where
+  abbrev pub given : lts.Claims
+  given = (bit-or-below t, bit-or.Post, head-reads.Asked, head-reads.Learnt, comparison-operator-reads.Asked, comparison-operator-reads.Learnt, abandon-reads.Asked, abandon-reads.Learnt, finish-reads.Asked, finish-reads.Learnt)
+
+  pub bit-or-requires : lts.Need-bit-or-requires given (comparison-at t) comparison.Post
+  bit-or-requires c κs = (omega (arith, c .before .before .before .before .before .before .before .before .pre .0), c .before .before .before .before .before .before .before .before .pre .1)
+
+  pub enum-told : lts.Need-enum-told given (comparison-at t) comparison.Post
+  enum-told c = search needs
+
+  pub same-length : lts.Need-same-length given (comparison-at t) comparison.Post
+  same-length c = omega (arith, c .before .before .before .before .before .before .before .bit-or .kept)
+
+  pub same-length-2 : lts.Need-same-length-2 given (comparison-at t) comparison.Post
+  same-length-2 c = omega (arith, c .before .before .before .before .before .before .before .bit-or .kept)
+
+  pub same-length-3 : lts.Need-same-length-3 given (comparison-at t) comparison.Post
+  same-length-3 c = omega (arith, c .before .before .before .before .before .before .before .bit-or .kept)
+
+  pub returns : lts.Need-returns given (comparison-at t) comparison.Post
+  unfolding P.parse-comparison
+  returns c = then-stops compare-on (c .before .before .before .before .before .before .before .bit-or .ensures) (c .match .keys2)
+
+  pub head-requires : lts.Need-head-requires given (comparison-at t) comparison.Post
+  head-requires c κs = (c .before .before .before .before .before .before .before .before .before .before .before .before .before .before .before .before .before .before .pre .1 .asks .held, omega (arith, c .before .before .before .before .before .before .before .before .before .bit-or .ensures .moved .end))
+
+  pub comparison-operator-requires : lts.Need-comparison-operator-requires given (comparison-at t) comparison.Post
+  comparison-operator-requires c κs = search needs
+
+  pub same-length-4 : lts.Need-same-length-4 given (comparison-at t) comparison.Post
+  same-length-4 c = omega (arith, c .before .before .before .before .before .before .before .before .before .before .before .before .bit-or .kept)
+
+  pub same-length-5 : lts.Need-same-length-5 given (comparison-at t) comparison.Post
+  same-length-5 c = omega (arith, c .before .before .before .before .before .before .before .before .before .before .before .before .bit-or .kept)
+
+  pub same-length-6 : lts.Need-same-length-6 given (comparison-at t) comparison.Post
+  same-length-6 c = omega (arith, c .before .before .before .before .before .before .before .before .before .before .before .before .bit-or .kept)
+
+  pub returns-2 : lts.Need-returns-2 given (comparison-at t) comparison.Post
+  unfolding P.parse-comparison
+  returns-2 c = then-asked compare-on (c .before .before .before .before .before .before .before .before .before .before .before .before .before .before .before .before .before .before .before .before .before .pre .1) (c .before .before .before .before .before .before .before .before .before .before .before .before .bit-or .ensures) (compare-none (goes-on (c .before .before .before .before .before .before .before .before .before .before .before .before .before .before .before .before .before .before .before .before .before .pre .1) (c .before .before .before .before .before .before .before .before .before .before .before .before .bit-or .ensures) (omega (arith, c .before .before .before .before .before .before .before .before .before .before .before .before .bit-or .kept)) (omega (arith, c .before .before .before .before .before .before .before .before .before .before .before .before .bit-or .kept)) (omega (arith, c .before .before .before .before .before .before .before .before .before .before .before .before .bit-or .kept))) (c .before .before .before .before .enum-told .given .1) (c .before .before .head .ensures) (c .before .comparison-operator .ensures) (c .if1 .taken))
+
+  pub bit-or-requires-2 : lts.Need-bit-or-requires-2 given (comparison-at t) comparison.Post
+  bit-or-requires-2 c κs = (omega (arith, c .before .before .before .before .before .before .before .before .before .before .before .before .before .before .before .before .before .before .before .before .before .before .before .before .pre .0, c .before .before .before .before .before .before .before .before .before .before .before .before .before .before .before .before .before .before .before .before .before .before .before .before .pre .1 .asks .at, c .before .before .before .before .before .before .before .before .before .before .before .before .before .before .before .bit-or .ensures .moved .at, c .before .before .before .before .before .head .ensures, c .before .before .before .before .comparison-operator .ensures, c .before .before .before .if1 .left), asked-seen (asked-moved (c .before .before .before .before .before .before .before .before .before .before .before .before .before .before .before .before .before .before .before .before .before .before .before .before .pre .1) (c .before .before .before .before .before .before .before .before .before .before .before .before .before .before .before .bit-or .ensures .moved) (omega (arith, c .before .before .before .before .before .before .before .before .before .before .before .before .before .before .before .bit-or .kept)) (omega (arith, c .before .before .before .before .before .before .before .before .before .before .before .before .before .before .before .bit-or .kept)) (omega (arith, c .before .before .before .before .before .before .before .before .before .before .before .before .before .before .before .bit-or .kept))) (c .before .before .before .before .before .head .ensures))
+
+  pub abandon-requires : lts.Need-abandon-requires given (comparison-at t) comparison.Post
+  abandon-requires c κs = join-cuts (goes-on (c .before .before .before .before .before .before .before .before .before .before .before .before .before .before .before .before .before .before .before .before .before .before .before .before .before .before .before .before .before .before .before .before .pre .1) (c .before .before .before .before .before .before .before .before .before .before .before .before .before .before .before .before .before .before .before .before .before .before .before .bit-or .ensures) (omega (arith, c .before .before .before .before .before .before .before .before .before .before .before .before .before .before .before .before .before .before .before .before .before .before .before .bit-or .kept)) (omega (arith, c .before .before .before .before .before .before .before .before .before .before .before .before .before .before .before .before .before .before .before .before .before .before .before .bit-or .kept)) (omega (arith, c .before .before .before .before .before .before .before .before .before .before .before .before .before .before .before .before .before .before .before .before .before .before .before .bit-or .kept))) (c .before .before .before .before .before .before .before .before .before .before .before .before .before .head .ensures) (c .before .before .before .before .before .before .before .bit-or2 .ensures) (omega (arith, c .before .before .before .before .before .before .before .bit-or2 .kept))
+
+  pub sub-t38 : lts.Need-sub-t38 given (comparison-at t) comparison.Post
+  sub-t38 c = omega arith
+
+  pub finish-requires : lts.Need-finish-requires given (comparison-at t) comparison.Post
+  finish-requires c κs = join-room (goes-on (c .before .before .before .before .before .before .before .before .before .before .before .before .before .before .before .before .before .before .before .before .before .before .before .before .before .before .before .before .before .before .before .before .before .before .before .before .pre .1) (c .before .before .before .before .before .before .before .before .before .before .before .before .before .before .before .before .before .before .before .before .before .before .before .before .before .before .before .bit-or .ensures) (omega (arith, c .before .before .before .before .before .before .before .before .before .before .before .before .before .before .before .before .before .before .before .before .before .before .before .before .before .before .before .bit-or .kept)) (omega (arith, c .before .before .before .before .before .before .before .before .before .before .before .before .before .before .before .before .before .before .before .before .before .before .before .before .before .before .before .bit-or .kept)) (omega (arith, c .before .before .before .before .before .before .before .before .before .before .before .before .before .before .before .before .before .before .before .before .before .before .before .before .before .before .before .bit-or .kept))) (c .before .before .before .before .before .before .before .before .before .before .before .before .before .before .before .before .before .head .ensures) (c .before .before .before .before .before .before .before .before .before .before .before .bit-or2 .ensures) (c .before .before .before .abandon .ensures) (omega (arith, c .before .before .before .before .before .before .before .before .before .before .before .bit-or2 .kept))
+
+  pub same-length-7 : lts.Need-same-length-7 given (comparison-at t) comparison.Post
+  same-length-7 c = omega (arith, c .before .before .finish .kept, c .before .before .before .before .before .before .abandon .kept, c .before .before .before .before .before .before .before .before .before .before .before .before .before .before .bit-or2 .kept, c .before .before .before .before .before .before .before .before .before .before .before .before .before .before .before .before .before .before .before .before .before .before .before .before .before .before .before .before .before .before .bit-or .kept)
+
+  pub same-length-8 : lts.Need-same-length-8 given (comparison-at t) comparison.Post
+  same-length-8 c = omega (arith, c .before .before .finish .kept, c .before .before .before .before .before .before .abandon .kept, c .before .before .before .before .before .before .before .before .before .before .before .before .before .before .bit-or2 .kept, c .before .before .before .before .before .before .before .before .before .before .before .before .before .before .before .before .before .before .before .before .before .before .before .before .before .before .before .before .before .before .bit-or .kept)
+
+  pub same-length-9 : lts.Need-same-length-9 given (comparison-at t) comparison.Post
+  same-length-9 c = omega (arith, c .before .before .finish .kept, c .before .before .before .before .before .before .abandon .kept, c .before .before .before .before .before .before .before .before .before .before .before .before .before .before .bit-or2 .kept, c .before .before .before .before .before .before .before .before .before .before .before .before .before .before .before .before .before .before .before .before .before .before .before .before .before .before .before .before .before .before .bit-or .kept)
+
+  pub returns-3 : lts.Need-returns-3 given (comparison-at t) comparison.Post
+  unfolding P.parse-comparison
+  returns-3 c = then-asked compare-on (c .before .before .before .before .before .before .before .before .before .before .before .before .before .before .before .before .before .before .before .before .before .before .before .before .before .before .before .before .before .before .before .before .before .before .before .before .before .before .before .pre .1) (c .before .before .before .before .before .before .before .before .before .before .before .before .before .before .before .before .before .before .before .before .before .before .before .before .before .before .before .before .before .before .bit-or .ensures) (compare-found (goes-on (c .before .before .before .before .before .before .before .before .before .before .before .before .before .before .before .before .before .before .before .before .before .before .before .before .before .before .before .before .before .before .before .before .before .before .before .before .before .before .before .pre .1) (c .before .before .before .before .before .before .before .before .before .before .before .before .before .before .before .before .before .before .before .before .before .before .before .before .before .before .before .before .before .before .bit-or .ensures) (omega (arith, c .before .before .before .before .before .before .before .before .before .before .before .before .before .before .before .before .before .before .before .before .before .before .before .before .before .before .before .before .before .before .bit-or .kept)) (omega (arith, c .before .before .before .before .before .before .before .before .before .before .before .before .before .before .before .before .before .before .before .before .before .before .before .before .before .before .before .before .before .before .bit-or .kept)) (omega (arith, c .before .before .before .before .before .before .before .before .before .before .before .before .before .before .before .before .before .before .before .before .before .before .before .before .before .before .before .before .before .before .bit-or .kept))) (c .before .before .before .before .before .before .before .before .before .before .before .before .before .before .before .before .before .before .before .before .before .before .enum-told .given .1) (c .before .before .before .before .before .before .before .before .before .before .before .before .before .before .before .before .before .before .before .before .head .ensures) (c .before .before .before .before .before .before .before .before .before .before .before .before .before .before .before .before .before .before .before .comparison-operator .ensures) (c .before .before .before .before .before .before .before .before .before .before .before .before .before .before .before .before .before .before .if1 .left) (c .before .before .before .before .before .before .before .before .before .before .before .before .before .before .bit-or2 .ensures) (c .before .before .before .before .before .before .abandon .ensures) (c .before .before .finish .ensures))

@@ -1,0 +1,56 @@
+-- The needs of `field`.
+use Rattle.grammar.proofs.Names.{field-follows, field-asked, field-stops, field-room, field-done}
+use borrow.Author.Needs.{needs}
+use native.Mathlib.Omega.{arith}
+use Prim.Native.Nat.{ℕ}
+use Rattle.expression.proofs.+access+add_sub+array+atom+bit_and+bit_or+bit_xor+boolean+call+cascade+cast+comparison+expression+field+item+list+mul+named+operators+shift+sizeof+ty+typed+typed_name+unary.Lts-field as lts
+use Rattle.expression.proofs.expression.Reads as expression
+use Rattle.expression.proofs.field.Reads as field
+use Rattle.steps.proofs.and_expect.Reads as and-expect-reads
+use Rattle.steps.proofs.expect_identifier.Reads as expect-identifier-reads
+use Rattle.steps.proofs.finish.Reads as finish-reads
+use Rattle.steps.proofs.head.Reads as head-reads
+use Rattle.expression.proofs.+access+add_sub+array+atom+bit_and+bit_or+bit_xor+boolean+call+cascade+cast+comparison+expression+field+item+list+mul+named+operators+shift+sizeof+ty+typed+typed_name+unary.Proof.Falls.{expression-below, field-at}
+
+module _ (t : ℕ) where
+  abbrev pub given : lts.Claims
+  given = (head-reads.Asked, head-reads.Learnt, expect-identifier-reads.Asked, expect-identifier-reads.Learnt, and-expect-reads.Asked, and-expect-reads.Learnt, expression-below t, expression.Post, finish-reads.Asked, finish-reads.Learnt)
+
+  pub head-requires : lts.Need-head-requires given (field-at t) field.Post
+  head-requires c κs = (c .before .before .before .before .before .pre .1 .asks .held, c .before .before .before .before .before .pre .1 .asks .at)
+
+  pub expect-identifier-requires : lts.Need-expect-identifier-requires given (field-at t) field.Post
+  expect-identifier-requires c κs = c .before .before .before .before .before .before .before .before .pre .1 .asks
+
+  pub and-expect-requires : lts.Need-and-expect-requires given (field-at t) field.Post
+  and-expect-requires c κs = (field-follows (c .before .before .before .before .before .before .before .before .before .before .before .before .before .before .before .pre .1) (c .before .before .before .before .before .before .before .before .before .head .ensures) (c .before .before .before .before .before .before .expect-identifier .ensures) (omega (arith, c .before .before .before .before .before .before .expect-identifier .kept)) (omega (arith, c .before .before .before .before .before .before .expect-identifier .kept)), (omega arith, omega arith))
+
+  pub enum-told : lts.Need-enum-told given (field-at t) field.Post
+  enum-told c = search needs
+
+  pub same-length : lts.Need-same-length given (field-at t) field.Post
+  same-length c = omega (arith, c .before .before .before .before .before .and-expect .kept, c .before .before .before .before .before .before .before .before .before .before .before .before .expect-identifier .kept)
+
+  pub same-length-2 : lts.Need-same-length-2 given (field-at t) field.Post
+  same-length-2 c = omega (arith, c .before .before .before .before .before .and-expect .kept, c .before .before .before .before .before .before .before .before .before .before .before .before .expect-identifier .kept)
+
+  pub returns : lts.Need-returns given (field-at t) field.Post
+  returns c = field-stops (c .before .before .before .before .before .before .before .before .before .before .before .before .before .before .before .before .before .before .before .before .before .pre .1) (c .before .before .before .before .before .before .before .before .before .before .before .before .before .before .before .head .ensures) (c .before .before .before .before .before .before .before .before .before .before .before .before .expect-identifier .ensures) (c .before .before .before .before .before .and-expect .ensures) (omega (arith, c .before .before .before .before .before .before .before .before .before .before .before .before .expect-identifier .kept)) (omega (arith, c .before .before .before .before .before .before .before .before .before .before .before .before .expect-identifier .kept)) (c .match .keys2)
+
+  pub expression-requires : lts.Need-expression-requires given (field-at t) field.Post
+  expression-requires c κs = (omega (arith, c .before .before .before .before .before .before .before .before .before .before .before .before .before .before .before .before .before .before .before .before .before .before .before .before .before .before .pre .0, c .before .before .before .before .before .before .before .before .before .before .before .before .before .before .before .before .before .expect-identifier .ensures .moved, c .before .before .before .before .before .before .before .before .before .before .and-expect .ensures .moved), field-asked (c .before .before .before .before .before .before .before .before .before .before .before .before .before .before .before .before .before .before .before .before .before .before .before .before .before .before .pre .1) (c .before .before .before .before .before .before .before .before .before .before .before .before .before .before .before .before .before .before .before .before .head .ensures) (c .before .before .before .before .before .before .before .before .before .before .before .before .before .before .before .before .before .expect-identifier .ensures) (c .before .before .before .before .before .before .before .before .before .before .and-expect .ensures) (omega (arith, c .before .before .before .before .before .before .before .before .before .before .before .before .before .before .before .before .before .expect-identifier .kept, c .before .before .before .before .before .before .before .before .before .before .and-expect .kept)) (omega (arith, c .before .before .before .before .before .before .before .before .before .before .before .before .before .before .before .before .before .expect-identifier .kept, c .before .before .before .before .before .before .before .before .before .before .and-expect .kept)))
+
+  pub finish-requires : lts.Need-finish-requires given (field-at t) field.Post
+  finish-requires c κs = field-room (c .before .before .before .before .before .before .before .before .before .before .before .before .before .before .before .before .before .before .before .before .before .before .before .before .before .before .before .before .before .before .before .before .before .before .pre .1) (c .before .before .before .before .before .before .before .before .before .before .before .before .before .before .before .before .before .before .before .before .before .before .before .before .before .before .before .before .head .ensures) (c .before .before .before .before .before .before .before .before .before .before .before .before .before .before .before .before .before .before .before .before .before .before .before .before .before .expect-identifier .ensures) (c .before .before .before .before .before .before .before .before .before .before .before .before .before .before .before .before .before .before .and-expect .ensures) (c .before .before .before .before .before .before .before .before .before .before .before .before .enum-told .given .1) (c .before .before .before .before .before .before .before .expression .ensures) (omega (arith, c .before .before .before .before .before .before .before .expression .kept))
+
+  pub same-length-3 : lts.Need-same-length-3 given (field-at t) field.Post
+  same-length-3 c = omega (arith, c .before .before .finish .kept, c .before .before .before .before .before .before .before .before .before .before .expression .kept, c .before .before .before .before .before .before .before .before .before .before .before .before .before .before .before .before .before .before .before .before .before .and-expect .kept, c .before .before .before .before .before .before .before .before .before .before .before .before .before .before .before .before .before .before .before .before .before .before .before .before .before .before .before .before .expect-identifier .kept)
+
+  pub same-length-4 : lts.Need-same-length-4 given (field-at t) field.Post
+  same-length-4 c = omega (arith, c .before .before .before .before .before .before .before .before .before .before .expression .kept, c .before .before .before .before .before .before .before .before .before .before .before .before .before .before .before .before .before .before .before .before .before .and-expect .kept, c .before .before .before .before .before .before .before .before .before .before .before .before .before .before .before .before .before .before .before .before .before .before .before .before .before .before .before .before .expect-identifier .kept)
+
+  pub same-length-5 : lts.Need-same-length-5 given (field-at t) field.Post
+  same-length-5 c = omega (arith, c .before .before .before .before .before .before .before .before .before .before .expression .kept, c .before .before .before .before .before .before .before .before .before .before .before .before .before .before .before .before .before .before .before .before .before .and-expect .kept, c .before .before .before .before .before .before .before .before .before .before .before .before .before .before .before .before .before .before .before .before .before .before .before .before .before .before .before .before .expect-identifier .kept)
+
+  pub returns-2 : lts.Need-returns-2 given (field-at t) field.Post
+  returns-2 c = field-done (c .before .before .before .before .before .before .before .before .before .before .before .before .before .before .before .before .before .before .before .before .before .before .before .before .before .before .before .before .before .before .before .before .before .before .before .before .before .pre .1) (c .before .before .before .before .before .before .before .before .before .before .before .before .before .before .before .before .before .before .before .before .before .before .before .before .before .before .before .before .before .before .before .head .ensures) (c .before .before .before .before .before .before .before .before .before .before .before .before .before .before .before .before .before .before .before .before .before .before .before .before .before .before .before .before .expect-identifier .ensures) (c .before .before .before .before .before .before .before .before .before .before .before .before .before .before .before .before .before .before .before .before .before .and-expect .ensures) (c .before .before .before .before .before .before .before .before .before .before .before .before .before .before .before .enum-told .given .1) (c .before .before .before .before .before .before .before .before .before .before .expression .ensures) (c .before .before .finish .ensures)

@@ -1,0 +1,135 @@
+-- The needs of `list`.
+use mathlib.Core.Path.{refl}
+use Rattle.leaves.specs.Leaves.{listed-of}
+use Rattle.grammar.specs.Post.{LoopOn, listed-on}
+use Rattle.steps.proofs.Moves.{asked-moved}
+use Rattle.grammar.proofs.Types.{raise-asked}
+use Rattle.grammar.proofs.Turns.{ItemsTurned, at-start, one-turn}
+use Rattle.grammar.proofs.Lists.{list-refused, list-on, rest-end, rest-closed, rest-item, rest-comma, rest-next, comma-asks, rest-asked}
+use borrow.Author.Needs.{needs}
+use native.Mathlib.Omega.{arith}
+use Prim.Native.Nat.{ℕ, _-_}
+use Rattle.expression.proofs.+access+add_sub+array+atom+bit_and+bit_or+bit_xor+boolean+call+cascade+cast+comparison+expression+field+item+list+mul+named+operators+shift+sizeof+ty+typed+typed_name+unary.Lts-list as lts
+use Rattle.expression.proofs.item.Reads as item
+use Rattle.expression.proofs.list.Reads as list
+use Rattle.fallible.proofs.entry.Reads as entry-reads
+use Rattle.fallible.proofs.note.Reads as note-reads
+use Rattle.leaves.proofs.closer.Reads as closer-reads
+use Rattle.leaves.proofs.comma.Reads as comma-reads
+use Rattle.leaves.proofs.counted.Reads as counted-reads
+use Rattle.leaves.proofs.opener.Reads as opener-reads
+use Rattle.steps.proofs.expect.Reads as expect-reads
+use Rattle.steps.proofs.head.Reads as head-reads
+use Rattle.expression.proofs.+access+add_sub+array+atom+bit_and+bit_or+bit_xor+boolean+call+cascade+cast+comparison+expression+field+item+list+mul+named+operators+shift+sizeof+ty+typed+typed_name+unary.Proof.Falls.{item-below, list-at}
+
+abbrev pub Inv-loop : lts.InvT-loop
+Inv-loop w x n o₀ r₀ f₀ k d opened closed count₀ s₀ o r f count s = ItemsTurned (LoopOn (listed-on (listed-of k)) w x n d) w x n count₀ o₀ r₀ f₀ s₀ count o r f s
+
+abbrev pub μ-loop : lts.MeasureT-loop
+μ-loop w x n o₀ r₀ f₀ k d opened closed count₀ s₀ o r f count s = n - s .at
+
+module _ (t : ℕ) where
+  abbrev pub given : lts.Claims
+  given = (opener-reads.Asked, opener-reads.Learnt, expect-reads.Asked, expect-reads.Learnt, closer-reads.Asked, closer-reads.Learnt, head-reads.Asked, head-reads.Learnt, entry-reads.Asked, entry-reads.Learnt, note-reads.Asked, note-reads.Learnt, item-below t, item.Post, comma-reads.Asked, comma-reads.Learnt, counted-reads.Asked, counted-reads.Learnt)
+
+  pub opener-requires : lts.Need-opener-requires given (list-at t) list.Post Inv-loop μ-loop
+  opener-requires c κs = search needs
+
+  pub expect-requires : lts.Need-expect-requires given (list-at t) list.Post Inv-loop μ-loop
+  expect-requires c κs = (c .before .before .before .before .before .before .before .before .pre .1 .asks, c .before .before .opener .ensures .1)
+
+  pub enum-told : lts.Need-enum-told given (list-at t) list.Post Inv-loop μ-loop
+  enum-told c = search needs
+
+  pub same-length : lts.Need-same-length given (list-at t) list.Post Inv-loop μ-loop
+  same-length c = omega (arith, c .before .before .before .before .before .before .expect .kept)
+
+  pub same-length-2 : lts.Need-same-length-2 given (list-at t) list.Post Inv-loop μ-loop
+  same-length-2 c = omega (arith, c .before .before .before .before .before .before .expect .kept)
+
+  pub returns : lts.Need-returns given (list-at t) list.Post Inv-loop μ-loop
+  returns c = list-refused _ (c .before .before .before .before .before .before .before .before .before .before .before .before .before .before .before .pre .1) (c .before .before .before .before .before .before .before .before .before .opener .ensures) (c .before .before .before .before .before .before .expect .ensures) (c .before .match .keys1)
+
+  pub closer-requires : lts.Need-closer-requires given (list-at t) list.Post Inv-loop μ-loop
+  closer-requires c κs = search needs
+
+  pub loop-holds : lts.Need-loop-holds given (list-at t) list.Post Inv-loop μ-loop
+  loop-holds c = ((asked-moved (c .before .before .before .before .before .before .before .before .before .before .before .before .before .before .before .before .pre .1) (c .before .before .before .before .before .before .before .expect .ensures .moved) refl (omega (arith, c .before .before .before .before .before .before .before .expect .kept)) (omega (arith, c .before .before .before .before .before .before .before .expect .kept)), omega arith), at-start)
+
+  pub head-requires : lts.Need-head-requires given (list-at t) list.Post Inv-loop μ-loop
+  head-requires c κs = (c .loop .inv .0 .0 .asks .held, c .loop .inv .0 .0 .asks .at)
+
+  pub entry-requires : lts.Need-entry-requires given (list-at t) list.Post Inv-loop μ-loop
+  entry-requires c κs = omega arith
+
+  pub note-requires : lts.Need-note-requires given (list-at t) list.Post Inv-loop μ-loop
+  note-requires c κs = raise-asked (c .before .before .before .before .before .before .loop .inv .0 .0)
+
+  pub same-length-3 : lts.Need-same-length-3 given (list-at t) list.Post Inv-loop μ-loop
+  same-length-3 c = omega (arith, c .before .before .before .before .before .before .before .before .before .before .before .before .loop .inv .1, c .before .before .before .before .before .before .before .before .before .before .before .before .before .before .before .before .before .before .before .before .expect .kept)
+
+  pub same-length-4 : lts.Need-same-length-4 given (list-at t) list.Post Inv-loop μ-loop
+  same-length-4 c = omega (arith, c .before .before .before .before .before .before .before .before .before .before .before .before .loop .inv .1, c .before .before .before .before .before .before .before .before .before .before .before .before .before .before .before .before .before .before .before .before .expect .kept, c .before .before .before .before .before .note .kept)
+
+  pub same-length-5 : lts.Need-same-length-5 given (list-at t) list.Post Inv-loop μ-loop
+  same-length-5 c = omega (arith, c .before .before .before .before .before .before .before .before .before .before .before .before .loop .inv .1, c .before .before .before .before .before .before .before .before .before .before .before .before .before .before .before .before .before .before .before .before .expect .kept, c .before .before .before .before .before .note .kept)
+
+  pub returns-2 : lts.Need-returns-2 given (list-at t) list.Post Inv-loop μ-loop
+  returns-2 c = list-on _ (c .before .before .before .before .before .before .before .before .before .before .before .before .before .before .before .before .before .before .before .before .before .before .before .before .before .before .before .before .before .pre .1) (c .before .before .before .before .before .before .before .before .before .before .before .before .before .before .before .before .before .before .before .before .before .before .before .opener .ensures) (c .before .before .before .before .before .before .before .before .before .before .before .before .before .before .before .before .before .before .before .before .expect .ensures) (c .before .before .before .before .before .before .before .before .before .before .before .before .before .before .before .match .keys2) (c .before .before .before .before .before .before .before .before .before .before .before .before .loop .inv .1 .rest (rest-end _ (c .before .before .before .before .before .before .before .before .before .before .before .before .loop .inv .0) (c .before .before .before .before .before .before .before .before .before .before .before .head .ensures) (c .before .before .before .before .before .before .before .before .before .if1 .taken) (c .before .before .before .before .before .before .entry .ensures) (c .before .before .before .before .before .note .ensures)))
+
+  pub same-length-6 : lts.Need-same-length-6 given (list-at t) list.Post Inv-loop μ-loop
+  same-length-6 c = omega (arith, c .before .before .before .before .before .loop .inv .1, c .before .before .before .before .before .before .before .before .before .before .before .before .before .expect .kept)
+
+  pub same-length-7 : lts.Need-same-length-7 given (list-at t) list.Post Inv-loop μ-loop
+  same-length-7 c = omega (arith, c .before .before .before .before .before .loop .inv .1, c .before .before .before .before .before .before .before .before .before .before .before .before .before .expect .kept)
+
+  pub same-length-8 : lts.Need-same-length-8 given (list-at t) list.Post Inv-loop μ-loop
+  same-length-8 c = omega (arith, c .before .before .before .before .before .loop .inv .1, c .before .before .before .before .before .before .before .before .before .before .before .before .before .expect .kept)
+
+  pub returns-3 : lts.Need-returns-3 given (list-at t) list.Post Inv-loop μ-loop
+  returns-3 c = list-on _ (c .before .before .before .before .before .before .before .before .before .before .before .before .before .before .before .before .before .before .before .before .before .before .pre .1) (c .before .before .before .before .before .before .before .before .before .before .before .before .before .before .before .before .opener .ensures) (c .before .before .before .before .before .before .before .before .before .before .before .before .before .expect .ensures) (c .before .before .before .before .before .before .before .before .match .keys2) (c .before .before .before .before .before .loop .inv .1 .rest (rest-closed _ (c .before .before .before .before .before .loop .inv .0) (c .before .before .before .before .head .ensures) (c .before .before .if1 .left) (c .before .before .before .before .before .before .before .closer .ensures) (c .if2 .taken)))
+
+  pub item-requires : lts.Need-item-requires given (list-at t) list.Post Inv-loop μ-loop
+  item-requires c κs = (omega (arith, c .before .before .before .before .before .before .before .before .before .before .before .before .before .before .before .before .before .before .before .before .before .before .before .before .before .pre .0, c .before .before .before .before .before .before .before .before .before .before .before .before .before .before .before .before .expect .ensures .moved, c .before .before .before .before .before .before .before .before .loop .inv .1 .on), c .before .before .before .before .before .before .before .before .loop .inv .0 .0)
+
+  pub enum-told-2 : lts.Need-enum-told-2 given (list-at t) list.Post Inv-loop μ-loop
+  enum-told-2 c = search needs
+
+  pub same-length-9 : lts.Need-same-length-9 given (list-at t) list.Post Inv-loop μ-loop
+  same-length-9 c = omega (arith, c .before .before .before .before .before .before .before .before .before .before .before .before .before .before .before .before .before .before .loop .inv .1, c .before .before .before .before .before .before .before .before .before .before .before .before .before .before .before .before .before .before .before .before .before .before .before .before .before .before .expect .kept, c .before .before .before .before .before .before .before .before .before .item .kept)
+
+  pub same-length-10 : lts.Need-same-length-10 given (list-at t) list.Post Inv-loop μ-loop
+  same-length-10 c = omega (arith, c .before .before .before .before .before .before .before .before .before .before .before .before .before .before .before .before .before .before .loop .inv .1, c .before .before .before .before .before .before .before .before .before .before .before .before .before .before .before .before .before .before .before .before .before .before .before .before .before .before .expect .kept, c .before .before .before .before .before .before .before .before .before .item .kept)
+
+  pub same-length-11 : lts.Need-same-length-11 given (list-at t) list.Post Inv-loop μ-loop
+  same-length-11 c = omega (arith, c .before .before .before .before .before .before .before .before .before .before .before .before .before .before .before .before .before .before .loop .inv .1, c .before .before .before .before .before .before .before .before .before .before .before .before .before .before .before .before .before .before .before .before .before .before .before .before .before .before .expect .kept, c .before .before .before .before .before .before .before .before .before .item .kept)
+
+  pub returns-4 : lts.Need-returns-4 given (list-at t) list.Post Inv-loop μ-loop
+  returns-4 c = list-on _ (c .before .before .before .before .before .before .before .before .before .before .before .before .before .before .before .before .before .before .before .before .before .before .before .before .before .before .before .before .before .before .before .before .before .before .before .pre .1) (c .before .before .before .before .before .before .before .before .before .before .before .before .before .before .before .before .before .before .before .before .before .before .before .before .before .before .before .before .before .opener .ensures) (c .before .before .before .before .before .before .before .before .before .before .before .before .before .before .before .before .before .before .before .before .before .before .before .before .before .before .expect .ensures) (c .before .before .before .before .before .before .before .before .before .before .before .before .before .before .before .before .before .before .before .before .before .match .keys2) (c .before .before .before .before .before .before .before .before .before .before .before .before .before .before .before .before .before .before .loop .inv .1 .rest (rest-item _ (c .before .before .before .before .before .before .before .before .before .before .before .before .before .before .before .before .before .before .loop .inv .0) (c .before .before .before .before .before .before .before .before .before .before .before .before .before .before .before .before .before .head .ensures) (c .before .before .before .before .before .before .before .before .before .before .before .before .before .before .before .if1 .left) (c .before .before .before .before .before .before .before .before .before .before .before .before .before .before .before .before .before .before .before .before .closer .ensures) (c .before .before .before .before .before .before .before .before .before .before .before .before .before .if2 .left) (c .before .before .before .before .before .before .before .before .before .item .ensures) (c .before .match2 .keys1)))
+
+  pub comma-requires : lts.Need-comma-requires given (list-at t) list.Post Inv-loop μ-loop
+  comma-requires c κs = comma-asks (c .before .before .before .before .before .before .before .before .before .before .before .before .before .before .before .before .before .before .before .loop .inv .0) (c .before .before .before .before .before .before .before .before .before .before .before .before .before .before .before .before .before .before .head .ensures) (c .before .before .before .before .before .before .before .before .before .before .before .before .before .before .before .before .if1 .left) (c .before .before .before .before .before .before .before .before .before .before .item .ensures) (omega (arith, c .before .before .before .before .before .before .before .before .before .before .item .kept)) (omega (arith, c .before .before .before .before .before .before .before .before .before .before .item .kept))
+
+  pub enum-told-3 : lts.Need-enum-told-3 given (list-at t) list.Post Inv-loop μ-loop
+  enum-told-3 c = search needs
+
+  pub same-length-12 : lts.Need-same-length-12 given (list-at t) list.Post Inv-loop μ-loop
+  same-length-12 c = omega (arith, c .before .before .before .before .before .before .before .before .before .before .before .before .before .before .before .before .before .before .before .before .before .before .before .before .before .loop .inv .1, c .before .before .before .before .before .before .before .before .before .before .before .before .before .before .before .before .before .before .before .before .before .before .before .before .before .before .before .before .before .before .before .before .before .expect .kept, c .before .before .before .before .before .before .before .before .before .before .before .before .before .before .before .before .item .kept)
+
+  pub same-length-13 : lts.Need-same-length-13 given (list-at t) list.Post Inv-loop μ-loop
+  same-length-13 c = omega (arith, c .before .before .before .before .before .before .before .before .before .before .before .before .before .before .before .before .before .before .before .before .before .before .before .before .before .loop .inv .1, c .before .before .before .before .before .before .before .before .before .before .before .before .before .before .before .before .before .before .before .before .before .before .before .before .before .before .before .before .before .before .before .before .before .expect .kept, c .before .before .before .before .before .comma .kept, c .before .before .before .before .before .before .before .before .before .before .before .before .before .before .before .before .item .kept)
+
+  pub same-length-14 : lts.Need-same-length-14 given (list-at t) list.Post Inv-loop μ-loop
+  same-length-14 c = omega (arith, c .before .before .before .before .before .before .before .before .before .before .before .before .before .before .before .before .before .before .before .before .before .before .before .before .before .loop .inv .1, c .before .before .before .before .before .before .before .before .before .before .before .before .before .before .before .before .before .before .before .before .before .before .before .before .before .before .before .before .before .before .before .before .before .expect .kept, c .before .before .before .before .before .comma .kept, c .before .before .before .before .before .before .before .before .before .before .before .before .before .before .before .before .item .kept)
+
+  pub returns-5 : lts.Need-returns-5 given (list-at t) list.Post Inv-loop μ-loop
+  returns-5 c = list-on _ (c .before .before .before .before .before .before .before .before .before .before .before .before .before .before .before .before .before .before .before .before .before .before .before .before .before .before .before .before .before .before .before .before .before .before .before .before .before .before .before .before .before .before .pre .1) (c .before .before .before .before .before .before .before .before .before .before .before .before .before .before .before .before .before .before .before .before .before .before .before .before .before .before .before .before .before .before .before .before .before .before .before .before .opener .ensures) (c .before .before .before .before .before .before .before .before .before .before .before .before .before .before .before .before .before .before .before .before .before .before .before .before .before .before .before .before .before .before .before .before .before .expect .ensures) (c .before .before .before .before .before .before .before .before .before .before .before .before .before .before .before .before .before .before .before .before .before .before .before .before .before .before .before .before .match .keys2) (c .before .before .before .before .before .before .before .before .before .before .before .before .before .before .before .before .before .before .before .before .before .before .before .before .before .loop .inv .1 .rest (rest-comma _ (c .before .before .before .before .before .before .before .before .before .before .before .before .before .before .before .before .before .before .before .before .before .before .before .before .before .loop .inv .0) (c .before .before .before .before .before .before .before .before .before .before .before .before .before .before .before .before .before .before .before .before .before .before .before .before .head .ensures) (c .before .before .before .before .before .before .before .before .before .before .before .before .before .before .before .before .before .before .before .before .before .before .if1 .left) (c .before .before .before .before .before .before .before .before .before .before .before .before .before .before .before .before .before .before .before .before .before .before .before .before .before .before .before .closer .ensures) (c .before .before .before .before .before .before .before .before .before .before .before .before .before .before .before .before .before .before .before .before .if2 .left) (c .before .before .before .before .before .before .before .before .before .before .before .before .before .before .before .before .item .ensures) (c .before .before .before .before .before .before .before .before .match2 .keys2) (c .before .before .before .before .before .comma .ensures) (c .match3 .keys2)))
+
+  pub counted-requires : lts.Need-counted-requires given (list-at t) list.Post Inv-loop μ-loop
+  counted-requires c κs = omega (arith, c .before .before .before .before .before .before .before .before .before .before .before .before .before .before .before .before .before .before .before .before .before .before .before .before .before .before .loop .inv .0 .1, c .before .before .before .before .before .before .before .before .before .before .before .before .before .before .before .before .before .before .before .before .before .before .before .before .before .before .loop .inv .0 .0 .asks .at, c .before .before .before .before .before .before .before .before .before .before .before .before .before .before .before .before .before .before .before .before .before .before .before .before .before .before .loop .inv .0 .0 .asks .held .few)
+
+  pub loop-less : lts.Need-loop-less given (list-at t) list.Post Inv-loop μ-loop
+  loop-less c = omega (arith, c .before .before .before .before .before .before .before .before .before .before .before .before .before .before .before .before .before .before .before .before .before .before .before .before .before .before .before .before .loop .inv .0 .0 .asks .at, c .before .before .before .before .before .before .before .before .before .before .before .before .before .before .before .before .before .before .before .before .before .before .before .before .before .before .before .head .ensures .kind, c .before .before .before .before .before .before .before .before .before .before .before .before .before .before .before .before .before .before .before .before .before .before .before .before .before .if1 .left, c .before .before .before .before .before .before .before .before .before .before .before .before .before .before .before .before .before .before .before .item .ensures .on, c .before .before .before .before .before .before .before .before .before .before .before .before .before .before .before .before .before .before .before .item .ensures .moved, c .before .before .before .before .before .before .before .before .comma .ensures .moved)
+
+  pub loop-again : lts.Need-loop-again given (list-at t) list.Post Inv-loop μ-loop
+  loop-again c = (rest-asked (c .before .before .before .before .before .before .before .before .before .before .before .before .before .before .before .before .before .before .before .before .before .before .before .before .before .before .before .before .loop .inv .0) (c .before .before .before .before .before .before .before .before .before .before .before .before .before .before .before .before .before .before .before .before .before .before .before .before .before .before .before .head .ensures) (c .before .before .before .before .before .before .before .before .before .before .before .before .before .before .before .before .before .before .before .before .before .before .before .before .before .if1 .left) (c .before .before .before .before .before .before .before .before .before .before .before .before .before .before .before .before .before .before .before .item .ensures) (c .before .before .before .before .before .before .before .before .comma .ensures) (c .before .counted .ensures) (omega (arith, c .before .before .before .before .before .before .before .before .before .before .before .before .before .before .before .before .before .before .before .item .kept)) (omega (arith, c .before .before .before .before .before .before .before .before .comma .kept, c .before .before .before .before .before .before .before .before .before .before .before .before .before .before .before .before .before .before .before .item .kept)) (omega (arith, c .before .before .before .before .before .before .before .before .comma .kept, c .before .before .before .before .before .before .before .before .before .before .before .before .before .before .before .before .before .before .before .item .kept)), one-turn (c .before .before .before .before .before .before .before .before .before .before .before .before .before .before .before .before .before .before .before .before .before .before .before .before .before .before .before .before .loop .inv .1) (omega (arith, c .before .before .before .before .before .before .before .before .before .before .before .before .before .before .before .before .before .before .before .item .kept)) (omega (arith, c .before .before .before .before .before .before .before .before .comma .kept, c .before .before .before .before .before .before .before .before .before .before .before .before .before .before .before .before .before .before .before .item .kept)) (omega (arith, c .before .before .before .before .before .before .before .before .comma .kept, c .before .before .before .before .before .before .before .before .before .before .before .before .before .before .before .before .before .before .before .item .kept)) (omega (arith, c .before .before .before .before .before .before .before .before .before .before .before .before .before .before .before .before .before .before .before .item .ensures .moved, c .before .before .before .before .before .before .before .before .comma .ensures .moved)) (λ _ _ _ _ g. rest-next _ (c .before .before .before .before .before .before .before .before .before .before .before .before .before .before .before .before .before .before .before .before .before .before .before .before .before .before .before .before .loop .inv .0) (c .before .before .before .before .before .before .before .before .before .before .before .before .before .before .before .before .before .before .before .before .before .before .before .before .before .before .before .head .ensures) (c .before .before .before .before .before .before .before .before .before .before .before .before .before .before .before .before .before .before .before .before .before .before .before .before .before .if1 .left) (c .before .before .before .before .before .before .before .before .before .before .before .before .before .before .before .before .before .before .before .before .before .before .before .before .before .before .before .before .before .before .closer .ensures) (c .before .before .before .before .before .before .before .before .before .before .before .before .before .before .before .before .before .before .before .before .before .before .before .if2 .left) (c .before .before .before .before .before .before .before .before .before .before .before .before .before .before .before .before .before .before .before .item .ensures) (c .before .before .before .before .before .before .before .before .before .before .before .match2 .keys2) (c .before .before .before .before .before .before .before .before .comma .ensures) (c .before .before .enum-told3 .given .1) (c .before .counted .ensures) g))

@@ -1,0 +1,35 @@
+-- The needs of `mul`.
+use Rattle.definition.specs.Act.{Mul}
+use Rattle.definition.specs.Parser as P
+use Rattle.grammar.specs.Post.{operators-on}
+use Rattle.grammar.proofs.Joins.{then-asked, goes-on}
+use native.Mathlib.Omega.{arith}
+use Prim.Native.Nat.{ℕ}
+use Rattle.expression.proofs.+access+add_sub+array+atom+bit_and+bit_or+bit_xor+boolean+call+cascade+cast+comparison+expression+field+item+list+mul+named+operators+shift+sizeof+ty+typed+typed_name+unary.Lts-mul as lts
+use Rattle.expression.proofs.cast.Reads as cast
+use Rattle.expression.proofs.mul.Reads as mul
+use Rattle.expression.proofs.operators.Reads as operators
+use Rattle.expression.proofs.+access+add_sub+array+atom+bit_and+bit_or+bit_xor+boolean+call+cascade+cast+comparison+expression+field+item+list+mul+named+operators+shift+sizeof+ty+typed+typed_name+unary.Proof.Falls.{cast-below, mul-at, operators-below}
+
+module _ (t : ℕ) where
+  abbrev pub given : lts.Claims
+  given = (cast-below t, cast.Post, operators-below t, operators.Post)
+
+  pub cast-requires : lts.Need-cast-requires given (mul-at t) mul.Post
+  cast-requires c κs = (omega (arith, c .before .before .before .before .before .before .before .before .pre .0), c .before .before .before .before .before .before .before .before .pre .1)
+
+  pub operators-requires : lts.Need-operators-requires given (mul-at t) mul.Post
+  operators-requires c κs = (omega (arith, c .before .before .before .before .before .before .before .before .before .before .before .before .before .before .before .before .before .before .pre .0, c .before .before .before .before .before .before .before .before .before .before .before .before .before .before .before .before .before .before .pre .1 .asks .at, c .before .before .before .before .before .before .before .before .before .cast .ensures .moved .at), goes-on (c .before .before .before .before .before .before .before .before .before .before .before .before .before .before .before .before .before .before .pre .1) (c .before .before .before .before .before .before .before .before .before .cast .ensures) (omega (arith, c .before .before .before .before .before .before .before .before .before .cast .kept)) (omega (arith, c .before .before .before .before .before .before .before .before .before .cast .kept)) (omega (arith, c .before .before .before .before .before .before .before .before .before .cast .kept)))
+
+  pub same-length : lts.Need-same-length given (mul-at t) mul.Post
+  same-length c = omega (arith, c .before .before .before .before .before .before .operators .kept, c .before .before .before .before .before .before .before .before .before .before .before .before .before .before .before .before .cast .kept)
+
+  pub same-length-2 : lts.Need-same-length-2 given (mul-at t) mul.Post
+  same-length-2 c = omega (arith, c .before .before .before .before .before .before .operators .kept, c .before .before .before .before .before .before .before .before .before .before .before .before .before .before .before .before .cast .kept)
+
+  pub same-length-3 : lts.Need-same-length-3 given (mul-at t) mul.Post
+  same-length-3 c = omega (arith, c .before .before .before .before .before .before .operators .kept, c .before .before .before .before .before .before .before .before .before .before .before .before .before .before .before .before .cast .kept)
+
+  pub returns : lts.Need-returns given (mul-at t) mul.Post
+  unfolding P.parse-mul
+  returns c = then-asked (operators-on Mul) (c .before .before .before .before .before .before .before .before .before .before .before .before .before .before .before .before .before .before .before .before .before .before .before .before .before .pre .1) (c .before .before .before .before .before .before .before .before .before .before .before .before .before .before .before .before .cast .ensures) (c .before .before .before .before .before .before .operators .ensures)

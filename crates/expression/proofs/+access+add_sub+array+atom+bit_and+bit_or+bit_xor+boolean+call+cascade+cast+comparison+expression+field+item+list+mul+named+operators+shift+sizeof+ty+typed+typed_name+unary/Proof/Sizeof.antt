@@ -1,0 +1,76 @@
+-- The needs of `sizeof`.
+use mathlib.Core.Path.{refl}
+use Rattle.steps.proofs.Moves.{asked-seen, asked-moved, asks-fore, fore-moved, moved-trans}
+use Rattle.grammar.proofs.Joins.{room-at}
+use Rattle.grammar.proofs.Calls.{sizeof-other, sizeof-stop, sizeof-asks, sizeof-done}
+use Rattle.steps.proofs.Moves.{asked-seen, asked-moved, asks-fore}
+use borrow.Author.Needs.{needs}
+use native.Mathlib.Omega.{arith}
+use Prim.Native.Nat.{ℕ}
+use Rattle.expression.proofs.+access+add_sub+array+atom+bit_and+bit_or+bit_xor+boolean+call+cascade+cast+comparison+expression+field+item+list+mul+named+operators+shift+sizeof+ty+typed+typed_name+unary.Lts-sizeof as lts
+use Rattle.expression.proofs.access.Reads as access
+use Rattle.expression.proofs.sizeof.Reads as sizeof
+use Rattle.expression.proofs.ty.Reads as ty
+use Rattle.steps.proofs.and_expect.Reads as and-expect-reads
+use Rattle.steps.proofs.expect.Reads as expect-reads
+use Rattle.steps.proofs.finish.Reads as finish-reads
+use Rattle.steps.proofs.head.Reads as head-reads
+use Rattle.expression.proofs.+access+add_sub+array+atom+bit_and+bit_or+bit_xor+boolean+call+cascade+cast+comparison+expression+field+item+list+mul+named+operators+shift+sizeof+ty+typed+typed_name+unary.Proof.Falls.{access-below, sizeof-at, ty-below}
+
+module _ (t : ℕ) where
+  abbrev pub given : lts.Claims
+  given = (head-reads.Asked, head-reads.Learnt, access-below t, access.Post, expect-reads.Asked, expect-reads.Learnt, ty-below t, ty.Post, and-expect-reads.Asked, and-expect-reads.Learnt, finish-reads.Asked, finish-reads.Learnt)
+
+  pub head-requires : lts.Need-head-requires given (sizeof-at t) sizeof.Post
+  head-requires c κs = (c .before .before .before .before .before .pre .1 .asks .held, c .before .before .before .before .before .pre .1 .asks .at)
+
+  pub access-requires : lts.Need-access-requires given (sizeof-at t) sizeof.Post
+  access-requires c κs = (omega (arith, c .before .before .before .before .before .before .before .before .before .before .before .pre .0), c .before .before .before .before .before .before .before .before .before .before .before .pre .1)
+
+  pub same-length : lts.Need-same-length given (sizeof-at t) sizeof.Post
+  same-length c = omega (arith, c .before .before .before .before .before .before .access .kept)
+
+  pub same-length-2 : lts.Need-same-length-2 given (sizeof-at t) sizeof.Post
+  same-length-2 c = omega (arith, c .before .before .before .before .before .before .access .kept)
+
+  pub same-length-3 : lts.Need-same-length-3 given (sizeof-at t) sizeof.Post
+  same-length-3 c = omega (arith, c .before .before .before .before .before .before .access .kept)
+
+  pub returns : lts.Need-returns given (sizeof-at t) sizeof.Post
+  returns c = sizeof-other (c .before .before .before .before .before .before .before .before .before .before .before .before .before .before .before .before .before .before .pre .1) (c .before .before .before .before .before .before .before .before .before .before .before .before .head .ensures) (c .before .before .before .before .before .before .before .before .before .before .if1 .taken) (c .before .before .before .before .before .before .access .ensures)
+
+  pub expect-requires : lts.Need-expect-requires given (sizeof-at t) sizeof.Post
+  expect-requires c κs = (asks-fore (c .before .before .before .before .before .before .before .before .before .before .pre .1 .asks) (c .before .before .before .before .head .ensures), (omega arith, omega arith))
+
+  pub enum-told : lts.Need-enum-told given (sizeof-at t) sizeof.Post
+  enum-told c = search needs
+
+  pub same-length-4 : lts.Need-same-length-4 given (sizeof-at t) sizeof.Post
+  same-length-4 c = omega (arith, c .before .before .before .before .before .expect .kept)
+
+  pub same-length-5 : lts.Need-same-length-5 given (sizeof-at t) sizeof.Post
+  same-length-5 c = omega (arith, c .before .before .before .before .before .expect .kept)
+
+  pub returns-2 : lts.Need-returns-2 given (sizeof-at t) sizeof.Post
+  returns-2 c = sizeof-stop (c .before .before .before .before .before .before .before .before .before .before .before .before .before .before .before .before .pre .1) (c .before .before .before .before .before .before .before .before .before .before .head .ensures) (c .before .before .before .before .before .before .before .before .if1 .left) (c .before .before .before .before .before .expect .ensures) (c .match .keys2)
+
+  pub ty-requires : lts.Need-ty-requires given (sizeof-at t) sizeof.Post
+  ty-requires c κs = (omega (arith, c .before .before .before .before .before .before .before .before .before .before .before .before .before .before .before .before .before .before .before .before .before .pre .0, c .before .before .before .before .before .before .before .before .before .before .before .before .before .before .before .before .before .before .before .before .before .pre .1 .asks .at, c .before .before .before .before .before .before .before .before .before .before .before .before .before .before .before .head .ensures, c .before .before .before .before .before .before .before .before .before .before .before .before .before .if1 .left, c .before .before .before .before .before .before .before .before .before .before .expect .ensures .moved), asked-moved (asked-seen (c .before .before .before .before .before .before .before .before .before .before .before .before .before .before .before .before .before .before .before .before .before .pre .1) (c .before .before .before .before .before .before .before .before .before .before .before .before .before .before .before .head .ensures)) (c .before .before .before .before .before .before .before .before .before .before .expect .ensures .moved) refl (omega (arith, c .before .before .before .before .before .before .before .before .before .before .expect .kept)) (omega (arith, c .before .before .before .before .before .before .before .before .before .before .expect .kept)))
+
+  pub and-expect-requires : lts.Need-and-expect-requires given (sizeof-at t) sizeof.Post
+  and-expect-requires c κs = (sizeof-asks (c .before .before .before .before .before .before .before .before .before .before .before .before .before .before .before .before .before .before .before .before .before .before .before .before .before .before .before .before .before .before .pre .1) (c .before .before .before .before .before .before .before .before .before .before .before .before .before .before .before .before .before .before .before .before .before .before .before .before .head .ensures) (c .before .before .before .before .before .before .before .before .before .before .before .before .before .before .before .before .before .before .before .before .before .before .if1 .left) (c .before .before .before .before .before .before .before .before .before .before .before .before .before .before .before .before .before .before .before .expect .ensures) (c .before .before .before .before .before .before .before .before .before .before .before .before .before .enum-told .given .1) (c .before .before .before .before .before .before .before .before .ty .ensures) (omega (arith, c .before .before .before .before .before .before .before .before .ty .kept, c .before .before .before .before .before .before .before .before .before .before .before .before .before .before .before .before .before .before .before .expect .kept)) (omega (arith, c .before .before .before .before .before .before .before .before .ty .kept, c .before .before .before .before .before .before .before .before .before .before .before .before .before .before .before .before .before .before .before .expect .kept)), (omega arith, omega arith))
+
+  pub finish-requires : lts.Need-finish-requires given (sizeof-at t) sizeof.Post
+  finish-requires c κs = room-at (c .before .before .before .before .before .before .before .before .before .before .before .before .before .before .before .before .before .before .before .before .before .before .before .before .before .before .before .before .before .before .before .before .before .before .before .before .pre .1) (moved-trans (moved-trans (moved-trans (fore-moved (c .before .before .before .before .before .before .before .before .before .before .before .before .before .before .before .before .before .before .before .before .before .before .before .before .before .before .before .before .before .before .before .before .before .before .before .before .pre .1 .asks) (c .before .before .before .before .before .before .before .before .before .before .before .before .before .before .before .before .before .before .before .before .before .before .before .before .before .before .before .before .before .before .head .ensures)) (c .before .before .before .before .before .before .before .before .before .before .before .before .before .before .before .before .before .before .before .before .before .before .before .before .before .expect .ensures .moved)) (c .before .before .before .before .before .before .before .before .before .before .before .before .before .before .ty .ensures .moved)) (c .before .before .before .before .before .and-expect .ensures .moved)) (omega (arith, c .before .before .before .before .before .before .before .before .before .before .before .before .before .before .ty .kept))
+
+  pub same-length-6 : lts.Need-same-length-6 given (sizeof-at t) sizeof.Post
+  same-length-6 c = omega (arith, c .before .before .finish .kept, c .before .before .before .before .before .before .before .before .and-expect .kept, c .before .before .before .before .before .before .before .before .before .before .before .before .before .before .before .before .before .ty .kept, c .before .before .before .before .before .before .before .before .before .before .before .before .before .before .before .before .before .before .before .before .before .before .before .before .before .before .before .before .expect .kept)
+
+  pub same-length-7 : lts.Need-same-length-7 given (sizeof-at t) sizeof.Post
+  same-length-7 c = omega (arith, c .before .before .finish .kept, c .before .before .before .before .before .before .before .before .and-expect .kept, c .before .before .before .before .before .before .before .before .before .before .before .before .before .before .before .before .before .ty .kept, c .before .before .before .before .before .before .before .before .before .before .before .before .before .before .before .before .before .before .before .before .before .before .before .before .before .before .before .before .expect .kept)
+
+  pub same-length-8 : lts.Need-same-length-8 given (sizeof-at t) sizeof.Post
+  same-length-8 c = omega (arith, c .before .before .finish .kept, c .before .before .before .before .before .before .before .before .and-expect .kept, c .before .before .before .before .before .before .before .before .before .before .before .before .before .before .before .before .before .ty .kept, c .before .before .before .before .before .before .before .before .before .before .before .before .before .before .before .before .before .before .before .before .before .before .before .before .before .before .before .before .expect .kept)
+
+  pub returns-3 : lts.Need-returns-3 given (sizeof-at t) sizeof.Post
+  returns-3 c = sizeof-done (c .before .before .before .before .before .before .before .before .before .before .before .before .before .before .before .before .before .before .before .before .before .before .before .before .before .before .before .before .before .before .before .before .before .before .before .before .before .before .before .pre .1) (c .before .before .before .before .before .before .before .before .before .before .before .before .before .before .before .before .before .before .before .before .before .before .before .before .before .before .before .before .before .before .before .before .before .head .ensures) (c .before .before .before .before .before .before .before .before .before .before .before .before .before .before .before .before .before .before .before .before .before .before .before .before .before .before .before .before .before .before .before .if1 .left) (c .before .before .before .before .before .before .before .before .before .before .before .before .before .before .before .before .before .before .before .before .before .before .before .before .before .before .before .before .expect .ensures) (c .before .before .before .before .before .before .before .before .before .before .before .before .before .before .before .before .before .before .before .before .before .before .enum-told .given .1) (c .before .before .before .before .before .before .before .before .before .before .before .before .before .before .before .before .before .ty .ensures) (omega (arith, c .before .before .before .before .before .before .before .before .before .before .before .before .before .before .before .before .before .ty .kept, c .before .before .before .before .before .before .before .before .before .before .before .before .before .before .before .before .before .before .before .before .before .before .before .before .before .before .before .before .expect .kept)) (omega (arith, c .before .before .before .before .before .before .before .before .before .before .before .before .before .before .before .before .before .ty .kept, c .before .before .before .before .before .before .before .before .before .before .before .before .before .before .before .before .before .before .before .before .before .before .before .before .before .before .before .before .expect .kept)) (c .before .before .before .before .before .before .before .before .and-expect .ensures) (c .before .before .finish .ensures)

@@ -1,0 +1,51 @@
+-- The needs of `typed`.
+use Rattle.grammar.proofs.Names.{typed-colon, typed-type, colon-cuts, type-asked, type-cuts}
+use borrow.Author.Needs.{needs}
+use native.Mathlib.Omega.{arith}
+use Prim.Native.Nat.{ℕ}
+use Rattle.expression.proofs.+access+add_sub+array+atom+bit_and+bit_or+bit_xor+boolean+call+cascade+cast+comparison+expression+field+item+list+mul+named+operators+shift+sizeof+ty+typed+typed_name+unary.Lts-typed as lts
+use Rattle.expression.proofs.ty.Reads as ty
+use Rattle.expression.proofs.typed.Reads as typed
+use Rattle.fallible.proofs.abandon.Reads as abandon-reads
+use Rattle.steps.proofs.expect.Reads as expect-reads
+use Rattle.expression.proofs.+access+add_sub+array+atom+bit_and+bit_or+bit_xor+boolean+call+cascade+cast+comparison+expression+field+item+list+mul+named+operators+shift+sizeof+ty+typed+typed_name+unary.Proof.Falls.{ty-below, typed-at}
+
+module _ (t : ℕ) where
+  abbrev pub given : lts.Claims
+  given = (expect-reads.Asked, expect-reads.Learnt, abandon-reads.Asked, abandon-reads.Learnt, ty-below t, ty.Post)
+
+  pub expect-requires : lts.Need-expect-requires given (typed-at t) typed.Post
+  expect-requires c κs = (c .before .before .before .before .before .before .before .pre .1 .0 .asks, (omega arith, omega arith))
+
+  pub abandon-requires : lts.Need-abandon-requires given (typed-at t) typed.Post
+  abandon-requires c κs = colon-cuts (c .before .before .before .before .before .before .before .before .before .before .before .before .before .pre .1) (c .before .before .before .before .before .expect .ensures) (omega (arith, c .before .before .before .before .before .expect .kept))
+
+  pub enum-told : lts.Need-enum-told given (typed-at t) typed.Post
+  enum-told c = search needs
+
+  pub same-length : lts.Need-same-length given (typed-at t) typed.Post
+  same-length c = omega (arith, c .before .before .before .abandon .kept, c .before .before .before .before .before .before .before .before .before .expect .kept)
+
+  pub same-length-2 : lts.Need-same-length-2 given (typed-at t) typed.Post
+  same-length-2 c = omega (arith, c .before .before .before .abandon .kept, c .before .before .before .before .before .before .before .before .before .expect .kept)
+
+  pub returns : lts.Need-returns given (typed-at t) typed.Post
+  returns c = typed-colon (c .before .before .before .before .before .before .before .before .before .before .before .before .before .before .before .before .before .pre .1) (c .before .before .before .before .before .before .before .before .before .expect .ensures) (c .before .before .before .abandon .ensures) (c .match .keys2)
+
+  pub ty-requires : lts.Need-ty-requires given (typed-at t) typed.Post
+  ty-requires c κs = (omega (arith, c .before .before .before .before .before .before .before .before .before .before .before .before .before .before .before .before .before .before .before .before .before .before .pre .0, c .before .before .before .before .before .before .before .before .before .before .before .before .before .before .expect .ensures .moved, c .before .before .before .before .before .before .before .before .abandon .ensures .at), type-asked (c .before .before .before .before .before .before .before .before .before .before .before .before .before .before .before .before .before .before .before .before .before .before .pre .1) (c .before .before .before .before .before .before .before .before .before .before .before .before .before .before .expect .ensures) (c .before .before .before .before .before .before .before .before .abandon .ensures) (omega (arith, c .before .before .before .before .before .before .before .before .before .before .before .before .before .before .expect .kept, c .before .before .before .before .before .before .before .before .abandon .kept)) (omega (arith, c .before .before .before .before .before .before .before .before .before .before .before .before .before .before .expect .kept, c .before .before .before .before .before .before .before .before .abandon .kept)))
+
+  pub abandon-requires-2 : lts.Need-abandon-requires-2 given (typed-at t) typed.Post
+  abandon-requires-2 c κs = type-cuts (c .before .before .before .before .before .before .before .before .before .before .before .before .before .before .before .before .before .before .before .before .before .before .before .before .before .before .before .before .before .before .pre .1) (c .before .before .before .before .before .before .before .before .before .before .before .before .before .before .before .before .before .before .before .before .before .before .expect .ensures) (c .before .before .before .before .before .before .before .before .before .before .before .before .before .before .before .before .abandon .ensures) (c .before .before .before .before .before .before .before .ty .ensures) (omega (arith, c .before .before .before .before .before .before .before .before .before .before .before .before .before .before .before .before .before .before .before .before .before .before .expect .kept, c .before .before .before .before .before .before .before .before .before .before .before .before .before .before .before .before .abandon .kept)) (omega (arith, c .before .before .before .before .before .before .before .before .before .before .before .before .before .before .before .before .before .before .before .before .before .before .expect .kept, c .before .before .before .before .before .before .before .before .before .before .before .before .before .before .before .before .abandon .kept)) (omega (arith, c .before .before .before .before .before .before .before .ty .kept))
+
+  pub same-length-3 : lts.Need-same-length-3 given (typed-at t) typed.Post
+  same-length-3 c = omega (arith, c .before .before .abandon2 .kept, c .before .before .before .before .before .before .before .before .before .before .ty .kept, c .before .before .before .before .before .before .before .before .before .before .before .before .before .before .before .before .before .before .before .abandon .kept, c .before .before .before .before .before .before .before .before .before .before .before .before .before .before .before .before .before .before .before .before .before .before .before .before .before .expect .kept)
+
+  pub same-length-4 : lts.Need-same-length-4 given (typed-at t) typed.Post
+  same-length-4 c = omega (arith, c .before .before .abandon2 .kept, c .before .before .before .before .before .before .before .before .before .before .ty .kept, c .before .before .before .before .before .before .before .before .before .before .before .before .before .before .before .before .before .before .before .abandon .kept, c .before .before .before .before .before .before .before .before .before .before .before .before .before .before .before .before .before .before .before .before .before .before .before .before .before .expect .kept)
+
+  pub same-length-5 : lts.Need-same-length-5 given (typed-at t) typed.Post
+  same-length-5 c = omega (arith, c .before .before .before .before .before .before .before .before .before .before .ty .kept, c .before .before .before .before .before .before .before .before .before .before .before .before .before .before .before .before .before .before .before .before .before .before .before .before .before .expect .kept)
+
+  pub returns-2 : lts.Need-returns-2 given (typed-at t) typed.Post
+  returns-2 c = typed-type (c .before .before .before .before .before .before .before .before .before .before .before .before .before .before .before .before .before .before .before .before .before .before .before .before .before .before .before .before .before .before .before .before .before .pre .1) (c .before .before .before .before .before .before .before .before .before .before .before .before .before .before .before .before .before .before .before .before .before .before .before .before .before .expect .ensures) (c .before .before .before .before .before .before .before .before .before .before .before .before .before .before .before .before .before .before .before .abandon .ensures) (c .before .before .before .before .before .before .before .before .before .before .before .before .before .before .before .enum-told .given .1) (c .before .before .before .before .before .before .before .before .before .before .ty .ensures) (c .before .before .abandon2 .ensures)

@@ -1,0 +1,72 @@
+-- The needs of `unary`.
+use Rattle.definition.specs.Act.{Unary}
+use Rattle.steps.proofs.Moves.{asked-seen}
+use Rattle.steps.proofs.Constructs.{deep}
+use Rattle.grammar.proofs.Calls.{unary-none, unary-prefix}
+use Rattle.grammar.proofs.Types.{star-room}
+use borrow.Author.Needs.{needs}
+use native.Mathlib.Omega.{arith}
+use Prim.Native.Nat.{ℕ}
+use Rattle.expression.proofs.+access+add_sub+array+atom+bit_and+bit_or+bit_xor+boolean+call+cascade+cast+comparison+expression+field+item+list+mul+named+operators+shift+sizeof+ty+typed+typed_name+unary.Lts-unary as lts
+use Rattle.expression.proofs.call.Reads as call
+use Rattle.expression.proofs.unary.Reads as unary
+use Rattle.fallible.proofs.refuse.Reads as refuse-reads
+use Rattle.leaves.proofs.prefix.Reads as prefix-reads
+use Rattle.steps.proofs.finish.Reads as finish-reads
+use Rattle.steps.proofs.head.Reads as head-reads
+use Rattle.expression.proofs.+access+add_sub+array+atom+bit_and+bit_or+bit_xor+boolean+call+cascade+cast+comparison+expression+field+item+list+mul+named+operators+shift+sizeof+ty+typed+typed_name+unary.Proof.Falls.{call-below, unary-at, unary-below}
+
+module _ (t : ℕ) where
+  abbrev pub given : lts.Claims
+  given = (refuse-reads.Asked, refuse-reads.Learnt, head-reads.Asked, head-reads.Learnt, prefix-reads.Asked, prefix-reads.Learnt, call-below t, call.Post, unary-below t, unary.Post, finish-reads.Asked, finish-reads.Learnt)
+
+  pub refuse-requires : lts.Need-refuse-requires given (unary-at t) unary.Post
+  refuse-requires c κs = search needs
+
+  pub returns : lts.Need-returns given (unary-at t) unary.Post
+  returns c = deep Unary (c .before .before .before .before .before .before .before .pre .1 .asks) (c .before .if1 .taken) (c .refuse .ensures)
+
+  pub head-requires : lts.Need-head-requires given (unary-at t) unary.Post
+  head-requires c κs = (c .before .before .before .before .before .before .pre .1 .asks .held, c .before .before .before .before .before .before .pre .1 .asks .at)
+
+  pub prefix-requires : lts.Need-prefix-requires given (unary-at t) unary.Post
+  prefix-requires c κs = search needs
+
+  pub sub-call : lts.Need-sub-call given (unary-at t) unary.Post
+  sub-call c = omega arith
+
+  pub call-requires : lts.Need-call-requires given (unary-at t) unary.Post
+  call-requires c κs = (omega (arith, c .before .before .before .before .before .before .before .before .before .before .before .before .pre .0), c .before .before .before .before .before .before .before .before .before .before .before .before .pre .1)
+
+  pub same-length : lts.Need-same-length given (unary-at t) unary.Post
+  same-length c = omega (arith, c .before .before .before .before .before .before .call .kept)
+
+  pub same-length-2 : lts.Need-same-length-2 given (unary-at t) unary.Post
+  same-length-2 c = omega (arith, c .before .before .before .before .before .before .call .kept)
+
+  pub same-length-3 : lts.Need-same-length-3 given (unary-at t) unary.Post
+  same-length-3 c = omega (arith, c .before .before .before .before .before .before .call .kept)
+
+  pub returns-2 : lts.Need-returns-2 given (unary-at t) unary.Post
+  returns-2 c = unary-none (c .before .before .before .before .before .before .before .before .before .before .before .before .before .before .before .before .before .before .before .pre .1) (c .before .before .before .before .before .before .before .before .before .before .before .before .before .if1 .left) (c .before .before .before .before .before .before .before .before .before .before .before .before .head .ensures) (c .before .before .before .before .before .before .before .before .before .before .before .prefix .ensures) (c .before .before .before .before .before .before .before .before .before .before .if2 .taken) (c .before .before .before .before .before .before .call .ensures)
+
+  pub sub-unary : lts.Need-sub-unary given (unary-at t) unary.Post
+  sub-unary c = omega arith
+
+  pub unary-requires : lts.Need-unary-requires given (unary-at t) unary.Post
+  unary-requires c κs = (omega (arith, c .before .before .before .before .before .before .before .before .before .before .before .before .pre .0, c .before .before .before .before .before .before .before .before .before .before .before .before .pre .1 .asks .at, c .before .before .before .before .before .head .ensures, c .before .before .before .before .prefix .ensures, c .before .before .before .if2 .left), asked-seen (c .before .before .before .before .before .before .before .before .before .before .before .before .pre .1) (c .before .before .before .before .before .head .ensures))
+
+  pub finish-requires : lts.Need-finish-requires given (unary-at t) unary.Post
+  finish-requires c κs = star-room (c .before .before .before .before .before .before .before .before .before .before .before .before .before .before .before .before .before .before .before .before .pre .1) (c .before .before .before .before .before .before .before .before .before .before .before .before .before .head .ensures) (c .before .before .before .before .before .before .before .unary .ensures) (omega (arith, c .before .before .before .before .before .before .before .unary .kept))
+
+  pub same-length-4 : lts.Need-same-length-4 given (unary-at t) unary.Post
+  same-length-4 c = omega (arith, c .before .before .finish .kept, c .before .before .before .before .before .before .before .before .before .before .unary .kept)
+
+  pub same-length-5 : lts.Need-same-length-5 given (unary-at t) unary.Post
+  same-length-5 c = omega (arith, c .before .before .finish .kept, c .before .before .before .before .before .before .before .before .before .before .unary .kept)
+
+  pub same-length-6 : lts.Need-same-length-6 given (unary-at t) unary.Post
+  same-length-6 c = omega (arith, c .before .before .finish .kept, c .before .before .before .before .before .before .before .before .before .before .unary .kept)
+
+  pub returns-3 : lts.Need-returns-3 given (unary-at t) unary.Post
+  returns-3 c = unary-prefix (c .before .before .before .before .before .before .before .before .before .before .before .before .before .before .before .before .before .before .before .before .before .before .before .pre .1) (c .before .before .before .before .before .before .before .before .before .before .before .before .before .before .before .before .before .if1 .left) (c .before .before .before .before .before .before .before .before .before .before .before .before .before .before .before .before .head .ensures) (c .before .before .before .before .before .before .before .before .before .before .before .before .before .before .before .prefix .ensures) (c .before .before .before .before .before .before .before .before .before .before .before .before .before .before .if2 .left) (c .before .before .before .before .before .before .before .before .before .before .unary .ensures) (c .before .before .finish .ensures)

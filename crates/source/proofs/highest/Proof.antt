@@ -1,0 +1,27 @@
+use mathlib.Core.Logic.{⊎-elim}
+use Prim.Native.Nat.{_-_}
+use lib.ListN.{length}
+use Rattle.source.proofs.Low.{High, high-start, high-more, high-end}
+use native.Mathlib.Omega.{arith}
+use borrow.Author.Needs.{needs}
+use Rattle.source.proofs.highest.Statement.{statement}
+use Rattle.source.proofs.highest.Tie as tie
+
+abbrev Inv-loop : tie.InvT-loop
+Inv-loop s high₀ i₀ high i = High s high i
+
+abbrev μ-loop : tie.MeasureT-loop
+μ-loop s high₀ i₀ high i = length s - i
+
+pub highest-spec : {M : Type 1} → statement M
+highest-spec =
+    tie.close
+    (tie.spec
+    Inv-loop
+    μ-loop
+    (λ c. high-start)
+    (λ c. search needs)
+    (λ c. search needs)
+    (λ c. search needs)
+    (λ c. high-more (c .before .before .before .loop .inv) (omega arith) (⊎-elim (λ z. omega (arith, z .0 .taken, z .1)) (λ z. omega (arith, z .0 .left, z .1)) (c .if1 .came)))
+    (λ c. high-end (c .before .loop .inv) (omega arith)))
