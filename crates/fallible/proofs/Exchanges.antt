@@ -1,11 +1,11 @@
 -- The loop of `copy`, and what `exchange` does to the errors. Assumes nothing.
 use mathlib.Core.Path.{_≡_, refl, sym, ap, _∙_}
-use mathlib.Core.List.{List, _++_, map, map-append, append-assoc, append-cancel-left}
+use mathlib.Core.List.{List, [], _++_, map, map-append, append-assoc, append-cancel-left, append-nil}
 use Prim.Native.Nat.{ℕ, _+_, _-_, _≤_, _<_}
 use native.Mathlib.Nat.{zero-add}
 use native.Mathlib.Numerals.{add-one}
 use native.Mathlib.Omega.{arith}
-use lib.ListN.{length, getD, take, drop, set, length-drop, length-set, take-append-drop}
+use lib.ListN.{length, getD, take, drop, set, length-take, length-drop, length-set, take-append-drop, drop-of-length-le}
 use lib.Seq.{paste, paste-zero, paste-suc, length-paste, take-paste, take-add, take-take, drop-drop, drop-at, getD-drop, length-take-le}
 use Rattle.definition.specs.Fallible.{Err}
 use Rattle.fallible.specs.Lists.{unpack, errs}
@@ -46,6 +46,12 @@ module _ {l t₀ t : List ℕ} {at place len i : ℕ} (h : Copying l at t₀ pla
 -- some entries of a part
 part-is : (l : List ℕ) (j n k : ℕ) → j + n ≡ k → k ≤ length l → take n (drop j l) ≡ drop j (take k l)
 part-is l j n k e h = sym (ap (λ (x : ℕ). drop j (take x l)) (sym e) ∙ ap (λ (x : List ℕ). drop j x) (take-add j n l) ∙ drop-at (take j l) (take n (drop j l)) j (length-take-le j l (omega arith)))
+
+pub exchanged-none : {r : List ℕ} {j k m : ℕ} → j ≤ k → k ≤ m → j ≡ m → Exchanged r j k m r
+exchanged-none {r} {j} {k} {m} jk km e =
+    let a : drop k (take m r) ≡ [] = drop-of-length-le (take m r) {i = k} (omega (arith, length-take m r)) in
+    let b : drop j (take k r) ≡ [] = drop-of-length-le (take k r) {i = j} (omega (arith, length-take k r)) in
+    record { same = refl; is = rw (a, b, e) (sym (append-nil (take m r))) }
 
 module _ {r held r₁ r₂ : List ℕ} {j k m : ℕ} (held₀ : List ℕ) where
   pub exchanged : j ≤ k → k ≤ m → m ≤ length r → m ≤ length held₀

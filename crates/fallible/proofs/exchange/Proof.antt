@@ -1,4 +1,4 @@
-use Rattle.fallible.proofs.Exchanges.{exchanged}
+use Rattle.fallible.proofs.Exchanges.{exchanged, exchanged-none}
 use native.Mathlib.Omega.{arith}
 use borrow.Author.Needs.{needs}
 use Rattle.fallible.proofs.exchange.Statement.{statement}
@@ -8,6 +8,7 @@ pub exchange-spec : {M : Type 1} → statement M
 exchange-spec =
     tie.close
     (tie.spec
+    (λ c. exchanged-none (c .before .before .pre .0) (c .before .before .pre .1 .0) (c .if1 .taken))
     (λ c. search needs)
     (λ c. search needs)
     (λ c κs. search needs)
@@ -21,4 +22,4 @@ exchange-spec =
     (λ c. search needs)
     (λ c κs. search needs)
     (λ c. search needs)
-    (λ c. exchanged _ (c .before .before .before .before .before .before .before .before .before .before .before .before .before .before .before .pre .0) (c .before .before .before .before .before .before .before .before .before .before .before .before .before .before .before .pre .1 .0) (c .before .before .before .before .before .before .before .before .before .before .before .before .before .before .before .pre .1 .1 .1) (omega arith) (c .before .before .before .before .before .before .before .before .before .before .before .copy .ensures) (c .before .before .before .before .before .before .before .copy2 .ensures) (c .before .before .copy3 .ensures)))
+    (λ c. exchanged _ (c .before .before .before .before .before .before .before .before .before .before .before .before .before .before .before .before .pre .0) (c .before .before .before .before .before .before .before .before .before .before .before .before .before .before .before .before .pre .1 .0) (c .before .before .before .before .before .before .before .before .before .before .before .before .before .before .before .before .pre .1 .1 .1) (omega arith) (c .before .before .before .before .before .before .before .before .before .before .before .copy .ensures) (c .before .before .before .before .before .before .before .copy2 .ensures) (c .before .before .copy3 .ensures)))
