@@ -1,4 +1,4 @@
-// The numbers of refusals.
+// The numbers of refusals; those that the parser answers with are bytes.
 pub const SCRIPT_LENGTH: u32 = 1;
 
 pub const NOT_UTF8: u32 = 2;
@@ -17,8 +17,8 @@ pub const BAD_RECORD: u32 = 8;
 
 pub const NO_TOKENS: u32 = 9;
 
-pub const NESTING: u32 = 10;
+pub const NESTING: u8 = 10;
 
-pub const END_AFTER_WORD: u32 = 11;
+pub const END_AFTER_WORD: u8 = 11;
 
-pub const ERRORS: u32 = 12;
+pub const ERRORS: u8 = 12;

@@ -1,6 +1,7 @@
 // Expressions and types, and the lists that stand in them: the functions of parser.rs that call one another in a cycle.
 use definition::kind;
 use definition::parse_error;
+use definition::refusal;
 use definition::tag;
 use fallible::Answer;
 use fallible::How;
@@ -21,6 +22,8 @@ use leaves::comma;
 use leaves::comparison_operator;
 use leaves::counted;
 use leaves::literal;
+use leaves::name;
+use leaves::name_alone;
 use leaves::opener;
 use leaves::operator;
 use leaves::prefix;
@@ -53,7 +56,7 @@ pub fn expression(
     ensures { λ r. ⌜ Reads node (now (tokens .entry)) (now (text .entry)) n left P.parse-expression (now (file .entry)) (now (rep .entry)) (now (full .entry)) st (now (file .exit)) (now (rep .exit)) (now (full .exit)) r ⌝ }
 {
     if left == 0 {
-        return refuse(n, st, 10);
+        return refuse(n, st, refusal::NESTING);
     }
     boolean(tokens, text, n, file, rep, full, st, left - 1)
 }
@@ -514,7 +517,7 @@ fn cast(
     requires { ⌜ Asked (now tokens) (now text) n (now file) (now rep) (now full) st ⌝ }
     ensures { λ r. ⌜ Reads node (now (tokens .entry)) (now (text .entry)) n left P.parse-cast (now (file .entry)) (now (rep .entry)) (now (full .entry)) st (now (file .exit)) (now (rep .exit)) (now (full .exit)) r ⌝ }
 {
-    let mut a = unary(tokens, text, n, file, rep, full, st, left);
+    let mut a = operand(tokens, text, n, file, rep, full, st, left);
     loop {
         let how = a.how;
         let How::Done = how else {
@@ -553,6 +556,29 @@ fn cast(
     }
 }
 
+// unary. A name alone, as most operands are, is read here: it is what each of the functions below gives.
+fn operand(
+    tokens: &[u32],
+    text: &[u8],
+    n: usize,
+    file: &mut [u8],
+    rep: &mut [usize],
+    full: &mut [usize],
+    st: State,
+    left: usize,
+) -> Answer
+    requires { ⌜ Asked (now tokens) (now text) n (now file) (now rep) (now full) st ⌝ }
+    ensures { λ r. ⌜ Reads node (now (tokens .entry)) (now (text .entry)) n left P.parse-unary (now (file .entry)) (now (rep .entry)) (now (full .entry)) st (now (file .exit)) (now (rep .exit)) (now (full .exit)) r ⌝ }
+{
+    let at = st.at;
+    let t = head(tokens, text, n, at);
+    let u = head(tokens, text, n, t.next);
+    if (left == 0) | !name_alone(t.kind, u.kind) {
+        return unary(tokens, text, n, file, rep, full, st, left);
+    }
+    name(file, text, st, t)
+}
+
 // (`&` | `*` | `~` | `!`) unary | call; counted.
 fn unary(
     tokens: &[u32],
@@ -568,7 +594,7 @@ fn unary(
     ensures { λ r. ⌜ Reads node (now (tokens .entry)) (now (text .entry)) n left P.parse-unary (now (file .entry)) (now (rep .entry)) (now (full .entry)) st (now (file .exit)) (now (rep .exit)) (now (full .exit)) r ⌝ }
 {
     if left == 0 {
-        return refuse(n, st, 10);
+        return refuse(n, st, refusal::NESTING);
     }
     let at = st.at;
     let t = head(tokens, text, n, at);
@@ -730,7 +756,7 @@ fn access(
             let u = head(tokens, text, n, t.next);
             let on = State { at: u.next, ..s };
             if u.kind == kind::END {
-                return refuse(n, s, 11);
+                return refuse(n, s, refusal::END_AFTER_WORD);
             }
             if u.kind != kind::IDENTIFIER {
                 let b = note(
@@ -913,7 +939,7 @@ pub fn ty(
     ensures { λ r. ⌜ Reads node (now (tokens .entry)) (now (text .entry)) n left P.parse-type (now (file .entry)) (now (rep .entry)) (now (full .entry)) st (now (file .exit)) (now (rep .exit)) (now (full .exit)) r ⌝ }
 {
     if left == 0 {
-        return refuse(n, st, 10);
+        return refuse(n, st, refusal::NESTING);
     }
     let at = st.at;
     let t = head(tokens, text, n, at);

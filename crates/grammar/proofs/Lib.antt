@@ -7,3 +7,4 @@ pub mod Turns
 pub mod Levels
 pub mod Calls
 pub mod Suffixes
+pub mod Operands

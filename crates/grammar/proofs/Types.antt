@@ -35,9 +35,9 @@ use Rattle.steps.proofs.Moves.{fore-moved, asked-seen, asked-moved}
 use Rattle.steps.proofs.Answers.{Stopped, say, good-of, stops, follows, errs-take, wrapped, finishes}
 use Rattle.steps.proofs.Constructs.{deep, down, seam}
 use Rattle.leaves.specs.declared.Size.{Size}
-use Rattle.leaves.specs.Leaves.{there, unfit, Valued}
+use Rattle.leaves.specs.Leaves.{there, texted, untexted, unfit, Valued}
 use Rattle.leaves.proofs.Errors.{raise-same, raise-reads}
-use Rattle.leaves.proofs.Atoms.{texted, untexted, leaf-reads}
+use Rattle.leaves.proofs.Atoms.{leaf-reads}
 use Rattle.grammar.specs.Post.{place-at, as-answer, ReadsList}
 
 -- ---- numbers

@@ -23,9 +23,9 @@ use Rattle.steps.specs.Shows.{st-of, Asked, Reads, node, items, Finished}
 use Rattle.steps.proofs.Tokens.{yes, no, fore, adv}
 use Rattle.steps.proofs.Moves.{stays}
 use Rattle.steps.proofs.Answers.{say}
-use Rattle.leaves.specs.Leaves.{there, Counted}
+use Rattle.leaves.specs.Leaves.{there, texted, Counted}
 use Rattle.leaves.proofs.Errors.{raise-same, raise-reads}
-use Rattle.leaves.proofs.Atoms.{leaf-reads, texted, Ended, Alive}
+use Rattle.leaves.proofs.Atoms.{leaf-reads, Ended, Alive}
 use Rattle.grammar.specs.Post.{as-answer, LoopOn}
 use Rattle.grammar.proofs.Loops.{loop-refused, loop-next}
 use Rattle.items.specs.Rules.{items-on}

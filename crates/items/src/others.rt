@@ -1,6 +1,7 @@
 // Type aliases, `use` and variables at the top level.
 use definition::kind;
 use definition::parse_error;
+use definition::refusal;
 use definition::tag;
 use expression::ty;
 use fallible::Answer;
@@ -78,7 +79,7 @@ fn alias(
     let t = head(tokens, text, n, at);
     let on = State { at: t.next, ..st };
     if t.kind == kind::END {
-        return refuse(n, st, 11);
+        return refuse(n, st, refusal::END_AFTER_WORD);
     }
     if t.kind != kind::IDENTIFIER {
         return raise(
@@ -187,7 +188,7 @@ fn path(
     let t = head(tokens, text, n, at);
     let on = State { at: t.next, ..st };
     if t.kind == kind::END {
-        return refuse(n, st, 11);
+        return refuse(n, st, refusal::END_AFTER_WORD);
     }
     if t.kind != kind::STRING {
         return raise(

@@ -16,7 +16,6 @@ use Rattle.definition.specs.Parser as P
 use Rattle.definition.specs.Go.{go}
 use Rattle.node.specs.Put.{rec-of, size-of}
 use Rattle.node.specs.declared.Record.{Record}
-use Rattle.node.specs.declared.Numbers.{Numbers}
 use Rattle.node.specs.declared.Numbers.the-variants.{None, Byte}
 use Rattle.fallible.specs.declared.State.{State}
 use Rattle.fallible.specs.declared.How.{How}
@@ -31,7 +30,7 @@ use Rattle.steps.specs.Shows.{st-of, Asks, node, token, Reads, Expects, Finishe
 use Rattle.steps.proofs.Tokens.{yes, no, fore, adv}
 use Rattle.steps.proofs.Moves.{stays}
 use Rattle.steps.proofs.Answers.{say, finishes}
-use Rattle.leaves.specs.Leaves.{there, Literal, ClosingOf, ClosedOf, Closed}
+use Rattle.leaves.specs.Leaves.{there, texted, untexted, identifier, Literal, ClosingOf, ClosedOf, Closed}
 use Rattle.leaves.proofs.Errors.{raise-same, raise-reads}
 
 -- ---- a token alone is a node: the record z is written behind it
@@ -51,13 +50,6 @@ module _ {w x : List ℕ} {n : ℕ} {o o′ r f : List ℕ} {s : State} {t : Fro
 
 -- ---- `literal`
 
--- a record of the token, with its text or with none
-abbrev pub texted : Front → ℕ → Numbers → Record
-texted t tag ns = record { tag = tag; line = t .line; column = t .column; numbers = ns; start = t .start; len = t .len }
-
-abbrev pub untexted : Front → ℕ → Numbers → Record
-untexted t tag ns = record { tag = tag; line = t .line; column = t .column; numbers = ns; start = 0; len = 0 }
-
 -- `parse_atom`, where any number of calls may be opened
 abbrev pub Atom : List ℕ → List ℕ → ℕ → List ℕ → List ℕ → List ℕ → State → List ℕ → List ℕ → List ℕ → Answer → Type 0
 Atom w x n o r f s o′ r′ f′ y = (d : ℕ) → Reads node w x n d P.parse-atom o r f s o′ r′ f′ y
@@ -68,7 +60,7 @@ module _ {w x : List ℕ} {n : ℕ} {o r f : List ℕ} {s : State} {t : Front} (
   integer-reads z u d = let b : t .base % 256 ≡ t .base = omega (arith, v .bases) in leaf-reads (q .asked .asks) v (byte (head (rest w x n (s .at)) .base) ∷ []) (head (rest w x n (s .at)) .text) u (omega arith) (rw (v .place, v .text, v .base, b)) d (λ rd. rw (run, yes v z))
 
   module _ (m2 : t .kind ≡ 2 → ⊥) where
-    pub name-reads : {o′ : List ℕ} {y : Answer} → t .kind ≡ 1 → Finished x o (there s t) (texted t 32 None) o′ y → Atom w x n o r f s o′ r f y
+    pub name-reads : {o′ : List ℕ} {y : Answer} → t .kind ≡ 1 → Finished x o (there s t) (identifier t) o′ y → Atom w x n o r f s o′ r f y
     unfolding go run P.parse-atom
     name-reads z u d = leaf-reads (q .asked .asks) v [] (head (rest w x n (s .at)) .text) u (omega arith) (rw (v .place, v .text)) d (λ rd. rw (run, no v m2, yes v z))
 

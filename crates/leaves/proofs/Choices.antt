@@ -1,11 +1,11 @@
 -- Which operator, comparison or prefix a kind is. Assumes nothing.
 use mathlib.Core.Path.{_≡_, refl, sym, ap, _∙_, subst}
-use mathlib.Core.Bool.{Bool, true, false, _||_}
+use mathlib.Core.Bool.{Bool, true, false, not, _||_}
 use mathlib.Core.List.{List, [], _∷_}
 use Prim.Native.Nat.{ℕ, min, _+_, _-_, _≤_}
 use native.Mathlib.Omega.{arith}
 use lib.Dec.{eqb}
-use borrow.Author.Tests.{eq-eqb, ne-eqb, eqb-false}
+use borrow.Author.Tests.{eq-eqb, ne-eqb, eqb-true, eqb-false, not-true}
 use Rattle.definition.specs.Fallible.{Ans}
 use Rattle.definition.specs.Token.{Tok, head}
 use Rattle.definition.specs.Act as A
@@ -13,8 +13,9 @@ use Rattle.definition.specs.Act.{Node, Act, St, run}
 use Rattle.definition.specs.Kind as K
 use Rattle.definition.specs.Parser as P
 use Rattle.definition.specs.Go.{go}
+use Rattle.definition.proofs.Tests.{parts-true}
 use Rattle.leaves.specs.declared.Level.{Level}
-use Rattle.leaves.specs.Leaves.{level-of, Operator, is-arithmetic, Prefix}
+use Rattle.leaves.specs.Leaves.{level-of, Operator, is-arithmetic, Prefix, is-name-alone}
 
 -- where a table has the kind k, at r - 1; nowhere where r is 0
 pub record Finds (ops : List P.Op) (k r : ℕ) : Type 0 where
@@ -41,7 +42,7 @@ at-level {v} {v′} {k} {r} e h g i = subst (λ (z : Level). Operator (P.mapping
 
 -- ---- no operator of any level
 
-neither : (a b : Bool) → (a || b) ≡ false → (a ≡ false) × (b ≡ false)
+pub neither : (a b : Bool) → (a || b) ≡ false → (a ≡ false) × (b ≡ false)
 neither true b e = absurd (omega (arith, ap {B = ℕ} (λ (x : Bool). elim x as (λ _. ℕ) [ true ↦ 1 | false ↦ 0 ]) e))
 neither false b e = (refl, e)
 
@@ -77,3 +78,26 @@ prefixed {k} {r} h g i = record { small = h; real = g; is = λ d S e. i .is (hea
     one : (b : Bool) → eqb r 0 ≡ b → (d : ℕ) (S : St) → go {A = Ans Node} d (elim b [ true ↦ P.parse-call | false ↦ P.prefix (r - 1 + 1) ]) S ≡ go {A = Ans Node} d (elim b [ true ↦ P.parse-call | false ↦ P.prefix r ]) S
     one true e d S = refl
     one false e d S = let z = eqb-false r 0 e in let s : r - 1 + 1 ≡ r = omega arith in rw s
+
+pub no-prefix : {k : ℕ} → k ≡ K.Identifier → Prefix k 0
+no-prefix z = prefixed (omega arith) (omega arith) (miss (λ e. omega arith) (miss (λ e. omega arith) (miss (λ e. omega arith) (miss (λ e. omega arith) none))))
+
+-- ---- a name alone
+
+pub record NameAlone (k next : ℕ) : Type 0 where
+  pub name : k ≡ K.Identifier
+  pub dot : next ≡ K.Dot → ⊥
+  pub star : next ≡ K.DotStar → ⊥
+  pub bracket : next ≡ K.LBracket → ⊥
+  pub paren : next ≡ K.LParen → ⊥
+
+pub name-alone : (k next : ℕ) → is-name-alone k next ≡ true → NameAlone k next
+name-alone k next e =
+    parts-true _ (not (eqb next K.LParen)) e λ a paren.
+    parts-true _ (not (eqb next K.LBracket)) a λ b bracket.
+    parts-true _ (not (eqb next K.DotStar)) b λ c star.
+    parts-true (eqb k K.Identifier) (not (eqb next K.Dot)) c λ name dot.
+    record { name = eqb-true k K.Identifier name; dot = other K.Dot dot; star = other K.DotStar star; bracket = other K.LBracket bracket; paren = other K.LParen paren }
+  where
+    other : (m : ℕ) → not (eqb next m) ≡ true → next ≡ m → ⊥
+    other m z = eqb-false next m (not-true _ z)

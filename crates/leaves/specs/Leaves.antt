@@ -1,6 +1,6 @@
 -- What the functions below the cycle show. Assumes nothing.
 use mathlib.Core.Path.{_≡_}
-use mathlib.Core.Bool.{Bool, true, false, _||_, not}
+use mathlib.Core.Bool.{Bool, true, false, _&&_, _||_, not}
 use mathlib.Core.List.{List, _++_}
 use Prim.Native.Nat.{ℕ, min, _+_, _-_, _^_, _≤_}
 use lib.Dec.{eqb, ltb}
@@ -11,6 +11,9 @@ use Rattle.definition.specs.Act.{Items, Node, Act, done, loop, ListOf, Consumed
 use Rattle.definition.specs.Kind as K
 use Rattle.definition.specs.Parser as P
 use Rattle.definition.specs.Go.{go}
+use Rattle.node.specs.declared.Numbers.{Numbers}
+use Rattle.node.specs.declared.Numbers.the-variants.{None}
+use Rattle.node.specs.declared.Record.{Record}
 use Rattle.fallible.specs.declared.State.{State}
 use Rattle.fallible.specs.declared.How.{How}
 use Rattle.fallible.specs.declared.How.the-variants.{Done, Fatal, Refused}
@@ -106,6 +109,21 @@ pub record Prefix (k r : ℕ) : Type 0 where
 -- the answer of a token that is read
 abbrev pub there : State → Front → Answer
 there s t = record { how = Done; state = record { at = t .next; pos = s .pos; reported = s .reported; full = s .full }; line = t .line; column = t .column }
+
+-- a record of the token, with its text or with none
+abbrev pub texted : Front → ℕ → Numbers → Record
+texted t tag ns = record { tag = tag; line = t .line; column = t .column; numbers = ns; start = t .start; len = t .len }
+
+abbrev pub untexted : Front → ℕ → Numbers → Record
+untexted t tag ns = record { tag = tag; line = t .line; column = t .column; numbers = ns; start = 0; len = 0 }
+
+-- that of a name
+abbrev pub identifier : Front → Record
+identifier t = texted t 0x20 None
+
+-- a name, and the next token neither a suffix nor the arguments of a call
+abbrev pub is-name-alone : ℕ → ℕ → Bool
+is-name-alone k next = eqb k K.Identifier && not (eqb next K.Dot) && not (eqb next K.DotStar) && not (eqb next K.LBracket) && not (eqb next K.LParen)
 
 -- no parenthesis opens what is read
 pub record Literal (w x : List ℕ) (n : ℕ) (o r f : List ℕ) (s : State) : Type 0 where

@@ -10,9 +10,9 @@ use fallible::note;
 use fallible::raise;
 use node::Numbers;
 use node::Record;
+use node::write_record;
 use steps::Front;
 use steps::expect;
-use steps::finish;
 use steps::head;
 ghost use mathlib.Core.Path.{_≡_};
 ghost use Prim.Native.Nat.{ℕ, _+_, _<_, _≤_};
@@ -21,7 +21,7 @@ ghost use Rattle.definition.specs.Parser as P;
 ghost use Rattle.definition.specs.Token.{digit};
 ghost use Rattle.node.specs.Put.{Room};
 ghost use Rattle.steps.specs.Shows.{Asks, Reads, Finished, node};
-ghost use Rattle.leaves.specs.Leaves.{is-arithmetic, listed-of, Counted, Commas, Valued, level-of, Operator, Prefix, there, Literal, Closed};
+ghost use Rattle.leaves.specs.Leaves.{is-arithmetic, listed-of, Counted, Commas, Valued, level-of, Operator, Prefix, there, identifier, is-name-alone, Literal, Closed};
 
 // The lists of parse_bounded_list_of.
 pub enum Listed {
@@ -262,17 +262,49 @@ fn leaf(file: &mut [u8], text: &[u8], st: State, t: Front, v: Record) -> Answer
     requires { ⌜ Room (now file) (now text) (st .pos) (16 + v .len) (v .start) (v .len) ⌝ }
     ensures { λ r. ⌜ Finished (now (text .entry)) (now (file .entry)) (there st t) v (now (file .exit)) r ⌝ }
 {
-    finish(
+    let pos = write_record(file, text, st.pos, v);
+    Answer {
+        how: How::Done,
+        state: State {
+            at: t.next,
+            pos,
+            ..st
+        },
+        line: v.line,
+        column: v.column,
+    }
+}
+
+// A name.
+pub fn name(file: &mut [u8], text: &[u8], st: State, t: Front) -> Answer
+    requires { ⌜ Room (now file) (now text) (st .pos) (16 + t .len) (t .start) (t .len) ⌝ }
+    ensures { λ r. ⌜ Finished (now (text .entry)) (now (file .entry)) (there st t) (identifier t) (now (file .exit)) r ⌝ }
+{
+    leaf(
         file,
         text,
-        Answer {
-            how: How::Done,
-            state: State { at: t.next, ..st },
+        st,
+        t,
+        Record {
+            tag: tag::IDENTIFIER,
             line: t.line,
             column: t.column,
+            numbers: Numbers::None,
+            start: t.start,
+            len: t.len,
         },
-        v,
     )
+}
+
+// Whether a token of the kind `k` is a name, and the next one, of the kind `next`, neither a suffix nor the arguments of a call.
+pub fn name_alone(k: u32, next: u32) -> bool
+    ensures { λ r. ⌜ r ≡ is-name-alone k next ⌝ }
+{
+    (k == kind::IDENTIFIER)
+        & (next != kind::DOT)
+        & (next != kind::DOT_STAR)
+        & (next != kind::L_BRACKET)
+        & (next != kind::L_PAREN)
 }
 
 // parse_atom, where no parenthesis opens it.
@@ -308,20 +340,7 @@ pub fn literal(
         );
     }
     if t.kind == kind::IDENTIFIER {
-        return leaf(
-            file,
-            text,
-            st,
-            t,
-            Record {
-                tag: tag::IDENTIFIER,
-                line: t.line,
-                column: t.column,
-                numbers: Numbers::None,
-                start: t.start,
-                len: t.len,
-            },
-        );
+        return name(file, text, st, t);
     }
     if t.kind == kind::STRING {
         return leaf(

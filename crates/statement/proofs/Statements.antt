@@ -33,9 +33,9 @@ use Rattle.steps.proofs.Moves.{making-moved, fore-moved, moved-trans, asks-move
 use Rattle.steps.proofs.Answers.{Stopped, say, good-of, stops, follows, abandons, wrapped, finishes, raise-shows}
 use Rattle.steps.proofs.Constructs.{then-stops}
 use Rattle.steps.proofs.Following.{expects-behind}
-use Rattle.leaves.specs.Leaves.{there}
+use Rattle.leaves.specs.Leaves.{there, texted, untexted}
 use Rattle.leaves.proofs.Errors.{raise-same}
-use Rattle.leaves.proofs.Atoms.{leaf-reads, texted, untexted}
+use Rattle.leaves.proofs.Atoms.{leaf-reads}
 use Rattle.grammar.specs.Post.{place-at, as-answer}
 use Rattle.grammar.proofs.Levels.{past}
 use Rattle.grammar.proofs.Calls.{wraps-token, expect-seam}

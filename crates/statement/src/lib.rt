@@ -4,6 +4,7 @@ mod simple;
 
 use definition::kind;
 use definition::parse_error;
+use definition::refusal;
 use definition::tag;
 use expression::expression;
 use fallible::Answer;
@@ -398,7 +399,7 @@ pub fn statement(
     ensures { λ r. ⌜ Reads node (now (tokens .entry)) (now (text .entry)) n left P.parse-statement (now (file .entry)) (now (rep .entry)) (now (full .entry)) st (now (file .exit)) (now (rep .exit)) (now (full .exit)) r ⌝ }
 {
     if left == 0 {
-        return refuse(n, st, 10);
+        return refuse(n, st, refusal::NESTING);
     }
     statement_rule(tokens, text, n, file, rep, full, st, left - 1)
 }

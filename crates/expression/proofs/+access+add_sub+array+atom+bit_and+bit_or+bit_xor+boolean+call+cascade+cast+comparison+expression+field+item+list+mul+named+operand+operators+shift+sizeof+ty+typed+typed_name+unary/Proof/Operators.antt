@@ -8,14 +8,14 @@ use Rattle.grammar.proofs.Levels.{operators-none, operators-more}
 use borrow.Author.Needs.{needs}
 use native.Mathlib.Omega.{arith}
 use Prim.Native.Nat.{ℕ, _-_}
-use Rattle.expression.proofs.+access+add_sub+array+atom+bit_and+bit_or+bit_xor+boolean+call+cascade+cast+comparison+expression+field+item+list+mul+named+operators+shift+sizeof+ty+typed+typed_name+unary.Lts-operators as lts
+use Rattle.expression.proofs.+access+add_sub+array+atom+bit_and+bit_or+bit_xor+boolean+call+cascade+cast+comparison+expression+field+item+list+mul+named+operand+operators+shift+sizeof+ty+typed+typed_name+unary.Lts-operators as lts
 use Rattle.expression.proofs.cascade.Reads as cascade
 use Rattle.expression.proofs.operators.Reads as operators
 use Rattle.fallible.proofs.abandon.Reads as abandon-reads
 use Rattle.leaves.proofs.operator.Reads as operator-reads
 use Rattle.steps.proofs.finish.Reads as finish-reads
 use Rattle.steps.proofs.head.Reads as head-reads
-use Rattle.expression.proofs.+access+add_sub+array+atom+bit_and+bit_or+bit_xor+boolean+call+cascade+cast+comparison+expression+field+item+list+mul+named+operators+shift+sizeof+ty+typed+typed_name+unary.Proof.Falls.{cascade-below, operators-at}
+use Rattle.expression.proofs.+access+add_sub+array+atom+bit_and+bit_or+bit_xor+boolean+call+cascade+cast+comparison+expression+field+item+list+mul+named+operand+operators+shift+sizeof+ty+typed+typed_name+unary.Proof.Falls.{cascade-below, operators-at}
 
 abbrev pub Inv-loop : lts.InvT-loop
 Inv-loop w x n o₀ r₀ f₀ l i j d a₀ o r f a = GoesTurned (operators-on (level-of l)) w x n d i j o₀ r₀ f₀ a₀ o r f a

@@ -5,14 +5,14 @@ use Rattle.grammar.proofs.Names.{identifier-name, identifier-end, identifier-re
 use borrow.Author.Needs.{needs}
 use native.Mathlib.Omega.{arith}
 use Prim.Native.Nat.{ℕ}
-use Rattle.expression.proofs.+access+add_sub+array+atom+bit_and+bit_or+bit_xor+boolean+call+cascade+cast+comparison+expression+field+item+list+mul+named+operators+shift+sizeof+ty+typed+typed_name+unary.Lts-typed_name as lts
+use Rattle.expression.proofs.+access+add_sub+array+atom+bit_and+bit_or+bit_xor+boolean+call+cascade+cast+comparison+expression+field+item+list+mul+named+operand+operators+shift+sizeof+ty+typed+typed_name+unary.Lts-typed_name as lts
 use Rattle.expression.proofs.typed.Reads as typed
 use Rattle.expression.proofs.typed_name.Reads as typed-name
 use Rattle.fallible.proofs.entry.Reads as entry-reads
 use Rattle.fallible.proofs.note.Reads as note-reads
 use Rattle.fallible.proofs.raise.Reads as raise-reads
 use Rattle.steps.proofs.head.Reads as head-reads
-use Rattle.expression.proofs.+access+add_sub+array+atom+bit_and+bit_or+bit_xor+boolean+call+cascade+cast+comparison+expression+field+item+list+mul+named+operators+shift+sizeof+ty+typed+typed_name+unary.Proof.Falls.{typed-below, typed-name-at}
+use Rattle.expression.proofs.+access+add_sub+array+atom+bit_and+bit_or+bit_xor+boolean+call+cascade+cast+comparison+expression+field+item+list+mul+named+operand+operators+shift+sizeof+ty+typed+typed_name+unary.Proof.Falls.{typed-below, typed-name-at}
 
 module _ (t : ℕ) where
   abbrev pub given : lts.Claims

@@ -9,7 +9,7 @@ use Rattle.grammar.proofs.Suffixes.{suffix-none, suffix-star, star-moved, dot-e
 use borrow.Author.Needs.{needs}
 use native.Mathlib.Omega.{arith}
 use Prim.Native.Nat.{ℕ, _-_}
-use Rattle.expression.proofs.+access+add_sub+array+atom+bit_and+bit_or+bit_xor+boolean+call+cascade+cast+comparison+expression+field+item+list+mul+named+operators+shift+sizeof+ty+typed+typed_name+unary.Lts-access as lts
+use Rattle.expression.proofs.+access+add_sub+array+atom+bit_and+bit_or+bit_xor+boolean+call+cascade+cast+comparison+expression+field+item+list+mul+named+operand+operators+shift+sizeof+ty+typed+typed_name+unary.Lts-access as lts
 use Rattle.expression.proofs.expression.Reads as expression
 use Rattle.expression.proofs.access.Reads as access
 use Rattle.expression.proofs.atom.Reads as atom
@@ -20,7 +20,7 @@ use Rattle.fallible.proofs.refuse.Reads as refuse-reads
 use Rattle.steps.proofs.and_expect.Reads as and-expect-reads
 use Rattle.steps.proofs.finish.Reads as finish-reads
 use Rattle.steps.proofs.head.Reads as head-reads
-use Rattle.expression.proofs.+access+add_sub+array+atom+bit_and+bit_or+bit_xor+boolean+call+cascade+cast+comparison+expression+field+item+list+mul+named+operators+shift+sizeof+ty+typed+typed_name+unary.Proof.Falls.{access-at, atom-below, expression-below}
+use Rattle.expression.proofs.+access+add_sub+array+atom+bit_and+bit_or+bit_xor+boolean+call+cascade+cast+comparison+expression+field+item+list+mul+named+operand+operators+shift+sizeof+ty+typed+typed_name+unary.Proof.Falls.{access-at, atom-below, expression-below}
 
 abbrev pub Inv-loop : lts.InvT-loop
 Inv-loop w x n o₀ r₀ f₀ st d a₀ o r f a = GoesTurned suffixes-on w x n d (st .pos) (st .reported) o₀ r₀ f₀ a₀ o r f a

@@ -7,14 +7,14 @@ use Rattle.grammar.proofs.Calls.{call-on, call-none, call-done, call-later, cal
 use borrow.Author.Needs.{needs}
 use native.Mathlib.Omega.{arith}
 use Prim.Native.Nat.{ℕ}
-use Rattle.expression.proofs.+access+add_sub+array+atom+bit_and+bit_or+bit_xor+boolean+call+cascade+cast+comparison+expression+field+item+list+mul+named+operators+shift+sizeof+ty+typed+typed_name+unary.Lts-call as lts
+use Rattle.expression.proofs.+access+add_sub+array+atom+bit_and+bit_or+bit_xor+boolean+call+cascade+cast+comparison+expression+field+item+list+mul+named+operand+operators+shift+sizeof+ty+typed+typed_name+unary.Lts-call as lts
 use Rattle.expression.proofs.call.Reads as call
 use Rattle.expression.proofs.list.Reads as list
 use Rattle.expression.proofs.sizeof.Reads as sizeof
 use Rattle.fallible.proofs.silence.Reads as silence-reads
 use Rattle.steps.proofs.finish.Reads as finish-reads
 use Rattle.steps.proofs.head.Reads as head-reads
-use Rattle.expression.proofs.+access+add_sub+array+atom+bit_and+bit_or+bit_xor+boolean+call+cascade+cast+comparison+expression+field+item+list+mul+named+operators+shift+sizeof+ty+typed+typed_name+unary.Proof.Falls.{call-at, list-below, sizeof-below}
+use Rattle.expression.proofs.+access+add_sub+array+atom+bit_and+bit_or+bit_xor+boolean+call+cascade+cast+comparison+expression+field+item+list+mul+named+operand+operators+shift+sizeof+ty+typed+typed_name+unary.Proof.Falls.{call-at, list-below, sizeof-below}
 
 module _ (t : ℕ) where
   abbrev pub given : lts.Claims

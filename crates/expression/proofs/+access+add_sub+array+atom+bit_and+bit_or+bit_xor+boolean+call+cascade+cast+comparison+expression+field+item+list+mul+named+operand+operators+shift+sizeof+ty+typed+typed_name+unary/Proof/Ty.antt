@@ -4,7 +4,7 @@ use Rattle.grammar.proofs.Types.{type-deep, type-name, type-star, type-array, t
 use borrow.Author.Needs.{needs}
 use native.Mathlib.Omega.{arith}
 use Prim.Native.Nat.{ℕ}
-use Rattle.expression.proofs.+access+add_sub+array+atom+bit_and+bit_or+bit_xor+boolean+call+cascade+cast+comparison+expression+field+item+list+mul+named+operators+shift+sizeof+ty+typed+typed_name+unary.Lts-ty as lts
+use Rattle.expression.proofs.+access+add_sub+array+atom+bit_and+bit_or+bit_xor+boolean+call+cascade+cast+comparison+expression+field+item+list+mul+named+operand+operators+shift+sizeof+ty+typed+typed_name+unary.Lts-ty as lts
 use Rattle.expression.proofs.array.Reads as array
 use Rattle.expression.proofs.list.Reads as list
 use Rattle.expression.proofs.ty.Reads as ty
@@ -14,7 +14,7 @@ use Rattle.fallible.proofs.refuse.Reads as refuse-reads
 use Rattle.fallible.proofs.silence.Reads as silence-reads
 use Rattle.steps.proofs.finish.Reads as finish-reads
 use Rattle.steps.proofs.head.Reads as head-reads
-use Rattle.expression.proofs.+access+add_sub+array+atom+bit_and+bit_or+bit_xor+boolean+call+cascade+cast+comparison+expression+field+item+list+mul+named+operators+shift+sizeof+ty+typed+typed_name+unary.Proof.Falls.{array-below, list-below, ty-at, ty-below}
+use Rattle.expression.proofs.+access+add_sub+array+atom+bit_and+bit_or+bit_xor+boolean+call+cascade+cast+comparison+expression+field+item+list+mul+named+operand+operators+shift+sizeof+ty+typed+typed_name+unary.Proof.Falls.{array-below, list-below, ty-at, ty-below}
 
 module _ (t : ℕ) where
   abbrev pub given : lts.Claims

@@ -5,13 +5,13 @@ use Rattle.grammar.proofs.Calls.{atom-group}
 use Rattle.steps.proofs.Moves.{asked-seen, asks-moved}
 use native.Mathlib.Omega.{arith}
 use Prim.Native.Nat.{ℕ}
-use Rattle.expression.proofs.+access+add_sub+array+atom+bit_and+bit_or+bit_xor+boolean+call+cascade+cast+comparison+expression+field+item+list+mul+named+operators+shift+sizeof+ty+typed+typed_name+unary.Lts-atom as lts
+use Rattle.expression.proofs.+access+add_sub+array+atom+bit_and+bit_or+bit_xor+boolean+call+cascade+cast+comparison+expression+field+item+list+mul+named+operand+operators+shift+sizeof+ty+typed+typed_name+unary.Lts-atom as lts
 use Rattle.expression.proofs.atom.Reads as atom
 use Rattle.expression.proofs.expression.Reads as expression
 use Rattle.leaves.proofs.close.Reads as close-reads
 use Rattle.leaves.proofs.literal.Reads as literal-reads
 use Rattle.steps.proofs.head.Reads as head-reads
-use Rattle.expression.proofs.+access+add_sub+array+atom+bit_and+bit_or+bit_xor+boolean+call+cascade+cast+comparison+expression+field+item+list+mul+named+operators+shift+sizeof+ty+typed+typed_name+unary.Proof.Falls.{atom-at, expression-below}
+use Rattle.expression.proofs.+access+add_sub+array+atom+bit_and+bit_or+bit_xor+boolean+call+cascade+cast+comparison+expression+field+item+list+mul+named+operand+operators+shift+sizeof+ty+typed+typed_name+unary.Proof.Falls.{atom-at, expression-below}
 
 module _ (t : ℕ) where
   abbrev pub given : lts.Claims

@@ -8,14 +8,14 @@ use Rattle.grammar.proofs.Levels.{casts-none, casts-more}
 use borrow.Author.Needs.{needs}
 use native.Mathlib.Omega.{arith}
 use Prim.Native.Nat.{ℕ, _-_}
-use Rattle.expression.proofs.+access+add_sub+array+atom+bit_and+bit_or+bit_xor+boolean+call+cascade+cast+comparison+expression+field+item+list+mul+named+operators+shift+sizeof+ty+typed+typed_name+unary.Lts-cast as lts
+use Rattle.expression.proofs.+access+add_sub+array+atom+bit_and+bit_or+bit_xor+boolean+call+cascade+cast+comparison+expression+field+item+list+mul+named+operand+operators+shift+sizeof+ty+typed+typed_name+unary.Lts-cast as lts
 use Rattle.expression.proofs.cast.Reads as cast
 use Rattle.expression.proofs.ty.Reads as ty
-use Rattle.expression.proofs.unary.Reads as unary
+use Rattle.expression.proofs.operand.Reads as operand
 use Rattle.fallible.proofs.abandon.Reads as abandon-reads
 use Rattle.steps.proofs.finish.Reads as finish-reads
 use Rattle.steps.proofs.head.Reads as head-reads
-use Rattle.expression.proofs.+access+add_sub+array+atom+bit_and+bit_or+bit_xor+boolean+call+cascade+cast+comparison+expression+field+item+list+mul+named+operators+shift+sizeof+ty+typed+typed_name+unary.Proof.Falls.{cast-at, ty-below, unary-below}
+use Rattle.expression.proofs.+access+add_sub+array+atom+bit_and+bit_or+bit_xor+boolean+call+cascade+cast+comparison+expression+field+item+list+mul+named+operand+operators+shift+sizeof+ty+typed+typed_name+unary.Proof.Falls.{cast-at, ty-below, operand-below}
 
 abbrev pub Inv-loop : lts.InvT-loop
 Inv-loop w x n o₀ r₀ f₀ st d a₀ o r f a = GoesTurned casts-on w x n d (st .pos) (st .reported) o₀ r₀ f₀ a₀ o r f a
@@ -25,48 +25,48 @@ abbrev pub μ-loop : lts.MeasureT-loop
 
 module _ (t : ℕ) where
   abbrev pub given : lts.Claims
-  given = (unary-below t, unary.Post, head-reads.Asked, head-reads.Learnt, ty-below t, ty.Post, abandon-reads.Asked, abandon-reads.Learnt, finish-reads.Asked, finish-reads.Learnt)
+  given = (operand-below t, operand.Post, head-reads.Asked, head-reads.Learnt, ty-below t, ty.Post, abandon-reads.Asked, abandon-reads.Learnt, finish-reads.Asked, finish-reads.Learnt)
 
-  pub unary-requires : lts.Need-unary-requires given (cast-at t) cast.Post Inv-loop μ-loop
-  unary-requires c κs = (omega (arith, c .before .before .before .before .before .before .before .before .pre .0), c .before .before .before .before .before .before .before .before .pre .1)
+  pub operand-requires : lts.Need-operand-requires given (cast-at t) cast.Post Inv-loop μ-loop
+  operand-requires c κs = (omega (arith, c .before .before .before .before .before .before .before .before .pre .0), c .before .before .before .before .before .before .before .before .pre .1)
 
   pub loop-holds : lts.Need-loop-holds given (cast-at t) cast.Post Inv-loop μ-loop
-  loop-holds c = (goes-on (c .before .before .before .before .before .before .before .before .before .before .before .before .before .before .before .pre .1) (c .before .before .before .before .before .before .unary .ensures) (omega (arith, c .before .before .before .before .before .before .unary .kept)) (omega (arith, c .before .before .before .before .before .before .unary .kept)) (omega (arith, c .before .before .before .before .before .before .unary .kept)), at-start)
+  loop-holds c = (goes-on (c .before .before .before .before .before .before .before .before .before .before .before .before .before .before .before .pre .1) (c .before .before .before .before .before .before .operand .ensures) (omega (arith, c .before .before .before .before .before .before .operand .kept)) (omega (arith, c .before .before .before .before .before .before .operand .kept)) (omega (arith, c .before .before .before .before .before .before .operand .kept)), at-start)
 
   pub enum-told : lts.Need-enum-told given (cast-at t) cast.Post Inv-loop μ-loop
   enum-told c = search needs
 
   pub same-length : lts.Need-same-length given (cast-at t) cast.Post Inv-loop μ-loop
-  same-length c = omega (arith, c .before .loop .inv .1, c .before .before .before .before .before .before .before .before .unary .kept)
+  same-length c = omega (arith, c .before .loop .inv .1, c .before .before .before .before .before .before .before .before .operand .kept)
 
   pub same-length-2 : lts.Need-same-length-2 given (cast-at t) cast.Post Inv-loop μ-loop
-  same-length-2 c = omega (arith, c .before .loop .inv .1, c .before .before .before .before .before .before .before .before .unary .kept)
+  same-length-2 c = omega (arith, c .before .loop .inv .1, c .before .before .before .before .before .before .before .before .operand .kept)
 
   pub same-length-3 : lts.Need-same-length-3 given (cast-at t) cast.Post Inv-loop μ-loop
-  same-length-3 c = omega (arith, c .before .loop .inv .1, c .before .before .before .before .before .before .before .before .unary .kept)
+  same-length-3 c = omega (arith, c .before .loop .inv .1, c .before .before .before .before .before .before .before .before .operand .kept)
 
   pub returns : lts.Need-returns given (cast-at t) cast.Post Inv-loop μ-loop
   unfolding P.parse-cast
-  returns c = then-asked casts-on (c .before .before .before .before .before .before .before .before .before .before .before .before .before .before .before .before .before .pre .1) (c .before .before .before .before .before .before .before .before .unary .ensures) (c .before .loop .inv .1 .rest (goes-stops (c .before .loop .inv .0) (c .match .keys2)))
+  returns c = then-asked casts-on (c .before .before .before .before .before .before .before .before .before .before .before .before .before .before .before .before .before .pre .1) (c .before .before .before .before .before .before .before .before .operand .ensures) (c .before .loop .inv .1 .rest (goes-stops (c .before .loop .inv .0) (c .match .keys2)))
 
   pub head-requires : lts.Need-head-requires given (cast-at t) cast.Post Inv-loop μ-loop
   head-requires c κs = (c .before .before .before .loop .inv .0 .asked .asks .held, c .before .before .before .loop .inv .0 .asked .asks .at)
 
   pub same-length-4 : lts.Need-same-length-4 given (cast-at t) cast.Post Inv-loop μ-loop
-  same-length-4 c = omega (arith, c .before .before .before .before .before .before .loop .inv .1, c .before .before .before .before .before .before .before .before .before .before .before .before .before .unary .kept)
+  same-length-4 c = omega (arith, c .before .before .before .before .before .before .loop .inv .1, c .before .before .before .before .before .before .before .before .before .before .before .before .before .operand .kept)
 
   pub same-length-5 : lts.Need-same-length-5 given (cast-at t) cast.Post Inv-loop μ-loop
-  same-length-5 c = omega (arith, c .before .before .before .before .before .before .loop .inv .1, c .before .before .before .before .before .before .before .before .before .before .before .before .before .unary .kept)
+  same-length-5 c = omega (arith, c .before .before .before .before .before .before .loop .inv .1, c .before .before .before .before .before .before .before .before .before .before .before .before .before .operand .kept)
 
   pub same-length-6 : lts.Need-same-length-6 given (cast-at t) cast.Post Inv-loop μ-loop
-  same-length-6 c = omega (arith, c .before .before .before .before .before .before .loop .inv .1, c .before .before .before .before .before .before .before .before .before .before .before .before .before .unary .kept)
+  same-length-6 c = omega (arith, c .before .before .before .before .before .before .loop .inv .1, c .before .before .before .before .before .before .before .before .before .before .before .before .before .operand .kept)
 
   pub returns-2 : lts.Need-returns-2 given (cast-at t) cast.Post Inv-loop μ-loop
   unfolding P.parse-cast
-  returns-2 c = then-asked casts-on (c .before .before .before .before .before .before .before .before .before .before .before .before .before .before .before .before .before .before .before .before .before .before .pre .1) (c .before .before .before .before .before .before .before .before .before .before .before .before .before .unary .ensures) (c .before .before .before .before .before .before .loop .inv .1 .rest (casts-none (c .before .before .before .before .before .before .loop .inv .0) (c .before .before .before .before .enum-told .given .1) (c .before .before .head .ensures) (c .if1 .taken)))
+  returns-2 c = then-asked casts-on (c .before .before .before .before .before .before .before .before .before .before .before .before .before .before .before .before .before .before .before .before .before .before .pre .1) (c .before .before .before .before .before .before .before .before .before .before .before .before .before .operand .ensures) (c .before .before .before .before .before .before .loop .inv .1 .rest (casts-none (c .before .before .before .before .before .before .loop .inv .0) (c .before .before .before .before .enum-told .given .1) (c .before .before .head .ensures) (c .if1 .taken)))
 
   pub ty-requires : lts.Need-ty-requires given (cast-at t) cast.Post Inv-loop μ-loop
-  ty-requires c κs = (omega (arith, c .before .before .before .before .before .before .before .before .before .before .before .before .before .before .before .before .before .before .before .before .before .before .before .before .before .pre .0, c .before .before .before .before .before .before .before .before .before .before .before .before .before .before .before .before .unary .ensures .moved .at, c .before .before .before .before .before .before .before .before .before .loop .inv .1 .on, c .before .before .before .before .before .before .before .before .before .loop .inv .0 .asked .asks .at, c .before .before .before .before .before .head .ensures, c .before .before .before .if1 .left), asked-seen (c .before .before .before .before .before .before .before .before .before .loop .inv .0 .asked) (c .before .before .before .before .before .head .ensures))
+  ty-requires c κs = (omega (arith, c .before .before .before .before .before .before .before .before .before .before .before .before .before .before .before .before .before .before .before .before .before .before .before .before .before .pre .0, c .before .before .before .before .before .before .before .before .before .before .before .before .before .before .before .before .operand .ensures .moved .at, c .before .before .before .before .before .before .before .before .before .loop .inv .1 .on, c .before .before .before .before .before .before .before .before .before .loop .inv .0 .asked .asks .at, c .before .before .before .before .before .head .ensures, c .before .before .before .if1 .left), asked-seen (c .before .before .before .before .before .before .before .before .before .loop .inv .0 .asked) (c .before .before .before .before .before .head .ensures))
 
   pub abandon-requires : lts.Need-abandon-requires given (cast-at t) cast.Post Inv-loop μ-loop
   abandon-requires c κs = join-cuts (c .before .before .before .before .before .before .before .before .before .before .before .before .before .before .before .before .before .loop .inv .0) (c .before .before .before .before .before .before .before .before .before .before .before .before .before .head .ensures) (c .before .before .before .before .before .before .before .ty .ensures) (omega (arith, c .before .before .before .before .before .before .before .ty .kept))

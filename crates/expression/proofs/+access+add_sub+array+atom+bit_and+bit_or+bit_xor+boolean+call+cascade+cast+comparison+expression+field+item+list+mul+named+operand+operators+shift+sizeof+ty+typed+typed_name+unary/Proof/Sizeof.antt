@@ -7,7 +7,7 @@ use Rattle.steps.proofs.Moves.{asked-seen, asked-moved, asks-fore}
 use borrow.Author.Needs.{needs}
 use native.Mathlib.Omega.{arith}
 use Prim.Native.Nat.{ℕ}
-use Rattle.expression.proofs.+access+add_sub+array+atom+bit_and+bit_or+bit_xor+boolean+call+cascade+cast+comparison+expression+field+item+list+mul+named+operators+shift+sizeof+ty+typed+typed_name+unary.Lts-sizeof as lts
+use Rattle.expression.proofs.+access+add_sub+array+atom+bit_and+bit_or+bit_xor+boolean+call+cascade+cast+comparison+expression+field+item+list+mul+named+operand+operators+shift+sizeof+ty+typed+typed_name+unary.Lts-sizeof as lts
 use Rattle.expression.proofs.access.Reads as access
 use Rattle.expression.proofs.sizeof.Reads as sizeof
 use Rattle.expression.proofs.ty.Reads as ty
@@ -15,7 +15,7 @@ use Rattle.steps.proofs.and_expect.Reads as and-expect-reads
 use Rattle.steps.proofs.expect.Reads as expect-reads
 use Rattle.steps.proofs.finish.Reads as finish-reads
 use Rattle.steps.proofs.head.Reads as head-reads
-use Rattle.expression.proofs.+access+add_sub+array+atom+bit_and+bit_or+bit_xor+boolean+call+cascade+cast+comparison+expression+field+item+list+mul+named+operators+shift+sizeof+ty+typed+typed_name+unary.Proof.Falls.{access-below, sizeof-at, ty-below}
+use Rattle.expression.proofs.+access+add_sub+array+atom+bit_and+bit_or+bit_xor+boolean+call+cascade+cast+comparison+expression+field+item+list+mul+named+operand+operators+shift+sizeof+ty+typed+typed_name+unary.Proof.Falls.{access-below, sizeof-at, ty-below}
 
 module _ (t : ℕ) where
   abbrev pub given : lts.Claims

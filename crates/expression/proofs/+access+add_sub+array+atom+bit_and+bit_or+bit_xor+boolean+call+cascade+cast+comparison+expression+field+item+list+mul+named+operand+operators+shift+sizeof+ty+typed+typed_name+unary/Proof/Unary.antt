@@ -7,14 +7,14 @@ use Rattle.grammar.proofs.Types.{star-room}
 use borrow.Author.Needs.{needs}
 use native.Mathlib.Omega.{arith}
 use Prim.Native.Nat.{ℕ}
-use Rattle.expression.proofs.+access+add_sub+array+atom+bit_and+bit_or+bit_xor+boolean+call+cascade+cast+comparison+expression+field+item+list+mul+named+operators+shift+sizeof+ty+typed+typed_name+unary.Lts-unary as lts
+use Rattle.expression.proofs.+access+add_sub+array+atom+bit_and+bit_or+bit_xor+boolean+call+cascade+cast+comparison+expression+field+item+list+mul+named+operand+operators+shift+sizeof+ty+typed+typed_name+unary.Lts-unary as lts
 use Rattle.expression.proofs.call.Reads as call
 use Rattle.expression.proofs.unary.Reads as unary
 use Rattle.fallible.proofs.refuse.Reads as refuse-reads
 use Rattle.leaves.proofs.prefix.Reads as prefix-reads
 use Rattle.steps.proofs.finish.Reads as finish-reads
 use Rattle.steps.proofs.head.Reads as head-reads
-use Rattle.expression.proofs.+access+add_sub+array+atom+bit_and+bit_or+bit_xor+boolean+call+cascade+cast+comparison+expression+field+item+list+mul+named+operators+shift+sizeof+ty+typed+typed_name+unary.Proof.Falls.{call-below, unary-at, unary-below}
+use Rattle.expression.proofs.+access+add_sub+array+atom+bit_and+bit_or+bit_xor+boolean+call+cascade+cast+comparison+expression+field+item+list+mul+named+operand+operators+shift+sizeof+ty+typed+typed_name+unary.Proof.Falls.{call-below, unary-at, unary-below}
 
 module _ (t : ℕ) where
   abbrev pub given : lts.Claims

@@ -38,6 +38,8 @@ use Rattle.expression.proofs.mul.Reads as mul
 use Rattle.expression.proofs.mul.Kinds as mul-kinds
 use Rattle.expression.proofs.named.Reads as named
 use Rattle.expression.proofs.named.Kinds as named-kinds
+use Rattle.expression.proofs.operand.Reads as operand
+use Rattle.expression.proofs.operand.Kinds as operand-kinds
 use Rattle.expression.proofs.operators.Reads as operators
 use Rattle.expression.proofs.operators.Kinds as operators-kinds
 use Rattle.expression.proofs.sizeof.Reads as sizeof
@@ -57,7 +59,7 @@ abbrev pub μ-access : Measures 5 access-kinds.ps ℕ
 μ-access κs a = 32 * (a .1 .1 .0 - a .1 .1 .1 .1 .1 .1 .0 .at) + 7
 
 abbrev pub μ-add-sub : Measures 5 add-sub-kinds.ps ℕ
-μ-add-sub κs a = 32 * (a .1 .1 .0 - a .1 .1 .1 .1 .1 .1 .0 .at) + 13
+μ-add-sub κs a = 32 * (a .1 .1 .0 - a .1 .1 .1 .1 .1 .1 .0 .at) + 14
 
 abbrev pub μ-array : Measures 5 array-kinds.ps ℕ
 μ-array κs a = 32 * (a .1 .1 .0 - a .1 .1 .1 .1 .1 .1 .1 .1 .0 .at) + 2
@@ -66,46 +68,49 @@ abbrev pub μ-atom : Measures 5 atom-kinds.ps ℕ
 μ-atom κs a = 32 * (a .1 .1 .0 - a .1 .1 .1 .1 .1 .1 .0 .at) + 6
 
 abbrev pub μ-shift : Measures 5 shift-kinds.ps ℕ
-μ-shift κs a = 32 * (a .1 .1 .0 - a .1 .1 .1 .1 .1 .1 .0 .at) + 14
+μ-shift κs a = 32 * (a .1 .1 .0 - a .1 .1 .1 .1 .1 .1 .0 .at) + 15
 
 abbrev pub μ-bit-and : Measures 5 bit-and-kinds.ps ℕ
-μ-bit-and κs a = 32 * (a .1 .1 .0 - a .1 .1 .1 .1 .1 .1 .0 .at) + 15
+μ-bit-and κs a = 32 * (a .1 .1 .0 - a .1 .1 .1 .1 .1 .1 .0 .at) + 16
 
 abbrev pub μ-bit-or : Measures 5 bit-or-kinds.ps ℕ
-μ-bit-or κs a = 32 * (a .1 .1 .0 - a .1 .1 .1 .1 .1 .1 .0 .at) + 17
+μ-bit-or κs a = 32 * (a .1 .1 .0 - a .1 .1 .1 .1 .1 .1 .0 .at) + 18
 
 abbrev pub μ-bit-xor : Measures 5 bit-xor-kinds.ps ℕ
-μ-bit-xor κs a = 32 * (a .1 .1 .0 - a .1 .1 .1 .1 .1 .1 .0 .at) + 16
+μ-bit-xor κs a = 32 * (a .1 .1 .0 - a .1 .1 .1 .1 .1 .1 .0 .at) + 17
 
 abbrev pub μ-boolean : Measures 5 boolean-kinds.ps ℕ
-μ-boolean κs a = 32 * (a .1 .1 .0 - a .1 .1 .1 .1 .1 .1 .0 .at) + 19
+μ-boolean κs a = 32 * (a .1 .1 .0 - a .1 .1 .1 .1 .1 .1 .0 .at) + 20
 
 abbrev pub μ-call : Measures 5 call-kinds.ps ℕ
 μ-call κs a = 32 * (a .1 .1 .0 - a .1 .1 .1 .1 .1 .1 .0 .at) + 9
 
 abbrev pub μ-cascade : Measures 5 cascade-kinds.ps ℕ
-μ-cascade κs a = 32 * (a .1 .1 .0 - a .1 .1 .1 .1 .1 .1 .1 .0 .at) + 17
+μ-cascade κs a = 32 * (a .1 .1 .0 - a .1 .1 .1 .1 .1 .1 .1 .0 .at) + 18
 
 abbrev pub μ-cast : Measures 5 cast-kinds.ps ℕ
-μ-cast κs a = 32 * (a .1 .1 .0 - a .1 .1 .1 .1 .1 .1 .0 .at) + 11
+μ-cast κs a = 32 * (a .1 .1 .0 - a .1 .1 .1 .1 .1 .1 .0 .at) + 12
 
 abbrev pub μ-comparison : Measures 5 comparison-kinds.ps ℕ
-μ-comparison κs a = 32 * (a .1 .1 .0 - a .1 .1 .1 .1 .1 .1 .0 .at) + 18
+μ-comparison κs a = 32 * (a .1 .1 .0 - a .1 .1 .1 .1 .1 .1 .0 .at) + 19
 
 abbrev pub μ-expression : Measures 5 expression-kinds.ps ℕ
-μ-expression κs a = 32 * (a .1 .1 .0 - a .1 .1 .1 .1 .1 .1 .0 .at) + 20
+μ-expression κs a = 32 * (a .1 .1 .0 - a .1 .1 .1 .1 .1 .1 .0 .at) + 21
 
 abbrev pub μ-item : Measures 5 item-kinds.ps ℕ
-μ-item κs a = 32 * (a .1 .1 .0 - a .1 .1 .1 .1 .1 .1 .1 .0 .at) + 22
+μ-item κs a = 32 * (a .1 .1 .0 - a .1 .1 .1 .1 .1 .1 .1 .0 .at) + 23
 
 abbrev pub μ-list : Measures 5 list-kinds.ps ℕ
-μ-list κs a = 32 * (a .1 .1 .0 - a .1 .1 .1 .1 .1 .1 .1 .0 .at) + 24
+μ-list κs a = 32 * (a .1 .1 .0 - a .1 .1 .1 .1 .1 .1 .1 .0 .at) + 25
 
 abbrev pub μ-mul : Measures 5 mul-kinds.ps ℕ
-μ-mul κs a = 32 * (a .1 .1 .0 - a .1 .1 .1 .1 .1 .1 .0 .at) + 12
+μ-mul κs a = 32 * (a .1 .1 .0 - a .1 .1 .1 .1 .1 .1 .0 .at) + 13
 
 abbrev pub μ-named : Measures 5 named-kinds.ps ℕ
 μ-named κs a = 32 * (a .1 .1 .0 - a .1 .1 .1 .1 .1 .1 .0 .at) + 4
+
+abbrev pub μ-operand : Measures 5 operand-kinds.ps ℕ
+μ-operand κs a = 32 * (a .1 .1 .0 - a .1 .1 .1 .1 .1 .1 .0 .at) + 11
 
 abbrev pub μ-operators : Measures 5 operators-kinds.ps ℕ
 μ-operators κs a = 32 * (a .1 .1 .0 - a .1 .1 .1 .1 .1 .1 .1 .0 .state .at) + 6
@@ -114,7 +119,7 @@ abbrev pub μ-sizeof : Measures 5 sizeof-kinds.ps ℕ
 μ-sizeof κs a = 32 * (a .1 .1 .0 - a .1 .1 .1 .1 .1 .1 .0 .at) + 8
 
 abbrev pub μ-field : Measures 5 field-kinds.ps ℕ
-μ-field κs a = 32 * (a .1 .1 .0 - a .1 .1 .1 .1 .1 .1 .0 .at) + 21
+μ-field κs a = 32 * (a .1 .1 .0 - a .1 .1 .1 .1 .1 .1 .0 .at) + 22
 
 abbrev pub μ-ty : Measures 5 ty-kinds.ps ℕ
 μ-ty κs a = 32 * (a .1 .1 .0 - a .1 .1 .1 .1 .1 .1 .0 .at) + 1
@@ -260,6 +265,12 @@ named-at t =
 abbrev pub named-below : ℕ → In 5 named-kinds.ps
 named-below t =
     and 5 named-kinds.ps (falls 5 named-kinds.ps _<_ μ-named t) named.Pre
+
+abbrev pub operand-at : ℕ → In 5 operand-kinds.ps
+operand-at t = and 5 operand-kinds.ps (is 5 operand-kinds.ps μ-operand t) operand.Pre
+
+abbrev pub operand-below : ℕ → In 5 operand-kinds.ps
+operand-below t = and 5 operand-kinds.ps (falls 5 operand-kinds.ps _<_ μ-operand t) operand.Pre
 
 abbrev pub operators-at : ℕ → In 5 operators-kinds.ps
 operators-at t = and 5 operators-kinds.ps (is 5 operators-kinds.ps μ-operators t) operators.Pre

@@ -2,7 +2,7 @@
 use borrow.Author.Needs.{needs}
 use native.Mathlib.Omega.{arith}
 use Prim.Native.Nat.{ℕ}
-use Rattle.expression.proofs.+access+add_sub+array+atom+bit_and+bit_or+bit_xor+boolean+call+cascade+cast+comparison+expression+field+item+list+mul+named+operators+shift+sizeof+ty+typed+typed_name+unary.Lts-cascade as lts
+use Rattle.expression.proofs.+access+add_sub+array+atom+bit_and+bit_or+bit_xor+boolean+call+cascade+cast+comparison+expression+field+item+list+mul+named+operand+operators+shift+sizeof+ty+typed+typed_name+unary.Lts-cascade as lts
 use Rattle.expression.proofs.add_sub.Reads as add-sub
 use Rattle.expression.proofs.shift.Reads as shift
 use Rattle.expression.proofs.bit_and.Reads as bit-and
@@ -10,7 +10,7 @@ use Rattle.expression.proofs.bit_xor.Reads as bit-xor
 use Rattle.expression.proofs.cascade.Reads as cascade
 use Rattle.expression.proofs.cast.Reads as cast
 use Rattle.expression.proofs.mul.Reads as mul
-use Rattle.expression.proofs.+access+add_sub+array+atom+bit_and+bit_or+bit_xor+boolean+call+cascade+cast+comparison+expression+field+item+list+mul+named+operators+shift+sizeof+ty+typed+typed_name+unary.Proof.Falls.{add-sub-below, shift-below, bit-and-below, bit-xor-below, cascade-at, cast-below, mul-below}
+use Rattle.expression.proofs.+access+add_sub+array+atom+bit_and+bit_or+bit_xor+boolean+call+cascade+cast+comparison+expression+field+item+list+mul+named+operand+operators+shift+sizeof+ty+typed+typed_name+unary.Proof.Falls.{add-sub-below, shift-below, bit-and-below, bit-xor-below, cascade-at, cast-below, mul-below}
 
 module _ (t : ℕ) where
   abbrev pub given : lts.Claims

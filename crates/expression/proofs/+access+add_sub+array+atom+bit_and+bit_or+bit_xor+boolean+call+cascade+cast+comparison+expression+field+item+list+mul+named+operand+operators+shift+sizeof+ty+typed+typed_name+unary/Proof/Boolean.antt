@@ -7,13 +7,13 @@ use Rattle.grammar.proofs.Levels.{and-on, and-none, and-found}
 use borrow.Author.Needs.{needs}
 use native.Mathlib.Omega.{arith}
 use Prim.Native.Nat.{ℕ}
-use Rattle.expression.proofs.+access+add_sub+array+atom+bit_and+bit_or+bit_xor+boolean+call+cascade+cast+comparison+expression+field+item+list+mul+named+operators+shift+sizeof+ty+typed+typed_name+unary.Lts-boolean as lts
+use Rattle.expression.proofs.+access+add_sub+array+atom+bit_and+bit_or+bit_xor+boolean+call+cascade+cast+comparison+expression+field+item+list+mul+named+operand+operators+shift+sizeof+ty+typed+typed_name+unary.Lts-boolean as lts
 use Rattle.expression.proofs.boolean.Reads as boolean
 use Rattle.expression.proofs.comparison.Reads as comparison
 use Rattle.fallible.proofs.abandon.Reads as abandon-reads
 use Rattle.steps.proofs.finish.Reads as finish-reads
 use Rattle.steps.proofs.head.Reads as head-reads
-use Rattle.expression.proofs.+access+add_sub+array+atom+bit_and+bit_or+bit_xor+boolean+call+cascade+cast+comparison+expression+field+item+list+mul+named+operators+shift+sizeof+ty+typed+typed_name+unary.Proof.Falls.{boolean-at, comparison-below}
+use Rattle.expression.proofs.+access+add_sub+array+atom+bit_and+bit_or+bit_xor+boolean+call+cascade+cast+comparison+expression+field+item+list+mul+named+operand+operators+shift+sizeof+ty+typed+typed_name+unary.Proof.Falls.{boolean-at, comparison-below}
 
 module _ (t : ℕ) where
   abbrev pub given : lts.Claims

@@ -4,7 +4,7 @@ use Rattle.grammar.proofs.Types.{array-no-integer, array-no-size, array-open, a
 use borrow.Author.Needs.{needs}
 use native.Mathlib.Omega.{arith}
 use Prim.Native.Nat.{ℕ}
-use Rattle.expression.proofs.+access+add_sub+array+atom+bit_and+bit_or+bit_xor+boolean+call+cascade+cast+comparison+expression+field+item+list+mul+named+operators+shift+sizeof+ty+typed+typed_name+unary.Lts-array as lts
+use Rattle.expression.proofs.+access+add_sub+array+atom+bit_and+bit_or+bit_xor+boolean+call+cascade+cast+comparison+expression+field+item+list+mul+named+operand+operators+shift+sizeof+ty+typed+typed_name+unary.Lts-array as lts
 use Rattle.expression.proofs.array.Reads as array
 use Rattle.expression.proofs.ty.Reads as ty
 use Rattle.fallible.proofs.entry.Reads as entry-reads
@@ -13,7 +13,7 @@ use Rattle.leaves.proofs.array_size.Reads as array-size-reads
 use Rattle.steps.proofs.expect.Reads as expect-reads
 use Rattle.steps.proofs.finish.Reads as finish-reads
 use Rattle.steps.proofs.head.Reads as head-reads
-use Rattle.expression.proofs.+access+add_sub+array+atom+bit_and+bit_or+bit_xor+boolean+call+cascade+cast+comparison+expression+field+item+list+mul+named+operators+shift+sizeof+ty+typed+typed_name+unary.Proof.Falls.{array-at, ty-below}
+use Rattle.expression.proofs.+access+add_sub+array+atom+bit_and+bit_or+bit_xor+boolean+call+cascade+cast+comparison+expression+field+item+list+mul+named+operand+operators+shift+sizeof+ty+typed+typed_name+unary.Proof.Falls.{array-at, ty-below}
 
 module _ (t : ℕ) where
   abbrev pub given : lts.Claims

@@ -18,6 +18,7 @@ mod Item
 mod List
 mod Mul
 mod Named
+mod Operand
 mod Operators
 mod Sizeof
 mod Field
@@ -25,8 +26,8 @@ mod Ty
 mod Typed
 mod TypedName
 mod Unary
-use Rattle.expression.proofs.+access+add_sub+array+atom+bit_and+bit_or+bit_xor+boolean+call+cascade+cast+comparison+expression+field+item+list+mul+named+operators+shift+sizeof+ty+typed+typed_name+unary.{statement}
-use Rattle.expression.proofs.+access+add_sub+array+atom+bit_and+bit_or+bit_xor+boolean+call+cascade+cast+comparison+expression+field+item+list+mul+named+operators+shift+sizeof+ty+typed+typed_name+unary.Tie.{close}
+use Rattle.expression.proofs.+access+add_sub+array+atom+bit_and+bit_or+bit_xor+boolean+call+cascade+cast+comparison+expression+field+item+list+mul+named+operand+operators+shift+sizeof+ty+typed+typed_name+unary.{statement}
+use Rattle.expression.proofs.+access+add_sub+array+atom+bit_and+bit_or+bit_xor+boolean+call+cascade+cast+comparison+expression+field+item+list+mul+named+operand+operators+shift+sizeof+ty+typed+typed_name+unary.Tie.{close}
 use Rattle.expression.proofs.access.Reads as access
 use Rattle.expression.proofs.add_sub.Reads as add-sub
 use Rattle.expression.proofs.array.Reads as array
@@ -45,6 +46,7 @@ use Rattle.expression.proofs.item.Reads as item
 use Rattle.expression.proofs.list.Reads as list
 use Rattle.expression.proofs.mul.Reads as mul
 use Rattle.expression.proofs.named.Reads as named
+use Rattle.expression.proofs.operand.Reads as operand
 use Rattle.expression.proofs.operators.Reads as operators
 use Rattle.expression.proofs.sizeof.Reads as sizeof
 use Rattle.expression.proofs.field.Reads as field
@@ -52,60 +54,62 @@ use Rattle.expression.proofs.ty.Reads as ty
 use Rattle.expression.proofs.typed.Reads as typed
 use Rattle.expression.proofs.typed_name.Reads as typed-name
 use Rattle.expression.proofs.unary.Reads as unary
-use Rattle.expression.proofs.+access+add_sub+array+atom+bit_and+bit_or+bit_xor+boolean+call+cascade+cast+comparison+expression+field+item+list+mul+named+operators+shift+sizeof+ty+typed+typed_name+unary.Lts-access as access-lts
-use Rattle.expression.proofs.+access+add_sub+array+atom+bit_and+bit_or+bit_xor+boolean+call+cascade+cast+comparison+expression+field+item+list+mul+named+operators+shift+sizeof+ty+typed+typed_name+unary.Lts-add_sub as add-sub-lts
-use Rattle.expression.proofs.+access+add_sub+array+atom+bit_and+bit_or+bit_xor+boolean+call+cascade+cast+comparison+expression+field+item+list+mul+named+operators+shift+sizeof+ty+typed+typed_name+unary.Lts-array as array-lts
-use Rattle.expression.proofs.+access+add_sub+array+atom+bit_and+bit_or+bit_xor+boolean+call+cascade+cast+comparison+expression+field+item+list+mul+named+operators+shift+sizeof+ty+typed+typed_name+unary.Lts-atom as atom-lts
-use Rattle.expression.proofs.+access+add_sub+array+atom+bit_and+bit_or+bit_xor+boolean+call+cascade+cast+comparison+expression+field+item+list+mul+named+operators+shift+sizeof+ty+typed+typed_name+unary.Lts-shift as shift-lts
-use Rattle.expression.proofs.+access+add_sub+array+atom+bit_and+bit_or+bit_xor+boolean+call+cascade+cast+comparison+expression+field+item+list+mul+named+operators+shift+sizeof+ty+typed+typed_name+unary.Lts-bit_and as bit-and-lts
-use Rattle.expression.proofs.+access+add_sub+array+atom+bit_and+bit_or+bit_xor+boolean+call+cascade+cast+comparison+expression+field+item+list+mul+named+operators+shift+sizeof+ty+typed+typed_name+unary.Lts-bit_or as bit-or-lts
-use Rattle.expression.proofs.+access+add_sub+array+atom+bit_and+bit_or+bit_xor+boolean+call+cascade+cast+comparison+expression+field+item+list+mul+named+operators+shift+sizeof+ty+typed+typed_name+unary.Lts-bit_xor as bit-xor-lts
-use Rattle.expression.proofs.+access+add_sub+array+atom+bit_and+bit_or+bit_xor+boolean+call+cascade+cast+comparison+expression+field+item+list+mul+named+operators+shift+sizeof+ty+typed+typed_name+unary.Lts-boolean as boolean-lts
-use Rattle.expression.proofs.+access+add_sub+array+atom+bit_and+bit_or+bit_xor+boolean+call+cascade+cast+comparison+expression+field+item+list+mul+named+operators+shift+sizeof+ty+typed+typed_name+unary.Lts-call as call-lts
-use Rattle.expression.proofs.+access+add_sub+array+atom+bit_and+bit_or+bit_xor+boolean+call+cascade+cast+comparison+expression+field+item+list+mul+named+operators+shift+sizeof+ty+typed+typed_name+unary.Lts-cascade as cascade-lts
-use Rattle.expression.proofs.+access+add_sub+array+atom+bit_and+bit_or+bit_xor+boolean+call+cascade+cast+comparison+expression+field+item+list+mul+named+operators+shift+sizeof+ty+typed+typed_name+unary.Lts-cast as cast-lts
-use Rattle.expression.proofs.+access+add_sub+array+atom+bit_and+bit_or+bit_xor+boolean+call+cascade+cast+comparison+expression+field+item+list+mul+named+operators+shift+sizeof+ty+typed+typed_name+unary.Lts-comparison as comparison-lts
-use Rattle.expression.proofs.+access+add_sub+array+atom+bit_and+bit_or+bit_xor+boolean+call+cascade+cast+comparison+expression+field+item+list+mul+named+operators+shift+sizeof+ty+typed+typed_name+unary.Lts-expression as expression-lts
-use Rattle.expression.proofs.+access+add_sub+array+atom+bit_and+bit_or+bit_xor+boolean+call+cascade+cast+comparison+expression+field+item+list+mul+named+operators+shift+sizeof+ty+typed+typed_name+unary.Lts-item as item-lts
-use Rattle.expression.proofs.+access+add_sub+array+atom+bit_and+bit_or+bit_xor+boolean+call+cascade+cast+comparison+expression+field+item+list+mul+named+operators+shift+sizeof+ty+typed+typed_name+unary.Lts-list as list-lts
-use Rattle.expression.proofs.+access+add_sub+array+atom+bit_and+bit_or+bit_xor+boolean+call+cascade+cast+comparison+expression+field+item+list+mul+named+operators+shift+sizeof+ty+typed+typed_name+unary.Lts-mul as mul-lts
-use Rattle.expression.proofs.+access+add_sub+array+atom+bit_and+bit_or+bit_xor+boolean+call+cascade+cast+comparison+expression+field+item+list+mul+named+operators+shift+sizeof+ty+typed+typed_name+unary.Lts-named as named-lts
-use Rattle.expression.proofs.+access+add_sub+array+atom+bit_and+bit_or+bit_xor+boolean+call+cascade+cast+comparison+expression+field+item+list+mul+named+operators+shift+sizeof+ty+typed+typed_name+unary.Lts-operators as operators-lts
-use Rattle.expression.proofs.+access+add_sub+array+atom+bit_and+bit_or+bit_xor+boolean+call+cascade+cast+comparison+expression+field+item+list+mul+named+operators+shift+sizeof+ty+typed+typed_name+unary.Lts-sizeof as sizeof-lts
-use Rattle.expression.proofs.+access+add_sub+array+atom+bit_and+bit_or+bit_xor+boolean+call+cascade+cast+comparison+expression+field+item+list+mul+named+operators+shift+sizeof+ty+typed+typed_name+unary.Lts-field as field-lts
-use Rattle.expression.proofs.+access+add_sub+array+atom+bit_and+bit_or+bit_xor+boolean+call+cascade+cast+comparison+expression+field+item+list+mul+named+operators+shift+sizeof+ty+typed+typed_name+unary.Lts-ty as ty-lts
-use Rattle.expression.proofs.+access+add_sub+array+atom+bit_and+bit_or+bit_xor+boolean+call+cascade+cast+comparison+expression+field+item+list+mul+named+operators+shift+sizeof+ty+typed+typed_name+unary.Lts-typed as typed-lts
-use Rattle.expression.proofs.+access+add_sub+array+atom+bit_and+bit_or+bit_xor+boolean+call+cascade+cast+comparison+expression+field+item+list+mul+named+operators+shift+sizeof+ty+typed+typed_name+unary.Lts-typed_name as typed-name-lts
-use Rattle.expression.proofs.+access+add_sub+array+atom+bit_and+bit_or+bit_xor+boolean+call+cascade+cast+comparison+expression+field+item+list+mul+named+operators+shift+sizeof+ty+typed+typed_name+unary.Lts-unary as unary-lts
-use Rattle.expression.proofs.+access+add_sub+array+atom+bit_and+bit_or+bit_xor+boolean+call+cascade+cast+comparison+expression+field+item+list+mul+named+operators+shift+sizeof+ty+typed+typed_name+unary.Proof.Falls.{μ-access, μ-add-sub, μ-array, μ-atom, μ-shift, μ-bit-and, μ-bit-or, μ-bit-xor, μ-boolean, μ-call, μ-cascade, μ-cast, μ-comparison, μ-expression, μ-item, μ-list, μ-mul, μ-named, μ-operators, μ-sizeof, μ-field, μ-ty, μ-typed, μ-typed-name, μ-unary, access-at, add-sub-at, array-at, atom-at, shift-at, bit-and-at, bit-or-at, bit-xor-at, boolean-at, call-at, cascade-at, cast-at, comparison-at, expression-at, item-at, list-at, mul-at, named-at, operators-at, sizeof-at, field-at, ty-at, typed-at, typed-name-at, unary-at}
-use Rattle.expression.proofs.+access+add_sub+array+atom+bit_and+bit_or+bit_xor+boolean+call+cascade+cast+comparison+expression+field+item+list+mul+named+operators+shift+sizeof+ty+typed+typed_name+unary.Proof.Access as N-access
-use Rattle.expression.proofs.+access+add_sub+array+atom+bit_and+bit_or+bit_xor+boolean+call+cascade+cast+comparison+expression+field+item+list+mul+named+operators+shift+sizeof+ty+typed+typed_name+unary.Proof.AddSub as N-add-sub
-use Rattle.expression.proofs.+access+add_sub+array+atom+bit_and+bit_or+bit_xor+boolean+call+cascade+cast+comparison+expression+field+item+list+mul+named+operators+shift+sizeof+ty+typed+typed_name+unary.Proof.Array as N-array
-use Rattle.expression.proofs.+access+add_sub+array+atom+bit_and+bit_or+bit_xor+boolean+call+cascade+cast+comparison+expression+field+item+list+mul+named+operators+shift+sizeof+ty+typed+typed_name+unary.Proof.Atom as N-atom
-use Rattle.expression.proofs.+access+add_sub+array+atom+bit_and+bit_or+bit_xor+boolean+call+cascade+cast+comparison+expression+field+item+list+mul+named+operators+shift+sizeof+ty+typed+typed_name+unary.Proof.Shift as N-shift
-use Rattle.expression.proofs.+access+add_sub+array+atom+bit_and+bit_or+bit_xor+boolean+call+cascade+cast+comparison+expression+field+item+list+mul+named+operators+shift+sizeof+ty+typed+typed_name+unary.Proof.BitAnd as N-bit-and
-use Rattle.expression.proofs.+access+add_sub+array+atom+bit_and+bit_or+bit_xor+boolean+call+cascade+cast+comparison+expression+field+item+list+mul+named+operators+shift+sizeof+ty+typed+typed_name+unary.Proof.BitOr as N-bit-or
-use Rattle.expression.proofs.+access+add_sub+array+atom+bit_and+bit_or+bit_xor+boolean+call+cascade+cast+comparison+expression+field+item+list+mul+named+operators+shift+sizeof+ty+typed+typed_name+unary.Proof.BitXor as N-bit-xor
-use Rattle.expression.proofs.+access+add_sub+array+atom+bit_and+bit_or+bit_xor+boolean+call+cascade+cast+comparison+expression+field+item+list+mul+named+operators+shift+sizeof+ty+typed+typed_name+unary.Proof.Boolean as N-boolean
-use Rattle.expression.proofs.+access+add_sub+array+atom+bit_and+bit_or+bit_xor+boolean+call+cascade+cast+comparison+expression+field+item+list+mul+named+operators+shift+sizeof+ty+typed+typed_name+unary.Proof.Call as N-call
-use Rattle.expression.proofs.+access+add_sub+array+atom+bit_and+bit_or+bit_xor+boolean+call+cascade+cast+comparison+expression+field+item+list+mul+named+operators+shift+sizeof+ty+typed+typed_name+unary.Proof.Cascade as N-cascade
-use Rattle.expression.proofs.+access+add_sub+array+atom+bit_and+bit_or+bit_xor+boolean+call+cascade+cast+comparison+expression+field+item+list+mul+named+operators+shift+sizeof+ty+typed+typed_name+unary.Proof.Cast as N-cast
-use Rattle.expression.proofs.+access+add_sub+array+atom+bit_and+bit_or+bit_xor+boolean+call+cascade+cast+comparison+expression+field+item+list+mul+named+operators+shift+sizeof+ty+typed+typed_name+unary.Proof.Comparison as N-comparison
-use Rattle.expression.proofs.+access+add_sub+array+atom+bit_and+bit_or+bit_xor+boolean+call+cascade+cast+comparison+expression+field+item+list+mul+named+operators+shift+sizeof+ty+typed+typed_name+unary.Proof.Expression as N-expression
-use Rattle.expression.proofs.+access+add_sub+array+atom+bit_and+bit_or+bit_xor+boolean+call+cascade+cast+comparison+expression+field+item+list+mul+named+operators+shift+sizeof+ty+typed+typed_name+unary.Proof.Item as N-item
-use Rattle.expression.proofs.+access+add_sub+array+atom+bit_and+bit_or+bit_xor+boolean+call+cascade+cast+comparison+expression+field+item+list+mul+named+operators+shift+sizeof+ty+typed+typed_name+unary.Proof.List as N-list
-use Rattle.expression.proofs.+access+add_sub+array+atom+bit_and+bit_or+bit_xor+boolean+call+cascade+cast+comparison+expression+field+item+list+mul+named+operators+shift+sizeof+ty+typed+typed_name+unary.Proof.Mul as N-mul
-use Rattle.expression.proofs.+access+add_sub+array+atom+bit_and+bit_or+bit_xor+boolean+call+cascade+cast+comparison+expression+field+item+list+mul+named+operators+shift+sizeof+ty+typed+typed_name+unary.Proof.Named as N-named
-use Rattle.expression.proofs.+access+add_sub+array+atom+bit_and+bit_or+bit_xor+boolean+call+cascade+cast+comparison+expression+field+item+list+mul+named+operators+shift+sizeof+ty+typed+typed_name+unary.Proof.Operators as N-operators
-use Rattle.expression.proofs.+access+add_sub+array+atom+bit_and+bit_or+bit_xor+boolean+call+cascade+cast+comparison+expression+field+item+list+mul+named+operators+shift+sizeof+ty+typed+typed_name+unary.Proof.Sizeof as N-sizeof
-use Rattle.expression.proofs.+access+add_sub+array+atom+bit_and+bit_or+bit_xor+boolean+call+cascade+cast+comparison+expression+field+item+list+mul+named+operators+shift+sizeof+ty+typed+typed_name+unary.Proof.Field as N-field
-use Rattle.expression.proofs.+access+add_sub+array+atom+bit_and+bit_or+bit_xor+boolean+call+cascade+cast+comparison+expression+field+item+list+mul+named+operators+shift+sizeof+ty+typed+typed_name+unary.Proof.Ty as N-ty
-use Rattle.expression.proofs.+access+add_sub+array+atom+bit_and+bit_or+bit_xor+boolean+call+cascade+cast+comparison+expression+field+item+list+mul+named+operators+shift+sizeof+ty+typed+typed_name+unary.Proof.Typed as N-typed
-use Rattle.expression.proofs.+access+add_sub+array+atom+bit_and+bit_or+bit_xor+boolean+call+cascade+cast+comparison+expression+field+item+list+mul+named+operators+shift+sizeof+ty+typed+typed_name+unary.Proof.TypedName as N-typed-name
-use Rattle.expression.proofs.+access+add_sub+array+atom+bit_and+bit_or+bit_xor+boolean+call+cascade+cast+comparison+expression+field+item+list+mul+named+operators+shift+sizeof+ty+typed+typed_name+unary.Proof.Unary as N-unary
+use Rattle.expression.proofs.+access+add_sub+array+atom+bit_and+bit_or+bit_xor+boolean+call+cascade+cast+comparison+expression+field+item+list+mul+named+operand+operators+shift+sizeof+ty+typed+typed_name+unary.Lts-access as access-lts
+use Rattle.expression.proofs.+access+add_sub+array+atom+bit_and+bit_or+bit_xor+boolean+call+cascade+cast+comparison+expression+field+item+list+mul+named+operand+operators+shift+sizeof+ty+typed+typed_name+unary.Lts-add_sub as add-sub-lts
+use Rattle.expression.proofs.+access+add_sub+array+atom+bit_and+bit_or+bit_xor+boolean+call+cascade+cast+comparison+expression+field+item+list+mul+named+operand+operators+shift+sizeof+ty+typed+typed_name+unary.Lts-array as array-lts
+use Rattle.expression.proofs.+access+add_sub+array+atom+bit_and+bit_or+bit_xor+boolean+call+cascade+cast+comparison+expression+field+item+list+mul+named+operand+operators+shift+sizeof+ty+typed+typed_name+unary.Lts-atom as atom-lts
+use Rattle.expression.proofs.+access+add_sub+array+atom+bit_and+bit_or+bit_xor+boolean+call+cascade+cast+comparison+expression+field+item+list+mul+named+operand+operators+shift+sizeof+ty+typed+typed_name+unary.Lts-shift as shift-lts
+use Rattle.expression.proofs.+access+add_sub+array+atom+bit_and+bit_or+bit_xor+boolean+call+cascade+cast+comparison+expression+field+item+list+mul+named+operand+operators+shift+sizeof+ty+typed+typed_name+unary.Lts-bit_and as bit-and-lts
+use Rattle.expression.proofs.+access+add_sub+array+atom+bit_and+bit_or+bit_xor+boolean+call+cascade+cast+comparison+expression+field+item+list+mul+named+operand+operators+shift+sizeof+ty+typed+typed_name+unary.Lts-bit_or as bit-or-lts
+use Rattle.expression.proofs.+access+add_sub+array+atom+bit_and+bit_or+bit_xor+boolean+call+cascade+cast+comparison+expression+field+item+list+mul+named+operand+operators+shift+sizeof+ty+typed+typed_name+unary.Lts-bit_xor as bit-xor-lts
+use Rattle.expression.proofs.+access+add_sub+array+atom+bit_and+bit_or+bit_xor+boolean+call+cascade+cast+comparison+expression+field+item+list+mul+named+operand+operators+shift+sizeof+ty+typed+typed_name+unary.Lts-boolean as boolean-lts
+use Rattle.expression.proofs.+access+add_sub+array+atom+bit_and+bit_or+bit_xor+boolean+call+cascade+cast+comparison+expression+field+item+list+mul+named+operand+operators+shift+sizeof+ty+typed+typed_name+unary.Lts-call as call-lts
+use Rattle.expression.proofs.+access+add_sub+array+atom+bit_and+bit_or+bit_xor+boolean+call+cascade+cast+comparison+expression+field+item+list+mul+named+operand+operators+shift+sizeof+ty+typed+typed_name+unary.Lts-cascade as cascade-lts
+use Rattle.expression.proofs.+access+add_sub+array+atom+bit_and+bit_or+bit_xor+boolean+call+cascade+cast+comparison+expression+field+item+list+mul+named+operand+operators+shift+sizeof+ty+typed+typed_name+unary.Lts-cast as cast-lts
+use Rattle.expression.proofs.+access+add_sub+array+atom+bit_and+bit_or+bit_xor+boolean+call+cascade+cast+comparison+expression+field+item+list+mul+named+operand+operators+shift+sizeof+ty+typed+typed_name+unary.Lts-comparison as comparison-lts
+use Rattle.expression.proofs.+access+add_sub+array+atom+bit_and+bit_or+bit_xor+boolean+call+cascade+cast+comparison+expression+field+item+list+mul+named+operand+operators+shift+sizeof+ty+typed+typed_name+unary.Lts-expression as expression-lts
+use Rattle.expression.proofs.+access+add_sub+array+atom+bit_and+bit_or+bit_xor+boolean+call+cascade+cast+comparison+expression+field+item+list+mul+named+operand+operators+shift+sizeof+ty+typed+typed_name+unary.Lts-item as item-lts
+use Rattle.expression.proofs.+access+add_sub+array+atom+bit_and+bit_or+bit_xor+boolean+call+cascade+cast+comparison+expression+field+item+list+mul+named+operand+operators+shift+sizeof+ty+typed+typed_name+unary.Lts-list as list-lts
+use Rattle.expression.proofs.+access+add_sub+array+atom+bit_and+bit_or+bit_xor+boolean+call+cascade+cast+comparison+expression+field+item+list+mul+named+operand+operators+shift+sizeof+ty+typed+typed_name+unary.Lts-mul as mul-lts
+use Rattle.expression.proofs.+access+add_sub+array+atom+bit_and+bit_or+bit_xor+boolean+call+cascade+cast+comparison+expression+field+item+list+mul+named+operand+operators+shift+sizeof+ty+typed+typed_name+unary.Lts-named as named-lts
+use Rattle.expression.proofs.+access+add_sub+array+atom+bit_and+bit_or+bit_xor+boolean+call+cascade+cast+comparison+expression+field+item+list+mul+named+operand+operators+shift+sizeof+ty+typed+typed_name+unary.Lts-operand as operand-lts
+use Rattle.expression.proofs.+access+add_sub+array+atom+bit_and+bit_or+bit_xor+boolean+call+cascade+cast+comparison+expression+field+item+list+mul+named+operand+operators+shift+sizeof+ty+typed+typed_name+unary.Lts-operators as operators-lts
+use Rattle.expression.proofs.+access+add_sub+array+atom+bit_and+bit_or+bit_xor+boolean+call+cascade+cast+comparison+expression+field+item+list+mul+named+operand+operators+shift+sizeof+ty+typed+typed_name+unary.Lts-sizeof as sizeof-lts
+use Rattle.expression.proofs.+access+add_sub+array+atom+bit_and+bit_or+bit_xor+boolean+call+cascade+cast+comparison+expression+field+item+list+mul+named+operand+operators+shift+sizeof+ty+typed+typed_name+unary.Lts-field as field-lts
+use Rattle.expression.proofs.+access+add_sub+array+atom+bit_and+bit_or+bit_xor+boolean+call+cascade+cast+comparison+expression+field+item+list+mul+named+operand+operators+shift+sizeof+ty+typed+typed_name+unary.Lts-ty as ty-lts
+use Rattle.expression.proofs.+access+add_sub+array+atom+bit_and+bit_or+bit_xor+boolean+call+cascade+cast+comparison+expression+field+item+list+mul+named+operand+operators+shift+sizeof+ty+typed+typed_name+unary.Lts-typed as typed-lts
+use Rattle.expression.proofs.+access+add_sub+array+atom+bit_and+bit_or+bit_xor+boolean+call+cascade+cast+comparison+expression+field+item+list+mul+named+operand+operators+shift+sizeof+ty+typed+typed_name+unary.Lts-typed_name as typed-name-lts
+use Rattle.expression.proofs.+access+add_sub+array+atom+bit_and+bit_or+bit_xor+boolean+call+cascade+cast+comparison+expression+field+item+list+mul+named+operand+operators+shift+sizeof+ty+typed+typed_name+unary.Lts-unary as unary-lts
+use Rattle.expression.proofs.+access+add_sub+array+atom+bit_and+bit_or+bit_xor+boolean+call+cascade+cast+comparison+expression+field+item+list+mul+named+operand+operators+shift+sizeof+ty+typed+typed_name+unary.Proof.Falls.{μ-access, μ-add-sub, μ-array, μ-atom, μ-shift, μ-bit-and, μ-bit-or, μ-bit-xor, μ-boolean, μ-call, μ-cascade, μ-cast, μ-comparison, μ-expression, μ-item, μ-list, μ-mul, μ-named, μ-operand, μ-operators, μ-sizeof, μ-field, μ-ty, μ-typed, μ-typed-name, μ-unary, access-at, add-sub-at, array-at, atom-at, shift-at, bit-and-at, bit-or-at, bit-xor-at, boolean-at, call-at, cascade-at, cast-at, comparison-at, expression-at, item-at, list-at, mul-at, named-at, operand-at, operators-at, sizeof-at, field-at, ty-at, typed-at, typed-name-at, unary-at}
+use Rattle.expression.proofs.+access+add_sub+array+atom+bit_and+bit_or+bit_xor+boolean+call+cascade+cast+comparison+expression+field+item+list+mul+named+operand+operators+shift+sizeof+ty+typed+typed_name+unary.Proof.Access as N-access
+use Rattle.expression.proofs.+access+add_sub+array+atom+bit_and+bit_or+bit_xor+boolean+call+cascade+cast+comparison+expression+field+item+list+mul+named+operand+operators+shift+sizeof+ty+typed+typed_name+unary.Proof.AddSub as N-add-sub
+use Rattle.expression.proofs.+access+add_sub+array+atom+bit_and+bit_or+bit_xor+boolean+call+cascade+cast+comparison+expression+field+item+list+mul+named+operand+operators+shift+sizeof+ty+typed+typed_name+unary.Proof.Array as N-array
+use Rattle.expression.proofs.+access+add_sub+array+atom+bit_and+bit_or+bit_xor+boolean+call+cascade+cast+comparison+expression+field+item+list+mul+named+operand+operators+shift+sizeof+ty+typed+typed_name+unary.Proof.Atom as N-atom
+use Rattle.expression.proofs.+access+add_sub+array+atom+bit_and+bit_or+bit_xor+boolean+call+cascade+cast+comparison+expression+field+item+list+mul+named+operand+operators+shift+sizeof+ty+typed+typed_name+unary.Proof.Shift as N-shift
+use Rattle.expression.proofs.+access+add_sub+array+atom+bit_and+bit_or+bit_xor+boolean+call+cascade+cast+comparison+expression+field+item+list+mul+named+operand+operators+shift+sizeof+ty+typed+typed_name+unary.Proof.BitAnd as N-bit-and
+use Rattle.expression.proofs.+access+add_sub+array+atom+bit_and+bit_or+bit_xor+boolean+call+cascade+cast+comparison+expression+field+item+list+mul+named+operand+operators+shift+sizeof+ty+typed+typed_name+unary.Proof.BitOr as N-bit-or
+use Rattle.expression.proofs.+access+add_sub+array+atom+bit_and+bit_or+bit_xor+boolean+call+cascade+cast+comparison+expression+field+item+list+mul+named+operand+operators+shift+sizeof+ty+typed+typed_name+unary.Proof.BitXor as N-bit-xor
+use Rattle.expression.proofs.+access+add_sub+array+atom+bit_and+bit_or+bit_xor+boolean+call+cascade+cast+comparison+expression+field+item+list+mul+named+operand+operators+shift+sizeof+ty+typed+typed_name+unary.Proof.Boolean as N-boolean
+use Rattle.expression.proofs.+access+add_sub+array+atom+bit_and+bit_or+bit_xor+boolean+call+cascade+cast+comparison+expression+field+item+list+mul+named+operand+operators+shift+sizeof+ty+typed+typed_name+unary.Proof.Call as N-call
+use Rattle.expression.proofs.+access+add_sub+array+atom+bit_and+bit_or+bit_xor+boolean+call+cascade+cast+comparison+expression+field+item+list+mul+named+operand+operators+shift+sizeof+ty+typed+typed_name+unary.Proof.Cascade as N-cascade
+use Rattle.expression.proofs.+access+add_sub+array+atom+bit_and+bit_or+bit_xor+boolean+call+cascade+cast+comparison+expression+field+item+list+mul+named+operand+operators+shift+sizeof+ty+typed+typed_name+unary.Proof.Cast as N-cast
+use Rattle.expression.proofs.+access+add_sub+array+atom+bit_and+bit_or+bit_xor+boolean+call+cascade+cast+comparison+expression+field+item+list+mul+named+operand+operators+shift+sizeof+ty+typed+typed_name+unary.Proof.Comparison as N-comparison
+use Rattle.expression.proofs.+access+add_sub+array+atom+bit_and+bit_or+bit_xor+boolean+call+cascade+cast+comparison+expression+field+item+list+mul+named+operand+operators+shift+sizeof+ty+typed+typed_name+unary.Proof.Expression as N-expression
+use Rattle.expression.proofs.+access+add_sub+array+atom+bit_and+bit_or+bit_xor+boolean+call+cascade+cast+comparison+expression+field+item+list+mul+named+operand+operators+shift+sizeof+ty+typed+typed_name+unary.Proof.Item as N-item
+use Rattle.expression.proofs.+access+add_sub+array+atom+bit_and+bit_or+bit_xor+boolean+call+cascade+cast+comparison+expression+field+item+list+mul+named+operand+operators+shift+sizeof+ty+typed+typed_name+unary.Proof.List as N-list
+use Rattle.expression.proofs.+access+add_sub+array+atom+bit_and+bit_or+bit_xor+boolean+call+cascade+cast+comparison+expression+field+item+list+mul+named+operand+operators+shift+sizeof+ty+typed+typed_name+unary.Proof.Mul as N-mul
+use Rattle.expression.proofs.+access+add_sub+array+atom+bit_and+bit_or+bit_xor+boolean+call+cascade+cast+comparison+expression+field+item+list+mul+named+operand+operators+shift+sizeof+ty+typed+typed_name+unary.Proof.Named as N-named
+use Rattle.expression.proofs.+access+add_sub+array+atom+bit_and+bit_or+bit_xor+boolean+call+cascade+cast+comparison+expression+field+item+list+mul+named+operand+operators+shift+sizeof+ty+typed+typed_name+unary.Proof.Operand as N-operand
+use Rattle.expression.proofs.+access+add_sub+array+atom+bit_and+bit_or+bit_xor+boolean+call+cascade+cast+comparison+expression+field+item+list+mul+named+operand+operators+shift+sizeof+ty+typed+typed_name+unary.Proof.Operators as N-operators
+use Rattle.expression.proofs.+access+add_sub+array+atom+bit_and+bit_or+bit_xor+boolean+call+cascade+cast+comparison+expression+field+item+list+mul+named+operand+operators+shift+sizeof+ty+typed+typed_name+unary.Proof.Sizeof as N-sizeof
+use Rattle.expression.proofs.+access+add_sub+array+atom+bit_and+bit_or+bit_xor+boolean+call+cascade+cast+comparison+expression+field+item+list+mul+named+operand+operators+shift+sizeof+ty+typed+typed_name+unary.Proof.Field as N-field
+use Rattle.expression.proofs.+access+add_sub+array+atom+bit_and+bit_or+bit_xor+boolean+call+cascade+cast+comparison+expression+field+item+list+mul+named+operand+operators+shift+sizeof+ty+typed+typed_name+unary.Proof.Ty as N-ty
+use Rattle.expression.proofs.+access+add_sub+array+atom+bit_and+bit_or+bit_xor+boolean+call+cascade+cast+comparison+expression+field+item+list+mul+named+operand+operators+shift+sizeof+ty+typed+typed_name+unary.Proof.Typed as N-typed
+use Rattle.expression.proofs.+access+add_sub+array+atom+bit_and+bit_or+bit_xor+boolean+call+cascade+cast+comparison+expression+field+item+list+mul+named+operand+operators+shift+sizeof+ty+typed+typed_name+unary.Proof.TypedName as N-typed-name
+use Rattle.expression.proofs.+access+add_sub+array+atom+bit_and+bit_or+bit_xor+boolean+call+cascade+cast+comparison+expression+field+item+list+mul+named+operand+operators+shift+sizeof+ty+typed+typed_name+unary.Proof.Unary as N-unary
 
-pub +access+add-sub+array+atom+bit-and+bit-or+bit-xor+boolean+call+cascade+cast+comparison+expression+field+item+list+mul+named+operators+shift+sizeof+ty+typed+typed-name+unary-spec : {M : Type 1} → statement M
-+access+add-sub+array+atom+bit-and+bit-or+bit-xor+boolean+call+cascade+cast+comparison+expression+field+item+list+mul+named+operators+shift+sizeof+ty+typed+typed-name+unary-spec =
+pub +access+add-sub+array+atom+bit-and+bit-or+bit-xor+boolean+call+cascade+cast+comparison+expression+field+item+list+mul+named+operand+operators+shift+sizeof+ty+typed+typed-name+unary-spec : {M : Type 1} → statement M
++access+add-sub+array+atom+bit-and+bit-or+bit-xor+boolean+call+cascade+cast+comparison+expression+field+item+list+mul+named+operand+operators+shift+sizeof+ty+typed+typed-name+unary-spec =
     close
     μ-access
     μ-add-sub
@@ -125,6 +129,7 @@ pub +access+add-sub+array+atom+bit-and+bit-or+bit-xor+boolean+call+cascade+cast+
     μ-list
     μ-mul
     μ-named
+    μ-operand
     μ-operators
     μ-shift
     μ-sizeof
@@ -142,7 +147,7 @@ pub +access+add-sub+array+atom+bit-and+bit-or+bit-xor+boolean+call+cascade+cast+
     (λ t. boolean-lts.spec (N-boolean.given t) (boolean-at t) boolean.Post (N-boolean.comparison-requires t) (N-boolean.enum-told t) (N-boolean.same-length t) (N-boolean.same-length-2 t) (N-boolean.same-length-3 t) (N-boolean.returns t) (N-boolean.head-requires t) (N-boolean.same-length-4 t) (N-boolean.same-length-5 t) (N-boolean.same-length-6 t) (N-boolean.returns-2 t) (N-boolean.comparison-requires-2 t) (N-boolean.abandon-requires t) (N-boolean.finish-requires t) (N-boolean.same-length-7 t) (N-boolean.same-length-8 t) (N-boolean.same-length-9 t) (N-boolean.returns-3 t))
     (λ t. call-lts.spec (N-call.given t) (call-at t) call.Post (N-call.sizeof-requires t) (N-call.enum-told t) (N-call.same-length t) (N-call.same-length-2 t) (N-call.same-length-3 t) (N-call.returns t) (N-call.head-requires t) (N-call.same-length-4 t) (N-call.same-length-5 t) (N-call.same-length-6 t) (N-call.returns-2 t) (N-call.list-requires t) (N-call.silence-requires t) (N-call.finish-requires t) (N-call.same-length-7 t) (N-call.same-length-8 t) (N-call.same-length-9 t) (N-call.returns-3 t))
     (λ t. cascade-lts.spec (N-cascade.given t) (cascade-at t) cascade.Post (N-cascade.enum-told t) (N-cascade.bit-xor-requires t) (N-cascade.enum-told-2 t) (N-cascade.bit-and-requires t) (N-cascade.enum-told-3 t) (N-cascade.shift-requires t) (N-cascade.enum-told-4 t) (N-cascade.add-sub-requires t) (N-cascade.enum-told-5 t) (N-cascade.mul-requires t) (N-cascade.enum-told-6 t) (N-cascade.cast-requires t) (N-cascade.same-length t) (N-cascade.same-length-2 t) (N-cascade.same-length-3 t) (N-cascade.returns t) (N-cascade.same-length-4 t) (N-cascade.same-length-5 t) (N-cascade.same-length-6 t) (N-cascade.returns-2 t) (N-cascade.same-length-7 t) (N-cascade.same-length-8 t) (N-cascade.same-length-9 t) (N-cascade.returns-3 t) (N-cascade.same-length-10 t) (N-cascade.same-length-11 t) (N-cascade.same-length-12 t) (N-cascade.returns-4 t) (N-cascade.same-length-13 t) (N-cascade.same-length-14 t) (N-cascade.same-length-15 t) (N-cascade.returns-5 t) (N-cascade.same-length-16 t) (N-cascade.same-length-17 t) (N-cascade.same-length-18 t) (N-cascade.returns-6 t))
-    (λ t. cast-lts.spec (N-cast.given t) (cast-at t) cast.Post N-cast.Inv-loop N-cast.μ-loop (N-cast.unary-requires t) (N-cast.loop-holds t) (N-cast.enum-told t) (N-cast.same-length t) (N-cast.same-length-2 t) (N-cast.same-length-3 t) (N-cast.returns t) (N-cast.head-requires t) (N-cast.same-length-4 t) (N-cast.same-length-5 t) (N-cast.same-length-6 t) (N-cast.returns-2 t) (N-cast.ty-requires t) (N-cast.abandon-requires t) (N-cast.finish-requires t) (N-cast.loop-less t) (N-cast.loop-again t))
+    (λ t. cast-lts.spec (N-cast.given t) (cast-at t) cast.Post N-cast.Inv-loop N-cast.μ-loop (N-cast.operand-requires t) (N-cast.loop-holds t) (N-cast.enum-told t) (N-cast.same-length t) (N-cast.same-length-2 t) (N-cast.same-length-3 t) (N-cast.returns t) (N-cast.head-requires t) (N-cast.same-length-4 t) (N-cast.same-length-5 t) (N-cast.same-length-6 t) (N-cast.returns-2 t) (N-cast.ty-requires t) (N-cast.abandon-requires t) (N-cast.finish-requires t) (N-cast.loop-less t) (N-cast.loop-again t))
     (λ t. comparison-lts.spec (N-comparison.given t) (comparison-at t) comparison.Post (N-comparison.bit-or-requires t) (N-comparison.enum-told t) (N-comparison.same-length t) (N-comparison.same-length-2 t) (N-comparison.same-length-3 t) (N-comparison.returns t) (N-comparison.head-requires t) (N-comparison.comparison-operator-requires t) (N-comparison.same-length-4 t) (N-comparison.same-length-5 t) (N-comparison.same-length-6 t) (N-comparison.returns-2 t) (N-comparison.bit-or-requires-2 t) (N-comparison.abandon-requires t) (N-comparison.sub-t38 t) (N-comparison.finish-requires t) (N-comparison.same-length-7 t) (N-comparison.same-length-8 t) (N-comparison.same-length-9 t) (N-comparison.returns-3 t))
     (λ t. expression-lts.spec (N-expression.given t) (expression-at t) expression.Post (N-expression.refuse-requires t) (N-expression.returns t) (N-expression.sub-boolean t) (N-expression.boolean-requires t) (N-expression.same-length t) (N-expression.same-length-2 t) (N-expression.same-length-3 t) (N-expression.returns-2 t))
     (λ t. field-lts.spec (N-field.given t) (field-at t) field.Post (N-field.head-requires t) (N-field.expect-identifier-requires t) (N-field.and-expect-requires t) (N-field.enum-told t) (N-field.same-length t) (N-field.same-length-2 t) (N-field.returns t) (N-field.expression-requires t) (N-field.finish-requires t) (N-field.same-length-3 t) (N-field.same-length-4 t) (N-field.same-length-5 t) (N-field.returns-2 t))
@@ -150,6 +155,7 @@ pub +access+add-sub+array+atom+bit-and+bit-or+bit-xor+boolean+call+cascade+cast+
     (λ t. list-lts.spec (N-list.given t) (list-at t) list.Post N-list.Inv-loop N-list.μ-loop (N-list.opener-requires t) (N-list.expect-requires t) (N-list.enum-told t) (N-list.same-length t) (N-list.same-length-2 t) (N-list.returns t) (N-list.closer-requires t) (N-list.loop-holds t) (N-list.head-requires t) (N-list.entry-requires t) (N-list.note-requires t) (N-list.same-length-3 t) (N-list.same-length-4 t) (N-list.same-length-5 t) (N-list.returns-2 t) (N-list.same-length-6 t) (N-list.same-length-7 t) (N-list.same-length-8 t) (N-list.returns-3 t) (N-list.item-requires t) (N-list.enum-told-2 t) (N-list.same-length-9 t) (N-list.same-length-10 t) (N-list.same-length-11 t) (N-list.returns-4 t) (N-list.comma-requires t) (N-list.enum-told-3 t) (N-list.same-length-12 t) (N-list.same-length-13 t) (N-list.same-length-14 t) (N-list.returns-5 t) (N-list.counted-requires t) (N-list.loop-less t) (N-list.loop-again t))
     (λ t. mul-lts.spec (N-mul.given t) (mul-at t) mul.Post (N-mul.cast-requires t) (N-mul.operators-requires t) (N-mul.same-length t) (N-mul.same-length-2 t) (N-mul.same-length-3 t) (N-mul.returns t))
     (λ t. named-lts.spec (N-named.given t) (named-at t) named.Post (N-named.typed-name-requires t) (N-named.bare-name-requires t) (N-named.same-length t) (N-named.same-length-2 t) (N-named.same-length-3 t) (N-named.returns t))
+    (λ t. operand-lts.spec (N-operand.given t) (operand-at t) operand.Post (N-operand.head-requires t) (N-operand.head-requires-2 t) (N-operand.name-alone-requires t) (N-operand.unary-requires t) (N-operand.same-length t) (N-operand.same-length-2 t) (N-operand.same-length-3 t) (N-operand.returns t) (N-operand.name-requires t) (N-operand.same-length-4 t) (N-operand.returns-2 t))
     (λ t. operators-lts.spec (N-operators.given t) (operators-at t) operators.Post N-operators.Inv-loop N-operators.μ-loop (N-operators.loop-holds t) (N-operators.enum-told t) (N-operators.same-length t) (N-operators.same-length-2 t) (N-operators.same-length-3 t) (N-operators.returns t) (N-operators.head-requires t) (N-operators.operator-requires t) (N-operators.same-length-4 t) (N-operators.same-length-5 t) (N-operators.same-length-6 t) (N-operators.returns-2 t) (N-operators.cascade-requires t) (N-operators.abandon-requires t) (N-operators.sub-t35 t) (N-operators.finish-requires t) (N-operators.loop-less t) (N-operators.loop-again t))
     (λ t. shift-lts.spec (N-shift.given t) (shift-at t) shift.Post (N-shift.add-sub-requires t) (N-shift.operators-requires t) (N-shift.same-length t) (N-shift.same-length-2 t) (N-shift.same-length-3 t) (N-shift.returns t))
     (λ t. sizeof-lts.spec (N-sizeof.given t) (sizeof-at t) sizeof.Post (N-sizeof.head-requires t) (N-sizeof.access-requires t) (N-sizeof.same-length t) (N-sizeof.same-length-2 t) (N-sizeof.same-length-3 t) (N-sizeof.returns t) (N-sizeof.expect-requires t) (N-sizeof.enum-told t) (N-sizeof.same-length-4 t) (N-sizeof.same-length-5 t) (N-sizeof.returns-2 t) (N-sizeof.ty-requires t) (N-sizeof.and-expect-requires t) (N-sizeof.finish-requires t) (N-sizeof.same-length-6 t) (N-sizeof.same-length-7 t) (N-sizeof.same-length-8 t) (N-sizeof.returns-3 t))

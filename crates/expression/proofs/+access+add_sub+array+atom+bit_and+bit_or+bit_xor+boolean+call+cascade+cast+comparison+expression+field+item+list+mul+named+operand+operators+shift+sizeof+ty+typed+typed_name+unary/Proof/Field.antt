@@ -3,14 +3,14 @@ use Rattle.grammar.proofs.Names.{field-follows, field-asked, field-stops, field
 use borrow.Author.Needs.{needs}
 use native.Mathlib.Omega.{arith}
 use Prim.Native.Nat.{ℕ}
-use Rattle.expression.proofs.+access+add_sub+array+atom+bit_and+bit_or+bit_xor+boolean+call+cascade+cast+comparison+expression+field+item+list+mul+named+operators+shift+sizeof+ty+typed+typed_name+unary.Lts-field as lts
+use Rattle.expression.proofs.+access+add_sub+array+atom+bit_and+bit_or+bit_xor+boolean+call+cascade+cast+comparison+expression+field+item+list+mul+named+operand+operators+shift+sizeof+ty+typed+typed_name+unary.Lts-field as lts
 use Rattle.expression.proofs.expression.Reads as expression
 use Rattle.expression.proofs.field.Reads as field
 use Rattle.steps.proofs.and_expect.Reads as and-expect-reads
 use Rattle.steps.proofs.expect_identifier.Reads as expect-identifier-reads
 use Rattle.steps.proofs.finish.Reads as finish-reads
 use Rattle.steps.proofs.head.Reads as head-reads
-use Rattle.expression.proofs.+access+add_sub+array+atom+bit_and+bit_or+bit_xor+boolean+call+cascade+cast+comparison+expression+field+item+list+mul+named+operators+shift+sizeof+ty+typed+typed_name+unary.Proof.Falls.{expression-below, field-at}
+use Rattle.expression.proofs.+access+add_sub+array+atom+bit_and+bit_or+bit_xor+boolean+call+cascade+cast+comparison+expression+field+item+list+mul+named+operand+operators+shift+sizeof+ty+typed+typed_name+unary.Proof.Falls.{expression-below, field-at}
 
 module _ (t : ℕ) where
   abbrev pub given : lts.Claims

@@ -9,7 +9,7 @@ use Rattle.grammar.proofs.Lists.{list-refused, list-on, rest-end, rest-closed, 
 use borrow.Author.Needs.{needs}
 use native.Mathlib.Omega.{arith}
 use Prim.Native.Nat.{ℕ, _-_}
-use Rattle.expression.proofs.+access+add_sub+array+atom+bit_and+bit_or+bit_xor+boolean+call+cascade+cast+comparison+expression+field+item+list+mul+named+operators+shift+sizeof+ty+typed+typed_name+unary.Lts-list as lts
+use Rattle.expression.proofs.+access+add_sub+array+atom+bit_and+bit_or+bit_xor+boolean+call+cascade+cast+comparison+expression+field+item+list+mul+named+operand+operators+shift+sizeof+ty+typed+typed_name+unary.Lts-list as lts
 use Rattle.expression.proofs.item.Reads as item
 use Rattle.expression.proofs.list.Reads as list
 use Rattle.fallible.proofs.entry.Reads as entry-reads
@@ -20,7 +20,7 @@ use Rattle.leaves.proofs.counted.Reads as counted-reads
 use Rattle.leaves.proofs.opener.Reads as opener-reads
 use Rattle.steps.proofs.expect.Reads as expect-reads
 use Rattle.steps.proofs.head.Reads as head-reads
-use Rattle.expression.proofs.+access+add_sub+array+atom+bit_and+bit_or+bit_xor+boolean+call+cascade+cast+comparison+expression+field+item+list+mul+named+operators+shift+sizeof+ty+typed+typed_name+unary.Proof.Falls.{item-below, list-at}
+use Rattle.expression.proofs.+access+add_sub+array+atom+bit_and+bit_or+bit_xor+boolean+call+cascade+cast+comparison+expression+field+item+list+mul+named+operand+operators+shift+sizeof+ty+typed+typed_name+unary.Proof.Falls.{item-below, list-at}
 
 abbrev pub Inv-loop : lts.InvT-loop
 Inv-loop w x n o₀ r₀ f₀ k d opened closed count₀ s₀ o r f count s = ItemsTurned (LoopOn (listed-on (listed-of k)) w x n d) w x n count₀ o₀ r₀ f₀ s₀ count o r f s

@@ -3,12 +3,12 @@ use Rattle.grammar.proofs.Names.{typed-colon, typed-type, colon-cuts, type-aske
 use borrow.Author.Needs.{needs}
 use native.Mathlib.Omega.{arith}
 use Prim.Native.Nat.{ℕ}
-use Rattle.expression.proofs.+access+add_sub+array+atom+bit_and+bit_or+bit_xor+boolean+call+cascade+cast+comparison+expression+field+item+list+mul+named+operators+shift+sizeof+ty+typed+typed_name+unary.Lts-typed as lts
+use Rattle.expression.proofs.+access+add_sub+array+atom+bit_and+bit_or+bit_xor+boolean+call+cascade+cast+comparison+expression+field+item+list+mul+named+operand+operators+shift+sizeof+ty+typed+typed_name+unary.Lts-typed as lts
 use Rattle.expression.proofs.ty.Reads as ty
 use Rattle.expression.proofs.typed.Reads as typed
 use Rattle.fallible.proofs.abandon.Reads as abandon-reads
 use Rattle.steps.proofs.expect.Reads as expect-reads
-use Rattle.expression.proofs.+access+add_sub+array+atom+bit_and+bit_or+bit_xor+boolean+call+cascade+cast+comparison+expression+field+item+list+mul+named+operators+shift+sizeof+ty+typed+typed_name+unary.Proof.Falls.{ty-below, typed-at}
+use Rattle.expression.proofs.+access+add_sub+array+atom+bit_and+bit_or+bit_xor+boolean+call+cascade+cast+comparison+expression+field+item+list+mul+named+operand+operators+shift+sizeof+ty+typed+typed_name+unary.Proof.Falls.{ty-below, typed-at}
 
 module _ (t : ℕ) where
   abbrev pub given : lts.Claims

@@ -5,11 +5,11 @@ use Rattle.grammar.specs.Post.{operators-on}
 use Rattle.grammar.proofs.Joins.{then-asked, goes-on}
 use native.Mathlib.Omega.{arith}
 use Prim.Native.Nat.{ℕ}
-use Rattle.expression.proofs.+access+add_sub+array+atom+bit_and+bit_or+bit_xor+boolean+call+cascade+cast+comparison+expression+field+item+list+mul+named+operators+shift+sizeof+ty+typed+typed_name+unary.Lts-bit_xor as lts
+use Rattle.expression.proofs.+access+add_sub+array+atom+bit_and+bit_or+bit_xor+boolean+call+cascade+cast+comparison+expression+field+item+list+mul+named+operand+operators+shift+sizeof+ty+typed+typed_name+unary.Lts-bit_xor as lts
 use Rattle.expression.proofs.bit_and.Reads as bit-and
 use Rattle.expression.proofs.bit_xor.Reads as bit-xor
 use Rattle.expression.proofs.operators.Reads as operators
-use Rattle.expression.proofs.+access+add_sub+array+atom+bit_and+bit_or+bit_xor+boolean+call+cascade+cast+comparison+expression+field+item+list+mul+named+operators+shift+sizeof+ty+typed+typed_name+unary.Proof.Falls.{bit-and-below, bit-xor-at, operators-below}
+use Rattle.expression.proofs.+access+add_sub+array+atom+bit_and+bit_or+bit_xor+boolean+call+cascade+cast+comparison+expression+field+item+list+mul+named+operand+operators+shift+sizeof+ty+typed+typed_name+unary.Proof.Falls.{bit-and-below, bit-xor-at, operators-below}
 
 module _ (t : ℕ) where
   abbrev pub given : lts.Claims

@@ -1,0 +1,49 @@
+-- The needs of `operand`.
+use Rattle.grammar.proofs.Operands.{name-operand}
+use borrow.Author.Needs.{needs}
+use native.Mathlib.Omega.{arith}
+use Prim.Native.Nat.{ℕ}
+use Rattle.expression.proofs.+access+add_sub+array+atom+bit_and+bit_or+bit_xor+boolean+call+cascade+cast+comparison+expression+field+item+list+mul+named+operand+operators+shift+sizeof+ty+typed+typed_name+unary.Lts-operand as lts
+use Rattle.expression.proofs.operand.Reads as operand
+use Rattle.expression.proofs.unary.Reads as unary
+use Rattle.leaves.proofs.name.Reads as name-reads
+use Rattle.leaves.proofs.name_alone.Reads as name-alone-reads
+use Rattle.steps.proofs.head.Reads as head-reads
+use Rattle.expression.proofs.+access+add_sub+array+atom+bit_and+bit_or+bit_xor+boolean+call+cascade+cast+comparison+expression+field+item+list+mul+named+operand+operators+shift+sizeof+ty+typed+typed_name+unary.Proof.Falls.{operand-at, unary-below}
+
+module _ (t : ℕ) where
+  abbrev pub given : lts.Claims
+  given = (head-reads.Asked, head-reads.Learnt, name-alone-reads.Asked, name-alone-reads.Learnt, unary-below t, unary.Post, name-reads.Asked, name-reads.Learnt)
+
+  pub head-requires : lts.Need-head-requires given (operand-at t) operand.Post
+  head-requires c κs = (c .before .before .before .before .before .pre .1 .asks .held, c .before .before .before .before .before .pre .1 .asks .at)
+
+  pub head-requires-2 : lts.Need-head-requires-2 given (operand-at t) operand.Post
+  head-requires-2 c κs = (c .before .before .before .before .before .before .pre .1 .asks .held, omega (arith, c .head .ensures .end))
+
+  pub name-alone-requires : lts.Need-name-alone-requires given (operand-at t) operand.Post
+  name-alone-requires c κs = search needs
+
+  pub unary-requires : lts.Need-unary-requires given (operand-at t) operand.Post
+  unary-requires c κs = (omega (arith, c .before .before .before .before .before .before .before .before .before .before .before .before .pre .0), c .before .before .before .before .before .before .before .before .before .before .before .before .pre .1)
+
+  pub same-length : lts.Need-same-length given (operand-at t) operand.Post
+  same-length c = omega (arith, c .before .before .before .before .before .before .unary .kept)
+
+  pub same-length-2 : lts.Need-same-length-2 given (operand-at t) operand.Post
+  same-length-2 c = omega (arith, c .before .before .before .before .before .before .unary .kept)
+
+  pub same-length-3 : lts.Need-same-length-3 given (operand-at t) operand.Post
+  same-length-3 c = omega (arith, c .before .before .before .before .before .before .unary .kept)
+
+  pub returns : lts.Need-returns given (operand-at t) operand.Post
+  returns c = c .before .before .before .before .before .before .unary .ensures
+
+  pub name-requires : lts.Need-name-requires given (operand-at t) operand.Post
+  name-requires c κs = record { room = omega (arith, c .before .before .before .before .before .before .before .before .before .before .pre .1 .room, c .before .before .before .before .head .ensures .pays); part = c .before .before .before .before .head .ensures .part }
+
+  pub same-length-4 : lts.Need-same-length-4 given (operand-at t) operand.Post
+  same-length-4 c = omega (arith, c .before .before .name .kept)
+
+  pub returns-2 : lts.Need-returns-2 given (operand-at t) operand.Post
+  returns-2 c = name-operand (c .before .before .before .before .before .before .before .before .before .before .before .before .before .pre .1) (c .before .before .before .before .before .before .before .head .ensures) (c .before .before .before .before .before .before .head2 .ensures) (c .before .before .before .before .before .name-alone .ensures) (c .before .before .before .before .if1 .left) (c .before .before .name .ensures) (omega (arith, c .before .before .name .kept))
