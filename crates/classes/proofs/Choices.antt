@@ -5,13 +5,15 @@ use mathlib.Core.List.{List, [], _∷_}
 use Prim.Native.Nat.{ℕ, zero, suc, _+_, _<_, _≤_}
 use native.Mathlib.Numerals.{add-one}
 use native.Mathlib.Omega.{arith}
-use borrow.Author.Tests.{leb-true, lt-ltb, le-ltb}
+use borrow.Author.Tests.{leb-true, eqb-true, lt-ltb, le-ltb, lt-leb, ne-eqb}
 use lib.Dec.{eqb, leb, ltb}
 use lib.ListN.{getD}
 use Rattle.definition.specs.Ascii.{char}
 use Rattle.definition.specs.Choice.{pick}
-use Rattle.definition.specs.Classes.{is-white, is-letter, is-digit}
+use Rattle.definition.specs.Classes.{between, is-white, is-letter, is-digit}
 use Rattle.definition.specs.Tokenizer as Z
+use Rattle.definition.proofs.Tests.{clash, left-true, right-true, and-false, either-true, between-bounds}
+use Rattle.definition.proofs.Formed.{letter-bounds}
 
 pub yes : {A : Type 0} (t : Bool) {v : Bool} (a b : A) → v ≡ t → v ≡ true → a ≡ pick t a b
 yes t a b e f = ap (λ (x : Bool). pick x a b) (sym f ∙ e)
@@ -73,16 +75,6 @@ module _ {t : ℕ → Bool} {k : ℕ → ℕ} {n a i : ℕ} (q : Searching t k n
       go zero f g = g
       go (suc m) f g = absurd (omega (arith, f, h))
 
--- ---- both of two tests pass
-
-and-left : (a b : Bool) → (a && b) ≡ true → a ≡ true
-and-left true b e = refl
-and-left false b e = e
-
-and-right : (a b : Bool) → (a && b) ≡ true → b ≡ true
-and-right true b e = e
-and-right false b e = absurd (let z : _≡_ {A = ℕ} 0 1 = cc in omega arith)
-
 -- ---- the numbers of a table are at most m
 
 unfoldable pub small : ℕ → List ℕ → Bool
@@ -93,21 +85,40 @@ pub at-most : (m : ℕ) (xs : List ℕ) → small m xs ≡ true → (k : ℕ) �
 unfolding small
 at-most m [] e zero = omega arith
 at-most m [] e (suc k) = omega arith
-at-most m (x ∷ xs) e zero = leb-true _ _ (and-left (leb x m) (small m xs) e)
-at-most m (x ∷ xs) e (suc k) = at-most m xs (and-right (leb x m) (small m xs) e) k
+at-most m (x ∷ xs) e zero = leb-true _ _ (left-true (leb x m) (small m xs) e)
+at-most m (x ∷ xs) e (suc k) = at-most m xs (right-true (leb x m) (small m xs) e) k
 
 -- ---- what a character begins, test by test
 
--- a character that is no symbol
+-- behind the test for letters
+abbrev no-word : ℕ → Z.Class
+no-word c = pick (eqb c (char "-")) Z.Dash (pick (eqb c (char "0")) Z.Zero (pick (is-digit c) Z.Digit Z.Unknown))
+
+-- a character that is no letter, no white space and no symbol
 abbrev pub alone : ℕ → Z.Class
-alone c =
-    pick (eqb c (char "\"")) Z.Quote (pick (is-letter c) Z.Word (pick (eqb c (char "-")) Z.Dash (pick (eqb c (char "0")) Z.Zero (pick (is-digit c) Z.Digit Z.Unknown))))
+alone c = pick (eqb c (char "\"")) Z.Quote (no-word c)
 
 pub class-is : (c d : ℕ) →
     Z.class c d ≡
-    pick (ltb 127 c) Z.Foreign (pick (is-white c) Z.White (pick (eqb c (char "/") && eqb d (char "/")) Z.Comment (pick (ltb 0 (Z.pair c d)) Z.Pair (pick (ltb 0 (Z.symbol c)) Z.Symbol (alone c)))))
+    pick (ltb 127 c) Z.Foreign (pick (is-white c) Z.White (pick (eqb c (char "/") && eqb d (char "/")) Z.Comment (pick (ltb 0 (Z.pair c d)) Z.Pair (pick (ltb 0 (Z.symbol c)) Z.Symbol (pick (eqb c (char "\"")) Z.Quote (pick (is-letter c) Z.Word (no-word c)))))))
 unfolding Z.class
 class-is c d = refl
 
-pub no-symbol : (c d : ℕ) {p y : ℕ} {w : Bool} {r : Z.Class} → c ≤ 127 → w ≡ is-white c → w ≡ false → (eqb c (char "/") && eqb d (char "/")) ≡ false → p ≡ Z.pair c d → p ≤ 0 → y ≡ Z.symbol c → y ≤ 0 → r ≡ alone c → r ≡ Z.class c d
-no-symbol c d h e f g i j k l m = rw (class-is, le-ltb 127 c h, sym e ∙ f, g, no-kind (Z.pair c d) i j, no-kind (Z.symbol c) k l) m
+pub no-symbol : (c d : ℕ) {p y : ℕ} {v w : Bool} {r : Z.Class} → v ≡ is-letter c → v ≡ false → w ≡ is-white c → w ≡ false → c ≤ 127 → (eqb c (char "/") && eqb d (char "/")) ≡ false → p ≡ Z.pair c d → p ≤ 0 → y ≡ Z.symbol c → y ≤ 0 → r ≡ alone c → r ≡ Z.class c d
+no-symbol c d a b e f h g i j k l m = rw (class-is, le-ltb 127 c h, sym e ∙ f, g, no-kind (Z.pair c d) i j, no-kind (Z.symbol c) k l, sym a ∙ b) m
+
+-- a letter is none of what is tested before it
+module _ (c : ℕ) (h : is-letter c ≡ true) where
+  other : (k : ℕ) → is-letter k ≡ false → eqb c k ≡ false
+  other k e = ne-eqb c k (λ z. clash (sym h ∙ ap is-letter z ∙ e))
+
+  pub letter-begins : (d : ℕ) → Z.Word ≡ Z.class c d
+  unfolding Z.class Z.pair Z.symbol
+  letter-begins d =
+      let b : (48 ≤ c) × (c < 128) = letter-bounds c h in
+      simp (le-ltb 127 c (omega arith), lt-leb c 13 (omega arith), and-false, other, h)
+
+pub white-begins : (c d : ℕ) → is-white c ≡ true → Z.White ≡ Z.class c d
+white-begins c d h =
+    let l : c ≤ 127 = either-true (between 9 13 c) (eqb c 32) (λ e. omega (arith, between-bounds 9 13 c e)) (λ e. omega (arith, eqb-true c 32 e)) h in
+    rw (class-is, le-ltb 127 c l, h)

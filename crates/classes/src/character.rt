@@ -1,4 +1,4 @@
-// The classes of characters. All are asked of bytes below 128 alone: a character above 127 is refused before.
+// The classes of characters. None holds of a byte above 127.
 ghost use mathlib.Core.Path.{_≡_};
 ghost use Rattle.definition.specs.Classes as C;
 

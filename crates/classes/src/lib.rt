@@ -12,15 +12,18 @@ ghost use mathlib.Core.Path.{_≡_};
 ghost use Rattle.definition.specs.Tokenizer as Z;
 ghost use Rattle.classes.specs.Begins.{class-of};
 
-// What the character `c` begins, `d` behind it; 0 stands for the end.
+// What the character `c` begins, `d` behind it; 0 stands for the end. What begins most often is tested first.
 pub fn class(c: u8, d: u8) -> Class
     ensures { λ r. ⌜ class-of r ≡ Z.class c d ⌝ }
 {
-    if 127 < c {
-        return Class::Foreign;
+    if is_letter(c) {
+        return Class::Word;
     }
     if is_white(c) {
         return Class::White;
+    }
+    if 127 < c {
+        return Class::Foreign;
     }
     if (c == b'/') & (d == b'/') {
         return Class::Comment;
@@ -33,9 +36,6 @@ pub fn class(c: u8, d: u8) -> Class
     }
     if c == b'"' {
         return Class::Quote;
-    }
-    if is_letter(c) {
-        return Class::Word;
     }
     if c == b'-' {
         return Class::Dash;

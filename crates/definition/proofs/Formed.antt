@@ -73,21 +73,18 @@ pub data Classed (c d : ℕ) : Class → Type 0 where
   is-pair : 0 < Z.pair c d → Classed c d Pair
   is-symbol : 0 < Z.symbol c → Classed c d Symbol
   is-quote : Classed c d Quote
-  is-word : c < 128 → Classed c d Word
+  is-word : C.is-letter c ≡ true → Classed c d Word
   is-dash : Classed c d Dash
   is-zero : Classed c d Zero
   is-digit : C.is-digit c ≡ true → Classed c d Digit
   is-unknown : Classed c d Unknown
-
-letter-low : (c : ℕ) → C.is-letter c ≡ true → c < 128
-letter-low c e = either-true (between 65 90 c || between 97 122 c) (eqb c 95) (either-true (between 65 90 c) (between 97 122 c) (λ u. omega (arith, between-bounds 65 90 c u)) (λ l. omega (arith, between-bounds 97 122 c l))) (λ u. omega (arith, eqb-true c 95 u)) e
 
 classed-pick : (c d : ℕ) (b : Bool) (x y : Class) → (b ≡ true → Classed c d x) → Classed c d y → Classed c d (pick b x y)
 classed-pick c d b x y f m = picked (Classed c d) b x y f m
 
 pub classed : (c d : ℕ) → Classed c d (Z.class c d)
 unfolding Z.class
-classed c d = search (classed-pick, is-foreign, is-white, is-comment, is-pair, is-symbol, is-quote, is-word, is-dash, is-zero, is-digit, is-unknown, ltb-true, letter-low) depth 30
+classed c d = search (classed-pick, is-foreign, is-white, is-comment, is-pair, is-symbol, is-quote, is-word, is-dash, is-zero, is-digit, is-unknown, ltb-true) depth 30
 
 -- ---- texts
 
@@ -95,8 +92,15 @@ classed c d = search (classed-pick, is-foreign, is-white, is-comment, is-pair, i
 pub text-formed : (k : ℕ) (p : Place) (text : List ℕ) → has-text k ≡ true → eqb k 2 ≡ false → 1 ≤ k → k ≤ 54 → Utf8 text → Formed (record { kind = k; place = p; text = text; base = 0 })
 text-formed k p text h e l m u = record { low = l; high = m; base = rw e; textless = λ f. clash (sym h ∙ f); utf8 = utf8-true text u; integer = rw e }
 
+-- a letter, and what a word goes on with, stands between 0 and z
+pub letter-bounds : (c : ℕ) → C.is-letter c ≡ true → (48 ≤ c) × (c < 128)
+letter-bounds c = either-true (between 65 90 c || between 97 122 c) (eqb c 95) (either-true (between 65 90 c) (between 97 122 c) (λ u. omega (arith, between-bounds 65 90 c u)) (λ l. omega (arith, between-bounds 97 122 c l))) (λ u. omega (arith, eqb-true c 95 u))
+
+pub word-bounds : (c : ℕ) → C.is-word c ≡ true → (48 ≤ c) × (c < 128)
+word-bounds c = either-true (C.is-letter c) (C.is-digit c) (letter-bounds c) (λ d. omega (arith, between-bounds 48 57 c d))
+
 -- a digit of any base stands between 0 and f
-digit-bounds : (base d : ℕ) → C.is-digit-of base d ≡ true → (48 ≤ d) × (d < 128)
+pub digit-bounds : (base d : ℕ) → C.is-digit-of base d ≡ true → (48 ≤ d) × (d < 128)
 digit-bounds base d e = go (eqb base 2) (eqb base 10) e
   where
     within : (lo hi : ℕ) → 48 ≤ lo → hi < 128 → between lo hi d ≡ true → (48 ≤ d) × (d < 128)

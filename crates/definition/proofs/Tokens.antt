@@ -24,7 +24,7 @@ use Rattle.definition.proofs.Fit.{AllSmall}
 use Rattle.definition.proofs.Tests.{both-true, chosen, picked, counted, All, all-append, all-replicate, all-map}
 use Rattle.definition.proofs.Characters.{spelling, Whole, Spelt, spelt, Utf8, utf8-none, utf8-char, utf8-byte}
 pub use Rattle.definition.proofs.Formed.{Textless}
-use Rattle.definition.proofs.Formed.{Formed, Plain, plain-formed, pair-plain, symbol-plain, keyword-plain, Classed, is-foreign, is-white, is-comment, is-pair, is-symbol, is-quote, is-word, is-dash, is-zero, is-digit, is-unknown, classed, text-formed, Numeral, dash-numeral, numeral, or-zero-numeral, integer-formed, digits-all, digit-first}
+use Rattle.definition.proofs.Formed.{Formed, Plain, plain-formed, pair-plain, symbol-plain, keyword-plain, Classed, is-foreign, is-white, is-comment, is-pair, is-symbol, is-quote, is-word, is-dash, is-zero, is-digit, is-unknown, classed, text-formed, letter-bounds, Numeral, dash-numeral, numeral, or-zero-numeral, integer-formed, digits-all, digit-first}
 
 -- ---- a script's characters
 
@@ -328,7 +328,7 @@ turned c cs k h = go (Z.class (c .byte) (look cs)) (classed (c .byte) (look cs))
     go x (is-pair l) = plain-turned c cs (drop-one cs) 0 (Z.pair (c .byte) (look cs)) (ran-drop cs) (plain-formed (Z.pair (c .byte) (look cs)) (c .place) (pair-plain (c .byte) (look cs)) l)
     go x (is-symbol l) = plain-turned c cs cs 0 (Z.symbol (c .byte)) (ran-none cs) (plain-formed (Z.symbol (c .byte)) (c .place) (symbol-plain (c .byte)) l)
     go x is-quote = string-turned c cs k h (quoted false cs) (quoted-spans false cs)
-    go x (is-word l) = word-turned c cs k h l (word cs) (word-spans cs)
+    go x (is-word l) = word-turned c cs k h (letter-bounds (c .byte) l .1) (word cs) (word-spans cs)
     go x is-dash = dash-turned c cs
     go x is-zero = zero-turned c cs
     go x (is-digit e) = integer-turned c cs 10 (c .byte ∷ digits 10 cs .text) (digits 10 cs .rest) (length (digits 10 cs .text)) refl (digits-ran 10 cs) (omega arith) (numeral 10 (c .byte ∷ digits 10 cs .text) (digit-first (c .byte) (digits 10 cs .text) e (digits-all 10 cs)) (omega arith))

@@ -13,8 +13,8 @@ use Rattle.definition.specs.Classes.{is-white, is-word, is-digit-of}
 use Rattle.definition.specs.Tokenizer.{Span, ahead, comment, digits, assembly}
 use Rattle.definition.specs.Tokenizer as Z
 use Rattle.source.specs.declared.Cursor.{Cursor}
-use Rattle.source.specs.Place.{Stands, Stepped, rest, char, more}
-use Rattle.source.proofs.Laws.{rest-head, rest-end}
+use Rattle.source.specs.Place.{Stands, Stepped, rest, char, more, along-line}
+use Rattle.source.proofs.Laws.{rest-head, rest-end, along-law}
 use Rattle.scan.specs.Scan.{Wrote, Passes, Passed, Asks, Spanned, letters, blanks, QuotedAs}
 
 -- ---- what is written
@@ -157,6 +157,10 @@ module _ {F : List Ch → Span} {s : List ℕ} {c₀ : Cursor} {x₀ : List ℕ}
         shorter = omega (arith, ap length (st .chars), q .shorter);
         began = q .began;
       }
+
+  -- past a character of a word or a number
+  pub spanning-along : {d : Cursor} {x′ : List ℕ} {m : ℕ} → c .at < length s → (48 ≤ getD s (c .at) 0) × (getD s (c .at) 0 < 128) → d ≡ along-line c → ((cs : List Ch) → F (char s c ∷ cs) ≡ ahead (getD s (c .at) 0 ∷ []) (F cs)) → Wrote x n (getD s (c .at) 0 ∷ []) x′ m → Spanning F s c₀ x₀ n₀ d x′ m
+  spanning-along h i e f w = spanning-more (along-law (q .asks .stands) h (omega arith) (λ z. omega arith) e) (f _) w (omega (arith, ap (λ (y : Cursor). y .at) e, w .count, q .asks .room))
 
   spanning-done : {d : Cursor} → Stands s d → c .at ≤ d .at → length (rest s d) ≤ length (rest s c) → F (rest s c) ≡ empty (rest s d) → Spanned s c₀ x₀ n₀ (F (rest s c₀)) x (record { cursor = d; n = n })
   spanning-done {d} z h k e =

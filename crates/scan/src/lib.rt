@@ -4,6 +4,7 @@ use classes::character::is_white;
 use classes::character::is_word;
 use classes::spelling::escape;
 use source::Cursor;
+use source::along;
 use source::step;
 ghost use mathlib.Core.Bool.{false};
 ghost use mathlib.Core.Path.{_≡_};
@@ -138,7 +139,7 @@ pub fn digits(s: &[u8], from: Cursor, base: u32, text: &mut [u8], start: usize) 
         let b = s[at];
         if is_digit_of(base, b) {
             n = put8(text, n, b);
-            c = step(s, c);
+            c = along(c);
         } else {
             return Scan { cursor: c, n };
         }
@@ -160,7 +161,7 @@ pub fn word(s: &[u8], from: Cursor, text: &mut [u8], start: usize) -> Scan
         let b = s[at];
         if is_word(b) {
             n = put8(text, n, b);
-            c = step(s, c);
+            c = along(c);
         } else {
             return Scan { cursor: c, n };
         }

@@ -6,7 +6,7 @@ use mathlib.Core.Option.{Option, none, some}
 use Prim.Native.Nat.{ℕ, zero, suc, pred, _+_, _-_, _<_, _≤_}
 use native.Mathlib.Numerals.{add-one, sub-one}
 use native.Mathlib.Omega.{arith}
-use borrow.Author.Tests.{eqb-true, eqb-false, ltb-true, ltb-false, leb-true, leb-false, le-leb, lt-leb, ne-eqb}
+use borrow.Author.Tests.{eqb-true, eqb-false, ltb-true, ltb-false, leb-true, leb-false, le-leb, lt-leb, lt-ltb, ne-eqb}
 use lib.Dec.{eqb, ltb, leb}
 use lib.ListN.{length, getD, take, drop, length-drop, drop-of-length-le}
 use lib.Seq.{drop-cons, drop-drop}
@@ -14,7 +14,7 @@ use Rattle.definition.specs.Source.{Place, Ch, Lead, single, with-more, wrong, 
 use Rattle.definition.specs.Choice.{pick, first}
 use Rattle.source.specs.declared.Need.{Need}
 use Rattle.source.specs.declared.Cursor.{Cursor}
-use Rattle.source.specs.Place.{needed, start, bad, need-of, next-need, ran-need, more, placed, or-none, rest, Stands, Stepped, char}
+use Rattle.source.specs.Place.{needed, start, bad, need-of, next-need, ran-need, more, placed, or-none, rest, Stands, Stepped, char, along-line}
 
 abbrev Small : Lead → Type 0
 Small single = Unit {0}
@@ -176,6 +176,13 @@ module _ {s : List ℕ} {c : Cursor} (z : Stands s c) (h : c .at < length s) whe
         stands = record { is = rw (d, sym f) at (here .tail); inside = omega (arith, step-inside); lined = omega (arith, z .lined); columned = omega (arith, z .columned) };
         wide = omega arith;
       }
+
+-- a character of one byte that is no newline
+pub along-law : {s : List ℕ} {c r : Cursor} → Stands s c → c .at < length s → getD s (c .at) 0 < 128 → (getD s (c .at) 0 ≡ 10 → ⊥) → r ≡ along-line c → Stepped s c r
+unfolding lead first
+along-law {s} {c} {r} z h l n e =
+    let w : more (lead (getD s (c .at) 0)) ≡ 0 = rw (lt-ltb (getD s (c .at) 0) 128 l) in
+    rw e (step-law z h (omega (arith, w)) (rw (ne-eqb (getD s (c .at) 0) 10 n, add-one)) (omega arith) (omega arith))
 
 pub width-bad : (b : ℕ) (n : Need) → n ≡ need-of (lead b) → n .missing ≡ 9 → 1 ≡ more (lead b) + 1
 width-bad b n e h = go (lead b) (lead-small b) (ap (λ (x : Need). x .missing) (sym e) ∙ h)

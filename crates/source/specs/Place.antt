@@ -76,6 +76,10 @@ pub record Stepped (s : List ℕ) (c r : Cursor) : Type 0 where
   pub stands : Stands s r
   pub wide : r .at ≡ more (lead (getD s (c .at) 0)) + 1 + c .at
 
+-- behind a character of one byte that is no newline
+abbrev pub along-line : Cursor → Cursor
+along-line c = record { at = c .at + 1; line = c .line; column = c .column + 1 }
+
 -- where a script starts
 abbrev pub origin : Cursor
 origin = record { at = 0; line = 1; column = 1 }

@@ -3,7 +3,7 @@ ghost use mathlib.Core.Path.{_≡_};
 ghost use Prim.Native.Nat.{_+_, _<_, _≤_};
 ghost use lib.ListN.{length};
 ghost use Rattle.definition.specs.Source.{lead, utf8};
-ghost use Rattle.source.specs.Place.{highest-of, need-of, next-need, needed, more, Stands, Stepped};
+ghost use Rattle.source.specs.Place.{highest-of, need-of, next-need, needed, more, Stands, Stepped, along-line};
 
 // ---- UTF-8
 
@@ -148,6 +148,18 @@ pub fn step(s: &[u8], c: Cursor) -> Cursor
     }
     Cursor {
         at: next,
+        line: c.line,
+        column: c.column + 1,
+    }
+}
+
+// The place behind a character of one byte that is no newline.
+pub fn along(c: Cursor) -> Cursor
+    requires { ⌜ (c .at ≤ 16384) × (c .column ≤ 16385) ⌝ }
+    ensures { λ r. ⌜ r ≡ along-line c ⌝ }
+{
+    Cursor {
+        at: c.at + 1,
         line: c.line,
         column: c.column + 1,
     }

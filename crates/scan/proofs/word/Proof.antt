@@ -1,10 +1,12 @@
 use borrow.Author.Needs.{needs}
 use native.Mathlib.Omega.{arith}
-use mathlib.Core.Path.{sym, _∙_}
+use mathlib.Core.Path.{sym, ap, _∙_}
 use Prim.Native.Nat.{_-_}
 use lib.ListN.{length}
 use Rattle.scan.specs.Scan.{letters}
-use Rattle.scan.proofs.Laws.{told, Spanning, spanning-start, spanning-more, spanning-out, spanning-stop, letters-go, letters-stop, letters-none}
+use Rattle.definition.proofs.Formed.{word-bounds}
+use Rattle.source.specs.declared.Cursor.{Cursor}
+use Rattle.scan.proofs.Laws.{Spanning, spanning-start, spanning-along, spanning-out, spanning-stop, letters-go, letters-stop, letters-none}
 use Rattle.scan.proofs.word.Statement.{statement}
 use Rattle.scan.proofs.word.Tie as tie
 
@@ -15,7 +17,7 @@ abbrev μ-loop : tie.MeasureT-loop
 μ-loop s text₀ start c₀ n₀ text c n = length s - (c .at)
 
 loop-holds : tie.Need-loop-holds Inv-loop μ-loop
-loop-holds c = search (spanning-start, told, needs)
+loop-holds c = search (spanning-start, needs)
 
 same-length : tie.Need-same-length Inv-loop μ-loop
 same-length c = search needs
@@ -32,14 +34,16 @@ is-word-requires c κs = search needs
 put8-requires : tie.Need-put8-requires Inv-loop μ-loop
 put8-requires c κs = search needs
 
-step-requires : tie.Need-step-requires Inv-loop μ-loop
-step-requires c κs = (c .before .before .before .before .before .before .before .before .loop .inv .asks .stands, omega arith, omega arith)
+along-requires : tie.Need-along-requires Inv-loop μ-loop
+along-requires c κs = search needs
 
 loop-less : tie.Need-loop-less Inv-loop μ-loop
-loop-less c = search needs
+loop-less c = omega (arith, ap (λ (y : Cursor). y .at) (c .along .ensures))
 
 loop-again : tie.Need-loop-again Inv-loop μ-loop
-loop-again c = spanning-more (c .before .before .before .before .before .before .before .before .before .loop .inv) (c .step .ensures) (letters-go _ _ (sym (c .before .before .before .before .before .before .is-word .ensures) ∙ c .before .before .before .before .before .if2 .taken)) (c .before .before .before .put8 .ensures) (omega arith)
+loop-again c =
+    let t = sym (c .before .before .before .before .before .before .is-word .ensures) ∙ c .before .before .before .before .before .if2 .taken in
+    spanning-along (c .before .before .before .before .before .before .before .before .before .loop .inv) (omega arith) (word-bounds _ t) (c .along .ensures) (λ cs. letters-go _ cs t) (c .before .before .before .put8 .ensures)
 
 same-length-2 : tie.Need-same-length-2 Inv-loop μ-loop
 same-length-2 c = search needs
@@ -59,7 +63,7 @@ word-spec =
     shared-slice-read-b
     is-word-requires
     put8-requires
-    step-requires
+    along-requires
     loop-less
     loop-again
     same-length-2
