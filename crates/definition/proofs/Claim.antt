@@ -20,7 +20,8 @@ use Rattle.definition.specs.Operations.{file-bytes, whole}
 use Rattle.definition.specs.Demand.{tree, full-entries, file-of, tokens-of-script, read-by, reading, is-modifier, is-struck, strike, is-size, value, Same, Agree, none-left, one-more, OneReading}
 use Rattle.definition.proofs.Later.{toks}
 use Rattle.definition.proofs.Strip.{Norm, symbol, named, integer, sized, is-named, spelling, norm, strip}
-use Rattle.definition.proofs.Fit.{AllFit, clean-fit}
+use Rattle.definition.proofs.Layouts.{AllFit}
+use Rattle.definition.proofs.Fit.{clean-fit}
 use Rattle.definition.proofs.Inject.{same-tree, Both}
 use Rattle.definition.proofs.Tokens.{Textless, AllTextless}
 use Rattle.definition.proofs.Accepted.{Accepted, accepted}

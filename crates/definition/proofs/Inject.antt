@@ -10,7 +10,7 @@ use lib.Dec.{eqb, lit<}
 use lib.ListN.{length, length-append}
 use Rattle.definition.specs.Source.{Place}
 use Rattle.definition.specs.Node.{Num, byte, two, eight, Rec, u16, at-place, nums-bytes, field, rec-bytes, recs-bytes}
-use Rattle.definition.proofs.Fit.{widths, placed, shape, layout, one-of, choose, SmallAt, SmallNums, Fit, Fits}
+use Rattle.definition.proofs.Layouts.{widths, placed, shape, layout, one-of, choose, SmallAt, SmallNums, Fit, Fits}
 
 u16-inj : (m n : ℕ) → m < 65536 → n < 65536 → m / 256 % 256 ≡ n / 256 % 256 → m % 256 ≡ n % 256 → m ≡ n
 u16-inj m n h k p q = omega arith
