@@ -15,8 +15,9 @@ use Rattle.definition.specs.Parser as P
 use Rattle.definition.proofs.Later.{Later, later-left, later-advance, After}
 use Rattle.definition.proofs.Ind.{wp-mono}
 use Rattle.definition.proofs.Clean.{Clean, clean-module}
+use Rattle.definition.proofs.Grows.{there}
 use Rattle.definition.proofs.Layouts.{layout, SmallPlace, AllFit, both, none-fit, SmallTok, Small, small-tail, small-later, small-head}
-use Rattle.definition.proofs.FitExpressions.{Good, Listing, Of, G, L, R, M, cwp, there, expects, identifier, calls, uses′, add, suffixes-fit, Listed-fit, list-fit, TypedOf, uses-typed, typed-identifier-fit, Item-fit, ItemOf, list-turn-fit, unary-fit, casts-fit, operators-fit, expression-fit, type-fit}
+use Rattle.definition.proofs.FitExpressions.{Good, Listing, Of, G, L, R, M, cwp, expects, identifier, calls, uses′, add, suffixes-fit, Listed-fit, list-fit, TypedOf, uses-typed, typed-identifier-fit, Item-fit, ItemOf, list-turn-fit, unary-fit, casts-fit, operators-fit, expression-fit, type-fit}
 
 -- ---- declarations
 

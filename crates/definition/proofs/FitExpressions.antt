@@ -4,17 +4,19 @@ use mathlib.Core.Bool.{Bool, true, false, not, _||_}
 use mathlib.Core.List.{List, [], _∷_, _++_}
 use Prim.Native.Nat.{ℕ, _+_, _^_, _≤_, _<_}
 use native.Mathlib.Omega.{arith}
+use borrow.Author.Tests.{not-false}
 use lib.Dec.{eqb, ltb, T, ltb→lt}
 use lib.ListN.{length}
 use Rattle.definition.specs.Kind as K
 use Rattle.definition.specs.Node.{byte, Rec}
 use Rattle.definition.specs.Fallible.{Err, Fallible, Ans, ok, fatal}
-use Rattle.definition.specs.Token.{Tok, head, tail, _is_, number, dashed, end-token}
+use Rattle.definition.specs.Token.{Tok, head, tail, _is_, number, dashed}
 use Rattle.definition.specs.Act.{Node, Items, Goal, Expression, Unary, Type', Loop, Module, Body, ListOf, Operators, Casts, Suffixes, Modifiers, Listed, Parameters, Arguments, StructFields, ArrayValues, StructValues, Level, BitOr, BitXor, BitAnd, Shift, AddSub, Mul, Left, Role, plain, group, size, Act, done, next, call, loop, St, advance, _>>=_, _>>?_, or-return}
 use Rattle.definition.specs.Parser as P
+use Rattle.definition.proofs.Tests.{clash}
 use Rattle.definition.proofs.Later.{Later, later-left, later-refl, later-advance}
 use Rattle.definition.proofs.Ind.{wp, wp-bind, wp-mono, wp-later}
-use Rattle.definition.proofs.Shown.{is-kind}
+use Rattle.definition.proofs.Grows.{there}
 use Rattle.definition.proofs.Layouts.{shape, layout, SmallPlace, SmallAt, SmallNums, AllFit, both, none-fit, SmallTok, Small, small-tail, small-head}
 
 -- ---- what holds of answers
@@ -60,10 +62,6 @@ M e s = ⊥
 
 abbrev pub cwp : {A : Type 0} → Act A → (A → St → Type 0) → St → Type 0
 cwp m Q s = wp G L R M m Q s
-
-pub there : (k : ℕ) → T (ltb 0 k) → (ts : List Tok) → head ts is k ≡ true → length (tail ts) < length ts
-there k h [] i = absurd (omega (arith, is-kind end-token k i, ltb→lt 0 k h))
-there k h (t ∷ ts) i = omega arith
 
 pub expects : {B : Type 0} (r : Role) (k : ℕ) → T (ltb 0 k) → (f : Fallible Tok → Act (Ans B)) (Q : Ans B → St → Type 0) (s : St)
     → (SmallTok (head (s .left)) → length (tail (s .left)) < length (s .left) → cwp (f (record { item = head (s .left); errors = [] })) Q (advance (λ _. r) s)) → cwp (P.expect-as r k >>? f) Q s
@@ -319,9 +317,8 @@ expression-fit s = uses _ _ _ _ (comparison-fit s) (λ e t l p.
 -- ---- types
 
 or-false : (a b : Bool) → a || not b ≡ false → b ≡ true
-or-false true b e = let z : _≡_ {A = ℕ} 0 1 = cc in absurd (omega arith)
-or-false false true e = refl
-or-false false false e = sym e
+or-false true b e = clash e
+or-false false b e = not-false b e
 
 array-type-fit : (s : St) → head (s .left) is K.LBracket ≡ true → SmallPlace (head (s .left) .place) → cwp (P.parse-array-type (head (s .left) .place)) (Of s) (advance (λ _. plain) s)
 unfolding P.parse-array-type layout

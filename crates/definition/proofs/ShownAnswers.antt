@@ -1,6 +1,6 @@
 -- What each answer of a reading that makes no error shows, and the steps of such a reading. Assumes nothing.
-use mathlib.Core.Path.{_≡_, refl, sym}
-use mathlib.Core.Bool.{Bool, true, false, not}
+use mathlib.Core.Path.{_≡_}
+use mathlib.Core.Bool.{true, false}
 use mathlib.Core.Option.{none}
 use mathlib.Core.List.{List, [], _++_}
 use Prim.Native.Nat.{ℕ, zero, suc, _<_}
@@ -131,10 +131,6 @@ uses {B} g m f Q s w h = uses′ (G g s) m (or-return f) Q s w go
 
 pub joined : {e x : List Err} → e ≡ [] → x ≡ [] → e ++ x ≡ []
 joined p q = rw (p, q)
-
-pub is-not : (b : Bool) → not b ≡ false → b ≡ true
-is-not true e = refl
-is-not false e = sym e
 
 -- an operand and the loop that goes on with it
 pub goes-on : (s t u : St) (e x : Fallible Node) → Shown Expression s e t → Tail e t x u → Shown Expression s x u

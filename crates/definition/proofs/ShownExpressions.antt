@@ -5,6 +5,7 @@ use mathlib.Core.Option.{none, some}
 use mathlib.Core.List.{List, [], _∷_, _++_, append-nil, append-assoc}
 use Prim.Native.Nat.{ℕ, zero, suc}
 use native.Mathlib.Omega.{arith}
+use borrow.Author.Tests.{not-false}
 use lib.Dec.{T}
 use Rattle.definition.specs.Choice.{pick}
 use Rattle.definition.specs.Kind as K
@@ -15,11 +16,12 @@ use Rattle.definition.specs.Token.{Tok, head, tail, _is_}
 use Rattle.definition.specs.Act.{Node, Items, Expression, Unary, Type', Operators, Listed, Parameters, Arguments, StructFields, ArrayValues, StructValues, Level, BitOr, BitXor, BitAnd, Shift, AddSub, Mul, plain, group, final, size, Act, done, next, loop, St, advance, _>>=_, _>>?_, or-return}
 use Rattle.definition.specs.Parser as P
 use Rattle.definition.proofs.Strip.{Norm, named, integer, sized, norm}
+use Rattle.definition.proofs.Tests.{never-both, is-kind}
 use Rattle.definition.proofs.Later.{Later}
 use Rattle.definition.proofs.Ind.{wp-mono}
 use Rattle.definition.proofs.Unparse.{Entry, entry, Gathered, gathered, gather, unparse, unparse-append, step, sym1, comma, extend, on-call, on-list, arithmetic, comparison}
-use Rattle.definition.proofs.Shown.{fresh-tail, fresh-later, fresh-head, differs, same-self, Grew, grew-refl, _▸_, grew-as, took, symbol-norm, took-size, is-kind, is-symbol, took-symbol, took-name, took-integer, Shows, shows-as, after0, after1, after2, ShowsItems, items-none, items-more}
-use Rattle.definition.proofs.ShownAnswers.{lead, start, Rest, ListSequel, G, TailOf, L, R, M, cwp, next-state, expects, identifier, calls, uses′, uses, joined, is-not, goes-on}
+use Rattle.definition.proofs.Shown.{fresh-tail, fresh-later, fresh-head, differs, same-self, Grew, grew-refl, _▸_, grew-as, took, symbol-norm, took-size, is-symbol, took-symbol, took-name, took-integer, Shows, shows-as, after0, after1, after2, ShowsItems, items-none, items-more}
+use Rattle.definition.proofs.ShownAnswers.{lead, start, Rest, ListSequel, G, TailOf, L, R, M, cwp, next-state, expects, identifier, calls, uses′, uses, joined, goes-on}
 
 -- ---- parse_atom and what stands around it
 
@@ -170,9 +172,6 @@ record After-item (k : Listed) (i : Items) (s : St) (a : Items) (s′ : St) : Ty
   shows : (ts : List Norm) → ShowsItems comma i ts → Rest k a (ts ++ toks)
   none : i .errors ≡ [] → a .errors ≡ []
 
-pub clash : {b : Bool} → b ≡ true → b ≡ false → ⊥
-clash p q = let z : _≡_ {A = ℕ} 0 1 = cc in omega arith
-
 rest-as : {k : Listed} {a : Items} {xs ys : List Norm} → Rest k a xs → xs ≡ ys → Rest k a ys
 rest-as {k} {a} r e = subst (λ (l : List Norm). Rest k a l) e r
 
@@ -192,7 +191,7 @@ after-item-shown k i n c s = (
   λ _. (
     λ e a t l p. record { toks = p .toks; grew = p .grew; shows = λ ts h. rest-as (p .shows ts h) (ap (λ (b : Bool). pick b ts (lead (i .count) ts) ++ p .toks) e); none = p .none },
     λ _.
-        (λ e a t l p. absurd (clash e (p .there)), λ _ d m. absurd m),
+        (λ e a t l p. never-both e (p .there), λ _ d m. absurd m),
   ),
 )
 
@@ -440,7 +439,7 @@ array-type-shown s i = λ d. (
     λ _ m. absurd m,
     λ _. expects plain K.RBracket _ _ _ (λ j d₂. calls Type' _ _ _ (λ ty t l p. record {
       toks = sym1 K.LBracket ++ (sized K.Integer _ ∷ []) ++ sym1 K.RBracket ++ p .toks;
-      grew = took-symbol K.LBracket tt s i ▸ took-size (next-state s) (is-not _ e) ▸ took-symbol K.RBracket tt (advance (λ _. size) (next-state s)) j ▸ p .grew;
+      grew = took-symbol K.LBracket tt s i ▸ took-size (next-state s) (not-false _ e) ▸ took-symbol K.RBracket tt (advance (λ _. size) (next-state s)) j ▸ p .grew;
       shows = record { on = λ st. after1 (p .shows) _ st };
       none = p .none;
       extra = omega arith;

@@ -12,11 +12,12 @@ use Rattle.definition.specs.Token.{head, _is_}
 use Rattle.definition.specs.Act.{Node, Items, Statement, Expression, ArrayValues, StructValues, plain, Act, peek, next, if_then_else_, St, _>>=_, _>>?_, or-return}
 use Rattle.definition.specs.Parser as P
 use Rattle.definition.proofs.Strip.{Norm, named}
+use Rattle.definition.proofs.Tests.{never-both}
 use Rattle.definition.proofs.Later.{Later}
 use Rattle.definition.proofs.Unparse.{Entry, entry, unparse, unparse-append, step, sym1, on-list}
 use Rattle.definition.proofs.Shown.{Grew, grew-refl, _▸_, grew-as, took-symbol, took-name, Shows, after0, after1, shows2, after2, after3, ShowsItems, items-none, items-join}
 use Rattle.definition.proofs.ShownAnswers.{Sequel, G, cwp, next-state, expects, calls, uses′, joined}
-use Rattle.definition.proofs.ShownExpressions.{List-shown, list-shown, Item-shown, ItemOf, clash, Typed-shown, TypedOf, typed-identifier-shown, after-items}
+use Rattle.definition.proofs.ShownExpressions.{List-shown, list-shown, Item-shown, ItemOf, Typed-shown, TypedOf, typed-identifier-shown, after-items}
 
 -- ---- initial values and declarations
 
@@ -201,7 +202,7 @@ empty es e = ap P.is-empty e
 
 expression-statement-shown : (s : St) (p : Place) → cwp (P.expression-statement p) (G Statement s) s
 unfolding P.expression-statement
-expression-statement-shown s p = calls Expression _ _ _ (λ e t l q. (λ _. after-expression-shown s t p (e .item) (q .toks) (q .grew) (q .shows), λ z. absurd (clash (empty (e .errors) (q .none)) z)))
+expression-statement-shown s p = calls Expression _ _ _ (λ e t l q. (λ _. after-expression-shown s t p (e .item) (q .toks) (q .grew) (q .shows), λ z. never-both (empty (e .errors) (q .none)) z))
 
 pub statement-shown : (s : St) → cwp P.statement-rule (G Statement s) s
 unfolding P.statement-rule step

@@ -5,6 +5,7 @@ use mathlib.Core.Option.{none, some}
 use mathlib.Core.List.{List, [], _∷_, _++_, append-nil, append-assoc}
 use Prim.Native.Nat.{ℕ, _<_}
 use native.Mathlib.Omega.{arith}
+use borrow.Author.Tests.{not-false}
 use lib.Dec.{leb}
 use lib.ListN.{length}
 use Rattle.definition.specs.Choice.{pick}
@@ -20,7 +21,7 @@ use Rattle.definition.proofs.Later.{Later, After}
 use Rattle.definition.proofs.Unparse.{Entry, entry, Gathered, gathered, gather, unparse, unparse-append, step, sym1, comma, on-list, returning}
 use Rattle.definition.proofs.Shown.{Distinct, distinct-tail, distinct-later, Grew, grew-refl, _▸_, grew-as, took-modifier, took-symbol, took-name, Shows, after0, after1, ShowsItems, items-none, items-join}
 use Rattle.definition.proofs.Clean.{Clean, clean-module}
-use Rattle.definition.proofs.ShownAnswers.{Sequel, G, L, cwp, next-state, expects, identifier, calls, uses′, joined, is-not}
+use Rattle.definition.proofs.ShownAnswers.{Sequel, G, L, cwp, next-state, expects, identifier, calls, uses′, joined}
 use Rattle.definition.proofs.ShownExpressions.{suffixes-shown, List-shown, list-shown, list-turn-shown, after-items, unary-shown, casts-shown, operators-shown, expression-shown, type-shown}
 use Rattle.definition.proofs.ShownStatements.{declaration-shown, items-as, Body-shown, body-shown, body-turn-shown, statement-shown}
 
@@ -111,7 +112,7 @@ type-alias-shown s w t l g = expects plain K.KwType _ _ _ (λ i d d₂. (
     λ _ m. absurd m,
     λ e. expects plain K.Equals _ _ _ (λ j d₃. calls Type' _ _ _ (λ ty u l₂ p. expects plain K.Semicolon _ _ _ (λ k d₄. record {
       toks = sym1 K.KwType ++ (named K.Identifier _ ∷ []) ++ sym1 K.Equals ++ p .toks ++ sym1 K.Semicolon;
-      grew = g ▸ took-symbol K.KwType tt t i ▸ took-name K.Identifier tt (next-state t) (is-not _ e) ▸ took-symbol K.Equals tt _ j ▸ p .grew ▸ took-symbol K.Semicolon tt u k;
+      grew = g ▸ took-symbol K.KwType tt t i ▸ took-name K.Identifier tt (next-state t) (not-false _ e) ▸ took-symbol K.Equals tt _ j ▸ p .grew ▸ took-symbol K.Semicolon tt u k;
       shows = record { on = λ st. after1 (p .shows) _ st };
       none = p .none;
       extra = tt;
@@ -127,7 +128,7 @@ use-shown s = expects plain K.KwUse _ _ _ (λ i d d₂. (
     λ _ m. absurd m,
     λ e. expects plain K.Semicolon _ _ _ (λ k d₄. record {
       toks = sym1 K.KwUse ++ (named K.String _ ∷ []) ++ sym1 K.Semicolon;
-      grew = took-symbol K.KwUse tt s i ▸ took-name K.String tt (next-state s) (is-not _ e) ▸ took-symbol K.Semicolon tt _ k;
+      grew = took-symbol K.KwUse tt s i ▸ took-name K.String tt (next-state s) (not-false _ e) ▸ took-symbol K.Semicolon tt _ k;
       shows = record { on = λ st. after0 _ st };
       none = refl;
       extra = tt;

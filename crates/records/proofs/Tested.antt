@@ -15,6 +15,7 @@ use Rattle.definition.specs.Classes as C
 use Rattle.definition.specs.Token.{dashed}
 use Rattle.definition.specs.Kind as K
 use Rattle.definition.specs.Records.{TokenWords, all-digits, some-digits, has-text, good-alone, integer-text, words-at, part, text-of}
+use Rattle.definition.proofs.Tests.{clash}
 use Rattle.records.specs.Tested.{fields-fit, part-fits}
 
 -- ---- digits
@@ -75,8 +76,8 @@ textless : (k : ℕ) → has-text k ≡ false → eqb k K.Integer ≡ false
 textless k e = go (eqb k K.Identifier) (eqb k K.Integer) (eqb k K.String || eqb k K.InlineAssemblyFragment) (simp or-assoc at e)
   where
     go : (a b c : Bool) → (a || (b || c)) ≡ false → b ≡ false
-    go true b c f = absurd (let z : _≡_ {A = ℕ} 0 1 = cc in omega arith)
-    go false true c f = absurd (let z : _≡_ {A = ℕ} 0 1 = cc in omega arith)
+    go true b c f = clash f
+    go false true c f = clash f
     go false false c f = refl
 
 module _ (text : List ℕ) (w : TokenWords) where
