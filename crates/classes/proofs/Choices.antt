@@ -12,6 +12,7 @@ use Rattle.definition.specs.Ascii.{char}
 use Rattle.definition.specs.Choice.{pick}
 use Rattle.definition.specs.Classes.{is-white, is-letter, is-digit}
 use Rattle.definition.specs.Tokenizer as Z
+use Rattle.definition.proofs.Tests.{left-true, right-true}
 
 pub yes : {A : Type 0} (t : Bool) {v : Bool} (a b : A) → v ≡ t → v ≡ true → a ≡ pick t a b
 yes t a b e f = ap (λ (x : Bool). pick x a b) (sym f ∙ e)
@@ -73,16 +74,6 @@ module _ {t : ℕ → Bool} {k : ℕ → ℕ} {n a i : ℕ} (q : Searching t k n
       go zero f g = g
       go (suc m) f g = absurd (omega (arith, f, h))
 
--- ---- both of two tests pass
-
-and-left : (a b : Bool) → (a && b) ≡ true → a ≡ true
-and-left true b e = refl
-and-left false b e = e
-
-and-right : (a b : Bool) → (a && b) ≡ true → b ≡ true
-and-right true b e = e
-and-right false b e = absurd (let z : _≡_ {A = ℕ} 0 1 = cc in omega arith)
-
 -- ---- the numbers of a table are at most m
 
 unfoldable pub small : ℕ → List ℕ → Bool
@@ -93,8 +84,8 @@ pub at-most : (m : ℕ) (xs : List ℕ) → small m xs ≡ true → (k : ℕ) �
 unfolding small
 at-most m [] e zero = omega arith
 at-most m [] e (suc k) = omega arith
-at-most m (x ∷ xs) e zero = leb-true _ _ (and-left (leb x m) (small m xs) e)
-at-most m (x ∷ xs) e (suc k) = at-most m xs (and-right (leb x m) (small m xs) e) k
+at-most m (x ∷ xs) e zero = leb-true _ _ (left-true (leb x m) (small m xs) e)
+at-most m (x ∷ xs) e (suc k) = at-most m xs (right-true (leb x m) (small m xs) e) k
 
 -- ---- what a character begins, test by test
 
