@@ -10,14 +10,14 @@ use Rattle.definition.specs.Kind as K
 use Rattle.definition.specs.Source.{Place}
 use Rattle.definition.specs.Fallible.{Fallible, Ans, ok, fatal}
 use Rattle.definition.specs.Token.{Tok, head, tail, _is_}
-use Rattle.definition.specs.Act.{Node, Items, Goal, Statement, Expression, Unary, Type', Loop, Module, Body, ListOf, Operators, Casts, Suffixes, Modifiers, Parameters, ArrayValues, StructValues, Words, plain, Act, St, Res, gives, advance, _>>=_, _>>?_, or-return}
+use Rattle.definition.specs.Act.{Node, Items, Goal, Statement, Expression, Unary, Type', Loop, Module, Body, ListOf, Operators, Casts, Suffixes, Modifiers, Parameters, ArrayValues, StructValues, Words, plain, Act, St, Res, gives, advance, _>>=_}
 use Rattle.definition.specs.Parser as P
 use Rattle.definition.proofs.Later.{Later, later-left, later-advance, After}
-use Rattle.definition.proofs.Ind.{wp-mono}
+use Rattle.definition.proofs.Ind.{wp-mono, follow, try-sure}
 use Rattle.definition.proofs.Clean.{Clean, clean-module}
 use Rattle.definition.proofs.Grows.{there}
-use Rattle.definition.proofs.Layouts.{layout, SmallPlace, AllFit, both, none-fit, SmallTok, Small, small-tail, small-later, small-head}
-use Rattle.definition.proofs.FitExpressions.{Good, Listing, Of, G, L, R, M, cwp, expects, identifier, calls, uses′, add, suffixes-fit, Listed-fit, list-fit, TypedOf, uses-typed, typed-identifier-fit, Item-fit, ItemOf, list-turn-fit, unary-fit, casts-fit, operators-fit, expression-fit, type-fit}
+use Rattle.definition.proofs.Layouts.{layout, SmallPlace, AllFit, both, none-fit, SmallTok, Small, small-tail, small-later, small-head, small-place}
+use Rattle.definition.proofs.FitExpressions.{Good, Listing, Of, G, L, R, M, cwp, expects, identifier, calls, add, suffixes-fit, Listed-fit, Typed-fit, Item-fit, list-fit, TypedOf, typed-identifier-fit, Item-fit, ItemOf, list-turn-fit, unary-fit, casts-fit, operators-fit, expression-fit, type-fit}
 
 -- ---- declarations
 
@@ -26,9 +26,9 @@ unfolding P.parse-compound layout
 compound-fit s d = expects plain K.Hash tt _ _ _ (λ h b. (
   λ _ m. absurd m,
   λ _. (
-    λ j. uses′ (Listed-fit t) (P.parse-list ArrayValues) _ _ _ (list-fit ArrayValues t) (λ a u l q. record { fit = add _ (q .fit) refl refl place (omega (arith, q .count, d .1)) (omega arith); less = omega (arith, q .count) }),
+    λ j. follow G L R M (P.parse-list ArrayValues) _ (Listed-fit t) _ _ (list-fit ArrayValues t) (λ a u l q. record { fit = add _ (q .fit) refl refl place (omega (arith, q .count, d .1)) (omega arith); less = omega (arith, q .count) }),
     λ _.
-        (λ j. uses′ (Listed-fit t) (P.parse-list StructValues) _ _ _ (list-fit StructValues t) (λ a u l q. record { fit = add _ (q .fit) refl refl place (omega (arith, q .count, d .1)) (omega arith); less = omega (arith, q .count) }), λ _ m. absurd m),
+        (λ j. follow G L R M (P.parse-list StructValues) _ (Listed-fit t) _ _ (list-fit StructValues t) (λ a u l q. record { fit = add _ (q .fit) refl refl place (omega (arith, q .count, d .1)) (omega arith); less = omega (arith, q .count) }), λ _ m. absurd m),
   ),
 ))
   where
@@ -36,22 +36,14 @@ compound-fit s d = expects plain K.Hash tt _ _ _ (λ h b. (
     t = advance (λ _. plain) s
 
     place : SmallPlace (head (t .left) .place)
-    place = let h : SmallTok (head (tail (s .left))) = small-head (tail (s .left)) (small-tail (s .left) d) in omega arith
-
-uses-item : {B : Type 0} (m : Act (Ans Node)) (f : Fallible Node → Act (Ans B)) (Q : Ans B → St → Type 0) (s : St)
-    → cwp m (ItemOf s) s → ((x : Fallible Node) (s′ : St) → Later s s′ → Item-fit s x s′ → cwp (f x) Q s′) → cwp (m >>? f) Q s
-uses-item {B} m f Q s w h = uses′ (ItemOf s) m (or-return f) Q s w go
-  where
-    go : (a : Ans Node) (s′ : St) → Later s s′ → ItemOf s a s′ → cwp (or-return f a) Q s′
-    go (ok x) s′ l p = h x s′ l p
-    go (fatal es) s′ l p = absurd p
+    place = small-place (tail (s .left)) (small-tail (s .left) d)
 
 var-like-fit : (s : St) → Small (s .left) → cwp P.parse-var-like-declaration (TypedOf s) s
 unfolding P.parse-var-like-declaration layout
-var-like-fit s d = uses-typed P.parse-typed-identifier _ _ _ (typed-identifier-fit s) (λ x t l p. (
+var-like-fit s d = try-sure G L R M (Typed-fit s) P.parse-typed-identifier _ _ _ (typed-identifier-fit s) (λ x t l p. (
   λ i _. calls Expression _ _ _ (λ e u q. record { fit = both (p .fit) (add _ (q .fit) refl refl tt tt (omega arith)); name = p .name; less = omega (arith, p .less, q .less, later-left (later-advance (λ _. plain) t)) }),
   λ _. (
-    λ i _. uses-item P.parse-compound _ _ _ (compound-fit (advance (λ _. plain) t) (small-tail (t .left) (small-later s t l d))) (λ c u l₂ q. record { fit = both (p .fit) (add _ (q .fit) refl refl tt tt (omega arith)); name = p .name; less = omega (arith, p .less, q .less, later-left (later-advance (λ _. plain) t)) }),
+    λ i _. try-sure G L R M (Item-fit (advance (λ _. plain) t)) P.parse-compound _ _ _ (compound-fit (advance (λ _. plain) t) (small-tail (t .left) (small-later s t l d))) (λ c u l₂ q. record { fit = both (p .fit) (add _ (q .fit) refl refl tt tt (omega arith)); name = p .name; less = omega (arith, p .less, q .less, later-left (later-advance (λ _. plain) t)) }),
     λ _.
         record { fit = both (p .fit) (add _ none-fit refl refl tt tt (omega arith)); name = p .name; less = p .less },
   ),
@@ -59,7 +51,7 @@ var-like-fit s d = uses-typed P.parse-typed-identifier _ _ _ (typed-identifier-f
 
 declaration-fit : (tag : ℕ) → (1 ∷ []) ≡ layout tag → eqb tag 0x5F ≡ false → (p : Place) → SmallPlace p → (s : St) → Small (s .left) → cwp (P.declaration tag p) (Of s) s
 unfolding P.declaration
-declaration-fit tag e m p h s d = uses-typed P.parse-var-like-declaration _ _ _ (var-like-fit s d) (λ x t l q. expects plain K.Semicolon tt _ _ _ (λ _ b. record { fit = add _ (q .fit) e m h tt (q .name); place = h; less = omega (arith, q .less) }))
+declaration-fit tag e m p h s d = try-sure G L R M (Typed-fit s) P.parse-var-like-declaration _ _ _ (var-like-fit s d) (λ x t l q. expects plain K.Semicolon tt _ _ _ (λ _ b. record { fit = add _ (q .fit) e m h tt (q .name); place = h; less = omega (arith, q .less) }))
 
 -- ---- statements
 
@@ -100,7 +92,7 @@ unfolding P.after-expression layout
 after-expression-fit p h e s t f b d = (
   λ i _. calls Expression _ _ _ (λ v u q. expects plain K.Semicolon tt _ _ _ (λ _ b₂. record { fit = add _ (both f (q .fit)) refl refl h tt (omega arith); place = h; less = omega (arith, q .less, later-left (later-advance (λ _. plain) t)) })),
   λ _. (
-    λ i _. uses-item P.parse-compound _ _ _ (compound-fit (advance (λ _. plain) t) (small-tail (t .left) d)) (λ v u l q. expects plain K.Semicolon tt _ _ _ (λ _ b₂. record { fit = add _ (both f (q .fit)) refl refl h tt (omega arith); place = h; less = omega (arith, q .less, later-left (later-advance (λ _. plain) t)) })),
+    λ i _. try-sure G L R M (Item-fit (advance (λ _. plain) t)) P.parse-compound _ _ _ (compound-fit (advance (λ _. plain) t) (small-tail (t .left) d)) (λ v u l q. expects plain K.Semicolon tt _ _ _ (λ _ b₂. record { fit = add _ (both f (q .fit)) refl refl h tt (omega arith); place = h; less = omega (arith, q .less, later-left (later-advance (λ _. plain) t)) })),
     λ _.
         expects plain K.Semicolon tt _ _ _ (λ _ b₂. record { fit = add _ f refl refl h tt (omega arith); place = h; less = omega arith }),
   ),
@@ -112,7 +104,7 @@ expression-statement-fit p h s d = (λ e t l q. (λ _. after-expression-fit p h 
 
 statement-fit : (s : St) → Small (s .left) → cwp P.statement-rule (Of s) s
 unfolding P.statement-rule layout
-statement-fit s d = go (let h : SmallTok (head (s .left)) = small-head (s .left) d in omega arith) (let h : SmallTok (head (s .left)) = small-head (s .left) d in h .2)
+statement-fit s d = go (small-place (s .left) d) (small-head (s .left) d .2)
   where
     go : SmallPlace (head (s .left) .place) → length (head (s .left) .text) ≤ 60000 → cwp P.statement-rule (Of s) s
     go h x = (
@@ -120,7 +112,7 @@ statement-fit s d = go (let h : SmallTok (head (s .left)) = small-head (s .left)
       λ _. (
         λ i _. more s (P.declaration 0x42 (head (s .left) .place)) (declaration-fit 0x42 refl refl (head (s .left) .place) h (advance (λ _. plain) s) (small-tail (s .left) d)),
         λ _. (
-          λ i. uses′ (Listed-fit s) P.parse-body _ _ _ (body-fit s) (λ a t l q. record { fit = add _ (q .fit) refl refl h (omega (arith, q .count, d .1)) (omega arith); place = h; less = omega (arith, q .count) }),
+          λ i. follow G L R M P.parse-body _ (Listed-fit s) _ _ (body-fit s) (λ a t l q. record { fit = add _ (q .fit) refl refl h (omega (arith, q .count, d .1)) (omega arith); place = h; less = omega (arith, q .count) }),
           λ _. (
             λ i _. calls Statement _ _ _ (λ b t p. record { fit = add _ (p .fit) refl refl h tt (omega arith); place = h; less = omega (arith, p .less, there K.KwLoop tt (s .left) i) }),
             λ _. (
@@ -150,12 +142,12 @@ unfolding P.function-body layout
 function-body-fit p h x name n ps r s t fp fr c b d = (
   λ e. expects plain K.Semicolon tt _ _ _ (λ _ b₂. record { fit = add _ (both fp fr) refl refl h (c, tt) n; place = h; less = omega arith }),
   λ e.
-      uses′ (Listed-fit t) P.parse-body _ _ _ (body-fit t) (λ z u l q. record { fit = add _ (both (both fp fr) (add _ (q .fit) refl refl h (omega (arith, q .count)) (omega arith))) refl refl h (c, tt) n; place = h; less = omega (arith, q .count) }),
+      follow G L R M P.parse-body _ (Listed-fit t) _ _ (body-fit t) (λ z u l q. record { fit = add _ (both (both fp fr) (add _ (q .fit) refl refl h (omega (arith, q .count)) (omega arith))) refl refl h (c, tt) n; place = h; less = omega (arith, q .count) }),
 )
 
 function-fit : (p : Place) → SmallPlace p → (x : ℕ) (s : St) → Small (s .left) → cwp (P.function p x) (Of s) s
 unfolding P.function layout
-function-fit p h x s d = expects plain K.KwFn tt _ _ _ (λ _ b. identifier _ _ _ (λ n b₂. uses′ (Listed-fit (advance (λ _. plain) (advance (λ _. plain) s))) (P.parse-list Parameters) _ _ _ (list-fit Parameters (advance (λ _. plain) (advance (λ _. plain) s))) (λ ps u l q. (
+function-fit p h x s d = expects plain K.KwFn tt _ _ _ (λ _ b. identifier _ _ _ (λ n b₂. follow G L R M (P.parse-list Parameters) _ (Listed-fit (advance (λ _. plain) (advance (λ _. plain) s))) _ _ (list-fit Parameters (advance (λ _. plain) (advance (λ _. plain) s))) (λ ps u l q. (
   λ k _. calls Type' _ _ _ (λ ty v r. function-body-fit p h x (head (tail (s .left))) (n .2) ps ty s v (q .fit) (r .fit) (omega (arith, q .count, d .1)) (omega (arith, q .count, r .less, later-left (later-advance (λ _. plain) u))) (d .1)),
   λ _.
       function-body-fit p h x (head (tail (s .left))) (n .2) ps (record { item = P.node [] 0x11 p [] []; errors = [] }) s u (q .fit) (add _ none-fit refl refl h tt (omega arith)) (omega (arith, q .count, d .1)) (omega (arith, q .count)) (d .1),
@@ -163,10 +155,7 @@ function-fit p h x s d = expects plain K.KwFn tt _ _ _ (λ _ b. identifier _ _ _
 
 function-definition-fit : (s : St) → Small (s .left) → cwp P.parse-function-definition (Of s) s
 unfolding P.parse-function-definition
-function-definition-fit s d = (λ i _. more s (P.function (head (s .left) .place) 1) (function-fit (head (s .left) .place) h 1 (advance (λ _. plain) s) (small-tail (s .left) d)), λ _. function-fit (head (s .left) .place) h 0 s d)
-  where
-    h : SmallPlace (head (s .left) .place)
-    h = let t : SmallTok (head (s .left)) = small-head (s .left) d in omega arith
+function-definition-fit s d = (λ i _. more s (P.function (head (s .left) .place) 1) (function-fit (head (s .left) .place) (small-place (s .left) d) 1 (advance (λ _. plain) s) (small-tail (s .left) d)), λ _. function-fit (head (s .left) .place) (small-place (s .left) d) 0 s d)
 
 type-alias-fit : (s : St) → Small (s .left) → cwp P.parse-type-alias (Of s) s
 unfolding P.parse-type-alias layout
@@ -175,15 +164,12 @@ type-alias-fit s d w t l _ = expects plain K.KwType tt _ _ _ (λ _ b d₂. (
   λ _. (
     λ _ m. absurd m,
     λ e. expects plain K.Equals tt _ _ _ (λ _ b₂. calls Type' _ _ _ (λ ty u p. expects plain K.Semicolon tt _ _ _ (λ _ b₃. record {
-      fit = add _ (p .fit) refl refl h tt (small-head (tail (t .left)) d₂ .2);
-      place = h;
+      fit = add _ (p .fit) refl refl (small-place (s .left) d) tt (small-head (tail (t .left)) d₂ .2);
+      place = small-place (s .left) d;
       less = omega (arith, p .less, later-left l, b, later-left (later-advance (λ _. plain) (advance (λ _. plain) t)));
     }))),
   ),
 ))
-  where
-    h : SmallPlace (head (s .left) .place)
-    h = let t : SmallTok (head (s .left)) = small-head (s .left) d in omega arith
 
 use-fit : (s : St) → Small (s .left) → cwp P.parse-use (Of s) s
 unfolding P.parse-use layout
@@ -221,7 +207,7 @@ top-level-item-fit s d = (
 
 module-turn-fit : (i : Items) (s : St) → Small (s .left) → cwp (P.module-turn i) (Listing i s) s
 unfolding P.module-turn
-module-turn-fit i s d = (λ e. record { fit = λ f. f; count = omega arith }, λ _. uses′ (Of s) P.parse-top-level-item _ _ _ (top-level-item-fit s d) go)
+module-turn-fit i s d = (λ e. record { fit = λ f. f; count = omega arith }, λ _. follow G L R M P.parse-top-level-item _ (Of s) _ _ (top-level-item-fit s d) go)
   where
     go : (a : Ans Node) (t : St) → Later s t → Of s a t → (b : Items) (u : St) → Later t u → Listing (P.integrate i a) t b u → Listing i s b u
     go (ok x) t l p b u l₂ q = record { fit = λ f. q .fit (both f (p .fit)); count = omega (arith, q .count, p .less) }

@@ -11,11 +11,11 @@ use Rattle.definition.specs.Kind as K
 use Rattle.definition.specs.Node.{byte, Rec}
 use Rattle.definition.specs.Fallible.{Err, Fallible, Ans, ok, fatal}
 use Rattle.definition.specs.Token.{Tok, head, tail, _is_, number, dashed}
-use Rattle.definition.specs.Act.{Node, Items, Goal, Expression, Unary, Type', Loop, Module, Body, ListOf, Operators, Casts, Suffixes, Modifiers, Listed, Parameters, Arguments, StructFields, ArrayValues, StructValues, Level, BitOr, BitXor, BitAnd, Shift, AddSub, Mul, Left, Role, plain, group, size, Act, done, next, call, loop, St, advance, _>>=_, _>>?_, or-return}
+use Rattle.definition.specs.Act.{Node, Items, Goal, Expression, Unary, Type', Loop, Module, Body, ListOf, Operators, Casts, Suffixes, Modifiers, Listed, Parameters, Arguments, StructFields, ArrayValues, StructValues, Level, BitOr, BitXor, BitAnd, Shift, AddSub, Mul, Left, Role, plain, group, size, Act, done, next, call, loop, St, advance, _>>=_, _>>?_}
 use Rattle.definition.specs.Parser as P
 use Rattle.definition.proofs.Tests.{clash}
-use Rattle.definition.proofs.Later.{Later, later-left, later-refl, later-advance}
-use Rattle.definition.proofs.Ind.{wp, wp-bind, wp-mono, wp-later}
+use Rattle.definition.proofs.Later.{Later, later-left, later-advance}
+use Rattle.definition.proofs.Ind.{wp, wp-mono, Sure, follow, try-sure}
 use Rattle.definition.proofs.Grows.{there}
 use Rattle.definition.proofs.Layouts.{shape, layout, SmallPlace, SmallAt, SmallNums, AllFit, both, none-fit, SmallTok, Small, small-tail, small-head}
 
@@ -35,15 +35,13 @@ pub record Listing (i : Items) (s : St) (a : Items) (s′ : St) : Type 0 where
   pub count : a .count + length (s′ .left) ≤ i .count + length (s .left)
 
 abbrev pub Of : St → Ans Node → St → Type 0
-Of s (ok x) s′ = Good s x s′
-Of s (fatal es) s′ = ⊥
+Of s a s′ = Sure (Good s) a s′
 
 abbrev pub G : Goal → St → Ans Node → St → Type 0
 G g s a s′ = Of s a s′
 
 abbrev pub OnwardOf : Fallible Node → St → Ans Node → St → Type 0
-OnwardOf e s (ok x) s′ = Onward e s x s′
-OnwardOf e s (fatal es) s′ = ⊥
+OnwardOf e s a s′ = Sure (Onward e s) a s′
 
 abbrev pub L : (l : Loop) → St → Left l → St → Type 0
 L (Module i) s a s′ = Listing i s a s′
@@ -78,16 +76,9 @@ pub calls : {B : Type 0} (g : Goal) (f : Fallible Node → Act (Ans B)) (Q : Ans
 unfolding _>>=_
 calls g f Q s h = (λ x s′ l p. h x s′ p, λ es s′ l p. absurd p)
 
-pub uses′ : {A B : Type 0} (P : A → St → Type 0) (m : Act A) (f : A → Act B) (Q : B → St → Type 0) (s : St) → cwp m P s → ((a : A) (s′ : St) → Later s s′ → P a s′ → cwp (f a) Q s′) → cwp (m >>= f) Q s
-uses′ P m f Q s w h = wp-bind G L R M m f Q s (wp-later G L R M P (λ a s′. cwp (f a) Q s′) m s s (later-refl s) h w)
-
 uses : {B : Type 0} (m : Act (Ans Node)) (f : Fallible Node → Act (Ans B)) (Q : Ans B → St → Type 0) (s : St)
     → cwp m (Of s) s → ((x : Fallible Node) (s′ : St) → Later s s′ → Good s x s′ → cwp (f x) Q s′) → cwp (m >>? f) Q s
-uses {B} m f Q s w h = uses′ (Of s) m (or-return f) Q s w go
-  where
-    go : (a : Ans Node) (s′ : St) → Later s s′ → Of s a s′ → cwp (or-return f a) Q s′
-    go (ok x) s′ l p = h x s′ l p
-    go (fatal es) s′ l p = absurd p
+uses m f Q s w h = try-sure G L R M (Good s) m f Q s w h
 
 -- a record behind its children's
 pub add : {rs : List Rec} (r : Rec) → AllFit rs → shape r ≡ layout (r .tag) → eqb (r .tag) 0x5F ≡ false → SmallAt (r .place) → SmallNums (r .numbers) → length (r .text) ≤ 60000 → AllFit (rs ++ (r ∷ []))
@@ -176,16 +167,7 @@ pub record Typed-fit (s : St) (x : Fallible P.Typed) (s′ : St) : Type 0 where
   pub less : length (s′ .left) < length (s .left)
 
 abbrev pub TypedOf : St → Ans P.Typed → St → Type 0
-TypedOf s (ok x) s′ = Typed-fit s x s′
-TypedOf s (fatal es) s′ = ⊥
-
-pub uses-typed : {B : Type 0} (m : Act (Ans P.Typed)) (f : Fallible P.Typed → Act (Ans B)) (Q : Ans B → St → Type 0) (s : St)
-    → cwp m (TypedOf s) s → ((x : Fallible P.Typed) (s′ : St) → Later s s′ → Typed-fit s x s′ → cwp (f x) Q s′) → cwp (m >>? f) Q s
-uses-typed {B} m f Q s w h = uses′ (TypedOf s) m (or-return f) Q s w go
-  where
-    go : (a : Ans P.Typed) (s′ : St) → Later s s′ → TypedOf s a s′ → cwp (or-return f a) Q s′
-    go (ok x) s′ l p = h x s′ l p
-    go (fatal es) s′ l p = absurd p
+TypedOf s a s′ = Sure (Typed-fit s) a s′
 
 pub typed-identifier-fit : (s : St) → cwp P.parse-typed-identifier (TypedOf s) s
 unfolding P.parse-typed-identifier P.typed
@@ -201,12 +183,11 @@ pub record Item-fit (s : St) (x : Fallible Node) (s′ : St) : Type 0 where
   pub less : length (s′ .left) < length (s .left)
 
 abbrev pub ItemOf : St → Ans Node → St → Type 0
-ItemOf s (ok x) s′ = Item-fit s x s′
-ItemOf s (fatal es) s′ = ⊥
+ItemOf s a s′ = Sure (Item-fit s) a s′
 
 named-type-fit : (s : St) → cwp P.parse-named-type (ItemOf s) s
 unfolding P.parse-named-type layout
-named-type-fit s = uses-typed P.parse-typed-identifier _ _ _ (typed-identifier-fit s) (λ x t l p. record { fit = add _ (p .fit) refl refl tt tt (p .name); less = p .less })
+named-type-fit s = try-sure G L R M (Typed-fit s) P.parse-typed-identifier _ _ _ (typed-identifier-fit s) (λ x t l p. record { fit = add _ (p .fit) refl refl tt tt (p .name); less = p .less })
 
 struct-field-fit : (s : St) → cwp P.parse-compound-struct-field (ItemOf s) s
 unfolding P.parse-compound-struct-field layout
@@ -226,7 +207,7 @@ after-item-fit k i s =
 
 pub list-turn-fit : (k : Listed) (i : Items) (s : St) → cwp (P.list-turn k i) (Listing i s) s
 unfolding P.list-turn
-list-turn-fit k i s = (λ e m. absurd m, λ _. (λ c d. record { fit = λ f. f; count = omega (arith, later-left (later-advance (λ _. plain) s)) }, λ c. uses′ (ItemOf s) _ _ _ _ (item-fit k s) go))
+list-turn-fit k i s = (λ e m. absurd m, λ _. (λ c d. record { fit = λ f. f; count = omega (arith, later-left (later-advance (λ _. plain) s)) }, λ c. follow G L R M _ _ (ItemOf s) _ _ (item-fit k s) go))
   where
     go : (a : Ans Node) (t : St) → Later s t → ItemOf s a t → cwp (P.after-item k (P.integrate i a)) (Listing i s) t
     go (ok x) t l p = wp-mono G L R M (Listing (P.integrate i (ok x)) t) (Listing i s) (P.after-item k (P.integrate i (ok x))) t (λ a u q. record { fit = λ f. q .fit (both f (p .fit)); count = omega (arith, q .count, p .less) }) (after-item-fit k (P.integrate i (ok x)) t)
@@ -234,7 +215,7 @@ list-turn-fit k i s = (λ e m. absurd m, λ _. (λ c d. record { fit = λ f. f; 
 
 call-fit : (s : St) → Small (s .left) → cwp P.parse-call (Of s) s
 unfolding P.parse-call layout
-call-fit s d = uses _ _ _ _ (sizeof-fit s d) (λ e t l p. (λ i. uses′ (Listed-fit t) (P.parse-list Arguments) _ _ _ (list-fit Arguments t) (λ a u l₂ q. record { fit = add _ (both (p .fit) (q .fit)) refl refl (p .place) (omega (arith, q .count, p .less, d .1)) (omega arith); place = p .place; less = omega (arith, p .less, later-left l₂) }), λ _. p))
+call-fit s d = uses _ _ _ _ (sizeof-fit s d) (λ e t l p. (λ i. follow G L R M (P.parse-list Arguments) _ (Listed-fit t) _ _ (list-fit Arguments t) (λ a u l₂ q. record { fit = add _ (both (p .fit) (q .fit)) refl refl (p .place) (omega (arith, q .count, p .less, d .1)) (omega arith); place = p .place; less = omega (arith, p .less, later-left l₂) }), λ _. p))
 
 -- ---- prefixes and operators
 
@@ -352,7 +333,7 @@ type-fit s d = go (small-head (s .left) d)
         λ _. (
           λ i. array-type-fit s i (omega arith),
           λ _. (
-            λ i. uses′ (Listed-fit (advance (λ _. plain) s)) (P.parse-list StructFields) _ _ _ (list-fit StructFields (advance (λ _. plain) s)) (λ a t l q. record { fit = add _ (q .fit) refl refl (omega arith) (omega (arith, q .count, there K.KwStruct tt (s .left) i, d .1)) (omega arith); place = omega arith; less = omega (arith, q .count, there K.KwStruct tt (s .left) i) }),
+            λ i. follow G L R M (P.parse-list StructFields) _ (Listed-fit (advance (λ _. plain) s)) _ _ (list-fit StructFields (advance (λ _. plain) s)) (λ a t l q. record { fit = add _ (q .fit) refl refl (omega arith) (omega (arith, q .count, there K.KwStruct tt (s .left) i, d .1)) (omega arith); place = omega arith; less = omega (arith, q .count, there K.KwStruct tt (s .left) i) }),
             λ _.
                 (λ _ m. absurd m, λ _ m. absurd m),
           ),

@@ -83,7 +83,7 @@ numbers (two m ∷ ms) (eight n ∷ ns) r t h a b e = absurd (omega (arith, head
 numbers (eight m ∷ ms) (byte n ∷ ns) r t h a b e = absurd (omega (arith, heads h))
 numbers (eight m ∷ ms) (two n ∷ ns) r t h a b e = absurd (omega (arith, heads h))
 
-body : Rec → List ℕ
+unfoldable pub body : Rec → List ℕ
 body r = at-place (r .place) ++ nums-bytes (r .numbers) ++ r .text
 
 same-rec : (r q : Rec) → Fit r → Fit q → r .tag ≡ q .tag → body r ≡ body q → r ≡ q

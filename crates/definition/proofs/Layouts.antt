@@ -112,3 +112,6 @@ small-later s s′ l h = (small-drop (toks (l .eaten)) (s′ .left) (subst AllSm
 pub small-head : (ts : List Tok) → Small ts → SmallTok (head ts)
 small-head [] h = omega arith
 small-head (t ∷ ts) h = h .0 .0
+
+pub small-place : (ts : List Tok) → Small ts → SmallPlace (head ts .place)
+small-place ts h = let t : SmallTok (head ts) = small-head ts h in omega arith

@@ -8,13 +8,13 @@ use lib.ListN.{length}
 use Rattle.definition.specs.Choice.{pick}
 use Rattle.definition.specs.Kind as K
 use Rattle.definition.specs.Source.{Place}
-use Rattle.definition.specs.Fallible.{Err, Fallible, Ans, ok, fatal}
+use Rattle.definition.specs.Fallible.{Err, Fallible, Ans}
 use Rattle.definition.specs.Token.{Tok, head, _is_}
-use Rattle.definition.specs.Act.{Node, Items, Goal, Statement, Expression, Unary, Type', Loop, Module, Body, ListOf, Operators, Casts, Suffixes, Modifiers, Listed, Left, Role, plain, Act, done, call, St, advance, _>>=_, _>>?_, or-return}
+use Rattle.definition.specs.Act.{Node, Items, Goal, Statement, Expression, Unary, Type', Loop, Module, Body, ListOf, Operators, Casts, Suffixes, Modifiers, Listed, Left, Role, plain, Act, done, call, St, advance, _>>=_, _>>?_}
 use Rattle.definition.specs.Parser as P
 use Rattle.definition.proofs.Strip.{Norm}
-use Rattle.definition.proofs.Later.{Later, later-refl}
-use Rattle.definition.proofs.Ind.{wp, wp-bind, wp-later}
+use Rattle.definition.proofs.Later.{Later}
+use Rattle.definition.proofs.Ind.{wp, Sure, try-sure}
 use Rattle.definition.proofs.Unparse.{sym1, comma}
 use Rattle.definition.proofs.Shown.{Fresh, Distinct, Grew, _▸_, Shows, ShowsItems}
 
@@ -69,12 +69,10 @@ pub record ListSequel (k : Listed) (i : Items) (s : St) (a : Items) (s′ : St) 
   pub none : i .errors ≡ [] → a .errors ≡ []
 
 abbrev pub G : Goal → St → Ans Node → St → Type 0
-G g s (ok x) s′ = Shown g s x s′
-G g s (fatal es) s′ = ⊥
+G g s a s′ = Sure (Shown g s) a s′
 
 abbrev pub TailOf : Fallible Node → St → Ans Node → St → Type 0
-TailOf e s (ok x) s′ = Tail e s x s′
-TailOf e s (fatal es) s′ = ⊥
+TailOf e s a s′ = Sure (Tail e s) a s′
 
 abbrev pub L : (l : Loop) → St → Left l → St → Type 0
 L (Module i) s a s′ = Sequel [] i s a s′
@@ -116,18 +114,10 @@ pub calls : {B : Type 0} (g : Goal) (f : Fallible Node → Act (Ans B)) (Q : Ans
 unfolding _>>=_
 calls g f Q s h = (h, λ es s′ l p. absurd p)
 
--- another function
-pub uses′ : {A B : Type 0} (P : A → St → Type 0) (m : Act A) (f : A → Act B) (Q : B → St → Type 0) (s : St) → cwp m P s → ((a : A) (s′ : St) → Later s s′ → P a s′ → cwp (f a) Q s′) → cwp (m >>= f) Q s
-uses′ P m f Q s w h = wp-bind G L R M m f Q s (wp-later G L R M P (λ a s′. cwp (f a) Q s′) m s s (later-refl s) h w)
-
 -- another function, under `?`
 pub uses : {B : Type 0} (g : Goal) (m : Act (Ans Node)) (f : Fallible Node → Act (Ans B)) (Q : Ans B → St → Type 0) (s : St)
     → cwp m (G g s) s → ((x : Fallible Node) (s′ : St) → Later s s′ → Shown g s x s′ → cwp (f x) Q s′) → cwp (m >>? f) Q s
-uses {B} g m f Q s w h = uses′ (G g s) m (or-return f) Q s w go
-  where
-    go : (a : Ans Node) (s′ : St) → Later s s′ → G g s a s′ → cwp (or-return f a) Q s′
-    go (ok x) s′ l p = h x s′ l p
-    go (fatal es) s′ l p = absurd p
+uses g m f Q s w h = try-sure G L R M (Shown g s) m f Q s w h
 
 pub joined : {e x : List Err} → e ≡ [] → x ≡ [] → e ++ x ≡ []
 joined p q = rw (p, q)

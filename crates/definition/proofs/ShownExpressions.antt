@@ -13,15 +13,15 @@ use Rattle.definition.specs.Source.{Place, nowhere}
 use Rattle.definition.specs.Node.{byte, Rec}
 use Rattle.definition.specs.Fallible.{Fallible, Ans, ok, fatal}
 use Rattle.definition.specs.Token.{Tok, head, tail, _is_}
-use Rattle.definition.specs.Act.{Node, Items, Expression, Unary, Type', Operators, Listed, Parameters, Arguments, StructFields, ArrayValues, StructValues, Level, BitOr, BitXor, BitAnd, Shift, AddSub, Mul, plain, group, final, size, Act, done, next, loop, St, advance, _>>=_, _>>?_, or-return}
+use Rattle.definition.specs.Act.{Node, Items, Expression, Unary, Type', Operators, Listed, Parameters, Arguments, StructFields, ArrayValues, StructValues, Level, BitOr, BitXor, BitAnd, Shift, AddSub, Mul, plain, group, final, size, Act, done, next, loop, St, advance, _>>=_, _>>?_}
 use Rattle.definition.specs.Parser as P
 use Rattle.definition.proofs.Strip.{Norm, named, integer, sized, norm}
 use Rattle.definition.proofs.Tests.{never-both, is-kind}
 use Rattle.definition.proofs.Later.{Later}
-use Rattle.definition.proofs.Ind.{wp-mono}
+use Rattle.definition.proofs.Ind.{wp-mono, Sure, follow, try-sure}
 use Rattle.definition.proofs.Unparse.{Entry, entry, Gathered, gathered, gather, unparse, unparse-append, step, sym1, comma, extend, on-call, on-list, arithmetic, comparison}
 use Rattle.definition.proofs.Shown.{fresh-tail, fresh-later, fresh-head, differs, same-self, Grew, grew-refl, _▸_, grew-as, took, symbol-norm, took-size, is-symbol, took-symbol, took-name, took-integer, Shows, shows-as, after0, after1, after2, ShowsItems, items-none, items-more}
-use Rattle.definition.proofs.ShownAnswers.{lead, start, Rest, ListSequel, G, TailOf, L, R, M, cwp, next-state, expects, identifier, calls, uses′, uses, joined, goes-on}
+use Rattle.definition.proofs.ShownAnswers.{lead, start, Rest, ListSequel, G, TailOf, L, R, M, cwp, next-state, expects, identifier, calls, uses, joined, goes-on}
 
 -- ---- parse_atom and what stands around it
 
@@ -162,8 +162,7 @@ pub record Item-shown (s : St) (x : Fallible Node) (s′ : St) : Type 0 where
   pub none : x .errors ≡ []
 
 abbrev pub ItemOf : St → Ans Node → St → Type 0
-ItemOf s (ok x) s′ = Item-shown s x s′
-ItemOf s (fatal es) s′ = ⊥
+ItemOf s a s′ = Sure (Item-shown s) a s′
 
 -- behind an item: the tokens that are due are those shown, and a comma is not yet read
 record After-item (k : Listed) (i : Items) (s : St) (a : Items) (s′ : St) : Type 0 where
@@ -205,8 +204,7 @@ pub record Typed-shown (s : St) (x : Fallible P.Typed) (s′ : St) : Type 0 wher
   pub none : x .errors ≡ []
 
 abbrev pub TypedOf : St → Ans P.Typed → St → Type 0
-TypedOf s (ok x) s′ = Typed-shown s x s′
-TypedOf s (fatal es) s′ = ⊥
+TypedOf s a s′ = Sure (Typed-shown s) a s′
 
 pub typed-identifier-shown : (s : St) → cwp P.parse-typed-identifier (TypedOf s) s
 unfolding P.parse-typed-identifier P.typed
@@ -217,11 +215,7 @@ typed-identifier-shown s d = (
 
 named-type-shown : (s : St) → cwp P.parse-named-type (ItemOf s) s
 unfolding P.parse-named-type step
-named-type-shown s = uses′ (TypedOf s) _ _ _ _ (typed-identifier-shown s) go
-  where
-    go : (a : Ans P.Typed) (s′ : St) → Later s s′ → TypedOf s a s′ → cwp (or-return (λ x. P.good (P.bare (x .item .type) 0x15 (x .item .name)) (x .errors)) a) (ItemOf s) s′
-    go (ok x) s′ l p = record { toks = (named K.Identifier (x .item .name) ∷ []) ++ sym1 K.Colon ++ p .type; at = nowhere; grew = p .grew; shows = record { on = λ st. after1 (p .shows) _ st }; none = p .none }
-    go (fatal es) s′ l p = absurd p
+named-type-shown s = try-sure G L R M (Typed-shown s) P.parse-typed-identifier _ _ _ (typed-identifier-shown s) (λ x s′ l p. record { toks = (named K.Identifier (x .item .name) ∷ []) ++ sym1 K.Colon ++ p .type; at = nowhere; grew = p .grew; shows = record { on = λ st. after1 (p .shows) _ st }; none = p .none })
 
 struct-field-shown : (s : St) → cwp P.parse-compound-struct-field (ItemOf s) s
 unfolding P.parse-compound-struct-field step
@@ -247,7 +241,7 @@ due-item (suc n) ts us = refl
 
 pub list-turn-shown : (k : Listed) (i : Items) (s : St) → cwp (P.list-turn k i) (ListSequel k i s) s
 unfolding P.list-turn
-list-turn-shown k i s = (λ e m. absurd m, λ here. (λ c d. closes here c, λ c. uses′ (ItemOf s) _ _ _ _ (item-shown k s) (go here c)))
+list-turn-shown k i s = (λ e m. absurd m, λ here. (λ c d. closes here c, λ c. follow G L R M _ _ (ItemOf s) _ _ (item-shown k s) (go here c)))
   where
     closes : head (s .left) is K.End ≡ false → head (s .left) is P.closer k ≡ true → ListSequel k i s i (next-state s)
     closes here c = record { toks = sym1 (P.closer k); grew = took-symbol (P.closer k) (closer-symbol k) s c; there = here; shows = λ ts h. record { all = ts; shows = h; whole = ap (λ (b : Bool). pick b ts (lead (i .count) ts) ++ sym1 (P.closer k)) c }; none = λ h. h }
@@ -276,7 +270,7 @@ after-part-items {sep} {i} {xs} {p} {us} k h r f e st =
 call-shown : (s : St) → cwp P.parse-call (G Expression s) s
 unfolding P.parse-call step
 call-shown s = uses Expression _ _ _ _ (sizeof-shown s) (λ e t l p. (
-  λ i. uses′ (List-shown Arguments t) _ _ _ _ (list-shown Arguments t) (λ a u l₂ q. record {
+  λ i. follow G L R M _ _ (List-shown Arguments t) _ _ (list-shown Arguments t) (λ a u l₂ q. record {
     toks = p .toks ++ (sym1 K.LParen ++ q .toks ++ sym1 K.RParen);
     grew = p .grew ▸ q .grew;
     shows = shows-as (record { on = λ st. after-part-items (p .shows) (q .shows) _ (on-call (e .item .place)) (λ st. refl) st }) (append-assoc (p .toks ++ sym1 K.LParen) (q .toks) (sym1 K.RParen) ∙ append-assoc (p .toks) (sym1 K.LParen) (q .toks ++ sym1 K.RParen));
@@ -456,7 +450,7 @@ type-shown s d = (
     λ _. (
       λ i. array-type-shown s i,
       λ _. (
-        λ i. uses′ (List-shown StructFields (next-state s)) _ _ _ _ (list-shown StructFields (next-state s)) (λ a t l q. record {
+        λ i. follow G L R M _ _ (List-shown StructFields (next-state s)) _ _ (list-shown StructFields (next-state s)) (λ a t l q. record {
           toks = sym1 K.KwStruct ++ (sym1 K.LBrace ++ q .toks ++ sym1 K.RBrace);
           grew = took-symbol K.KwStruct tt s i ▸ q .grew;
           shows = record { on = λ st. after-items (q .shows) _ (on-list (head (s .left) .place) (λ ts. sym1 K.KwStruct ++ sym1 K.LBrace ++ ts ++ sym1 K.RBrace)) (λ st. refl) st };

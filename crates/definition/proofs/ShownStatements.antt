@@ -7,17 +7,17 @@ use Prim.Native.Nat.{ℕ}
 use Rattle.definition.specs.Kind as K
 use Rattle.definition.specs.Source.{Place, nowhere}
 use Rattle.definition.specs.Node.{Rec}
-use Rattle.definition.specs.Fallible.{Err, Fallible, Ans, ok, fatal}
+use Rattle.definition.specs.Fallible.{Err, Fallible, Ans}
 use Rattle.definition.specs.Token.{head, _is_}
-use Rattle.definition.specs.Act.{Node, Items, Statement, Expression, ArrayValues, StructValues, plain, Act, peek, next, if_then_else_, St, _>>=_, _>>?_, or-return}
+use Rattle.definition.specs.Act.{Node, Items, Statement, Expression, ArrayValues, StructValues, plain, St, _>>=_}
 use Rattle.definition.specs.Parser as P
+use Rattle.definition.proofs.Ind.{Sure, follow, try-sure}
 use Rattle.definition.proofs.Strip.{Norm, named}
 use Rattle.definition.proofs.Tests.{never-both}
-use Rattle.definition.proofs.Later.{Later}
 use Rattle.definition.proofs.Unparse.{Entry, entry, unparse, unparse-append, step, sym1, on-list}
 use Rattle.definition.proofs.Shown.{Grew, grew-refl, _▸_, grew-as, took-symbol, took-name, Shows, after0, after1, shows2, after2, after3, ShowsItems, items-none, items-join}
-use Rattle.definition.proofs.ShownAnswers.{Sequel, G, cwp, next-state, expects, calls, uses′, joined}
-use Rattle.definition.proofs.ShownExpressions.{List-shown, list-shown, Item-shown, ItemOf, Typed-shown, TypedOf, typed-identifier-shown, after-items}
+use Rattle.definition.proofs.ShownAnswers.{Sequel, G, cwp, next-state, expects, calls, joined, L, R, M}
+use Rattle.definition.proofs.ShownExpressions.{List-shown, list-shown, Item-shown, ItemOf, Typed-shown, typed-identifier-shown, after-items}
 
 -- ---- initial values and declarations
 
@@ -26,7 +26,7 @@ unfolding P.parse-compound step
 compound-shown s = expects plain K.Hash _ _ _ (λ i d. (
   λ _ m. absurd m,
   λ _. (
-    λ j. uses′ (List-shown ArrayValues t) _ _ _ _ (list-shown ArrayValues t) (λ a u l q. record {
+    λ j. follow G L R M _ _ (List-shown ArrayValues t) _ _ (list-shown ArrayValues t) (λ a u l q. record {
       toks = sym1 K.Hash ++ (sym1 K.LBracket ++ q .toks ++ sym1 K.RBracket);
       at = _;
       grew = took-symbol K.Hash tt s i ▸ q .grew;
@@ -34,7 +34,7 @@ compound-shown s = expects plain K.Hash _ _ _ (λ i d. (
       none = q .none;
     }),
     λ _. (
-      λ j. uses′ (List-shown StructValues t) _ _ _ _ (list-shown StructValues t) (λ a u l q. record {
+      λ j. follow G L R M _ _ (List-shown StructValues t) _ _ (list-shown StructValues t) (λ a u l q. record {
         toks = sym1 K.Hash ++ (sym1 K.LBrace ++ q .toks ++ sym1 K.RBrace);
         at = _;
         grew = took-symbol K.Hash tt s i ▸ q .grew;
@@ -49,15 +49,6 @@ compound-shown s = expects plain K.Hash _ _ _ (λ i d. (
     t : St
     t = next-state s
 
--- a function that shows an item, under `?`
-uses-item : {B : Type 0} (m : Act (Ans Node)) (f : Fallible Node → Act (Ans B)) (Q : Ans B → St → Type 0) (s : St)
-    → cwp m (ItemOf s) s → ((x : Fallible Node) (s′ : St) → Later s s′ → Item-shown s x s′ → cwp (f x) Q s′) → cwp (m >>? f) Q s
-uses-item {B} m f Q s w h = uses′ (ItemOf s) m (or-return f) Q s w go
-  where
-    go : (a : Ans Node) (s′ : St) → Later s s′ → ItemOf s a s′ → cwp (or-return f a) Q s′
-    go (ok x) s′ l p = h x s′ l p
-    go (fatal es) s′ l p = absurd p
-
 -- a declaration's name, type and value
 record Declared-shown (s : St) (x : Fallible P.Typed) (s′ : St) : Type 0 where
   at₁ : Place
@@ -69,48 +60,35 @@ record Declared-shown (s : St) (x : Fallible P.Typed) (s′ : St) : Type 0 where
   none : x .errors ≡ []
 
 abbrev DeclaredOf : St → Ans P.Typed → St → Type 0
-DeclaredOf s (ok x) s′ = Declared-shown s x s′
-DeclaredOf s (fatal es) s′ = ⊥
+DeclaredOf s a s′ = Sure (Declared-shown s) a s′
 
 var-like-shown : (s : St) → cwp P.parse-var-like-declaration (DeclaredOf s) s
 unfolding P.parse-var-like-declaration step
-var-like-shown s = uses′ (TypedOf s) _ _ _ _ (typed-identifier-shown s) go
+var-like-shown s = try-sure G L R M (Typed-shown s) P.parse-typed-identifier _ _ _ (typed-identifier-shown s) (λ x t l p. (
+  λ i d. calls Expression _ _ _ (λ e u l₂ q. value x t u p (P.bare (e .item .recs) 0x34 []) (e .errors) nowhere (sym1 K.Equals ++ q .toks) (took-symbol K.Equals tt t i ▸ q .grew) (record { on = λ st. after1 (q .shows) _ st }) (q .none)),
+  λ _. (
+    λ i d. try-sure G L R M (Item-shown (next-state t)) P.parse-compound _ _ _ (compound-shown (next-state t)) (λ c u l₂ q. value x t u p (P.bare (c .item .recs) 0x35 []) (c .errors) nowhere (sym1 K.LArrow ++ q .toks) (took-symbol K.LArrow tt t i ▸ q .grew) (record { on = λ st. after1 (q .shows) _ st }) (q .none)),
+    λ _.
+        value x t t p (P.bare [] 0x33 []) [] nowhere [] (grew-refl t) (record { on = λ st. after0 _ st }) refl,
+  ),
+))
   where
     value : (x : Fallible P.Typed) (t u : St) (p : Typed-shown s x t) (v : Node) (es : List Err) (q : Place) (vs : List Norm) → Grew t vs u → Shows (v .recs) q vs → es ≡ [] → cwp (P.declared x v es) (DeclaredOf s) u
     value x t u p v es q vs g h e = record { at₁ = p .at; at₂ = q; type = p .type; value = vs; grew = p .grew ▸ g; shows = λ st. shows2 (p .shows) h st; none = joined (p .none) e }
 
-    go : (a : Ans P.Typed) (t : St) → Later s t → TypedOf s a t → cwp (or-return (λ x. peek λ y.
-        if y is K.Equals then (next λ _. P.parse-expression >>? λ e. P.declared x (P.bare (e .item .recs) 0x34 []) (e .errors)) else
-        if y is K.LArrow then (next λ _. P.parse-compound >>? λ c. P.declared x (P.bare (c .item .recs) 0x35 []) (c .errors)) else
-        P.declared x (P.bare [] 0x33 []) []) a) (DeclaredOf s) t
-    go (ok x) t l p = (
-      λ i d. calls Expression _ _ _ (λ e u l₂ q. value x t u p (P.bare (e .item .recs) 0x34 []) (e .errors) nowhere (sym1 K.Equals ++ q .toks) (took-symbol K.Equals tt t i ▸ q .grew) (record { on = λ st. after1 (q .shows) _ st }) (q .none)),
-      λ _. (
-        λ i d. uses-item P.parse-compound _ _ _ (compound-shown (next-state t)) (λ c u l₂ q. value x t u p (P.bare (c .item .recs) 0x35 []) (c .errors) nowhere (sym1 K.LArrow ++ q .toks) (took-symbol K.LArrow tt t i ▸ q .grew) (record { on = λ st. after1 (q .shows) _ st }) (q .none)),
-        λ _.
-            value x t t p (P.bare [] 0x33 []) [] nowhere [] (grew-refl t) (record { on = λ st. after0 _ st }) refl,
-      ),
-    )
-    go (fatal es) t l p = absurd p
-
 pub declaration-shown : (tag : ℕ) (s : St) → head (s .left) is K.KwVar ≡ true → ((p a b : Place) (tx : List ℕ) (xs ys : List Norm) (st : List Entry) → step (record { tag = tag; place = some p; numbers = []; text = tx }) (entry b ys ∷ entry a xs ∷ st) ≡ entry p (sym1 K.KwVar ++ (named K.Identifier tx ∷ []) ++ sym1 K.Colon ++ xs ++ ys ++ sym1 K.Semicolon) ∷ st)
     → cwp (P.declaration tag (head (s .left) .place)) (G Statement s) (next-state s)
 unfolding P.declaration
-declaration-shown tag s i f = uses′ (DeclaredOf (next-state s)) _ _ _ _ (var-like-shown (next-state s)) go
+declaration-shown tag s i f = try-sure G L R M (Declared-shown (next-state s)) P.parse-var-like-declaration _ _ _ (var-like-shown (next-state s)) (λ x t l p. expects plain K.Semicolon _ _ _ (λ j d. record {
+  toks = sym1 K.KwVar ++ ((named K.Identifier (x .item .name) ∷ []) ++ sym1 K.Colon ++ p .type ++ p .value) ++ sym1 K.Semicolon;
+  grew = took-symbol K.KwVar tt s i ▸ p .grew ▸ took-symbol K.Semicolon tt t j;
+  shows = record { on = λ st. unparse-append (x .item .type) (made x ∷ []) st ∙ after0 (made x) (unparse (x .item .type) st) ∙ ap (λ (l : List Entry). step (made x) l) (p .shows st) ∙ f (head (s .left) .place) (p .at₁) (p .at₂) (x .item .name) (p .type) (p .value) st };
+  none = p .none;
+  extra = tt;
+}))
   where
     made : Fallible P.Typed → Rec
     made x = record { tag = tag; place = some (head (s .left) .place); numbers = []; text = x .item .name }
-
-    go : (a : Ans P.Typed) (t : St) → Later (next-state s) t → DeclaredOf (next-state s) a t
-        → cwp (or-return (λ x. P.expect K.Semicolon >>? λ _. P.good (P.node (x .item .type) tag (head (s .left) .place) [] (x .item .name)) (x .errors)) a) (G Statement s) t
-    go (ok x) t l p = expects plain K.Semicolon _ _ _ (λ j d. record {
-      toks = sym1 K.KwVar ++ ((named K.Identifier (x .item .name) ∷ []) ++ sym1 K.Colon ++ p .type ++ p .value) ++ sym1 K.Semicolon;
-      grew = took-symbol K.KwVar tt s i ▸ p .grew ▸ took-symbol K.Semicolon tt t j;
-      shows = record { on = λ st. unparse-append (x .item .type) (made x ∷ []) st ∙ after0 (made x) (unparse (x .item .type) st) ∙ ap (λ (l : List Entry). step (made x) l) (p .shows st) ∙ f (head (s .left) .place) (p .at₁) (p .at₂) (x .item .name) (p .type) (p .value) st };
-      none = p .none;
-      extra = tt;
-    })
-    go (fatal es) t l p = absurd p
 
 -- ---- bodies and statements
 
@@ -185,7 +163,7 @@ after-expression-shown s t p e ts g h = (
     extra = tt;
   })),
   λ _. (
-    λ i d. uses-item P.parse-compound _ _ _ (compound-shown (next-state t)) (λ v u l q. expects plain K.Semicolon _ _ _ (λ j d₂. record {
+    λ i d. try-sure G L R M (Item-shown (next-state t)) P.parse-compound _ _ _ (compound-shown (next-state t)) (λ v u l q. expects plain K.Semicolon _ _ _ (λ j d₂. record {
       toks = ts ++ sym1 K.LArrow ++ q .toks ++ sym1 K.Semicolon;
       grew = g ▸ took-symbol K.LArrow tt t i ▸ q .grew ▸ took-symbol K.Semicolon tt u j;
       shows = record { on = λ st. after2 h (q .shows) _ st };
@@ -211,7 +189,7 @@ statement-shown s = (
   λ _. (
     λ i d. declaration-shown 0x42 s i (λ p a b tx xs ys st. refl),
     λ _. (
-      λ i. uses′ (Body-shown s) _ _ _ _ (body-shown s) (λ a t l q. record {
+      λ i. follow G L R M _ _ (Body-shown s) _ _ (body-shown s) (λ a t l q. record {
         toks = sym1 K.LBrace ++ q .toks ++ sym1 K.RBrace;
         grew = q .grew;
         shows = record { on = λ st. after-items (q .shows) _ (on-list (head (s .left) .place) (λ ts. sym1 K.LBrace ++ ts ++ sym1 K.RBrace)) (λ st. refl) st };

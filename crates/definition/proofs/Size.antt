@@ -151,7 +151,7 @@ module _ (f : Err → ℕ) where
   tries m f P Q s w h e = try G L R M m f P Q s w h e
 
   follows : {A B : Type 0} (m : Act A) (f : A → Act B) (P : A → St → Type 0) (Q : B → St → Type 0) (s : St) → wp′ m P s → ((a : A) (s′ : St) → P a s′ → wp′ (f a) Q s′) → wp′ (m >>= f) Q s
-  follows m f P Q s w h = follow G L R M m f P Q s w h
+  follows m f P Q s w h = follow G L R M m f P Q s w (λ a s′ l p. h a s′ p)
 
   typed-size : (name : List ℕ) (es : List Err) (s : St) → wp′ (P.typed name es) (λ a s′. PostNamed name es s a s′) s
   unfolding P.typed _>>=_

@@ -16,12 +16,13 @@ use Rattle.definition.specs.Fallible.{Fallible, Ans, ok, fatal}
 use Rattle.definition.specs.Token.{Tok, head, tail}
 use Rattle.definition.specs.Act.{Node, Items, Goal, Statement, Expression, Unary, Type', Loop, Module, Body, ListOf, Operators, Casts, Suffixes, Modifiers, Parameters, Words, plain, St, Res, gives, _>>=_, _>>?_}
 use Rattle.definition.specs.Parser as P
+use Rattle.definition.proofs.Ind.{follow}
 use Rattle.definition.proofs.Strip.{Norm, symbol, named, strip}
 use Rattle.definition.proofs.Later.{Later, After}
 use Rattle.definition.proofs.Unparse.{Entry, entry, Gathered, gathered, gather, unparse, unparse-append, step, sym1, comma, on-list, returning}
 use Rattle.definition.proofs.Shown.{Distinct, distinct-tail, distinct-later, Grew, grew-refl, _▸_, grew-as, took-modifier, took-symbol, took-name, Shows, after0, after1, ShowsItems, items-none, items-join}
 use Rattle.definition.proofs.Clean.{Clean, clean-module}
-use Rattle.definition.proofs.ShownAnswers.{Sequel, G, L, cwp, next-state, expects, identifier, calls, uses′, joined}
+use Rattle.definition.proofs.ShownAnswers.{Sequel, G, L, cwp, next-state, expects, identifier, calls, joined, R, M}
 use Rattle.definition.proofs.ShownExpressions.{suffixes-shown, List-shown, list-shown, list-turn-shown, after-items, unary-shown, casts-shown, operators-shown, expression-shown, type-shown}
 use Rattle.definition.proofs.ShownStatements.{declaration-shown, items-as, Body-shown, body-shown, body-turn-shown, statement-shown}
 
@@ -61,7 +62,7 @@ module _ (s t : St) (p : Place) (name : Tok) (ps : Items) (r : Fallible Node) (u
   with-body-shown : Grew s (sym1 K.KwFn ++ (named K.Identifier (name .text) ∷ []) ++ (sym1 K.LParen ++ us ++ sym1 K.RParen) ++ returning rs) t
       → cwp (P.parse-body >>= λ b. P.good (P.node (ps .recs ++ r .item .recs ++ P.node (b .recs) 0x40 p (two (b .count) ∷ []) [] .recs) 0x50 p (byte 0 ∷ two (ps .count) ∷ []) (name .text)) (b .errors ++ r .errors ++ ps .errors)) (G Statement s) t
   unfolding step
-  with-body-shown g = uses′ (Body-shown t) _ _ _ _ (body-shown t) (λ b u l z. record {
+  with-body-shown g = follow G L R M _ _ (Body-shown t) _ _ (body-shown t) (λ b u l z. record {
     toks = symbol K.KwFn ∷ named K.Identifier (name .text) ∷ symbol K.LParen ∷ (us ++ sym1 K.RParen ++ (returning rs ++ (sym1 K.LBrace ++ z .toks ++ sym1 K.RBrace)));
     grew = grew-as (g ▸ z .grew) (ap {B = List Norm} (λ l. symbol K.KwFn ∷ named K.Identifier (name .text) ∷ symbol K.LParen ∷ l) (append-assoc (us ++ sym1 K.RParen) (returning rs) (sym1 K.LBrace ++ z .toks ++ sym1 K.RBrace)));
     shows = record {
@@ -87,7 +88,7 @@ module _ (s t : St) (p : Place) (name : Tok) (ps : Items) (r : Fallible Node) (u
 
 function-shown : (s t : St) (p : Place) (x : ℕ) → Grew s (before x) t → cwp (P.function p x) (G Statement s) t
 unfolding P.function step
-function-shown s t p x g = expects plain K.KwFn _ _ _ (λ i d. identifier _ _ _ (λ j d₂. uses′ (List-shown Parameters (next-state (next-state t))) _ _ _ _ (list-shown Parameters (next-state (next-state t))) (λ ps u l q. (
+function-shown s t p x g = expects plain K.KwFn _ _ _ (λ i d. identifier _ _ _ (λ j d₂. follow G L R M _ _ (List-shown Parameters (next-state (next-state t))) _ _ (list-shown Parameters (next-state (next-state t))) (λ ps u l q. (
   λ k d₃. calls Type' _ _ _ (λ ty v l₂ r. function-body-shown s v p (head (tail (t .left))) ps ty (q .toks) (r .toks) (ty .item .place) (q .shows) (r .shows) (q .none) (r .none) x
       (grew-as (g ▸ took-symbol K.KwFn tt t i ▸ took-name K.Identifier tt (next-state t) j ▸ q .grew ▸ (took-symbol K.RArrow tt u k ▸ r .grew)) (ap (λ (l : List Norm). before x ++ sym1 K.KwFn ++ (named K.Identifier (head (tail (t .left)) .text) ∷ []) ++ (sym1 K.LParen ++ q .toks ++ sym1 K.RParen) ++ l) (arrow (r .toks) (r .extra))))),
   λ _.
@@ -159,7 +160,7 @@ top-level-item-shown s = (
 
 module-turn-shown : (i : Items) (s : St) → cwp (P.module-turn i) (Sequel [] i s) s
 unfolding P.module-turn
-module-turn-shown i s = (λ e. record { toks = []; grew = grew-refl s; shows = λ ts h. items-as h (sym (append-nil ts)); none = λ h. h }, λ _. uses′ (G Statement s) _ _ _ _ (top-level-item-shown s) go)
+module-turn-shown i s = (λ e. record { toks = []; grew = grew-refl s; shows = λ ts h. items-as h (sym (append-nil ts)); none = λ h. h }, λ _. follow G L R M _ _ (G Statement s) _ _ (top-level-item-shown s) go)
   where
     go : (a : Ans Node) (t : St) → Later s t → G Statement s a t → (b : Items) (u : St) → Later t u → Sequel [] (P.integrate i a) t b u → Sequel [] i s b u
     go (ok x) t l p b u l₂ q = record {
