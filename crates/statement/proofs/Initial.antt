@@ -27,7 +27,7 @@ use Rattle.steps.proofs.Answers.{Stopped, say, good-of, is-good, stops, follows
 use Rattle.grammar.specs.Post.{ReadsTyped}
 use Rattle.grammar.proofs.Types.{past}
 use Rattle.statement.specs.Rules.{value-on}
-use Rattle.statement.specs.Post.{up, BaredOf, Bared, ValueOn, ReadsDeclared}
+use Rattle.statement.specs.Post.{BaredOf, Bared, ValueOn, ReadsDeclared}
 
 -- ---- `bare`
 
