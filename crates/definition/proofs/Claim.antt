@@ -2,7 +2,7 @@
 use mathlib.Core.Path.{_≡_, refl, sym, ap, ap₂, _∙_, subst}
 use mathlib.Core.Bool.{Bool, true, false, _&&_, _||_}
 use mathlib.Core.List.{List, [], _∷_, _++_, map}
-use Prim.Native.Nat.{ℕ, _+_, _<_}
+use Prim.Native.Nat.{ℕ, _<_}
 use native.Mathlib.Omega.{arith}
 use lib.Dec.{eqb}
 use lib.ListN.{length}
@@ -18,9 +18,11 @@ use Rattle.definition.specs.Parser.{parse-module}
 use Rattle.definition.specs.Records.{has-text}
 use Rattle.definition.specs.Operations.{file-bytes, whole}
 use Rattle.definition.specs.Demand.{tree, full-entries, file-of, tokens-of-script, read-by, reading, is-modifier, is-struck, strike, is-size, value, Same, Agree, none-left, one-more, OneReading}
+use Rattle.definition.proofs.Tests.{never-both}
 use Rattle.definition.proofs.Later.{toks}
 use Rattle.definition.proofs.Strip.{Norm, symbol, named, integer, sized, is-named, spelling, norm, strip}
-use Rattle.definition.proofs.Fit.{AllFit, clean-fit}
+use Rattle.definition.proofs.Layouts.{AllFit}
+use Rattle.definition.proofs.Fit.{clean-fit}
 use Rattle.definition.proofs.Inject.{same-tree, Both}
 use Rattle.definition.proofs.Tokens.{Textless, AllTextless}
 use Rattle.definition.proofs.Accepted.{Accepted, accepted}
@@ -100,18 +102,15 @@ spelling-form t = go (is-named (t .kind)) (eqb (t .kind) K.Integer)
     go false true = omega arith
     go false false = omega arith
 
-flip : {A : Type 0} → true ≡ false → A
-flip e = let z : _≡_ {A = ℕ} 0 1 = cc in absurd (omega arith)
-
 same-told : (c d : Consumed) → Textless (c .tok) → Textless (d .tok) → tell (c .role) (c .tok) ≡ tell (d .role) (d .tok) → Same c d
 unfolding tell form
 same-told c d a b e = go (is-size (c .role)) (is-size (d .role)) refl refl e
   where
     go : (p q : Bool) → is-size (c .role) ≡ p → is-size (d .role) ≡ q → pick p (sized (c .tok .kind) (value c)) (spelling (c .tok)) ≡ pick q (sized (d .tok .kind) (value d)) (spelling (d .tok)) → Same c d
-    go true true x y e = record { kind = cc; text = λ h. flip (sym (ap₂ _&&_ x y) ∙ h); value = λ h. cc }
+    go true true x y e = record { kind = cc; text = λ h. never-both (ap₂ _&&_ x y) h; value = λ h. cc }
     go true false x y e = clash e (λ n. omega (arith, spelling-form (d .tok)))
     go false true x y e = clash e (λ n. omega (arith, spelling-form (c .tok)))
-    go false false x y e = let z : (c .tok .kind ≡ d .tok .kind) × (c .tok .text ≡ d .tok .text) = spelt (c .tok) (d .tok) a b e in record { kind = z .0; text = λ h. z .1; value = λ h. flip (sym h ∙ ap₂ _&&_ x y) }
+    go false false x y e = let z : (c .tok .kind ≡ d .tok .kind) × (c .tok .text ≡ d .tok .text) = spelt (c .tok) (d .tok) a b e in record { kind = z .0; text = λ h. z .1; value = λ h. never-both h (ap₂ _&&_ x y) }
 
 told-agree : (cs ds : List Consumed) → AllTextless (toks cs) → AllTextless (toks ds) → told cs ≡ told ds → Agree cs ds
 unfolding told

@@ -6,7 +6,7 @@ use Prim.Native.Nat.{ℕ, zero, suc, _≤_}
 use native.Mathlib.Omega.{arith}
 use lib.Dec.{ltb}
 use lib.ListN.{length, length-append}
-use Rattle.definition.specs.Fallible.{Err, Ans, fatal}
+use Rattle.definition.specs.Fallible.{Err, Ans}
 use Rattle.definition.specs.Token.{Tok, head, tail}
 use Rattle.definition.specs.Act.{Node, Goal, Loop, Module, Left, Act, done, peek, take, make, if_then_else_, call, loop, panic, St, Res, gives, refused, advance, push, run}
 use Rattle.definition.specs.Parser.{rule, turn, loops, parse, parse-module, no-items}

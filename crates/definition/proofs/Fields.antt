@@ -9,11 +9,12 @@ use borrow.Author.Tests.{ne-eqb}
 use lib.Dec.{eqb}
 use lib.ListN.{length, take, drop, length-append}
 use lib.Seq.{take-at, drop-at}
-use Rattle.definition.specs.Node.{u16, at-place, nums-bytes, field, Rec, rec-bytes, recs-bytes}
+use Rattle.definition.specs.Node.{u16, field, Rec, rec-bytes, recs-bytes}
 use Rattle.definition.specs.Fallible.{Err, err-body, err-bytes, errs-bytes}
 use Rattle.definition.specs.Act.{Items}
 use Rattle.definition.specs.Operations.{file-bytes}
 use Rattle.definition.specs.Demand.{field-size, tree-from, tree, entries-from, full-entries}
+use Rattle.definition.proofs.Inject.{body}
 use Rattle.definition.proofs.Size.{weight}
 use Rattle.definition.proofs.Room.{nums-length, place-length, errs-length}
 
@@ -49,9 +50,6 @@ entries-more t tag n body rest h e = rw (e, behind tag body rest h)
 
 below : (a b : ℕ) → a < b → eqb a b ≡ false
 below a b h = ne-eqb a b (λ e. omega arith)
-
-body : Rec → List ℕ
-body r = at-place (r .place) ++ nums-bytes (r .numbers) ++ r .text
 
 body-short : (r : Rec) (rs : List Rec) → weight (r ∷ rs) < 65536 → length (body r) < 65536
 unfolding body

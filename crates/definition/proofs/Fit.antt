@@ -1,472 +1,23 @@
 -- The records of a clean reading fit their fields: each has the layout of its tag, and its numbers fit their bytes. Assumes nothing.
-use mathlib.Core.Path.{_≡_, refl, sym, ap, subst}
-use mathlib.Core.Bool.{Bool, true, false, not, _||_}
-use mathlib.Core.Option.{Option, none, some}
-use mathlib.Core.List.{List, [], _∷_, _++_}
-use Prim.Native.Nat.{ℕ, _+_, _^_, _≤_, _<_}
+use mathlib.Core.Path.{_≡_, refl, ap, subst}
+use mathlib.Core.Bool.{true, false}
+use mathlib.Core.List.{List, [], _∷_}
+use Prim.Native.Nat.{ℕ, _≤_, _<_}
 use native.Mathlib.Omega.{arith}
-use lib.Dec.{eqb, ltb, T, ltb→lt}
+use lib.Dec.{eqb}
 use lib.ListN.{length}
 use Rattle.definition.specs.Kind as K
 use Rattle.definition.specs.Source.{Place}
-use Rattle.definition.specs.Node.{Num, byte, two, eight, Rec}
-use Rattle.definition.specs.Fallible.{Err, Fallible, Ans, ok, fatal}
-use Rattle.definition.specs.Token.{Tok, head, tail, _is_, number, dashed, end-token}
-use Rattle.definition.specs.Act.{Node, Items, Goal, Statement, Expression, Unary, Type', Loop, Module, Body, ListOf, Operators, Casts, Suffixes, Modifiers, Listed, Parameters, Arguments, StructFields, ArrayValues, StructValues, Level, BitOr, BitXor, BitAnd, Shift, AddSub, Mul, Left, Words, Role, plain, group, size, Act, done, next, call, loop, St, Res, gives, advance, _>>=_, _>>?_, or-return}
+use Rattle.definition.specs.Fallible.{Fallible, Ans, ok, fatal}
+use Rattle.definition.specs.Token.{Tok, head, tail, _is_}
+use Rattle.definition.specs.Act.{Node, Items, Goal, Statement, Expression, Unary, Type', Loop, Module, Body, ListOf, Operators, Casts, Suffixes, Modifiers, Parameters, ArrayValues, StructValues, Words, plain, Act, St, Res, gives, advance, _>>=_}
 use Rattle.definition.specs.Parser as P
-use Rattle.definition.proofs.Later.{Later, toks, later-left, later-refl, later-advance, After}
-use Rattle.definition.proofs.Ind.{wp, wp-bind, wp-mono, wp-later}
-use Rattle.definition.proofs.Shown.{is-kind}
+use Rattle.definition.proofs.Later.{Later, later-left, later-advance, After}
+use Rattle.definition.proofs.Ind.{wp-mono, follow, try-sure}
 use Rattle.definition.proofs.Clean.{Clean, clean-module}
-
--- ---- layouts: whether a tag has a place (1) or none (0), then the widths of its numbers
-
-abbrev pub width : Num → ℕ
-width (byte n) = 1
-width (two n) = 2
-width (eight n) = 8
-
-abbrev pub widths : List Num → List ℕ
-widths [] = []
-widths (n ∷ ns) = width n ∷ widths ns
-
-abbrev pub placed : Option Place → ℕ
-placed none = 0
-placed (some p) = 1
-
-abbrev pub shape : Rec → List ℕ
-shape r = placed (r .place) ∷ widths (r .numbers)
-
-abbrev pub one-of : ℕ → List ℕ → Bool
-one-of n [] = false
-one-of n (m ∷ ms) = eqb n m || one-of n ms
-
-abbrev pub choose : Bool → List ℕ → List ℕ → List ℕ
-choose true a b = a
-choose false a b = b
-
-unfoldable pub layout : ℕ → List ℕ
-layout t =
-    choose (one-of t (0x15 ∷ 0x33 ∷ 0x34 ∷ 0x35 ∷ [])) (0 ∷ [])
-    (choose (one-of t (0x13 ∷ [])) (1 ∷ 8 ∷ [])
-    (choose (one-of t (0x14 ∷ 0x24 ∷ 0x30 ∷ 0x31 ∷ 0x40 ∷ [])) (1 ∷ 2 ∷ [])
-    (choose (one-of t (0x21 ∷ 0x22 ∷ 0x2D ∷ 0x2E ∷ 0x45 ∷ 0x49 ∷ 0x51 ∷ [])) (1 ∷ 1 ∷ [])
-    (choose (one-of t (0x50 ∷ [])) (1 ∷ 1 ∷ 2 ∷ []) (1 ∷ [])))))
-
--- ---- numbers that fit
-
-abbrev pub SmallPlace : Place → Type 0
-SmallPlace p = (p .line < 65536) × (p .column < 65536)
-
-abbrev pub SmallAt : Option Place → Type 0
-SmallAt none = Unit {0}
-SmallAt (some p) = SmallPlace p
-
-abbrev pub SmallNums : List Num → Type 0
-SmallNums [] = Unit {0}
-SmallNums (byte n ∷ ns) = SmallNums ns
-SmallNums (two n ∷ ns) = (n < 65536) × SmallNums ns
-SmallNums (eight n ∷ ns) = (n < 2 ^ 64) × SmallNums ns
-
-pub record Fit (r : Rec) : Type 0 where
-  pub shaped : shape r ≡ layout (r .tag)
-  pub module-not : eqb (r .tag) 0x5F ≡ false
-  pub at : SmallAt (r .place)
-  pub nums : SmallNums (r .numbers)
-  pub text : length (r .text) ≤ 60000
-
-abbrev pub Fits : List Rec → Type 0
-Fits [] = Unit {0}
-Fits (r ∷ rs) = Fit r × Fits rs
-
-pub record AllFit (rs : List Rec) : Type 0 where
-  pub all : Fits rs
-
-fits-append : (xs ys : List Rec) → Fits xs → Fits ys → Fits (xs ++ ys)
-fits-append [] ys p q = q
-fits-append (x ∷ xs) ys p q = (p .0, fits-append xs ys (p .1) q)
-
-both : {xs ys : List Rec} → AllFit xs → AllFit ys → AllFit (xs ++ ys)
-both {xs} {ys} p q = record { all = fits-append xs ys (p .all) (q .all) }
-
-none-fit : AllFit []
-none-fit = record { all = tt }
-
--- ---- tokens that fit
-
-abbrev pub SmallTok : Tok → Type 0
-SmallTok t = (t .place .line < 65536) × (t .place .column < 65536) × (length (t .text) ≤ 60000)
-
-abbrev pub AllSmall : List Tok → Type 0
-AllSmall [] = Unit {0}
-AllSmall (t ∷ ts) = SmallTok t × AllSmall ts
-
-abbrev pub Small : List Tok → Type 0
-Small ts = AllSmall ts × (length ts < 65536)
-
-small-tail : (ts : List Tok) → Small ts → Small (tail ts)
-small-tail [] h = h
-small-tail (t ∷ ts) h = (h .0 .1, omega arith)
-
-small-drop : (xs ys : List Tok) → AllSmall (xs ++ ys) → AllSmall ys
-small-drop [] ys h = h
-small-drop (x ∷ xs) ys h = small-drop xs ys (h .1)
-
-small-later : (s s′ : St) → Later s s′ → Small (s .left) → Small (s′ .left)
-small-later s s′ l h = (small-drop (toks (l .eaten)) (s′ .left) (subst AllSmall (l .left) (h .0)), omega (arith, later-left l))
-
-small-head : (ts : List Tok) → Small ts → SmallTok (head ts)
-small-head [] h = omega arith
-small-head (t ∷ ts) h = h .0 .0
-
--- ---- what holds of answers
-
-record Good (s : St) (x : Fallible Node) (s′ : St) : Type 0 where
-  fit : AllFit (x .item .recs)
-  place : SmallPlace (x .item .place)
-  less : length (s′ .left) < length (s .left)
-
-record Onward (e : Fallible Node) (s : St) (x : Fallible Node) (s′ : St) : Type 0 where
-  fit : AllFit (e .item .recs) → AllFit (x .item .recs)
-  place : SmallPlace (e .item .place) → SmallPlace (x .item .place)
-
-record Listing (i : Items) (s : St) (a : Items) (s′ : St) : Type 0 where
-  fit : AllFit (i .recs) → AllFit (a .recs)
-  count : a .count + length (s′ .left) ≤ i .count + length (s .left)
-
-abbrev Of : St → Ans Node → St → Type 0
-Of s (ok x) s′ = Good s x s′
-Of s (fatal es) s′ = ⊥
-
-abbrev G : Goal → St → Ans Node → St → Type 0
-G g s a s′ = Of s a s′
-
-abbrev OnwardOf : Fallible Node → St → Ans Node → St → Type 0
-OnwardOf e s (ok x) s′ = Onward e s x s′
-OnwardOf e s (fatal es) s′ = ⊥
-
-abbrev L : (l : Loop) → St → Left l → St → Type 0
-L (Module i) s a s′ = Listing i s a s′
-L (Body i) s a s′ = Listing i s a s′
-L (ListOf k i) s a s′ = Listing i s a s′
-L (Operators l e) s a s′ = OnwardOf e s a s′
-L (Casts e) s a s′ = OnwardOf e s a s′
-L (Suffixes e) s a s′ = OnwardOf e s a s′
-L (Modifiers w) s a s′ = Unit {0}
-
-abbrev R : St → Type 0
-R s = Small (s .left)
-
-abbrev M : Err → St → Type 0
-M e s = ⊥
-
-abbrev cwp : {A : Type 0} → Act A → (A → St → Type 0) → St → Type 0
-cwp m Q s = wp G L R M m Q s
-
-there : (k : ℕ) → T (ltb 0 k) → (ts : List Tok) → head ts is k ≡ true → length (tail ts) < length ts
-there k h [] i = absurd (omega (arith, is-kind end-token k i, ltb→lt 0 k h))
-there k h (t ∷ ts) i = omega arith
-
-expects : {B : Type 0} (r : Role) (k : ℕ) → T (ltb 0 k) → (f : Fallible Tok → Act (Ans B)) (Q : Ans B → St → Type 0) (s : St)
-    → (SmallTok (head (s .left)) → length (tail (s .left)) < length (s .left) → cwp (f (record { item = head (s .left); errors = [] })) Q (advance (λ _. r) s)) → cwp (P.expect-as r k >>? f) Q s
-unfolding _>>=_
-expects r k z f Q s h = λ d. (λ i. h (small-head (s .left) d) (there k z (s .left) i), λ _. (λ _ m. absurd m, λ _ m. absurd m))
-
-identifier : {B : Type 0} (f : Fallible Tok → Act (Ans B)) (Q : Ans B → St → Type 0) (s : St)
-    → (SmallTok (head (s .left)) → length (tail (s .left)) < length (s .left) → cwp (f (record { item = head (s .left); errors = [] })) Q (advance (λ _. plain) s)) → cwp (P.expect-identifier >>? f) Q s
-unfolding _>>=_
-identifier f Q s h = λ d. (λ i. h (small-head (s .left) d) (there K.Identifier tt (s .left) i), λ _. (λ _ m. absurd m, λ _ m. absurd m))
-
-calls : {B : Type 0} (g : Goal) (f : Fallible Node → Act (Ans B)) (Q : Ans B → St → Type 0) (s : St)
-    → ((x : Fallible Node) (s′ : St) → Good s x s′ → cwp (f x) Q s′) → cwp (call g done >>? f) Q s
-unfolding _>>=_
-calls g f Q s h = (λ x s′ l p. h x s′ p, λ es s′ l p. absurd p)
-
-uses′ : {A B : Type 0} (P : A → St → Type 0) (m : Act A) (f : A → Act B) (Q : B → St → Type 0) (s : St) → cwp m P s → ((a : A) (s′ : St) → Later s s′ → P a s′ → cwp (f a) Q s′) → cwp (m >>= f) Q s
-uses′ P m f Q s w h = wp-bind G L R M m f Q s (wp-later G L R M P (λ a s′. cwp (f a) Q s′) m s s (later-refl s) h w)
-
-uses : {B : Type 0} (m : Act (Ans Node)) (f : Fallible Node → Act (Ans B)) (Q : Ans B → St → Type 0) (s : St)
-    → cwp m (Of s) s → ((x : Fallible Node) (s′ : St) → Later s s′ → Good s x s′ → cwp (f x) Q s′) → cwp (m >>? f) Q s
-uses {B} m f Q s w h = uses′ (Of s) m (or-return f) Q s w go
-  where
-    go : (a : Ans Node) (s′ : St) → Later s s′ → Of s a s′ → cwp (or-return f a) Q s′
-    go (ok x) s′ l p = h x s′ l p
-    go (fatal es) s′ l p = absurd p
-
--- a record behind its children's
-add : {rs : List Rec} (r : Rec) → AllFit rs → shape r ≡ layout (r .tag) → eqb (r .tag) 0x5F ≡ false → SmallAt (r .place) → SmallNums (r .numbers) → length (r .text) ≤ 60000 → AllFit (rs ++ (r ∷ []))
-add r p e m a n t = both p (record { all = (record { shaped = e; module-not = m; at = a; nums = n; text = t }, tt) })
-
--- ---- expressions
-
-group-fit : (s : St) → cwp P.parse-group (Of s) s
-unfolding P.parse-group _>>=_
-group-fit s = λ d. (λ x t l p d′. (λ j. record { fit = p .fit; place = p .place; less = omega (arith, there K.RParen tt (t .left) j, later-left (later-advance (λ _. group) s), p .less) }, λ _. (λ _ m. absurd m, λ _ m. absurd m)), λ es t l p. absurd p)
-
-atom-fit : (s : St) → Small (s .left) → cwp P.parse-atom (Of s) s
-unfolding P.parse-atom layout
-atom-fit s d = go (small-head (s .left) d)
-  where
-    go : SmallTok (head (s .left)) → cwp P.parse-atom (Of s) s
-    go h = (
-      λ i _. record { fit = add _ none-fit refl refl (omega arith) tt (omega arith); place = omega arith; less = there K.Integer tt (s .left) i },
-      λ _. (
-        λ i _. record { fit = add _ none-fit refl refl (omega arith) tt (omega arith); place = omega arith; less = there K.Identifier tt (s .left) i },
-        λ _. (
-          λ i _. record { fit = add _ none-fit refl refl (omega arith) tt (omega arith); place = omega arith; less = there K.String tt (s .left) i },
-          λ _. (
-            λ i _. record { fit = add _ none-fit refl refl (omega arith) tt (omega arith); place = omega arith; less = there K.KwTrue tt (s .left) i },
-            λ _. (
-              λ i _. record { fit = add _ none-fit refl refl (omega arith) tt (omega arith); place = omega arith; less = there K.KwFalse tt (s .left) i },
-              λ _.
-                  (λ i. group-fit s, λ _ _. (λ _ m. absurd m, λ _ m. absurd m)),
-            ),
-          ),
-        ),
-      ),
-    )
-
-suffixes-fit : (e : Fallible Node) (s : St) → Small (s .left) → cwp (P.suffixes-turn e) (OnwardOf e s) s
-unfolding P.suffixes-turn layout
-suffixes-fit e s d = go (small-head (s .left) d) (small-head (tail (s .left)) (small-tail (s .left) d))
-  where
-    go : SmallTok (head (s .left)) → SmallTok (head (tail (s .left))) → cwp (P.suffixes-turn e) (OnwardOf e s) s
-    go h h₂ = (
-      λ i _ _. (λ _. tt, λ _. (λ j. (λ x u l p. record { fit = λ f. p .fit (add _ f refl refl (omega arith) tt (omega arith)); place = λ _. p .place (omega arith) }, λ es u l p. absurd p), λ _ m. absurd m)),
-      λ _. (
-        λ i _. (λ x u l p. record { fit = λ f. p .fit (add _ f refl refl (omega arith) tt (omega arith)); place = λ _. p .place (omega arith) }, λ es u l p. absurd p),
-        λ _. (
-          λ i _. calls Expression _ _ _ (λ x t p. expects plain K.RBracket tt _ _ _ (λ _ _. (λ y u l q. record { fit = λ f. q .fit (add _ (both f (p .fit)) refl refl (omega arith) tt (omega arith)); place = λ _. q .place (omega arith) }, λ es u l q. absurd q))),
-          λ _.
-              record { fit = λ f. f; place = λ p. p },
-        ),
-      ),
-    )
-
-goes-on : (s t u : St) (e x : Fallible Node) → Good s e t → Later t u → Onward e t x u → Good s x u
-goes-on s t u e x p l q = record { fit = q .fit (p .fit); place = q .place (p .place); less = omega (arith, p .less, later-left l) }
-
-field-access-fit : (s : St) → Small (s .left) → cwp P.parse-field-access-or-index (Of s) s
-unfolding P.parse-field-access-or-index
-field-access-fit s d = uses _ _ _ _ (atom-fit s d) (λ e t l p. (λ x u l₂ q. goes-on s t u e x p l₂ q, λ es u l₂ q. absurd q))
-
-sizeof-fit : (s : St) → Small (s .left) → cwp P.parse-sizeof (Of s) s
-unfolding P.parse-sizeof layout
-sizeof-fit s d = (λ i _. go (small-head (s .left) d) (there K.KwSizeof tt (s .left) i), λ _. field-access-fit s d)
-  where
-    go : SmallTok (head (s .left)) → length (tail (s .left)) < length (s .left) → cwp (P.expect K.LParen >>? λ _. P.parse-type >>? λ ty. P.expect K.RParen >>? λ _. P.good (P.node (ty .item .recs) 0x2F (head (s .left) .place) [] []) (ty .errors)) (Of s) (advance (λ _. plain) s)
-    go h b = expects plain K.LParen tt _ _ _ (λ _ b₂. calls Type' _ _ _ (λ ty t p. expects plain K.RParen tt _ _ _ (λ _ b₃. record { fit = add _ (p .fit) refl refl (omega arith) tt (omega arith); place = omega arith; less = omega (arith, p .less) })))
-
--- ---- lists
-
-record Listed-fit (s : St) (a : Items) (s′ : St) : Type 0 where
-  fit : AllFit (a .recs)
-  count : a .count + length (s′ .left) < length (s .left)
-
-opener-there : (k : Listed) → T (ltb 0 (P.opener k))
-opener-there Parameters = tt
-opener-there Arguments = tt
-opener-there StructFields = tt
-opener-there ArrayValues = tt
-opener-there StructValues = tt
-
-list-fit : (k : Listed) (s : St) → cwp (P.parse-list k) (Listed-fit s) s
-unfolding P.parse-list _>>=_
-list-fit k s = λ d. (λ i a t l p. record { fit = p .fit none-fit; count = omega (arith, p .count, there (P.opener k) (opener-there k) (s .left) i) }, λ _. (λ _ m. absurd m, λ _ m. absurd m))
-
-record Typed-fit (s : St) (x : Fallible P.Typed) (s′ : St) : Type 0 where
-  fit : AllFit (x .item .type)
-  name : length (x .item .name) ≤ 60000
-  less : length (s′ .left) < length (s .left)
-
-abbrev TypedOf : St → Ans P.Typed → St → Type 0
-TypedOf s (ok x) s′ = Typed-fit s x s′
-TypedOf s (fatal es) s′ = ⊥
-
-uses-typed : {B : Type 0} (m : Act (Ans P.Typed)) (f : Fallible P.Typed → Act (Ans B)) (Q : Ans B → St → Type 0) (s : St)
-    → cwp m (TypedOf s) s → ((x : Fallible P.Typed) (s′ : St) → Later s s′ → Typed-fit s x s′ → cwp (f x) Q s′) → cwp (m >>? f) Q s
-uses-typed {B} m f Q s w h = uses′ (TypedOf s) m (or-return f) Q s w go
-  where
-    go : (a : Ans P.Typed) (s′ : St) → Later s s′ → TypedOf s a s′ → cwp (or-return f a) Q s′
-    go (ok x) s′ l p = h x s′ l p
-    go (fatal es) s′ l p = absurd p
-
-typed-identifier-fit : (s : St) → cwp P.parse-typed-identifier (TypedOf s) s
-unfolding P.parse-typed-identifier P.typed
-typed-identifier-fit s d =
-    (λ i. go (small-head (s .left) d) (there K.Identifier tt (s .left) i), λ _. (λ _ m. absurd m, λ _ m. absurd m))
-  where
-    go : SmallTok (head (s .left)) → length (tail (s .left)) < length (s .left) → cwp (P.typed (head (s .left) .text) []) (TypedOf s) (advance (λ _. plain) s)
-    go h b = expects plain K.Colon tt _ _ _ (λ _ b₂. calls Type' _ _ _ (λ ty t p. record { fit = p .fit; name = h .2; less = omega (arith, p .less) }))
-
-abbrev Anything : Place → Type 0
-Anything p = Unit {0}
-
--- an item: its place does not matter
-record Item-fit (s : St) (x : Fallible Node) (s′ : St) : Type 0 where
-  fit : AllFit (x .item .recs)
-  less : length (s′ .left) < length (s .left)
-
-abbrev ItemOf : St → Ans Node → St → Type 0
-ItemOf s (ok x) s′ = Item-fit s x s′
-ItemOf s (fatal es) s′ = ⊥
-
-named-type-fit : (s : St) → cwp P.parse-named-type (ItemOf s) s
-unfolding P.parse-named-type layout
-named-type-fit s = uses-typed P.parse-typed-identifier _ _ _ (typed-identifier-fit s) (λ x t l p. record { fit = add _ (p .fit) refl refl tt tt (p .name); less = p .less })
-
-struct-field-fit : (s : St) → cwp P.parse-compound-struct-field (ItemOf s) s
-unfolding P.parse-compound-struct-field layout
-struct-field-fit s = identifier _ _ _ (λ h b. expects plain K.Equals tt _ _ _ (λ _ b₂. calls Expression _ _ _ (λ e t p. record { fit = add _ (p .fit) refl refl (omega arith) tt (omega arith); less = omega (arith, p .less) })))
-
-item-fit : (k : Listed) (s : St) → cwp (P.item k) (ItemOf s) s
-item-fit Parameters s = named-type-fit s
-item-fit Arguments s = (λ x t l p. record { fit = p .fit; less = p .less }, λ es t l p. absurd p)
-item-fit StructFields s = named-type-fit s
-item-fit ArrayValues s = (λ x t l p. record { fit = p .fit; less = p .less }, λ es t l p. absurd p)
-item-fit StructValues s = struct-field-fit s
-
-after-item-fit : (k : Listed) (i : Items) (s : St) → cwp (P.after-item k i) (Listing i s) s
-unfolding P.after-item
-after-item-fit k i s =
-    (λ e d a t l p. record { fit = p .fit; count = omega (arith, p .count, there K.Comma tt (s .left) e) }, λ _. (λ e a t l p. p, λ _. (λ e a t l p. p, λ _ d m. absurd m)))
-
-list-turn-fit : (k : Listed) (i : Items) (s : St) → cwp (P.list-turn k i) (Listing i s) s
-unfolding P.list-turn
-list-turn-fit k i s = (λ e m. absurd m, λ _. (λ c d. record { fit = λ f. f; count = omega (arith, later-left (later-advance (λ _. plain) s)) }, λ c. uses′ (ItemOf s) _ _ _ _ (item-fit k s) go))
-  where
-    go : (a : Ans Node) (t : St) → Later s t → ItemOf s a t → cwp (P.after-item k (P.integrate i a)) (Listing i s) t
-    go (ok x) t l p = wp-mono G L R M (Listing (P.integrate i (ok x)) t) (Listing i s) (P.after-item k (P.integrate i (ok x))) t (λ a u q. record { fit = λ f. q .fit (both f (p .fit)); count = omega (arith, q .count, p .less) }) (after-item-fit k (P.integrate i (ok x)) t)
-    go (fatal es) t l p = absurd p
-
-call-fit : (s : St) → Small (s .left) → cwp P.parse-call (Of s) s
-unfolding P.parse-call layout
-call-fit s d = uses _ _ _ _ (sizeof-fit s d) (λ e t l p. (λ i. uses′ (Listed-fit t) (P.parse-list Arguments) _ _ _ (list-fit Arguments t) (λ a u l₂ q. record { fit = add _ (both (p .fit) (q .fit)) refl refl (p .place) (omega (arith, q .count, p .less, d .1)) (omega arith); place = p .place; less = omega (arith, p .less, later-left l₂) }), λ _. p))
-
--- ---- prefixes and operators
-
-prefix-fit : (tag : ℕ) → (1 ∷ []) ≡ layout tag → eqb tag 0x5F ≡ false → (s : St) → cwp (P.prefix tag) (Of s) s
-unfolding P.prefix
-prefix-fit tag e m s d = calls Unary _ _ _ (λ x t p. record { fit = add _ (p .fit) e m (p .place) tt (omega arith); place = p .place; less = omega (arith, p .less, later-left (later-advance (λ _. plain) s)) })
-
-unary-fit : (s : St) → Small (s .left) → cwp P.unary-rule (Of s) s
-unfolding P.unary-rule layout
-unary-fit s d = (λ _. prefix-fit 0x27 refl refl s, λ _. (λ _. prefix-fit 0x28 refl refl s, λ _. (λ _. prefix-fit 0x2A refl refl s, λ _. (λ _. prefix-fit 0x2B refl refl s, λ _. call-fit s d))))
-
-cast-fit : (s : St) → cwp P.parse-cast (Of s) s
-unfolding P.parse-cast _>>=_
-cast-fit s = (λ e t l p. (λ x u l₂ q. goes-on s t u e x p l₂ q, λ es u l₂ q. absurd q), λ es t l p. absurd p)
-
-casts-fit : (e : Fallible Node) (s : St) → cwp (P.casts-turn e) (OnwardOf e s) s
-unfolding P.casts-turn layout _>>=_
-casts-fit e s = (λ i d. (λ ty t l p. (λ x u l₂ q. turned d ty t p x u q, λ es u l₂ q. absurd q), λ es t l p. absurd p), λ _. record { fit = λ f. f; place = λ p. p })
-  where
-    turned : Small (s .left) → (ty : Fallible Node) (t : St) → Good (advance (λ _. plain) s) ty t → (x : Fallible Node) (u : St) → Onward (P.binary 0x26 [] (head (s .left) .place) e ty) t x u → Onward e s x u
-    turned d ty t p x u q = let h : SmallTok (head (s .left)) = small-head (s .left) d in record { fit = λ f. q .fit (add _ (both f (p .fit)) refl refl (omega arith) tt (omega arith)); place = λ _. q .place (omega arith) }
-
-level-fit : (l : Level) (m : Act (Ans Node)) (s : St) → cwp m (Of s) s → cwp (m >>? λ e. loop (Operators l e) done) (Of s) s
-level-fit l m s w = uses m _ _ _ w (λ e t k p. (λ x u l₂ q. goes-on s t u e x p l₂ q, λ es u l₂ q. absurd q))
-
-mul-fit : (s : St) → cwp P.parse-mul (Of s) s
-unfolding P.parse-mul
-mul-fit s = level-fit Mul _ s (cast-fit s)
-
-add-sub-fit : (s : St) → cwp P.parse-add-sub (Of s) s
-unfolding P.parse-add-sub
-add-sub-fit s = level-fit AddSub _ s (mul-fit s)
-
-bit-shift-fit : (s : St) → cwp P.parse-bit-shift (Of s) s
-unfolding P.parse-bit-shift
-bit-shift-fit s = level-fit Shift _ s (add-sub-fit s)
-
-bitwise-and-fit : (s : St) → cwp P.parse-bitwise-and (Of s) s
-unfolding P.parse-bitwise-and
-bitwise-and-fit s = level-fit BitAnd _ s (bit-shift-fit s)
-
-bitwise-xor-fit : (s : St) → cwp P.parse-bitwise-xor (Of s) s
-unfolding P.parse-bitwise-xor
-bitwise-xor-fit s = level-fit BitXor _ s (bitwise-and-fit s)
-
-bitwise-or-fit : (s : St) → cwp P.parse-bitwise-or (Of s) s
-unfolding P.parse-bitwise-or
-bitwise-or-fit s = level-fit BitOr _ s (bitwise-xor-fit s)
-
-cascade-fit : (l : Level) (s : St) → cwp (P.cascade l) (Of s) s
-cascade-fit BitOr s = bitwise-xor-fit s
-cascade-fit BitXor s = bitwise-and-fit s
-cascade-fit BitAnd s = bit-shift-fit s
-cascade-fit Shift s = add-sub-fit s
-cascade-fit AddSub s = mul-fit s
-cascade-fit Mul s = cast-fit s
-
-find-fit : {A : Type 0} (os : List P.Op) (y : ℕ → Act A) (n : Act A) (Q : A → St → Type 0) (s : St) → ((o : ℕ) → cwp (y o) Q s) → cwp n Q s → cwp (P.find (head (s .left)) os y n) Q s
-find-fit [] y n Q s h e = e
-find-fit (o ∷ os) y n Q s h e = (λ i. h (o .op), λ _. find-fit os y n Q s h e)
-
-operators-fit : (l : Level) (e : Fallible Node) (s : St) → cwp (P.operators-turn l e) (OnwardOf e s) s
-unfolding P.operators-turn layout
-operators-fit l e s =
-    find-fit (P.mapping l) (λ o. next λ op. P.cascade l >>? λ r. loop (Operators l (P.binary 0x2D (byte o ∷ []) (op .place) e r)) done) (done (ok e)) (OnwardOf e s) s
-    (λ o d. let h : SmallTok (head (s .left)) = small-head (s .left) d in uses _ _ _ _ (cascade-fit l (advance (λ _. plain) s)) (λ r t k p. (λ x u l₂ q. record { fit = λ f. q .fit (add _ (both f (p .fit)) refl refl (omega arith) tt (omega arith)); place = λ _. q .place (omega arith) }, λ es u l₂ q. absurd q)))
-    (record { fit = λ f. f; place = λ p. p })
-
-comparison-fit : (s : St) → cwp P.parse-comparison (Of s) s
-unfolding P.parse-comparison layout
-comparison-fit s = uses _ _ _ _ (bitwise-or-fit s) (λ e t l p.
-    find-fit P.comparisons (λ o. next λ op. P.parse-bitwise-or >>? λ r. done (ok (P.binary 0x2E (byte o ∷ []) (op .place) e r))) (done (ok e)) (Of s) t
-    (λ o d. let h : SmallTok (head (t .left)) = small-head (t .left) d in uses _ _ _ _ (bitwise-or-fit (advance (λ _. plain) t)) (λ r u k q. record { fit = add _ (both (p .fit) (q .fit)) refl refl (omega arith) tt (omega arith); place = omega arith; less = omega (arith, p .less, later-left k, later-left (later-advance (λ _. plain) t)) })) p)
-
-expression-fit : (s : St) → cwp P.expression-rule (Of s) s
-unfolding P.expression-rule layout
-expression-fit s = uses _ _ _ _ (comparison-fit s) (λ e t l p.
-    (λ i d. let h : SmallTok (head (t .left)) = small-head (t .left) d in uses _ _ _ _ (comparison-fit (advance (λ _. plain) t)) (λ r u k q. record { fit = add _ (both (p .fit) (q .fit)) refl refl (omega arith) tt (omega arith); place = omega arith; less = omega (arith, p .less, later-left k, later-left (later-advance (λ _. plain) t)) }), λ _. p))
-
--- ---- types
-
-or-false : (a b : Bool) → a || not b ≡ false → b ≡ true
-or-false true b e = let z : _≡_ {A = ℕ} 0 1 = cc in absurd (omega arith)
-or-false false true e = refl
-or-false false false e = sym e
-
-array-type-fit : (s : St) → head (s .left) is K.LBracket ≡ true → SmallPlace (head (s .left) .place) → cwp (P.parse-array-type (head (s .left) .place)) (Of s) (advance (λ _. plain) s)
-unfolding P.parse-array-type layout
-array-type-fit s i h = λ d. (
-  λ _ m. absurd m,
-  λ e. (
-    λ _ m. absurd m,
-    λ n. expects plain K.RBracket tt _ _ _ (λ _ b. calls Type' _ _ _ (λ ty t p. record {
-      fit = add _ (p .fit) refl refl h (below n, tt) (omega arith);
-      place = h;
-      less = omega (arith, p .less, there K.LBracket tt (s .left) i, later-left (later-advance (λ _. size) (advance (λ _. plain) s)));
-    })),
-  ),
-)
-  where
-    t₁ : Tok
-    t₁ = head (tail (s .left))
-
-    below : dashed (t₁ .text) || not (ltb (number (t₁ .base) 0 (t₁ .text)) (2 ^ 64)) ≡ false → number (t₁ .base) 0 (t₁ .text) < 2 ^ 64
-    below n = ltb→lt (number (t₁ .base) 0 (t₁ .text)) (2 ^ 64) (subst T (sym (or-false (dashed (t₁ .text)) (ltb (number (t₁ .base) 0 (t₁ .text)) (2 ^ 64)) n)) tt)
-
-type-fit : (s : St) → Small (s .left) → cwp P.type-rule (Of s) s
-unfolding P.type-rule layout
-type-fit s d = go (small-head (s .left) d)
-  where
-    go : SmallTok (head (s .left)) → cwp P.type-rule (Of s) s
-    go h _ = (
-      λ i. record { fit = add _ none-fit refl refl (omega arith) tt (omega arith); place = omega arith; less = there K.Identifier tt (s .left) i },
-      λ _. (
-        λ i. calls Type' _ _ _ (λ ty t p. record { fit = add _ (p .fit) refl refl (omega arith) tt (omega arith); place = omega arith; less = omega (arith, p .less, there K.Star tt (s .left) i) }),
-        λ _. (
-          λ i. array-type-fit s i (omega arith),
-          λ _. (
-            λ i. uses′ (Listed-fit (advance (λ _. plain) s)) (P.parse-list StructFields) _ _ _ (list-fit StructFields (advance (λ _. plain) s)) (λ a t l q. record { fit = add _ (q .fit) refl refl (omega arith) (omega (arith, q .count, there K.KwStruct tt (s .left) i, d .1)) (omega arith); place = omega arith; less = omega (arith, q .count, there K.KwStruct tt (s .left) i) }),
-            λ _.
-                (λ _ m. absurd m, λ _ m. absurd m),
-          ),
-        ),
-      ),
-    )
+use Rattle.definition.proofs.Grows.{there}
+use Rattle.definition.proofs.Layouts.{layout, SmallPlace, AllFit, both, none-fit, SmallTok, Small, small-tail, small-later, small-head, small-place}
+use Rattle.definition.proofs.FitExpressions.{Good, Listing, Of, G, L, R, M, cwp, expects, identifier, calls, add, suffixes-fit, Listed-fit, Typed-fit, Item-fit, list-fit, TypedOf, typed-identifier-fit, Item-fit, ItemOf, list-turn-fit, unary-fit, casts-fit, operators-fit, expression-fit, type-fit}
 
 -- ---- declarations
 
@@ -475,9 +26,9 @@ unfolding P.parse-compound layout
 compound-fit s d = expects plain K.Hash tt _ _ _ (λ h b. (
   λ _ m. absurd m,
   λ _. (
-    λ j. uses′ (Listed-fit t) (P.parse-list ArrayValues) _ _ _ (list-fit ArrayValues t) (λ a u l q. record { fit = add _ (q .fit) refl refl place (omega (arith, q .count, d .1)) (omega arith); less = omega (arith, q .count) }),
+    λ j. follow G L R M (P.parse-list ArrayValues) _ (Listed-fit t) _ _ (list-fit ArrayValues t) (λ a u l q. record { fit = add _ (q .fit) refl refl place (omega (arith, q .count, d .1)) (omega arith); less = omega (arith, q .count) }),
     λ _.
-        (λ j. uses′ (Listed-fit t) (P.parse-list StructValues) _ _ _ (list-fit StructValues t) (λ a u l q. record { fit = add _ (q .fit) refl refl place (omega (arith, q .count, d .1)) (omega arith); less = omega (arith, q .count) }), λ _ m. absurd m),
+        (λ j. follow G L R M (P.parse-list StructValues) _ (Listed-fit t) _ _ (list-fit StructValues t) (λ a u l q. record { fit = add _ (q .fit) refl refl place (omega (arith, q .count, d .1)) (omega arith); less = omega (arith, q .count) }), λ _ m. absurd m),
   ),
 ))
   where
@@ -485,22 +36,14 @@ compound-fit s d = expects plain K.Hash tt _ _ _ (λ h b. (
     t = advance (λ _. plain) s
 
     place : SmallPlace (head (t .left) .place)
-    place = let h : SmallTok (head (tail (s .left))) = small-head (tail (s .left)) (small-tail (s .left) d) in omega arith
-
-uses-item : {B : Type 0} (m : Act (Ans Node)) (f : Fallible Node → Act (Ans B)) (Q : Ans B → St → Type 0) (s : St)
-    → cwp m (ItemOf s) s → ((x : Fallible Node) (s′ : St) → Later s s′ → Item-fit s x s′ → cwp (f x) Q s′) → cwp (m >>? f) Q s
-uses-item {B} m f Q s w h = uses′ (ItemOf s) m (or-return f) Q s w go
-  where
-    go : (a : Ans Node) (s′ : St) → Later s s′ → ItemOf s a s′ → cwp (or-return f a) Q s′
-    go (ok x) s′ l p = h x s′ l p
-    go (fatal es) s′ l p = absurd p
+    place = small-place (tail (s .left)) (small-tail (s .left) d)
 
 var-like-fit : (s : St) → Small (s .left) → cwp P.parse-var-like-declaration (TypedOf s) s
 unfolding P.parse-var-like-declaration layout
-var-like-fit s d = uses-typed P.parse-typed-identifier _ _ _ (typed-identifier-fit s) (λ x t l p. (
+var-like-fit s d = try-sure G L R M (Typed-fit s) P.parse-typed-identifier _ _ _ (typed-identifier-fit s) (λ x t l p. (
   λ i _. calls Expression _ _ _ (λ e u q. record { fit = both (p .fit) (add _ (q .fit) refl refl tt tt (omega arith)); name = p .name; less = omega (arith, p .less, q .less, later-left (later-advance (λ _. plain) t)) }),
   λ _. (
-    λ i _. uses-item P.parse-compound _ _ _ (compound-fit (advance (λ _. plain) t) (small-tail (t .left) (small-later s t l d))) (λ c u l₂ q. record { fit = both (p .fit) (add _ (q .fit) refl refl tt tt (omega arith)); name = p .name; less = omega (arith, p .less, q .less, later-left (later-advance (λ _. plain) t)) }),
+    λ i _. try-sure G L R M (Item-fit (advance (λ _. plain) t)) P.parse-compound _ _ _ (compound-fit (advance (λ _. plain) t) (small-tail (t .left) (small-later s t l d))) (λ c u l₂ q. record { fit = both (p .fit) (add _ (q .fit) refl refl tt tt (omega arith)); name = p .name; less = omega (arith, p .less, q .less, later-left (later-advance (λ _. plain) t)) }),
     λ _.
         record { fit = both (p .fit) (add _ none-fit refl refl tt tt (omega arith)); name = p .name; less = p .less },
   ),
@@ -508,7 +51,7 @@ var-like-fit s d = uses-typed P.parse-typed-identifier _ _ _ (typed-identifier-f
 
 declaration-fit : (tag : ℕ) → (1 ∷ []) ≡ layout tag → eqb tag 0x5F ≡ false → (p : Place) → SmallPlace p → (s : St) → Small (s .left) → cwp (P.declaration tag p) (Of s) s
 unfolding P.declaration
-declaration-fit tag e m p h s d = uses-typed P.parse-var-like-declaration _ _ _ (var-like-fit s d) (λ x t l q. expects plain K.Semicolon tt _ _ _ (λ _ b. record { fit = add _ (q .fit) e m h tt (q .name); place = h; less = omega (arith, q .less) }))
+declaration-fit tag e m p h s d = try-sure G L R M (Typed-fit s) P.parse-var-like-declaration _ _ _ (var-like-fit s d) (λ x t l q. expects plain K.Semicolon tt _ _ _ (λ _ b. record { fit = add _ (q .fit) e m h tt (q .name); place = h; less = omega (arith, q .less) }))
 
 -- ---- statements
 
@@ -549,7 +92,7 @@ unfolding P.after-expression layout
 after-expression-fit p h e s t f b d = (
   λ i _. calls Expression _ _ _ (λ v u q. expects plain K.Semicolon tt _ _ _ (λ _ b₂. record { fit = add _ (both f (q .fit)) refl refl h tt (omega arith); place = h; less = omega (arith, q .less, later-left (later-advance (λ _. plain) t)) })),
   λ _. (
-    λ i _. uses-item P.parse-compound _ _ _ (compound-fit (advance (λ _. plain) t) (small-tail (t .left) d)) (λ v u l q. expects plain K.Semicolon tt _ _ _ (λ _ b₂. record { fit = add _ (both f (q .fit)) refl refl h tt (omega arith); place = h; less = omega (arith, q .less, later-left (later-advance (λ _. plain) t)) })),
+    λ i _. try-sure G L R M (Item-fit (advance (λ _. plain) t)) P.parse-compound _ _ _ (compound-fit (advance (λ _. plain) t) (small-tail (t .left) d)) (λ v u l q. expects plain K.Semicolon tt _ _ _ (λ _ b₂. record { fit = add _ (both f (q .fit)) refl refl h tt (omega arith); place = h; less = omega (arith, q .less, later-left (later-advance (λ _. plain) t)) })),
     λ _.
         expects plain K.Semicolon tt _ _ _ (λ _ b₂. record { fit = add _ f refl refl h tt (omega arith); place = h; less = omega arith }),
   ),
@@ -561,7 +104,7 @@ expression-statement-fit p h s d = (λ e t l q. (λ _. after-expression-fit p h 
 
 statement-fit : (s : St) → Small (s .left) → cwp P.statement-rule (Of s) s
 unfolding P.statement-rule layout
-statement-fit s d = go (let h : SmallTok (head (s .left)) = small-head (s .left) d in omega arith) (let h : SmallTok (head (s .left)) = small-head (s .left) d in h .2)
+statement-fit s d = go (small-place (s .left) d) (small-head (s .left) d .2)
   where
     go : SmallPlace (head (s .left) .place) → length (head (s .left) .text) ≤ 60000 → cwp P.statement-rule (Of s) s
     go h x = (
@@ -569,7 +112,7 @@ statement-fit s d = go (let h : SmallTok (head (s .left)) = small-head (s .left)
       λ _. (
         λ i _. more s (P.declaration 0x42 (head (s .left) .place)) (declaration-fit 0x42 refl refl (head (s .left) .place) h (advance (λ _. plain) s) (small-tail (s .left) d)),
         λ _. (
-          λ i. uses′ (Listed-fit s) P.parse-body _ _ _ (body-fit s) (λ a t l q. record { fit = add _ (q .fit) refl refl h (omega (arith, q .count, d .1)) (omega arith); place = h; less = omega (arith, q .count) }),
+          λ i. follow G L R M P.parse-body _ (Listed-fit s) _ _ (body-fit s) (λ a t l q. record { fit = add _ (q .fit) refl refl h (omega (arith, q .count, d .1)) (omega arith); place = h; less = omega (arith, q .count) }),
           λ _. (
             λ i _. calls Statement _ _ _ (λ b t p. record { fit = add _ (p .fit) refl refl h tt (omega arith); place = h; less = omega (arith, p .less, there K.KwLoop tt (s .left) i) }),
             λ _. (
@@ -599,12 +142,12 @@ unfolding P.function-body layout
 function-body-fit p h x name n ps r s t fp fr c b d = (
   λ e. expects plain K.Semicolon tt _ _ _ (λ _ b₂. record { fit = add _ (both fp fr) refl refl h (c, tt) n; place = h; less = omega arith }),
   λ e.
-      uses′ (Listed-fit t) P.parse-body _ _ _ (body-fit t) (λ z u l q. record { fit = add _ (both (both fp fr) (add _ (q .fit) refl refl h (omega (arith, q .count)) (omega arith))) refl refl h (c, tt) n; place = h; less = omega (arith, q .count) }),
+      follow G L R M P.parse-body _ (Listed-fit t) _ _ (body-fit t) (λ z u l q. record { fit = add _ (both (both fp fr) (add _ (q .fit) refl refl h (omega (arith, q .count)) (omega arith))) refl refl h (c, tt) n; place = h; less = omega (arith, q .count) }),
 )
 
 function-fit : (p : Place) → SmallPlace p → (x : ℕ) (s : St) → Small (s .left) → cwp (P.function p x) (Of s) s
 unfolding P.function layout
-function-fit p h x s d = expects plain K.KwFn tt _ _ _ (λ _ b. identifier _ _ _ (λ n b₂. uses′ (Listed-fit (advance (λ _. plain) (advance (λ _. plain) s))) (P.parse-list Parameters) _ _ _ (list-fit Parameters (advance (λ _. plain) (advance (λ _. plain) s))) (λ ps u l q. (
+function-fit p h x s d = expects plain K.KwFn tt _ _ _ (λ _ b. identifier _ _ _ (λ n b₂. follow G L R M (P.parse-list Parameters) _ (Listed-fit (advance (λ _. plain) (advance (λ _. plain) s))) _ _ (list-fit Parameters (advance (λ _. plain) (advance (λ _. plain) s))) (λ ps u l q. (
   λ k _. calls Type' _ _ _ (λ ty v r. function-body-fit p h x (head (tail (s .left))) (n .2) ps ty s v (q .fit) (r .fit) (omega (arith, q .count, d .1)) (omega (arith, q .count, r .less, later-left (later-advance (λ _. plain) u))) (d .1)),
   λ _.
       function-body-fit p h x (head (tail (s .left))) (n .2) ps (record { item = P.node [] 0x11 p [] []; errors = [] }) s u (q .fit) (add _ none-fit refl refl h tt (omega arith)) (omega (arith, q .count, d .1)) (omega (arith, q .count)) (d .1),
@@ -612,10 +155,7 @@ function-fit p h x s d = expects plain K.KwFn tt _ _ _ (λ _ b. identifier _ _ _
 
 function-definition-fit : (s : St) → Small (s .left) → cwp P.parse-function-definition (Of s) s
 unfolding P.parse-function-definition
-function-definition-fit s d = (λ i _. more s (P.function (head (s .left) .place) 1) (function-fit (head (s .left) .place) h 1 (advance (λ _. plain) s) (small-tail (s .left) d)), λ _. function-fit (head (s .left) .place) h 0 s d)
-  where
-    h : SmallPlace (head (s .left) .place)
-    h = let t : SmallTok (head (s .left)) = small-head (s .left) d in omega arith
+function-definition-fit s d = (λ i _. more s (P.function (head (s .left) .place) 1) (function-fit (head (s .left) .place) (small-place (s .left) d) 1 (advance (λ _. plain) s) (small-tail (s .left) d)), λ _. function-fit (head (s .left) .place) (small-place (s .left) d) 0 s d)
 
 type-alias-fit : (s : St) → Small (s .left) → cwp P.parse-type-alias (Of s) s
 unfolding P.parse-type-alias layout
@@ -624,15 +164,12 @@ type-alias-fit s d w t l _ = expects plain K.KwType tt _ _ _ (λ _ b d₂. (
   λ _. (
     λ _ m. absurd m,
     λ e. expects plain K.Equals tt _ _ _ (λ _ b₂. calls Type' _ _ _ (λ ty u p. expects plain K.Semicolon tt _ _ _ (λ _ b₃. record {
-      fit = add _ (p .fit) refl refl h tt (small-head (tail (t .left)) d₂ .2);
-      place = h;
+      fit = add _ (p .fit) refl refl (small-place (s .left) d) tt (small-head (tail (t .left)) d₂ .2);
+      place = small-place (s .left) d;
       less = omega (arith, p .less, later-left l, b, later-left (later-advance (λ _. plain) (advance (λ _. plain) t)));
     }))),
   ),
 ))
-  where
-    h : SmallPlace (head (s .left) .place)
-    h = let t : SmallTok (head (s .left)) = small-head (s .left) d in omega arith
 
 use-fit : (s : St) → Small (s .left) → cwp P.parse-use (Of s) s
 unfolding P.parse-use layout
@@ -670,7 +207,7 @@ top-level-item-fit s d = (
 
 module-turn-fit : (i : Items) (s : St) → Small (s .left) → cwp (P.module-turn i) (Listing i s) s
 unfolding P.module-turn
-module-turn-fit i s d = (λ e. record { fit = λ f. f; count = omega arith }, λ _. uses′ (Of s) P.parse-top-level-item _ _ _ (top-level-item-fit s d) go)
+module-turn-fit i s d = (λ e. record { fit = λ f. f; count = omega arith }, λ _. follow G L R M P.parse-top-level-item _ (Of s) _ _ (top-level-item-fit s d) go)
   where
     go : (a : Ans Node) (t : St) → Later s t → Of s a t → (b : Items) (u : St) → Later t u → Listing (P.integrate i a) t b u → Listing i s b u
     go (ok x) t l p b u l₂ q = record { fit = λ f. q .fit (both f (p .fit)); count = omega (arith, q .count, p .less) }

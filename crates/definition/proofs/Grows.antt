@@ -4,13 +4,15 @@ use mathlib.Core.Bool.{Bool, true, false}
 use mathlib.Core.List.{List, [], _∷_}
 use Prim.Native.Nat.{ℕ, _≤_, _<_}
 use native.Mathlib.Omega.{arith}
+use lib.Dec.{ltb, T, ltb→lt}
 use lib.ListN.{length}
 use Rattle.definition.specs.Kind as K
-use Rattle.definition.specs.Token.{Tok, head, tail, _is_}
+use Rattle.definition.specs.Token.{Tok, head, tail, _is_, end-token}
 use Rattle.definition.specs.Fallible.{Ans, Err, ok, fatal}
 use Rattle.definition.specs.Act.{Node, Goal, Statement, Expression, Unary, Type', Loop, Left, Act, done, peek, take, make, if_then_else_, call, loop, panic, St, advance, push, _>>=_}
 use Rattle.definition.specs.Parser as P
 use Rattle.definition.specs.Parser.{rule, turn, statement-rule, expression-rule, unary-rule, type-rule, parse-body, expression-statement, parse-call, parse-sizeof, parse-field-access-or-index, parse-atom, prefix, parse-comparison}
+use Rattle.definition.proofs.Tests.{clash, never-both, is-kind}
 use Rattle.definition.proofs.Later.{Later, later-left}
 use Rattle.definition.proofs.Ind.{wp, wp-always, wp-mono, to-each}
 
@@ -34,8 +36,13 @@ tail-le [] = omega arith
 tail-le (t ∷ ts) = omega arith
 
 pub tail-lt : (ts : List Tok) → head ts is K.End ≡ false → length (tail ts) < length ts
-tail-lt [] e = let z : _≡_ {A = ℕ} 0 1 = cc in omega arith
+tail-lt [] e = clash e
 tail-lt (t ∷ ts) e = omega arith
+
+-- a token of kind k is there
+pub there : (k : ℕ) → T (ltb 0 k) → (ts : List Tok) → head ts is k ≡ true → length (tail ts) < length ts
+there k h [] i = absurd (omega (arith, is-kind end-token k i, ltb→lt 0 k h))
+there k h (t ∷ ts) i = omega arith
 
 -- what is shorter stays so
 stays : {A : Type 0} (s₀ : St) (m : Act A) (s : St) → Shorter s₀ s → wp G L R M m (λ a s′. Shorter s₀ s′) s
@@ -70,15 +77,12 @@ reads s (loop g k) e r = absurd r
 reads s panic e r = tt
 
 given : {A : Type 0} (Q : A → St → Type 0) (m : Act A) (s : St) (b : Bool) → (b ≡ false → wp G L R M m Q s) → wp G L R M m (λ a s′. b ≡ false → Q a s′) s
-given Q m s true h = wp-always G L R M (λ a s′. true ≡ false → Q a s′) m s (λ a s′ e. let z : _≡_ {A = ℕ} 0 1 = cc in absurd (omega arith))
+given Q m s true h = wp-always G L R M (λ a s′. true ≡ false → Q a s′) m s (λ a s′ e. clash e)
 given Q m s false h = wp-mono G L R M Q (λ a s′. false ≡ false → Q a s′) m s (λ a s′ q e. q) (h refl)
-
-clash : {b : Bool} → b ≡ true → b ≡ false → ⊥
-clash p q = let z : _≡_ {A = ℕ} 0 1 = cc in omega arith
 
 reads-first : (g : Goal) → Reads (rule g)
 unfolding type-rule unary-rule expression-rule statement-rule _>>=_ parse-body expression-statement parse-comparison P.parse-bitwise-or P.parse-bitwise-xor P.parse-bitwise-and P.parse-bit-shift P.parse-add-sub P.parse-mul P.parse-cast prefix parse-call parse-sizeof parse-field-access-or-index parse-atom P.parse-group
-reads-first Statement = λ t e. (λ _. tt, λ _. (λ _. tt, λ _. (λ _. tt, λ _. (λ _. tt, λ _. (λ _. tt, λ _. (λ _. tt, λ _. (λ _. tt, λ _. (λ _. tt, λ _. (λ d. clash d e, λ _. tt)))))))))
+reads-first Statement = λ t e. (λ _. tt, λ _. (λ _. tt, λ _. (λ _. tt, λ _. (λ _. tt, λ _. (λ _. tt, λ _. (λ _. tt, λ _. (λ _. tt, λ _. (λ _. tt, λ _. (λ d. never-both d e, λ _. tt)))))))))
 reads-first Expression = tt
 reads-first Unary = λ t e. (λ _. tt, λ _. (λ _. tt, λ _. (λ _. tt, λ _. (λ _. tt, λ _. λ t e. (λ _. tt, λ _. λ t e. (λ _. tt, λ _. (λ _. tt, λ _. (λ _. tt, λ _. (λ _. tt, λ _. (λ _. tt, λ _. (λ _. tt, λ _. tt)))))))))))
 reads-first Type' = tt

@@ -55,6 +55,11 @@ to-each (Casts e) P h = (λ x. h (ok x), λ es. h (fatal es))
 to-each (Suffixes e) P h = (λ x. h (ok x), λ es. h (fatal es))
 to-each (Modifiers w) P h = h
 
+-- an answer that is there, with an item of which W holds
+abbrev pub Sure : {A : Type 0} → (Fallible A → St → Type 0) → Ans A → St → Type 0
+Sure W (ok x) s = W x s
+Sure W (fatal es) s = ⊥
+
 -- G and L: what holds of a call's answer and of a loop's; R and M: what may be taken for granted where a token is read and where an error is made
 module _ (G : Goal → St → Ans Node → St → Type 0) (L : (l : Loop) → St → Left l → St → Type 0) (R : St → Type 0) (M : Err → St → Type 0) where
   -- what has to hold before an act, for Q to hold after it
@@ -117,17 +122,26 @@ module _ (G : Goal → St → Ans Node → St → Type 0) (L : (l : Loop) → St
   wp-later P Q panic s₀ s l h w = tt
 
   -- an act of which P is known, and what follows it
-  pub follow : {A B : Type 0} (m : Act A) (f : A → Act B) (P : A → St → Type 0) (Q : B → St → Type 0) (s : St) → wp m P s → ((a : A) (s′ : St) → P a s′ → wp (f a) Q s′) → wp (m >>= f) Q s
-  follow m f P Q s w h = wp-bind m f Q s (wp-mono P (λ a s′. wp (f a) Q s′) m s h w)
+  pub follow : {A B : Type 0} (m : Act A) (f : A → Act B) (P : A → St → Type 0) (Q : B → St → Type 0) (s : St) → wp m P s → ((a : A) (s′ : St) → Later s s′ → P a s′ → wp (f a) Q s′) → wp (m >>= f) Q s
+  follow m f P Q s w h = wp-bind m f Q s (wp-later P (λ a s′. wp (f a) Q s′) m s s (later-refl s) h w)
 
   -- the same under `?`
   pub try : {A B : Type 0} (m : Act (Ans A)) (f : Fallible A → Act (Ans B)) (P : Ans A → St → Type 0) (Q : Ans B → St → Type 0) (s : St)
       → wp m P s → ((x : Fallible A) (s′ : St) → P (ok x) s′ → wp (f x) Q s′) → ((es : List Err) (s′ : St) → P (fatal es) s′ → Q (fatal es) s′) → wp (m >>? f) Q s
-  try {A} {B} m f P Q s w h e = wp-bind m (or-return f) Q s (wp-mono P (λ a s′. wp (or-return f a) Q s′) m s go w)
+  try {A} {B} m f P Q s w h e = follow m (or-return f) P Q s w go
     where
-      go : (a : Ans A) (s′ : St) → P a s′ → wp (or-return f a) Q s′
-      go (ok x) s′ p = h x s′ p
-      go (fatal es) s′ p = e es s′ p
+      go : (a : Ans A) (s′ : St) → Later s s′ → P a s′ → wp (or-return f a) Q s′
+      go (ok x) s′ l p = h x s′ p
+      go (fatal es) s′ l p = e es s′ p
+
+  -- and where the answer is there
+  pub try-sure : {A B : Type 0} (W : Fallible A → St → Type 0) (m : Act (Ans A)) (f : Fallible A → Act (Ans B)) (Q : Ans B → St → Type 0) (s : St)
+      → wp m (Sure W) s → ((x : Fallible A) (s′ : St) → Later s s′ → W x s′ → wp (f x) Q s′) → wp (m >>? f) Q s
+  try-sure {A} {B} W m f Q s w h = follow m (or-return f) (Sure W) Q s w go
+    where
+      go : (a : Ans A) (s′ : St) → Later s s′ → Sure W a s′ → wp (or-return f a) Q s′
+      go (ok x) s′ l p = h x s′ l p
+      go (fatal es) s′ l p = absurd p
 
   module _ (r-ok : (s : St) → R s) (m-ok : (e : Err) (s : St) → M e s) where
     module _ (c : Goal → St → Res (Ans Node)) (o : (l : Loop) → St → Res (Left l))

@@ -1,5 +1,5 @@
 -- The bytes of a tree determine its records, where these fit. Assumes nothing.
-use mathlib.Core.Path.{_≡_, refl, sym, ap, ap₂, _∙_, subst}
+use mathlib.Core.Path.{_≡_, refl, sym, ap, ap₂, _∙_}
 use mathlib.Core.Bool.{Bool, true, false}
 use mathlib.Core.Option.{Option, none, some}
 use mathlib.Core.List.{List, [], _∷_, _++_, append-assoc}
@@ -10,7 +10,8 @@ use lib.Dec.{eqb, lit<}
 use lib.ListN.{length, length-append}
 use Rattle.definition.specs.Source.{Place}
 use Rattle.definition.specs.Node.{Num, byte, two, eight, Rec, u16, at-place, nums-bytes, field, rec-bytes, recs-bytes}
-use Rattle.definition.proofs.Fit.{widths, placed, shape, layout, one-of, choose, SmallAt, SmallNums, Fit, Fits}
+use Rattle.definition.proofs.Tests.{clash}
+use Rattle.definition.proofs.Layouts.{widths, placed, shape, layout, one-of, choose, SmallAt, SmallNums, Fit, Fits}
 
 u16-inj : (m n : ℕ) → m < 65536 → n < 65536 → m / 256 % 256 ≡ n / 256 % 256 → m % 256 ≡ n % 256 → m ≡ n
 u16-inj m n h k p q = omega arith
@@ -64,14 +65,8 @@ places (some p) (some q) r t h a b e =
 numbers : (ms ns : List Num) (r t : List ℕ) → widths ms ≡ widths ns → SmallNums ms → SmallNums ns → nums-bytes ms ++ r ≡ nums-bytes ns ++ t → Both (ms ≡ ns) (r ≡ t)
 unfolding nums-bytes
 numbers [] [] r t h a b e = record { left = refl; right = e }
-numbers [] (n ∷ ns) r t h a b e = absurd (none-some h)
-  where
-    none-some : {x : ℕ} {xs : List ℕ} → [] ≡ x ∷ xs → ⊥
-    none-some e = let z : _≡_ {A = ℕ} 0 1 = cc in omega arith
-numbers (m ∷ ms) [] r t h a b e = absurd (some-none h)
-  where
-    some-none : {x : ℕ} {xs : List ℕ} → x ∷ xs ≡ [] → ⊥
-    some-none e = let z : _≡_ {A = ℕ} 0 1 = cc in omega arith
+numbers [] (n ∷ ns) r t h a b e = let z : _≡_ {A = ℕ} 0 1 = cc in absurd (omega arith)
+numbers (m ∷ ms) [] r t h a b e = let z : _≡_ {A = ℕ} 0 1 = cc in absurd (omega arith)
 numbers (byte m ∷ ms) (byte n ∷ ns) r t h a b e = let c : Both (ms ≡ ns) (r ≡ t) = numbers ms ns r t (tails h) a b (tails e) in record { left = λ i. byte (heads e i) ∷ c .left i; right = c .right }
 numbers (two m ∷ ms) (two n ∷ ns) r t h a b e =
     let c : Both (ms ≡ ns) (r ≡ t) = numbers ms ns r t (tails h) (a .1) (b .1) (tails (tails e)) in
@@ -88,7 +83,7 @@ numbers (two m ∷ ms) (eight n ∷ ns) r t h a b e = absurd (omega (arith, head
 numbers (eight m ∷ ms) (byte n ∷ ns) r t h a b e = absurd (omega (arith, heads h))
 numbers (eight m ∷ ms) (two n ∷ ns) r t h a b e = absurd (omega (arith, heads h))
 
-body : Rec → List ℕ
+unfoldable pub body : Rec → List ℕ
 body r = at-place (r .place) ++ nums-bytes (r .numbers) ++ r .text
 
 same-rec : (r q : Rec) → Fit r → Fit q → r .tag ≡ q .tag → body r ≡ body q → r ≡ q
@@ -134,7 +129,7 @@ unfolding body total
 body-short r f = simp length-append (omega (arith, place-length (r .place), nums-length (r .numbers), layout-bound (r .tag), ap total (f .shaped), f .text))
 
 never : {t : ℕ} → eqb t 0x5F ≡ false → 0x5F ≡ t → ⊥
-never {t} p e = let z : _≡_ {A = ℕ} 0 1 = cc (subst (λ (n : ℕ). eqb n 0x5F ≡ false) (sym e) p) in omega arith
+never {t} p e = clash (rw (← e) at p)
 
 -- fields
 fields : (t u : ℕ) (b c r q : List ℕ) → length b < 65536 → length c < 65536 → field t b ++ r ≡ field u c ++ q → Both (t ≡ u) (Both (b ≡ c) (r ≡ q))

@@ -1,7 +1,7 @@
 -- How a state goes on: it reads tokens off the front of those left, and makes errors. Assumes nothing.
 use mathlib.Core.Path.{_≡_, refl, sym, ap, _∙_}
 use mathlib.Core.List.{List, [], _∷_, _++_, map, append-nil, append-assoc, map-append}
-use Prim.Native.Nat.{_+_, _≤_}
+use Prim.Native.Nat.{_≤_}
 use native.Mathlib.Omega.{arith}
 use lib.ListN.{length, length-append}
 use Rattle.definition.specs.Fallible.{Err}

@@ -18,7 +18,7 @@ use Rattle.definition.specs.Parser.{rule, turn, loops, parse, parse-modu
 use Rattle.definition.specs.Operations.{whole, file-bytes}
 use Rattle.definition.proofs.Later.{Later, toks, After}
 use Rattle.definition.proofs.Ind.{wp, wp-always, wp-bind, module-ind, join}
-use Rattle.definition.proofs.Shown.{is-kind}
+use Rattle.definition.proofs.Tests.{is-kind}
 use Rattle.definition.proofs.Size as Z
 use Rattle.definition.proofs.Tokens.{Kinds, texts}
 use Rattle.definition.proofs.Accepted.{Accepted, accepted}

@@ -2,18 +2,19 @@
 use mathlib.Core.Path.{_≡_, refl, sym, ap, _∙_, subst}
 use mathlib.Core.Bool.{Bool, true, false, not, _&&_, _||_}
 use mathlib.Core.List.{List, [], _∷_, _++_, append-nil, append-assoc}
-use Prim.Native.Nat.{ℕ, zero, suc, _+_}
+use Prim.Native.Nat.{ℕ, zero, suc}
 use native.Mathlib.Omega.{arith}
-use lib.Dec.{eqb, ltb, T, eqb→eq, eqb-refl, ltb→lt}
+use lib.Dec.{eqb, ltb, T, eqb-refl, ltb→lt}
 use Rattle.definition.specs.Choice.{pick}
 use Rattle.definition.specs.Kind as K
 use Rattle.definition.specs.Source.{Place}
-use Rattle.definition.specs.Node.{two, Rec}
+use Rattle.definition.specs.Node.{Rec}
 use Rattle.definition.specs.Fallible.{Err, Fallible, ok}
 use Rattle.definition.specs.Token.{Tok, head, tail, _is_, end-token, number}
 use Rattle.definition.specs.Act.{Node, Items, Role, plain, size, Consumed, St, now-read, advance}
 use Rattle.definition.specs.Parser as P
-use Rattle.definition.proofs.Strip.{Norm, symbol, named, integer, sized, is-named, spelling, norm, strip}
+use Rattle.definition.proofs.Tests.{passed, is-kind}
+use Rattle.definition.proofs.Strip.{Norm, symbol, named, integer, sized, is-named, norm, strip}
 use Rattle.definition.specs.Demand.{is-modifier}
 use Rattle.definition.proofs.Later.{Later, toks}
 use Rattle.definition.proofs.Unparse.{Entry, entry, Gathered, gathered, gather, unparse, unparse-append, step, same-place, sym1, extend, gather-one-more}
@@ -61,9 +62,6 @@ pub fresh-head : (ts : List Tok) → Distinct ts → Fresh (head ts .place) (tai
 fresh-head [] h = record { apart = tt }
 fresh-head (t ∷ ts) h = record { apart = h .0 }
 
-pub is-kind : (t : Tok) (k : ℕ) → t is k ≡ true → t .kind ≡ k
-is-kind t k e = eqb→eq (t .kind) k (subst T (sym e) tt)
-
 -- there is a token
 not-none : (k : ℕ) → T (ltb 0 k) → end-token is k ≡ true → ⊥
 not-none k h i = omega (arith, is-kind end-token k i, ltb→lt 0 k h)
@@ -72,12 +70,8 @@ pub differs : (p : Place) (ts : List Tok) (k : ℕ) → T (ltb 0 k) → head ts 
 differs p [] k z i h = absurd (not-none k z i)
 differs p (t ∷ ts) k z i h = h .apart .0
 
-bool : (b : Bool) → T b → b ≡ true
-bool true t = refl
-bool false t = absurd t
-
 pub same-self : (p : Place) → same-place p p ≡ true
-same-self p = rw (bool (eqb (p .line) (p .line)) (eqb-refl (p .line))) (bool (eqb (p .column) (p .column)) (eqb-refl (p .column)))
+same-self p = rw (passed (eqb (p .line) (p .line)) (eqb-refl (p .line))) (passed (eqb (p .column) (p .column)) (eqb-refl (p .column)))
 
 -- ---- tokens read, stripped
 

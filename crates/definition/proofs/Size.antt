@@ -1,12 +1,12 @@
 -- Two facts of every call and loop. The records of a tree take at most 16 bytes for each token, and the tokens' texts. The errors that are reported are among those made, none more often
 -- than it was made: so for the sum over any weights of errors, `f`. Assumes nothing.
-use mathlib.Core.Path.{_≡_, refl, sym, subst}
-use mathlib.Core.Bool.{true, false}
+use mathlib.Core.Path.{_≡_, refl}
+use mathlib.Core.Bool.{false}
 use mathlib.Core.Option.{Option, none, some}
 use mathlib.Core.List.{List, [], _∷_, _++_}
 use Prim.Native.Nat.{ℕ, zero, suc, _+_, _*_, _-_, _≤_, _<_, min}
 use native.Mathlib.Omega.{arith}
-use lib.Dec.{eqb, T, eqb→eq}
+use lib.Dec.{eqb}
 use lib.ListN.{length}
 use Rattle.definition.specs.Ascii.{ascii}
 use Rattle.definition.specs.Source.{Place}
@@ -16,6 +16,7 @@ use Rattle.definition.specs.Token.{Tok, head, tail, _is_}
 use Rattle.definition.specs.Act.{Node, Items, Goal, Statement, Expression, Unary, Type', Loop, Module, Body, ListOf, Operators, Casts, Suffixes, Modifiers, Listed, Parameters, Arguments, StructFields, ArrayValues, StructValues, Level, BitOr, BitXor, BitAnd, Shift, AddSub, Mul, Left, Words, Act, St, advance, push, plain, next, done, _>>=_, _>>?_}
 use Rattle.definition.specs.Parser as P
 use Rattle.definition.specs.Parser.{rule, turn, statement-rule, expression-rule, unary-rule, type-rule, list-turn, body-turn, module-turn, operators-turn, casts-turn, suffixes-turn, modifiers-turn, Typed, parse, parse-module}
+use Rattle.definition.proofs.Tests.{clash, is-kind}
 use Rattle.definition.proofs.Later.{Later, After, weaken}
 use Rattle.definition.proofs.Ind.{wp, wp-mono, follow, try, parse-ind, module-ind}
 
@@ -59,14 +60,11 @@ r-ok (t ∷ ts) = refl
 abbrev M : Err → St → Type 0
 M e s = Unit {0}
 
-is-kind : (t : Tok) (k : ℕ) → t is k ≡ true → t .kind ≡ k
-is-kind t k e = eqb→eq (t .kind) k (subst T (sym e) tt)
-
 not-end : (t : Tok) → t is 0 ≡ false → 0 < t .kind
 not-end t e = go (t .kind) e
   where
     go : (k : ℕ) → eqb k 0 ≡ false → 0 < k
-    go zero e = let z : _≡_ {A = ℕ} 0 1 = cc in absurd (omega arith)
+    go zero e = clash e
     go (suc k) e = omega arith
 
 module _ (f : Err → ℕ) where
@@ -153,7 +151,7 @@ module _ (f : Err → ℕ) where
   tries m f P Q s w h e = try G L R M m f P Q s w h e
 
   follows : {A B : Type 0} (m : Act A) (f : A → Act B) (P : A → St → Type 0) (Q : B → St → Type 0) (s : St) → wp′ m P s → ((a : A) (s′ : St) → P a s′ → wp′ (f a) Q s′) → wp′ (m >>= f) Q s
-  follows m f P Q s w h = follow G L R M m f P Q s w h
+  follows m f P Q s w h = follow G L R M m f P Q s w (λ a s′ l p. h a s′ p)
 
   typed-size : (name : List ℕ) (es : List Err) (s : St) → wp′ (P.typed name es) (λ a s′. PostNamed name es s a s′) s
   unfolding P.typed _>>=_

@@ -1,17 +1,22 @@
--- Tests joined by `&&` and `||`, the bounds of `between`, what holds of an answer that a test chooses, and of all entries of a list. Assumes nothing.
+-- Tests joined by `&&` and `||`, the bounds of `between`, a token's kind, what holds of an answer that a test chooses, and of all entries of a list. Assumes nothing.
 use mathlib.Core.Path.{_≡_, refl}
 use mathlib.Core.Bool.{Bool, true, false, _&&_, _||_}
 use mathlib.Core.List.{List, [], _∷_, _++_}
 use Prim.Native.Nat.{ℕ, zero, suc, _≤_}
 use native.Mathlib.Omega.{arith}
-use borrow.Author.Tests.{leb-true, le-leb}
+use borrow.Author.Tests.{leb-true, le-leb, eqb-true}
 use lib.Dec.{leb, T}
 use lib.ListN.{replicate}
 use Rattle.definition.specs.Choice.{pick}
 use Rattle.definition.specs.Classes.{between}
+use Rattle.definition.specs.Token.{Tok, _is_}
+
+-- a test that passes and fails
+pub never-both : {A : Type 0} {b : Bool} → b ≡ true → b ≡ false → A
+never-both p q = let z : _≡_ {A = ℕ} 0 1 = cc in absurd (omega arith)
 
 pub clash : {A : Type 0} → true ≡ false → A
-clash e = let z : _≡_ {A = ℕ} 0 1 = cc in absurd (omega arith)
+clash e = never-both refl e
 
 pub both-true : {a b : Bool} → a ≡ true → b ≡ true → a && b ≡ true
 both-true {a} {b} p q = rw (p, q)
@@ -39,6 +44,9 @@ either-true false b f g e = g e
 
 pub passed : (a : Bool) → T a → a ≡ true
 passed true t = refl
+
+pub is-kind : (t : Tok) (k : ℕ) → t is k ≡ true → t .kind ≡ k
+is-kind t k e = eqb-true (t .kind) k e
 
 pub between-bounds : (lo hi n : ℕ) → between lo hi n ≡ true → (lo ≤ n) × (n ≤ hi)
 between-bounds lo hi n e = parts-true (leb lo n) (leb n hi) e λ p q. (leb-true lo n p, leb-true n hi q)

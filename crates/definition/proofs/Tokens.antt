@@ -20,7 +20,7 @@ use Rattle.definition.specs.Tokenizer as Z
 use Rattle.definition.specs.Tokenizer.{Turn, goes, refused, Span, Quoted, Run, ends, foreign, Class, Foreign, White, Comment, Pair, Symbol, Quote, Word, Dash, Zero, Digit, Unknown, Tokens, tokens, turn, tokenize, tokenize-from, comment, digits, assembly, quoted, word, white, look, drop-one}
 use Rattle.definition.proofs.Unparse.{same-place}
 use Rattle.definition.proofs.Shown.{Apart, Distinct}
-use Rattle.definition.proofs.Fit.{AllSmall}
+use Rattle.definition.proofs.Layouts.{AllSmall}
 use Rattle.definition.proofs.Tests.{both-true, chosen, picked, counted, All, all-append, all-replicate, all-map}
 use Rattle.definition.proofs.Characters.{spelling, Whole, Spelt, spelt, Utf8, utf8-none, utf8-char, utf8-byte}
 pub use Rattle.definition.proofs.Formed.{Textless}

@@ -4,20 +4,21 @@ use mathlib.Core.Bool.{Bool, true, false}
 use mathlib.Core.List.{List, [], _∷_, _++_}
 use Prim.Native.Nat.{ℕ, zero, suc, _+_, _≤_, _<_}
 use native.Mathlib.Omega.{arith}
-use lib.Dec.{ltb, T, ltb→lt}
+use lib.Dec.{ltb, T}
 use lib.ListN.{length, length-append}
 use Rattle.definition.specs.Classes.{between}
 use Rattle.definition.specs.Kind as K
 use Rattle.definition.specs.Fallible.{Ans, ok, fatal}
 use Rattle.definition.specs.Node.{byte}
-use Rattle.definition.specs.Token.{Tok, head, tail, _is_, end-token}
+use Rattle.definition.specs.Token.{Tok, head, tail, _is_}
 use Rattle.definition.specs.Act.{Node, Goal, Loop, Module, Body, ListOf, Operators, Casts, Suffixes, Modifiers, Listed, Parameters, Arguments, StructFields, ArrayValues, StructValues, Level, BitOr, BitXor, BitAnd, Shift, AddSub, Mul, Left, Consumed, Act, done, peek, take, make, if_then_else_, call, loop, panic, St, Res, gives, refused, after, plain, advance, push, run, next, _>>=_, _>>?_}
 use Rattle.definition.specs.Parser as P
 use Rattle.definition.specs.Parser.{rule, turn, loops, parse, parse-module}
+use Rattle.definition.proofs.Tests.{never-both}
 use Rattle.definition.proofs.Later.{Later, toks, later-left, later-refl, later-trans, later-advance, later-push, After, weaken}
 use Rattle.definition.proofs.Ind.{parse-ind}
 use Rattle.definition.proofs.Clean.{loops-later, parse-later}
-use Rattle.definition.proofs.Shown.{is-kind}
+use Rattle.definition.proofs.Grows.{there}
 use Rattle.definition.proofs.Grows as Gr
 
 -- how many turns a loop may want
@@ -42,9 +43,6 @@ rank-le (Modifiers w) = omega arith
 abbrev Positive : List P.Op → Type 0
 Positive [] = Unit {0}
 Positive (o ∷ os) = T (ltb 0 (o .kind)) × Positive os
-
-clash : {b : Bool} → b ≡ true → b ≡ false → ⊥
-clash p q = let z : _≡_ {A = ℕ} 0 1 = cc in omega arith
 
 abbrev pub Moves : {A : Type 0} → Res A → Type 0
 Moves (gives a s) = Unit {0}
@@ -137,11 +135,6 @@ module _ (n : ℕ) where
 
 -- ---- the turns
 
--- a token of kind k is there
-there : (k : ℕ) → T (ltb 0 k) → (ts : List Tok) → head ts is k ≡ true → length (tail ts) < length ts
-there k h [] i = absurd (omega (arith, is-kind end-token k i, ltb→lt 0 k h))
-there k h (t ∷ ts) i = omega arith
-
 abbrev pub any : St → Type 0
 any s = Unit {0}
 
@@ -170,7 +163,7 @@ moved : (s s′ : St) → Later s s′ → head (s .left) is K.End ≡ false →
 moved s s′ l e e′ = go (l .eaten) (l .left)
   where
     go : (cs : List Consumed) → s .left ≡ toks cs ++ s′ .left → length (s′ .left) < length (s .left)
-    go [] q = absurd (clash e′ (subst (λ (ts : List Tok). head ts is K.End ≡ false) q e))
+    go [] q = never-both e′ (subst (λ (ts : List Tok). head ts is K.End ≡ false) q e)
     go (c ∷ cs) q = omega (arith, ap length q, length-append (toks cs) (s′ .left))
 
 alias-enough : (n : ℕ) (s : St) → head (s .left) is K.End ≡ false → 1 + length (s .left) ≤ n → Enough n P.parse-type-alias (λ s′. length (s′ .left) < length (s .left)) s

@@ -89,10 +89,10 @@ behind r n m E fs h p q =
     ∙ ap (λ (x : List ℕ). map (λ e. unpack e) x) (take-append-drop n (take m r)) ∙ q)
 
 -- the errors fs, reported last, stand before the errors es
-pub exchange-errs : {r r′ : List ℕ} {j k m : ℕ} → Exchanged r j k m r′ → m ≤ length r → j ≤ k → k ≤ m → (E es fs : List Err)
+pub exchange-errs : {r r′ : List ℕ} {j k m : ℕ} → Exchanged r j k m r′ → j ≤ k → k ≤ m → (E es fs : List Err)
     → errs r j ≡ E → errs r k ≡ E ++ es → errs r m ≡ (E ++ es) ++ fs → errs r′ m ≡ E ++ (fs ++ es)
 unfolding errs
-exchange-errs {r} {r′} {j} {k} {m} x hr jk km E es fs p q s =
+exchange-errs {r} {r′} {j} {k} {m} x jk km E es fs p q s =
     ap (λ (z : List ℕ). map (λ e. unpack e) z) (x .is)
     ∙ map-append (λ e. unpack e) (take j r) (drop k (take m r) ++ drop j (take k r))
     ∙ ap (λ (z : List Err). map (λ e. unpack e) (take j r) ++ z) (map-append (λ e. unpack e) (drop k (take m r)) (drop j (take k r)))

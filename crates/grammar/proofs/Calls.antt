@@ -5,7 +5,7 @@ use mathlib.Core.List.{List, [], _∷_, _++_, append-nil}
 use Prim.Native.Nat.{ℕ, min, _+_, _*_, _-_, _≤_, _<_}
 use native.Mathlib.Omega.{arith}
 use lib.ListN.{length, take}
-use lib.Seq.{take-at, length-take-le}
+use lib.Seq.{length-take-le}
 use borrow.Author.Tests.{eq-eqb, ne-eqb}
 use Rattle.definition.specs.Source.{Place}
 use Rattle.definition.specs.Node.{Num, two, Rec, recs-bytes}
@@ -13,7 +13,7 @@ use Rattle.definition.specs.Fallible.{Err, Fallible, Ans, ok, fatal}
 use Rattle.definition.specs.Kind as K
 use Rattle.definition.specs.Token.{Tok, head, _is_}
 use Rattle.definition.specs.Act as A
-use Rattle.definition.specs.Act.{Act, done, Node, Items, Unary, Arguments, Consumed, Role, plain, group, St, Res, gives, refused, after, or-return, run, now-read, _>>=_, _>>?_}
+use Rattle.definition.specs.Act.{Act, done, Node, Unary, Arguments, Consumed, Role, plain, group, St, Res, gives, refused, after, or-return, run, now-read, _>>=_, _>>?_}
 use Rattle.definition.specs.Parser as P
 use Rattle.definition.specs.Go.{go}
 use Rattle.definition.proofs.Flat.{go-bind}
@@ -32,12 +32,12 @@ use Rattle.steps.specs.Tokens.{rest, budget, Seen}
 use Rattle.steps.specs.Shows.{st-of, Asked, Moved, View, Good, Bad, ShowsOf, Shows, Reads, Goes, GoesOn, node, items, token, Expects, Follows, Expected, Finished}
 use Rattle.steps.proofs.Tokens.{alive, yes, no, fore, adv}
 use Rattle.steps.proofs.Moves.{asks-moved, fore-moved, moved-trans}
-use Rattle.steps.proofs.Answers.{Stopped, say, good-of, stops, follows, wrapped, finishes, tree-join, errs-join, errs-take}
+use Rattle.steps.proofs.Answers.{Stopped, say, good-of, stops, follows, wrapped, finishes, tree-join, errs-join}
 use Rattle.steps.proofs.Constructs.{down}
 use Rattle.steps.proofs.Following.{expecting, expects-behind}
 use Rattle.leaves.specs.Leaves.{Prefix, ClosingOf, Closing, ClosedOf, Closed}
-use Rattle.grammar.specs.Post.{as-answer, ReadsList}
-use Rattle.grammar.proofs.Levels.{past}
+use Rattle.grammar.specs.Post.{ReadsList}
+use Rattle.grammar.proofs.Types.{past, drops, dropping}
 use Rattle.grammar.proofs.Joins.{goes-none}
 
 -- ---- a token, an operand, and the record behind it
@@ -72,24 +72,7 @@ module _ {w x : List ℕ} {n d : ℕ} {o r f : List ℕ} {s : State} {t : Front}
 abbrev pub call-on : Fallible Node → Act (Ans Node)
 call-on e = A.peek λ t. A.if_then_else_ (t is K.LParen) (P.parse-list Arguments >>= λ i. P.good (P.node (e .item .recs ++ i .recs) 0x24 (e .item .place) (two (i .count) ∷ []) []) (e .errors)) (done (ok e))
 
--- the errors that stand behind E are dropped
-pub dropped : (r1 : List ℕ) {j k : ℕ} (E es : List Err) → length E ≡ j → j ≤ k → errs r1 k ≡ E ++ es → errs r1 j ≡ E ++ []
-dropped r1 {j} {k} E es l h e = errs-take r1 j k h ∙ ap (λ (z : List Err). take j z) e ∙ take-at E es j l ∙ sym (append-nil E)
-
--- an item without its errors
-abbrev pub silenced : {A : Type 0} → Fallible A → Act (Ans A)
-silenced e = done (ok (record { item = e .item; errors = [] }))
-
 module _ {A : Type 0} {K : View A} {w x : List ℕ} {n : ℕ} {o r f : List ℕ} {b : Answer} {q : Res (Ans A)} (never : b .how ≡ Fatal → ⊥) where
-  pub silences : {T : List ℕ} {E : List Err} {j : ℕ} (d : ℕ) → length E ≡ j → j ≤ b .state .reported → Shows K T E [] [] w x n o r f b q → Shows K T E [] [] w x n o r f (silent b j) (after q (λ z S. go d (or-return silenced z) S))
-  unfolding go run
-  silences {T} {E} {j} d l h v = record { told = one (b .how) refl (v .told) }
-    where
-      one : (s : How) → b .how ≡ s → ShowsOf s K T E [] [] w x n o r f b q → ShowsOf s K T E [] [] w x n o r f (silent b j) (after q (λ z S. go d (or-return silenced z) S))
-      one Done z g = record { item = g .item; errors = []; read = g .read; is = rw (g .is); tree = g .tree; rep = dropped r E (g .errors) l h (g .rep); holds = g .holds }
-      one Fatal z g = absurd (never z)
-      one (Refused m) z g = rw g
-
   -- behind what the construct has before
   pub rebased : {T T′ : List ℕ} {E E′ : List Err} (rs : List Rec) (es : List Err) → T′ ≡ T ++ recs-bytes rs → E′ ≡ E ++ es → Shows K T′ E′ [] [] w x n o r f b q → Shows K T E rs es w x n o r f b q
   rebased {T} {T′} {E} {E′} rs es t e v = record { told = one (b .how) refl (v .told) }
@@ -98,13 +81,6 @@ module _ {A : Type 0} {K : View A} {w x : List ℕ} {n : ℕ} {o r f : List ℕ}
       one Done z g = record { item = g .item; errors = g .errors; read = g .read; is = g .is; tree = tree-join T rs (K .recs (g .item)) t (g .tree); rep = errs-join E es (g .errors) e (g .rep); holds = g .holds }
       one Fatal z g = absurd (never z)
       one (Refused m) z g = g
-
--- a list, its errors dropped, and a record: two ways to say it
-list-seam : (d : ℕ) (rs : List Rec) (es : List Err) (tag : ℕ) (p : Place) (q : Res Items)
-    → after q (λ i S. go d (P.good (P.node (rs ++ i .recs) tag p (two (i .count) ∷ []) []) es) S) ≡ after (after (after q (λ i S. go d (as-answer i) S)) (λ z S. go d (or-return silenced z) S)) (λ z S. go d (or-return (wrapped items rs es tag (λ _. p) (λ i. two (i .count) ∷ []) []) z) S)
-unfolding go run
-list-seam d rs es tag p (gives i S) = rw append-nil
-list-seam d rs es tag p (refused n) = refl
 
 module _ {w x : List ℕ} {n d i j : ℕ} {o r f : List ℕ} {a : Answer} {t : Front} (q : GoesOn w x n o r f a i j) (z : a .how ≡ Done) (u : Seen w x n (a .state .at) t) where
   pub call-none : (t .kind ≡ 41 → ⊥) → Goes node node w x n d call-on i j o r f a o r f a
@@ -125,10 +101,10 @@ module _ {w x : List ℕ} {n d i j : ℕ} {o r f : List ℕ} {a : Answer} {t : F
       moved = call-moved;
       is = λ T E p li lj v.
           let g = good-of z v in
-          say (follows d call-on (g .is) ∙ rw (run, yes u h) (go-bind d (P.parse-list Arguments) _ (st-of w x n f (g .read) (a .state)) ∙ list-seam d (g .item .recs) (g .errors) 0x24 (g .item .place) (go d (P.parse-list Arguments) (st-of w x n f (g .read) (a .state)))))
+          say (follows d call-on (g .is) ∙ rw (run, yes u h) (dropping d (P.parse-list Arguments) _ (wrapped items (g .item .recs) (g .errors) 0x24 (λ _. g .item .place) (λ i. two (i .count) ∷ []) []) (λ i. rw append-nil) (st-of w x n f (g .read) (a .state))))
           (finishes d (λ _. g .item .place) (λ i. two (i .count) ∷ []) [] F (λ i e. rw (e, g .holds))
           (rebased (B .never) (g .item .recs) (g .errors) (g .tree) (g .rep)
-          (silences (B .never) d (errs-length r (a .state .reported) (omega arith)) (B .moved .reported) (say (sym (go-bind d (P.parse-list Arguments) as-answer _)) (B .is (g .read))))));
+          (drops d (B .never) (errs-length r (a .state .reported) (omega arith)) (B .moved .reported) (B .is (g .read)))));
     }
 
   -- with the answer that `silence` gives

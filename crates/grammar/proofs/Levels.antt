@@ -1,7 +1,7 @@
 -- The levels of an expression: boolean and, comparison, the arithmetic operators, casts. Assumes nothing.
 use mathlib.Core.Path.{_≡_, refl, ap, _∙_}
-use mathlib.Core.List.{List, [], _∷_, _++_}
-use Prim.Native.Nat.{ℕ, _+_, _-_}
+use mathlib.Core.List.{List, [], _∷_}
+use Prim.Native.Nat.{ℕ, _-_}
 use native.Mathlib.Omega.{arith}
 use borrow.Author.Tests.{eq-eqb, ne-eqb}
 use Rattle.definition.specs.Node.{byte}
@@ -9,7 +9,7 @@ use Rattle.definition.specs.Fallible.{Fallible, Ans, ok}
 use Rattle.definition.specs.Kind as K
 use Rattle.definition.specs.Token.{Tok, head, _is_}
 use Rattle.definition.specs.Act as A
-use Rattle.definition.specs.Act.{Act, done, Operators, Casts, Node, Consumed, plain, St, run, now-read, next, _>>?_}
+use Rattle.definition.specs.Act.{Act, done, Operators, Casts, Node, plain, St, run, next, _>>?_}
 use Rattle.definition.specs.Parser as P
 use Rattle.definition.specs.Go.{go}
 use Rattle.definition.proofs.Flat.{go-loop}
@@ -26,15 +26,12 @@ use Rattle.steps.specs.Shows.{st-of, Asked, Reads, Goes, GoesOn, node, Finished
 use Rattle.steps.proofs.Tokens.{yes, no, fore, adv}
 use Rattle.leaves.specs.Leaves.{Operator}
 use Rattle.grammar.specs.Post.{operators-on, casts-on}
+use Rattle.grammar.proofs.Types.{past}
 use Rattle.grammar.proofs.Joins.{then-asked, goes-none, goes-joined, goes-turn}
 
 -- the record of an operator
 abbrev pub at-operator : Front → ℕ → Numbers → Record
 at-operator t tag ns = record { tag = tag; line = t .line; column = t .column; numbers = ns; start = 0; len = 0 }
-
--- behind the operator
-abbrev pub past : List ℕ → List ℕ → ℕ → ℕ → List Consumed → List Consumed
-past w x n at rd = rd ++ now-read (λ _. plain) (rest w x n at)
 
 -- ---- what follows an operand
 

@@ -2,7 +2,7 @@
 use mathlib.Core.Path.{_≡_, refl, sym, ap, _∙_}
 use mathlib.Core.List.{List, [], _∷_, _++_}
 use mathlib.Core.Logic.{⊎-elim}
-use Prim.Native.Nat.{ℕ, _+_, _≤_}
+use Prim.Native.Nat.{ℕ, _≤_}
 use native.Mathlib.Omega.{arith}
 use lib.ListN.{length, take}
 use types.Run.{OneOf}
@@ -30,8 +30,7 @@ use Rattle.leaves.specs.Leaves.{count-of, Counted}
 use Rattle.leaves.proofs.Errors.{made-so, makes, makes-none}
 use Rattle.leaves.proofs.Atoms.{Ended, Alive}
 use Rattle.grammar.specs.Post.{as-answer, LoopOn}
-use Rattle.grammar.proofs.Levels.{past}
-use Rattle.grammar.proofs.Types.{moved-onward}
+use Rattle.grammar.proofs.Types.{moved-onward, past}
 
 -- the items as an answer
 abbrev pub answered : ℕ → Res Items → Res (Ans Items)

@@ -2,7 +2,7 @@
 use mathlib.Core.Path.{_≡_, refl, sym, ap, _∙_}
 use mathlib.Core.List.{List, [], _∷_, _++_, append-nil}
 use mathlib.Core.Logic.{⊎-elim}
-use Prim.Native.Nat.{ℕ, _+_, _*_, _-_, _≤_, _<_}
+use Prim.Native.Nat.{ℕ, _+_, _*_, _≤_, _<_}
 use native.Mathlib.Omega.{arith}
 use lib.ListN.{length, take, drop, length-drop}
 use lib.Seq.{length-take-le}
@@ -32,8 +32,8 @@ use Rattle.steps.specs.Tokens.{rest, budget, Seen}
 use Rattle.steps.specs.Shows.{st-of, Asks, Asked, Moved, View, Good, ShowsOf, Shows, done-of, node, typed, token, Reads, Expects, Finished, Follows, Followed, ExpectedOf, Expected}
 use Rattle.steps.proofs.Tokens.{yes, no, fore, adv}
 use Rattle.steps.proofs.Moves.{spent, refused-moved, asks-fore, asks-moved, fore-moved, making-moved, moved-trans, asked-moved, abandoned-moved}
-use Rattle.steps.proofs.Answers.{Stopped, say, good-of, not-done, done-le, stops, follows, abandons, wrote, wrapped}
-use Rattle.leaves.proofs.Errors.{made-so, makes, makes-none, raise-same, raise-reads}
+use Rattle.steps.proofs.Answers.{Stopped, say, good-of, not-done, done-le, stops, follows, abandons, wrote, wrapped, raise-same}
+use Rattle.leaves.proofs.Errors.{made-so, makes, makes-none, raise-reads}
 use Rattle.grammar.specs.Post.{name-of, NameRoom, BareNamedOf, BareNamed, ReadsTyped, TypedOn}
 use Rattle.grammar.proofs.Types.{moved-onward, past, paid, record-reads, shown-from}
 
@@ -169,7 +169,7 @@ module _ {w x : List ℕ} {n : ℕ} {o r f : List ℕ} {s : State} {t : Front} (
     moved = moved-trans (fore-moved (q .asks) v) (u .moved);
     on = omega (arith, v .kind, v .on, u .moved .at);
     spare = omega (arith, text-length v, v .pays, u .spare, done-le (a .how));
-    is = λ rd. renamed (rw (eq-eqb _ _ (v .kind ∙ z))) (say (rw (run, yes v z) (ap (λ (S : St). go d (P.typed (head (rest w x n (s .at)) .text) []) S) (adv s v (λ _. plain) f rd))) (u .is (past plain w x n s rd) (head (rest w x n (s .at)) .text) (errs r (s .reported)) [] (len-rep q) (sym (append-nil _))));
+    is = λ rd. renamed (rw (eq-eqb _ _ (v .kind ∙ z))) (say (rw (run, yes v z) (ap (λ (S : St). go d (P.typed (head (rest w x n (s .at)) .text) []) S) (adv s v (λ _. plain) f rd))) (u .is (past w x n (s .at) rd) (head (rest w x n (s .at)) .text) (errs r (s .reported)) [] (len-rep q) (sym (append-nil _))));
   }
 
   module _ (m1 : t .kind ≡ 1 → ⊥) where
@@ -186,7 +186,7 @@ module _ {w x : List ℕ} {n : ℕ} {o r f : List ℕ} {s : State} {t : Front} (
 
     module _ {e : ℕ} {r1 f1 : List ℕ} {b : Answer} (m0 : t .kind ≡ 0 → ⊥) (i : unpack e ≡ error-at 4 (t .line) (t .column) 0 0) (g : Raised (noted n (fore s t)) r f (fore s t) e r1 f1 b) where
       -- the error is made
-      unnamed : (d : ℕ) (rd : List Consumed) → go d P.parse-typed-identifier (st-of w x n f rd s) ≡ go d (make (unpack e) (P.typed (ascii "<?>") (unpack e ∷ []))) (st-of w x n f (past plain w x n s rd) (fore s t))
+      unnamed : (d : ℕ) (rd : List Consumed) → go d P.parse-typed-identifier (st-of w x n f rd s) ≡ go d (make (unpack e) (P.typed (ascii "<?>") (unpack e ∷ []))) (st-of w x n f (past w x n (s .at) rd) (fore s t))
       unfolding go run P.parse-typed-identifier
       unnamed d rd = rw (run, no v m1, no v m0) (error-same d (rw (v .place) (sym i)) (adv s v (λ _. plain) f rd))
 
@@ -209,7 +209,7 @@ module _ {w x : List ℕ} {n : ℕ} {o r f : List ℕ} {s : State} {t : Front} (
             moved = m;
             on = omega (arith, v .kind, v .on, k .moved .at);
             spare = omega (arith, text-length v, v .pays, k .spare, done-le (a .how));
-            is = λ rd. renamed {u′ = ascii "<?>"} (rw (ne-eqb _ _ (λ y. m1 (sym (v .kind) ∙ y)))) (say (unnamed d rd ∙ makes (asks-fore (q .asks) v) g d _ _ (h .0)) (k .is (past plain w x n s rd) (ascii "<?>") (errs r (s .reported)) (unpack e ∷ []) (len-rep q) (g .rep (h .0))));
+            is = λ rd. renamed {u′ = ascii "<?>"} (rw (ne-eqb _ _ (λ y. m1 (sym (v .kind) ∙ y)))) (say (unnamed d rd ∙ makes (asks-fore (q .asks) v) g d _ _ (h .0)) (k .is (past w x n (s .at) rd) (ascii "<?>") (errs r (s .reported)) (unpack e ∷ []) (len-rep q) (g .rep (h .0))));
           }
 
 -- ---- `named`

@@ -2,7 +2,7 @@
 use mathlib.Core.Path.{_≡_, refl, sym, ap, _∙_}
 use mathlib.Core.Option.{some}
 use mathlib.Core.List.{List, [], _∷_, _++_}
-use Prim.Native.Nat.{ℕ, _+_, _*_, _-_}
+use Prim.Native.Nat.{ℕ}
 use native.Mathlib.Omega.{arith}
 use lib.ListN.{length, take}
 use Rattle.definition.specs.Source.{Place}
@@ -10,7 +10,7 @@ use Rattle.definition.specs.Fallible.{Err, Fallible, Ans, ok}
 use Rattle.definition.specs.Kind as K
 use Rattle.definition.specs.Token.{Tok, head, _is_}
 use Rattle.definition.specs.Act as Act
-use Rattle.definition.specs.Act.{Act, loop, Suffixes, Node, Consumed, plain, St, Res, gives, after, or-return, run, _>>?_}
+use Rattle.definition.specs.Act.{Act, Suffixes, Node, Consumed, plain, St, Res, gives, after, or-return, run, _>>?_}
 use Rattle.definition.specs.Parser as P
 use Rattle.definition.specs.Go.{go}
 use Rattle.definition.proofs.Flat.{go-bind, go-loop}
@@ -33,7 +33,7 @@ use Rattle.steps.proofs.Constructs.{seam}
 use Rattle.steps.proofs.Following.{expecting, expects-behind}
 use Rattle.leaves.proofs.Errors.{made-so, makes, makes-none}
 use Rattle.grammar.specs.Post.{suffixes-on}
-use Rattle.grammar.proofs.Levels.{past}
+use Rattle.grammar.proofs.Types.{past}
 use Rattle.grammar.proofs.Joins.{goes-none}
 use Rattle.grammar.proofs.Calls.{expect-seam}
 

@@ -32,11 +32,11 @@ use Rattle.steps.specs.Tokens.{rest, spend, budget, Held, Seen}
 use Rattle.steps.specs.Shows.{st-of, Asked, Moved, View, Good, ShowsOf, Shows, node, items, Reads, Expects, Finished}
 use Rattle.steps.proofs.Tokens.{rest-cons, rest-nil, alive, yes, no, fore, adv}
 use Rattle.steps.proofs.Moves.{fore-moved, asked-seen, asked-moved}
-use Rattle.steps.proofs.Answers.{Stopped, say, good-of, stops, follows, errs-take, wrapped, finishes}
+use Rattle.steps.proofs.Answers.{Stopped, say, good-of, stops, follows, errs-take, wrapped, finishes, raise-same}
 use Rattle.steps.proofs.Constructs.{deep, down, seam}
 use Rattle.leaves.specs.declared.Size.{Size}
 use Rattle.leaves.specs.Leaves.{there, texted, untexted, unfit, Valued}
-use Rattle.leaves.proofs.Errors.{raise-same, raise-reads}
+use Rattle.leaves.proofs.Errors.{raise-reads}
 use Rattle.leaves.proofs.Atoms.{leaf-reads}
 use Rattle.grammar.specs.Post.{place-at, as-answer, ReadsList}
 
@@ -46,9 +46,12 @@ use Rattle.grammar.specs.Post.{place-at, as-answer, ReadsList}
 pub moved-onward : {w x : List ℕ} {n i j : ℕ} {s t u : State} → Moved w x n i j s t → Moved w x n (t .pos) (t .reported) t u → Moved w x n i j s u
 moved-onward p q = record { at = omega arith; end = q .end; pos = omega arith; room = omega arith; reported = omega arith; less = omega arith; full = omega arith; few = q .few }
 
--- what was read, and a token
-abbrev pub past : Role → List ℕ → List ℕ → ℕ → State → List Consumed → List Consumed
-past role w x n s rd = rd ++ now-read (λ _. role) (rest w x n (s .at))
+-- what was read, and the token at `at`
+abbrev pub past-as : Role → List ℕ → List ℕ → ℕ → ℕ → List Consumed → List Consumed
+past-as role w x n at rd = rd ++ now-read (λ _. role) (rest w x n at)
+
+abbrev pub past : List ℕ → List ℕ → ℕ → ℕ → List Consumed → List Consumed
+past w x n at rd = past-as plain w x n at rd
 
 -- no token is left, or one is
 either : {C : Type 0} (n i : ℕ) → (n ≤ i → C) → (i < n → C) → C
@@ -96,13 +99,13 @@ module _ {A : Type 0} {K : View A} {w x : List ℕ} {n d : ℕ} {m : Act (Ans No
 
 -- ---- the answer of a list
 
--- an act that gives items, and what follows
-pub through : {B : Type 0} (d : ℕ) (m : Act Items) (k : Items → Act (Ans B)) (S : St) → go d (m >>= k) S ≡ after (go d (m >>= as-answer) S) (λ z T. go d (or-return (λ y. k (y .item)) z) T)
+-- an act that gives items, and what follows: two ways to say it
+pub through : {B : Type 0} (d : ℕ) (m : Act Items) (k : Items → Act (Ans B)) (h : Fallible Items → Act (Ans B)) → ((i : Items) → k i ≡ h (record { item = i; errors = i .errors })) → (S : St) → go d (m >>= k) S ≡ after (go d (m >>= as-answer) S) (λ z T. go d (or-return h z) T)
 unfolding go run
-through d m k S = go-bind d m k S ∙ one (go d m S) ∙ ap (λ (q : Res (Ans Items)). after q (λ z T. go d (or-return (λ y. k (y .item)) z) T)) (sym (go-bind d m as-answer S))
+through d m k h e S = go-bind d m k S ∙ one (go d m S) ∙ ap (λ (q : Res (Ans Items)). after q (λ z T. go d (or-return h z) T)) (sym (go-bind d m as-answer S))
   where
-    one : (q : Res Items) → after q (λ i T. go d (k i) T) ≡ after (after q (λ i T. go d (as-answer i) T)) (λ z T. go d (or-return (λ y. k (y .item)) z) T)
-    one (gives i T) = refl
+    one : (q : Res Items) → after q (λ i T. go d (k i) T) ≡ after (after q (λ i T. go d (as-answer i) T)) (λ z T. go d (or-return h z) T)
+    one (gives i T) = ap (λ (a : Act (Ans _)). go d a T) (e i)
     one (refused n) = refl
 
 -- its errors are dropped
@@ -117,9 +120,9 @@ drops {A} {K} {T} {E} {w} {x} {n} {j} {o} {r} {f} {a} {q} d nf le hj v = record 
     one (Refused u) nf g = rw g
 
 -- so they are for what follows
-pub dropping : {B : Type 0} (d : ℕ) (m : Act Items) (k : Fallible Items → Act (Ans B)) (S : St)
-    → go d (m >>= λ i. k (record { item = i; errors = [] })) S ≡ after (after (go d (m >>= as-answer) S) (λ z T. go d (or-return (λ y. P.good (y .item) []) z) T)) (λ z T. go d (or-return k z) T)
-dropping d m k S = through d m (λ i. k (record { item = i; errors = [] })) S ∙ seam d (λ y. P.good (y .item) []) k (λ y. record { item = y .item; errors = [] }) (λ y. refl) (go d (m >>= as-answer) S)
+pub dropping : {B : Type 0} (d : ℕ) (m : Act Items) (k : Items → Act (Ans B)) (h : Fallible Items → Act (Ans B)) → ((i : Items) → k i ≡ h (record { item = i; errors = [] })) → (S : St)
+    → go d (m >>= k) S ≡ after (after (go d (m >>= as-answer) S) (λ z T. go d (or-return (λ y. P.good (y .item) []) z) T)) (λ z T. go d (or-return h z) T)
+dropping d m k h e S = through d m k (λ y. h (record { item = y .item; errors = [] })) e S ∙ seam d (λ y. P.good (y .item) []) h (λ y. record { item = y .item; errors = [] }) (λ y. refl) (go d (m >>= as-answer) S)
 
 -- ---- `ty`
 
@@ -141,9 +144,9 @@ module _ {w x : List ℕ} {n d : ℕ} {o r f : List ℕ} {s : State} (q : Asked 
       unfolding go run P.type-rule
       type-star z u F = down Type' nz
           (record-reads (head (rest w x n (s .at)) .place) (λ _. []) [] F (moved-onward (fore-moved (q .asks) v) (u .moved)) (omega (arith, v .kind, v .on, u .moved .at)) (omega arith) (λ _ _. rw (v .place))
-          (λ rd. go (d - 1) P.parse-type (st-of w x n f (past plain w x n s rd) (fore s t)))
+          (λ rd. go (d - 1) P.parse-type (st-of w x n f (past w x n (s .at) rd) (fore s t)))
           (λ rd. rw (run, no v m1, yes v z) (ap (λ (S : St). go (d - 1) (P.parse-type >>? star-on) S) (adv s v (λ _. plain) f rd)) ∙ go-bind (d - 1) P.parse-type (or-return star-on) _)
-          (λ rd. u .is (past plain w x n s rd)))
+          (λ rd. u .is (past w x n (s .at) rd)))
 
       module _ (m24 : t .kind ≡ 24 → ⊥) where
         pub type-array : {o1 r1 f1 : List ℕ} {b : Answer} → t .kind ≡ 43 → Reads node w x n (d - 1) (P.parse-array-type (place-at (t .line) (t .column))) o r f (fore s t) o1 r1 f1 b → Reads node w x n d P.parse-type o r f s o1 r1 f1 b
@@ -151,7 +154,7 @@ module _ {w x : List ℕ} {n d : ℕ} {o r f : List ℕ} {s : State} (q : Asked 
         type-array z u = down Type' nz (record {
           moved = moved-onward (fore-moved (q .asks) v) (u .moved);
           on = omega (arith, v .kind, v .on, u .moved .at);
-          is = λ rd. say (rw (run, no v m1, no v m24, yes v z, v .place) (ap (λ (S : St). go (d - 1) (P.parse-array-type (place-at (t .line) (t .column))) S) (adv s v (λ _. plain) f rd))) (u .is (past plain w x n s rd));
+          is = λ rd. say (rw (run, no v m1, no v m24, yes v z, v .place) (ap (λ (S : St). go (d - 1) (P.parse-array-type (place-at (t .line) (t .column))) S) (adv s v (λ _. plain) f rd))) (u .is (past w x n (s .at) rd));
         })
 
         module _ (m43 : t .kind ≡ 43 → ⊥) where
@@ -166,9 +169,9 @@ module _ {w x : List ℕ} {n d : ℕ} {o r f : List ℕ} {s : State} (q : Asked 
               let mv = moved-onward (fore-moved (q .asks) v) (u .moved) in
               down Type' nz
               (record-reads {K = items} (head (rest w x n (s .at)) .place) (λ i. two (i .count) ∷ []) [] G (record { at = mv .at; end = mv .end; pos = mv .pos; room = mv .room; reported = omega arith; less = omega arith; full = mv .full; few = mv .few }) (omega (arith, v .kind, v .on, u .moved .at)) (omega arith) (λ i h. rw (v .place, h))
-              (λ rd. after (go (d - 1) (P.parse-list StructFields >>= as-answer) (st-of w x n f (past plain w x n s rd) (fore s t))) (λ z S. go (d - 1) (or-return (λ y. P.good (y .item) []) z) S))
-              (λ rd. rw (run, no v m1, no v m24, no v m43, yes v z) (ap (λ (S : St). go (d - 1) (P.parse-list StructFields >>= λ i. struct-on (record { item = i; errors = [] })) S) (adv s v (λ _. plain) f rd)) ∙ dropping (d - 1) (P.parse-list StructFields) struct-on (st-of w x n f (past plain w x n s rd) (fore s t)))
-              (λ rd. drops (d - 1) (u .never) (errs-length r (s .reported) (omega arith)) (u .moved .reported) (u .is (past plain w x n s rd))))
+              (λ rd. after (go (d - 1) (P.parse-list StructFields >>= as-answer) (st-of w x n f (past w x n (s .at) rd) (fore s t))) (λ z S. go (d - 1) (or-return (λ y. P.good (y .item) []) z) S))
+              (λ rd. rw (run, no v m1, no v m24, no v m43, yes v z) (ap (λ (S : St). go (d - 1) (P.parse-list StructFields >>= λ i. struct-on (record { item = i; errors = [] })) S) (adv s v (λ _. plain) f rd)) ∙ dropping (d - 1) (P.parse-list StructFields) _ struct-on (λ i. refl) (st-of w x n f (past w x n (s .at) rd) (fore s t)))
+              (λ rd. drops (d - 1) (u .never) (errs-length r (s .reported) (omega arith)) (u .moved .reported) (u .is (past w x n (s .at) rd))))
 
           module _ {e : ℕ} {r′ f′ : List ℕ} {y : Answer} (m16 : t .kind ≡ 16 → ⊥) where
             pub type-end : t .kind ≡ 0 → unpack e ≡ error-at 12 0 0 0 0 → Raised (raised n (fore s t)) r f (fore s t) e r′ f′ y → Reads node w x n d P.parse-type o r f s o r′ f′ y
@@ -207,17 +210,17 @@ module _ {w x : List ℕ} {n : ℕ} (line column : ℕ) {o r f : List ℕ} {s : 
       abbrev bracket-on : Fallible Tok → Act (Ans Node)
       bracket-on _ = P.parse-type >>? array-on
 
-      bracket : (d : ℕ) (rd : List Consumed) → go d (P.parse-array-type (place-at line column)) (st-of w x n f rd s) ≡ after (go d (P.expect 44) (st-of w x n f (past size w x n s rd) (fore s t))) (λ z S. go d (or-return bracket-on z) S)
+      bracket : (d : ℕ) (rd : List Consumed) → go d (P.parse-array-type (place-at line column)) (st-of w x n f rd s) ≡ after (go d (P.expect 44) (st-of w x n f (past-as size w x n (s .at) rd) (fore s t))) (λ z S. go d (or-return bracket-on z) S)
       unfolding go run P.parse-array-type
-      bracket d rd = rw (run, yes v z, fit ∙ fits) (ap (λ (S : St). go d (P.expect 44 >>? bracket-on) S) (adv s v (λ _. size) f rd)) ∙ go-bind d (P.expect 44) (or-return bracket-on) (st-of w x n f (past size w x n s rd) (fore s t))
+      bracket d rd = rw (run, yes v z, fit ∙ fits) (ap (λ (S : St). go d (P.expect 44 >>? bracket-on) S) (adv s v (λ _. size) f rd)) ∙ go-bind d (P.expect 44) (or-return bracket-on) (st-of w x n f (past-as size w x n (s .at) rd) (fore s t))
 
       pub array-open : {d : ℕ} → Stopped a → Reads node w x n d (P.parse-array-type (place-at line column)) o r f s o r1 f1 a
-      array-open {d} nd = record { moved = moved-onward (fore-moved (q .0 .asks) v) (e .moved); on = omega (arith, v .kind, v .on, e .moved .at); is = λ rd. say (bracket d rd) (stops d bracket-on _ nd (e .is plain d (past size w x n s rd) o)) }
+      array-open {d} nd = record { moved = moved-onward (fore-moved (q .0 .asks) v) (e .moved); on = omega (arith, v .kind, v .on, e .moved .at); is = λ rd. say (bracket d rd) (stops d bracket-on _ nd (e .is plain d (past-as size w x n (s .at) rd) o)) }
 
       pub array-done : {d : ℕ} {o2 r2 f2 o3 : List ℕ} {b y : Answer} → a .how ≡ Done → Reads node w x n d P.parse-type o r1 f1 (a .state) o2 r2 f2 b → Finished x o2 b (record { tag = 19; line = line; column = column; numbers = Eight (u .number); start = 0; len = 0 }) o3 y
           → Reads node w x n d (P.parse-array-type (place-at line column)) o r f s o3 r2 f2 y
       array-done {d} {o2} {r2} {f2} {o3} {b} {y} za c F =
-          let g : (rd : List Consumed) → Good _ _ _ [] [] w x n o r1 f1 a (go d (P.expect 44) (st-of w x n f (past size w x n s rd) (fore s t))) = λ rd. good-of za (e .is plain d (past size w x n s rd) o) in
+          let g : (rd : List Consumed) → Good _ _ _ [] [] w x n o r1 f1 a (go d (P.expect 44) (st-of w x n f (past-as size w x n (s .at) rd) (fore s t))) = λ rd. good-of za (e .is plain d (past-as size w x n (s .at) rd) o) in
           record-reads {K = node} (place-at line column) (λ _. eight (number (head (rest w x n (s .at)) .base) 0 (head (rest w x n (s .at)) .text)) ∷ []) [] F
           (moved-onward (fore-moved (q .0 .asks) v) (moved-onward (e .moved) (c .moved))) (omega (arith, v .kind, v .on, e .moved .at, c .moved .at)) (omega arith)
           (λ _ _. rw (v .text, v .base, k .number (not-false (u .fits) fits)))

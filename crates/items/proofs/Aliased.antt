@@ -14,7 +14,7 @@ use Rattle.definition.specs.Fallible.{Err, Fallible, Ans}
 use Rattle.definition.specs.Kind as K
 use Rattle.definition.specs.Token.{Tok, head, _is_}
 use Rattle.definition.specs.Act as A
-use Rattle.definition.specs.Act.{Act, done, loop, Loop, Left, Modifiers, next, panic, if_then_else_, Node, Consumed, plain, St, Res, refused, after, or-return, run, _>>=_, _>>?_}
+use Rattle.definition.specs.Act.{Act, done, loop, Loop, Left, Modifiers, next, panic, if_then_else_, Node, Consumed, plain, St, Res, after, or-return, run, _>>=_, _>>?_}
 use Rattle.definition.specs.Parser as P
 use Rattle.definition.specs.Go.{go}
 use Rattle.definition.proofs.Flat.{go-bind, go-loop}
@@ -31,13 +31,12 @@ use Rattle.steps.specs.Tokens.{rest, budget, Seen}
 use Rattle.steps.specs.Shows.{st-of, Asked, Moved, Good, Reads, node, token, Expects, Expected, Follows, Finished}
 use Rattle.steps.proofs.Tokens.{yes, no, fore, adv}
 use Rattle.steps.proofs.Moves.{refused-moved, asks-moved, fore-moved, moved-trans}
-use Rattle.steps.proofs.Answers.{Stopped, say, good-of, stops, follows, wrapped}
+use Rattle.steps.proofs.Answers.{Stopped, say, good-of, stops, follows, wrapped, raise-same}
 use Rattle.steps.proofs.Constructs.{within}
 use Rattle.steps.proofs.Following.{expecting, expects-behind}
-use Rattle.leaves.proofs.Errors.{raise-same, raise-reads}
+use Rattle.leaves.proofs.Errors.{raise-reads}
 use Rattle.grammar.specs.Post.{place-at}
-use Rattle.grammar.proofs.Levels.{past}
-use Rattle.grammar.proofs.Types.{moved-onward, shown-from, record-reads}
+use Rattle.grammar.proofs.Types.{moved-onward, shown-from, record-reads, past}
 use Rattle.grammar.proofs.Calls.{expect-seam}
 use Rattle.statement.proofs.Statements.{clean}
 use Rattle.items.specs.declared.others.AliasWords.{AliasWords}

@@ -32,9 +32,8 @@ use Rattle.steps.proofs.Tokens.{yes, no, fore, adv}
 use Rattle.steps.proofs.Answers.{Stopped, say, good-of, is-good, stops, follows, wrapped, finishes}
 use Rattle.steps.proofs.Following.{expects-behind}
 use Rattle.grammar.specs.Post.{place-at, as-answer}
-use Rattle.grammar.proofs.Levels.{past}
 use Rattle.grammar.proofs.Names.{text-length}
-use Rattle.grammar.proofs.Types.{paid}
+use Rattle.grammar.proofs.Types.{paid, past}
 use Rattle.grammar.proofs.Calls.{rebased, expect-seam}
 use Rattle.statement.specs.Post.{up, ReadsBody}
 use Rattle.items.specs.Rules.{return-rule, signed, signature-rule, function-on}
@@ -118,7 +117,7 @@ module _ {w x : List ℕ} {n d name i j line column : ℕ} {o r f : List ℕ} {a
   pub whole-room : length o2 ≡ length o → Room o2 x (c .state .pos) (16 + t .len) (t .start) (t .len)
   whole-room l = record { room = omega (arith, q .room, B .moved .room, F .high, text-length u, l); part = u .part }
 
-  module _ {r2 o3 : List ℕ} {y : Answer} (h : b .how ≡ Done) (l : length r1 ≡ length r) (X : Exchanged r1 j (a .state .reported) (b .state .reported) r2) (G : Finished x o2 c (record { tag = 0x50; line = line; column = column; numbers = ByteTwo 0 (a .line); start = t .start; len = t .len }) o3 y) where
+  module _ {r2 o3 : List ℕ} {y : Answer} (h : b .how ≡ Done) (X : Exchanged r1 j (a .state .reported) (b .state .reported) r2) (G : Finished x o2 c (record { tag = 0x50; line = line; column = column; numbers = ByteTwo 0 (a .line); start = t .start; len = t .len }) o3 y) where
     whole-moved : Moved w x n i j (up (19 + length (head (rest w x n name) .text)) (a .state)) (y .state)
     whole-moved =
         let e : budget w x n (y .state .at) ≡ budget w x n (b .state .at) = ap (λ (k : ℕ). budget w x n k) (G .at ∙ F .at) in
@@ -130,8 +129,7 @@ module _ {w x : List ℕ} {n d name i j line column : ℕ} {o r f : List ℕ} {a
       -- the body, and all errors in the order of the report
       turned-body : Shows items T E (g .item .recs) [] w x n o1 r2 f1 b (gives (ok (reported (record { item = g .item; errors = g .errors }) (record { item = s .item; errors = s .errors }))) (st-of w x n f1 (s .read) (b .state)))
       turned-body =
-          let m = whole-order q z B l in
-          is-good h (record { item = s .item; errors = s .errors ++ g .errors; read = s .read; is = refl; tree = s .tree; rep = turned E (g .errors) (s .errors) X (m .1 .1 .1) (m .0) (m .1 .0) lj (ap length (sym (g .rep)) ∙ errs-length r (a .state .reported) (omega (arith, q .asked .asks))) (s .rep); holds = s .holds })
+          is-good h (record { item = s .item; errors = s .errors ++ g .errors; read = s .read; is = refl; tree = s .tree; rep = turned E (g .errors) (s .errors) X (q .reported) (B .moved .reported) lj (ap length (sym (g .rep)) ∙ errs-length r (a .state .reported) (omega (arith, q .asked .asks))) (s .rep); holds = s .holds })
 
       whole-shown : Shows node T E [] [] w x n o3 r2 f1 y (after k (λ z S. go d (or-return (function-on (place-at line column) 0 (head (rest w x n name))) z) S))
       whole-shown =

@@ -19,12 +19,12 @@ use Rattle.fallible.specs.Answers.{raised, Raised}
 use Rattle.node.specs.declared.Numbers.the-variants.{None}
 use Rattle.steps.specs.declared.Front.{Front}
 use Rattle.steps.specs.Tokens.{rest, Seen}
-use Rattle.steps.specs.Shows.{st-of, Asked, Reads, node, items, Finished}
+use Rattle.steps.specs.Shows.{st-of, Asked, Reads, node, Finished}
 use Rattle.steps.proofs.Tokens.{yes, no, fore, adv}
 use Rattle.steps.proofs.Moves.{stays}
-use Rattle.steps.proofs.Answers.{say}
+use Rattle.steps.proofs.Answers.{say, raise-same}
 use Rattle.leaves.specs.Leaves.{there, texted, Counted}
-use Rattle.leaves.proofs.Errors.{raise-same, raise-reads}
+use Rattle.leaves.proofs.Errors.{raise-reads}
 use Rattle.leaves.proofs.Atoms.{leaf-reads, Ended, Alive}
 use Rattle.grammar.specs.Post.{as-answer, LoopOn}
 use Rattle.grammar.proofs.Loops.{loop-refused, loop-next}

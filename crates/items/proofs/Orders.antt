@@ -52,9 +52,9 @@ expected-line {w} {x} {n} {k} {i} {j} {r} {f} {r′} {f′} {a} {y} v = one (a .
     one (Refused u) m = rw (m .0)
 
 -- the errors of the later part stand before those of the earlier
-pub turned : {r r′ : List ℕ} {j k m : ℕ} (E es fs : List Err) → Exchanged r j k m r′ → m ≤ length r → j ≤ k → k ≤ m → length E ≡ j → length (E ++ es) ≡ k → errs r m ≡ E ++ (es ++ fs) → errs r′ m ≡ E ++ (fs ++ es)
-turned {r} {r′} {j} {k} {m} E es fs x h jk km lj lk e =
-    exchange-errs x h jk km E es fs
+pub turned : {r r′ : List ℕ} {j k m : ℕ} (E es fs : List Err) → Exchanged r j k m r′ → j ≤ k → k ≤ m → length E ≡ j → length (E ++ es) ≡ k → errs r m ≡ E ++ (es ++ fs) → errs r′ m ≡ E ++ (fs ++ es)
+turned {r} {r′} {j} {k} {m} E es fs x jk km lj lk e =
+    exchange-errs x jk km E es fs
     (errs-take r j m (omega arith) ∙ ap (λ (l : List Err). take j l) e ∙ take-at E (es ++ fs) j lj)
     (errs-take r k m km ∙ ap (λ (l : List Err). take k l) (e ∙ sym (append-assoc E es fs)) ∙ take-at (E ++ es) fs k lk)
     (e ∙ sym (append-assoc E es fs))

@@ -1,7 +1,7 @@
 -- The parameters and the return type of a function: one law for each return of `return_type` and `signature`. Assumes nothing.
 use mathlib.Core.Path.{_≡_, refl, sym, ap, _∙_}
 use mathlib.Core.List.{List, [], _++_, append-nil}
-use Prim.Native.Nat.{ℕ, _+_, _≤_}
+use Prim.Native.Nat.{ℕ, _≤_}
 use native.Mathlib.Omega.{arith}
 use lib.ListN.{length, take}
 use lib.Seq.{length-take-le}
@@ -27,7 +27,7 @@ use Rattle.steps.specs.Shows.{st-of, Asked, Moved, Good, Shows, Reads, node, it
 use Rattle.steps.proofs.Tokens.{yes, no, fore, adv}
 use Rattle.steps.proofs.Answers.{Stopped, say, good-of, is-good, stops, follows, abandons, finishes}
 use Rattle.grammar.specs.Post.{place-at, as-answer, ReadsList}
-use Rattle.grammar.proofs.Levels.{past}
+use Rattle.grammar.proofs.Types.{past}
 use Rattle.statement.specs.Post.{up}
 use Rattle.items.specs.Rules.{return-rule, signature-rule}
 use Rattle.items.specs.Items.{ReadsType, ReadsSignature}
@@ -108,10 +108,10 @@ module _ {w x : List ℕ} {n d : ℕ} {p : Place} {o r f o1 r1 f1 : List ℕ} {s
         is = λ rd. let g = good-of z (B .is rd) in say (typed-step rd g) (stops d (signing (record { item = g .item; errors = g .errors })) _ nd (typed-behind rd g));
       }
 
-      pub signature-reads : {r4 : List ℕ} → a .how ≡ Done → c .how ≡ Done → length r3 ≡ length r → Exchanged r3 (s .reported) (a .state .reported) (c .state .reported) r4 → ReadsSignature w x n d p o r f s o2 r4 f2 (record { how = c .how; state = c .state; line = a .line; column = 0 })
+      pub signature-reads : {r4 : List ℕ} → a .how ≡ Done → c .how ≡ Done → Exchanged r3 (s .reported) (a .state .reported) (c .state .reported) r4 → ReadsSignature w x n d p o r f s o2 r4 f2 (record { how = c .how; state = c .state; line = a .line; column = 0 })
       unfolding go run
-      signature-reads z y l X =
-          let h = signature-order y l in
+      signature-reads z y X =
+          let e : c .state .reported ≡ b .state .reported = ap (λ (z : Answer). z .state .reported) (still C y) in
           record {
             moved = signature-moved;
             is = λ rd.
@@ -125,7 +125,7 @@ module _ {w x : List ℕ} {n d : ℕ} {p : Place} {o r f o1 r1 f1 : List ℕ} {s
                   read = v .read;
                   is = refl;
                   tree = v .tree;
-                  rep = turned (errs r (s .reported)) (g .errors) (v .errors) X (h .1 .1 .1) (h .0) (h .1 .0) (errs-length r (s .reported) (omega (arith, q .asks))) (ap length (sym (g .rep)) ∙ errs-length r1 (a .state .reported) (omega (arith, q .asks, B .moved, lr))) (v .rep);
+                  rep = turned (errs r (s .reported)) (g .errors) (v .errors) X (B .moved .reported) (omega (arith, e, R .moved .reported)) (errs-length r (s .reported) (omega (arith, q .asks))) (ap length (sym (g .rep)) ∙ errs-length r1 (a .state .reported) (omega (arith, q .asks, B .moved, lr))) (v .rep);
                   holds = g .holds;
                 }));
           }

@@ -29,9 +29,9 @@ use Rattle.steps.specs.Tokens.{rest, budget, Seen}
 use Rattle.steps.specs.Shows.{st-of, Asks, node, token, Reads, Expects, Finished}
 use Rattle.steps.proofs.Tokens.{yes, no, fore, adv}
 use Rattle.steps.proofs.Moves.{stays}
-use Rattle.steps.proofs.Answers.{say, finishes}
+use Rattle.steps.proofs.Answers.{say, finishes, raise-same}
 use Rattle.leaves.specs.Leaves.{there, texted, untexted, identifier, Literal, ClosingOf, ClosedOf, Closed}
-use Rattle.leaves.proofs.Errors.{raise-same, raise-reads}
+use Rattle.leaves.proofs.Errors.{raise-reads}
 
 -- ---- a token alone is a node: the record z is written behind it
 

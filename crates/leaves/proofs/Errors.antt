@@ -2,14 +2,14 @@
 use mathlib.Core.Path.{_≡_, refl, sym, ap, subst}
 use mathlib.Core.Bool.{Bool, true, false}
 use mathlib.Core.List.{List, _++_}
-use Prim.Native.Nat.{ℕ, _+_, _≤_, _<_}
+use Prim.Native.Nat.{ℕ, _≤_, _<_}
 use native.Mathlib.Omega.{arith}
 use lib.Dec.{ltb}
 use lib.ListN.{length}
 use borrow.Author.Tests.{ltb-true, ltb-false, lt-ltb, le-ltb}
 use Rattle.definition.specs.Choice.{pick}
 use Rattle.definition.specs.Fallible.{Err, Ans}
-use Rattle.definition.specs.Act.{Act, make, Role, Consumed, St, refused, now-read, run}
+use Rattle.definition.specs.Act.{Act, make, Role, Consumed, refused, now-read, run}
 use Rattle.definition.specs.Parser as P
 use Rattle.definition.specs.Go.{go}
 use Rattle.fallible.specs.declared.State.{State}
@@ -48,9 +48,6 @@ module _ {A : Type 0} {w x : List ℕ} {n : ℕ} {r f r′ f′ : List ℕ} {s :
   makes-none h = rw (few, le-ltb (s .full) 255 h, run)
 
 -- an error is raised behind a token
-pub raise-same : {A : Type 0} (d : ℕ) {X Y : Err} {S S′ : St} → X ≡ Y → S ≡ S′ → go d (P.raise {A = A} X) S ≡ go d (P.raise {A = A} Y) S′
-raise-same d p q = rw (p, q)
-
 module _ {A : Type 0} {K : View A} {w x : List ℕ} {n : ℕ} {o r f r′ f′ : List ℕ} {s : State} {t : Front} {m : Act (Ans A)} {e : ℕ} {a : Answer} (q : Asks w x n r f s) (v : Seen w x n (s .at) t) (role : Role) (g : Raised (raised n (fore s t)) r f (fore s t) e r′ f′ a) (d : ℕ) where
   pub raise-reads : ((rd : List Consumed) → go d m (st-of w x n f rd s) ≡ go d (P.raise {A = A} (unpack e)) (st-of w x n f (rd ++ now-read (λ _. role) (rest w x n (s .at))) (fore s t)))
       → Reads K w x n d m o r f s o r′ f′ a

@@ -1,5 +1,5 @@
 -- The digits, and the loop of `array_size`. Assumes nothing.
-use mathlib.Core.Path.{_≡_, refl, ap, _∙_}
+use mathlib.Core.Path.{_≡_, refl, sym, ap, _∙_}
 use mathlib.Core.Bool.{true, false}
 use mathlib.Core.List.{List, [], _∷_}
 use Prim.Native.Nat.{ℕ, suc, _+_, _*_, _-_, _/_, _^_, _≤_, _<_}
@@ -11,6 +11,7 @@ use lib.ListN.{length, take, drop, getD, length-drop}
 use lib.Seq.{drop-cons, drop-length, getD-take, getD-drop, length-take-le}
 use borrow.Author.Tests.{eq-eqb, ne-eqb, lt-ltb, le-ltb, le-leb, lt-leb}
 use Rattle.definition.specs.Token.{digit, number, dashed}
+use Rattle.definition.proofs.Tests.{clash}
 use Rattle.leaves.specs.Leaves.{Valued}
 
 -- ---- digits
@@ -59,9 +60,6 @@ begins x st len h z =
     let s0 : st + 0 ≡ st = omega arith in
     first (take len (drop st x)) (omega arith) ∙ ap (λ (u : ℕ). eqb u 45) (part-at x st len 0 (omega arith) ∙ ap (λ (u : ℕ). getD x u 0) s0)
 
-unlike : false ≡ true → ⊥
-unlike y = let o : _≡_ {A = ℕ} 0 1 = cc in omega arith
-
 -- ---- the loop: i digits are read, and are the number a
 
 pub record Numbering (x : List ℕ) (st len base i a : ℕ) : Type 0 where
@@ -79,7 +77,7 @@ module _ (x : List ℕ) (st : ℕ) {len base : ℕ} where
 
   module _ (h : st + len ≤ length x) (z : len ≡ 0 → ⊥) where
     pub size-dash : getD x st 0 ≡ 45 → Valued (take len (drop st x)) base (record { fits = false; number = 0 })
-    size-dash m = record { fits = rw (begins x st len h z, eq-eqb (getD x st 0) 45 m); number = λ y. absurd (unlike y) }
+    size-dash m = record { fits = rw (begins x st len h z, eq-eqb (getD x st 0) 45 m); number = λ y. clash (sym y) }
 
     pub size-start : 0 < base → (getD x st 0 ≡ 45 → ⊥) → Numbering x st len base 0 0
     size-start b m = record { part = h; upto = omega arith; small = omega arith; based = b; plain = begins x st len h z ∙ ne-eqb (getD x st 0) 45 m; is = refl }
@@ -107,4 +105,4 @@ module _ {x : List ℕ} {st len base i a : ℕ} (k : Numbering x st len base i a
     pub size-over : (18446744073709551615 - d) / base < a → Valued (take len (drop st x)) base (record { fits = false; number = 0 })
     size-over g =
         let big : 2 ^ 64 ≤ number base 0 (take len (drop st x)) = rw next (omega (arith, over a base d (k .based) (e .1) g, number-ge base (a * base + d) (drop (suc i) (take len (drop st x))) (k .based))) in
-        record { fits = rw (k .plain, le-ltb (number base 0 (take len (drop st x))) (2 ^ 64) big); number = λ y. absurd (unlike y) }
+        record { fits = rw (k .plain, le-ltb (number base 0 (take len (drop st x))) (2 ^ 64) big); number = λ y. clash (sym y) }

@@ -15,6 +15,7 @@ use Rattle.definition.specs.Classes as C
 use Rattle.definition.specs.Token.{dashed}
 use Rattle.definition.specs.Kind as K
 use Rattle.definition.specs.Records.{TokenWords, all-digits, some-digits, has-text, good-alone, integer-text, words-at, part, text-of}
+use Rattle.definition.proofs.Tests.{clash, left-true, right-true}
 use Rattle.records.specs.Tested.{fields-fit, part-fits}
 
 -- ---- digits
@@ -63,20 +64,12 @@ fails {f} g e h = sym e ∙ not-true f h
 pub holds : {f : Bool} (g : Bool) → f ≡ g → not f ≡ false → g ≡ true
 holds {f} g e h = sym e ∙ not-false f h
 
-and-left : (a b : Bool) → (a && b) ≡ true → a ≡ true
-and-left true b e = refl
-and-left false b e = e
-
-and-right : (a b : Bool) → (a && b) ≡ true → b ≡ true
-and-right true b e = e
-and-right false b e = absurd (let z : _≡_ {A = ℕ} 0 1 = cc in omega arith)
-
 textless : (k : ℕ) → has-text k ≡ false → eqb k K.Integer ≡ false
 textless k e = go (eqb k K.Identifier) (eqb k K.Integer) (eqb k K.String || eqb k K.InlineAssemblyFragment) (simp or-assoc at e)
   where
     go : (a b c : Bool) → (a || (b || c)) ≡ false → b ≡ false
-    go true b c f = absurd (let z : _≡_ {A = ℕ} 0 1 = cc in omega arith)
-    go false true c f = absurd (let z : _≡_ {A = ℕ} 0 1 = cc in omega arith)
+    go true b c f = clash f
+    go false true c f = clash f
     go false false c f = refl
 
 module _ (text : List ℕ) (w : TokenWords) where
@@ -107,7 +100,7 @@ module _ (text : List ℕ) (w : TokenWords) where
     good-text g h = rw (good-is, e, f, g, ne-eqb _ _ h)
 
 pub part-inside : (text : List ℕ) (start end : ℕ) → part-fits text start end ≡ true → end ≤ length text
-part-inside text start end e = leb-true _ _ (and-right (leb end 16384) (leb end (length text)) (and-left (leb end 16384 && leb end (length text)) _ e))
+part-inside text start end e = leb-true _ _ (right-true (leb end 16384) (leb end (length text)) (left-true (leb end 16384 && leb end (length text)) _ e))
 
 -- ---- a token's text
 
@@ -142,7 +135,7 @@ module _ (ws text : List ℕ) (i : ℕ) where
 -- a good record's text is within the slice
 pub text-inside : (text : List ℕ) (w : TokenWords) {h g : Bool} → h ≡ has-text (w .kind) → g ≡ good-alone text w → not (h && g) ≡ false → w .start + w .size ≤ length text
 text-inside text w {h} {g} e f n =
-    let a = sym e ∙ and-left h g (not-false _ n) in
-    let b = sym (good-is text w) ∙ sym f ∙ and-right h g (not-false _ n) in
-    let d = and-left (fields text w && pick (has-text (w .kind)) (part-fits text (w .start) (w .start + w .size)) (eqb (w .start) 0 && eqb (w .size) 0)) _ b in
-    part-inside text (w .start) (w .start + w .size) (rw a at (and-right (fields text w) _ d))
+    let a = sym e ∙ left-true h g (not-false _ n) in
+    let b = sym (good-is text w) ∙ sym f ∙ right-true h g (not-false _ n) in
+    let d = left-true (fields text w && pick (has-text (w .kind)) (part-fits text (w .start) (w .start + w .size)) (eqb (w .start) 0 && eqb (w .size) 0)) _ b in
+    part-inside text (w .start) (w .start + w .size) (rw a at (right-true (fields text w) _ d))

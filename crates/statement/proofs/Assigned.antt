@@ -31,7 +31,7 @@ use Rattle.steps.proofs.Answers.{Stopped, say, good-of, is-good, follows, aband
 use Rattle.steps.proofs.Constructs.{then-stops}
 use Rattle.steps.proofs.Following.{expects-behind}
 use Rattle.grammar.specs.Post.{place-at}
-use Rattle.grammar.proofs.Levels.{past}
+use Rattle.grammar.proofs.Types.{past}
 use Rattle.grammar.proofs.Calls.{expect-seam}
 use Rattle.statement.specs.Post.{Behind}
 use Rattle.statement.proofs.Spare.{expression-spares}

@@ -12,7 +12,7 @@ use Rattle.definition.specs.Node.{two}
 use Rattle.definition.specs.Fallible.{Err, Fallible, Ans}
 use Rattle.definition.specs.Token.{head}
 use Rattle.definition.specs.Act as A
-use Rattle.definition.specs.Act.{Act, Items, Node, peek, if_then_else_, plain, Consumed, Res, gives, refused, after, or-return, run, _>>?_}
+use Rattle.definition.specs.Act.{Act, Node, peek, if_then_else_, plain, Consumed, Res, after, or-return, run, _>>?_}
 use Rattle.definition.specs.Parser as P
 use Rattle.definition.specs.Go.{go}
 use Rattle.definition.proofs.Flat.{go-bind}
@@ -29,22 +29,15 @@ use Rattle.steps.specs.Tokens.{rest, budget, Seen}
 use Rattle.steps.specs.Shows.{st-of, Asks, Asked, Moved, ShowsOf, Shows, Reads, node, items, typed, Expects, Expected, done-of, FinishedOf, Finished}
 use Rattle.steps.proofs.Tokens.{yes, no}
 use Rattle.steps.proofs.Moves.{making-moved, asks-moved}
-use Rattle.steps.proofs.Answers.{Stopped, say, good-of, stops, follows, wrapped, finishes, wrote, raise-shows, not-done, done-le}
+use Rattle.steps.proofs.Answers.{Stopped, say, good-of, stops, follows, wrapped, finishes, wrote, raise-shows, not-done, done-le, raise-same}
 use Rattle.steps.proofs.Following.{expects-behind}
-use Rattle.leaves.proofs.Errors.{raise-same}
-use Rattle.grammar.specs.Post.{place-at, name-of, as-answer, ReadsList, NameRoom}
+use Rattle.grammar.specs.Post.{place-at, name-of, ReadsList, NameRoom}
+use Rattle.grammar.proofs.Types.{through}
 use Rattle.grammar.proofs.Calls.{expect-seam}
 use Rattle.statement.specs.Rules.{values-rule}
 use Rattle.statement.specs.Post.{Starts, named-of, NamedOf, Named, ReadsDeclared}
 
 -- ---- `values`
-
--- items and their record, of a list or a body: two ways to say it
-pub list-seam : (d tag : ℕ) (p : Place) (q : Res Items)
-    → after q (λ i S. go d (P.good (P.node (i .recs) tag p (two (i .count) ∷ []) []) (i .errors)) S) ≡ after (after q (λ i S. go d (as-answer i) S)) (λ z S. go d (or-return (wrapped items [] [] tag (λ _. p) (λ i. two (i .count) ∷ []) []) z) S)
-unfolding go run
-list-seam d tag p (gives i S) = refl
-list-seam d tag p (refused n) = refl
 
 -- the kind of a list's opener is real
 opens : (k : A.Listed) → 0 < P.opener k
@@ -63,8 +56,8 @@ module _ {w x : List ℕ} {n d : ℕ} {o r f o1 r1 f1 o2 : List ℕ} {s : State}
         moved = record { at = omega (arith, F .at, B .moved); end = omega (arith, F .at, B .moved); pos = omega (arith, F .low, B .moved); room = omega (arith, F .high, B .spare, q .kind, opens k); reported = omega (arith, F .reported, B .moved); less = omega (arith, F .reported, F .full, B .moved); full = omega (arith, F .full, B .moved); few = omega (arith, F .full, B .moved) };
         on = omega (arith, F .at, B .on);
         is = λ rd.
-            say (go-bind d (P.parse-list k) (λ i. P.good (P.node (i .recs) tag (place-at line column) (two (i .count) ∷ []) []) (i .errors)) (st-of w x n f rd s) ∙ list-seam d tag (place-at line column) (go d (P.parse-list k) (st-of w x n f rd s)))
-            (finishes d (λ _. place-at line column) (λ i. two (i .count) ∷ []) [] F (λ i e. rw e) (say (sym (go-bind d (P.parse-list k) as-answer _)) (B .is rd)));
+            say (through d (P.parse-list k) _ (wrapped items [] [] tag (λ _. place-at line column) (λ i. two (i .count) ∷ []) []) (λ i. refl) (st-of w x n f rd s))
+            (finishes d (λ _. place-at line column) (λ i. two (i .count) ∷ []) [] F (λ i e. rw e) (B .is rd));
       }
 
 -- ---- `compound`

@@ -1,7 +1,7 @@
 -- Initial values: one law for each return of `bare`, `initial_value` and `var_like_declaration`. Assumes nothing.
 use mathlib.Core.Path.{_≡_, refl, sym, ap, _∙_, subst}
 use mathlib.Core.List.{List, [], _∷_, _++_, append-nil, append-assoc}
-use Prim.Native.Nat.{ℕ, _+_, _≤_, _<_}
+use Prim.Native.Nat.{ℕ, _≤_, _<_}
 use native.Mathlib.Omega.{arith}
 use lib.Seq.{length-take-le}
 use Rattle.definition.specs.Node.{Rec, recs-bytes}
@@ -25,9 +25,9 @@ use Rattle.steps.specs.Shows.{st-of, Asked, ShowsOf, Shows, Reads, GoesOn, node
 use Rattle.steps.proofs.Tokens.{yes, no, fore, adv}
 use Rattle.steps.proofs.Answers.{Stopped, say, good-of, is-good, stops, follows, abandons, wrote, not-done, done-le}
 use Rattle.grammar.specs.Post.{ReadsTyped}
-use Rattle.grammar.proofs.Levels.{past}
+use Rattle.grammar.proofs.Types.{past}
 use Rattle.statement.specs.Rules.{value-on}
-use Rattle.statement.specs.Post.{up, BaredOf, Bared, ValueOn, ReadsDeclared}
+use Rattle.statement.specs.Post.{BaredOf, Bared, ValueOn, ReadsDeclared}
 
 -- ---- `bare`
 

@@ -2,7 +2,7 @@
 use mathlib.Core.Path.{_≡_, refl, sym, ap, _∙_}
 use mathlib.Core.Bool.{Bool, true, false}
 use mathlib.Core.List.{List, [], _∷_, _++_, append-nil, append-assoc}
-use Prim.Native.Nat.{ℕ, min, _+_, _-_, _≤_}
+use Prim.Native.Nat.{ℕ, min, _+_, _≤_}
 use native.Mathlib.Omega.{arith}
 use lib.ListN.{length, take}
 use lib.Seq.{length-take-le}
@@ -27,21 +27,19 @@ use Rattle.node.specs.Put.{Room}
 use Rattle.node.specs.declared.Numbers.the-variants.{None, Byte, Two}
 use Rattle.steps.specs.declared.Front.{Front}
 use Rattle.steps.specs.Tokens.{rest, budget, Seen}
-use Rattle.steps.specs.Shows.{st-of, Asked, Moved, ShowsOf, Shows, Reads, node, token, Expects, Expected, Finished}
+use Rattle.steps.specs.Shows.{st-of, Asked, Moved, ShowsOf, Shows, Reads, node, items, token, Expects, Expected, Finished}
 use Rattle.steps.proofs.Tokens.{yes, no, fore, adv}
 use Rattle.steps.proofs.Moves.{making-moved, fore-moved, moved-trans, asks-moved, asked-seen, asked-moved}
-use Rattle.steps.proofs.Answers.{Stopped, say, good-of, stops, follows, abandons, wrapped, finishes, raise-shows}
+use Rattle.steps.proofs.Answers.{Stopped, say, good-of, stops, follows, abandons, wrapped, finishes, raise-shows, raise-same}
 use Rattle.steps.proofs.Constructs.{then-stops}
 use Rattle.steps.proofs.Following.{expects-behind}
 use Rattle.leaves.specs.Leaves.{there, texted, untexted}
-use Rattle.leaves.proofs.Errors.{raise-same}
 use Rattle.leaves.proofs.Atoms.{leaf-reads}
-use Rattle.grammar.specs.Post.{place-at, as-answer}
-use Rattle.grammar.proofs.Levels.{past}
+use Rattle.grammar.specs.Post.{place-at}
+use Rattle.grammar.proofs.Types.{past, through}
 use Rattle.grammar.proofs.Calls.{wraps-token, expect-seam}
 use Rattle.statement.specs.Rules.{guarded-rule}
 use Rattle.statement.specs.Post.{Starts, ReadsBody}
-use Rattle.statement.proofs.Declared.{list-seam}
 
 -- the place of the token that begins a statement
 abbrev pub here : List ℕ → List ℕ → ℕ → State → Place
@@ -239,8 +237,8 @@ module _ {w x : List ℕ} {n d : ℕ} {o r f : List ℕ} {s : State} {t : Front}
         moved = record { at = omega (arith, F .at, B .moved); end = omega (arith, F .at, B .moved); pos = omega (arith, F .low, B .moved); room = omega (arith, F .high, B .spare, q .kind); reported = omega (arith, F .reported, B .moved); less = omega (arith, F .reported, F .full, B .moved); full = omega (arith, F .full, B .moved); few = omega (arith, F .full, B .moved) };
         on = omega (arith, F .at, B .on);
         is = λ rd.
-            say (block-step d (st-of w x n f rd s) (q .kind) ∙ go-bind d P.parse-body _ (st-of w x n f rd s) ∙ list-seam d 0x40 (here w x n s) (go d P.parse-body (st-of w x n f rd s)))
-            (finishes d (λ _. here w x n s) (λ i. two (i .count) ∷ []) [] F (λ i e. rw (e, u .place)) (say (sym (go-bind d P.parse-body as-answer _)) (B .is rd)));
+            say (block-step d (st-of w x n f rd s) (q .kind) ∙ through d P.parse-body _ (wrapped items [] [] 0x40 (λ _. here w x n s) (λ i. two (i .count) ∷ []) []) (λ i. refl) (st-of w x n f rd s))
+            (finishes d (λ _. here w x n s) (λ i. two (i .count) ∷ []) [] F (λ i e. rw (e, u .place)) (B .is rd));
       }
 
   -- ---- `if`

@@ -4,7 +4,7 @@ use mathlib.Core.Bool.{Bool, true, false}
 use mathlib.Core.Option.{none, some}
 use mathlib.Core.List.{List, [], _∷_, _++_, append-nil, append-assoc, map, map-append}
 use mathlib.Core.Logic.{⊎-elim}
-use Prim.Native.Nat.{ℕ, zero, suc, _+_, _-_, _≤_}
+use Prim.Native.Nat.{ℕ, zero, suc, _≤_}
 use native.Mathlib.Omega.{arith}
 use lib.Dec.{ltb}
 use lib.ListN.{length, take, drop}
@@ -75,6 +75,9 @@ pub follows : {A B : Type 0} (d : ℕ) (k : Fallible A → Act (Ans B)) {q : Res
 follows d k e = rw e
 
 -- ---- an error is made
+
+pub raise-same : {A : Type 0} (d : ℕ) {X Y : Err} {S S′ : St} → X ≡ Y → S ≡ S′ → go d (P.raise {A = A} X) S ≡ go d (P.raise {A = A} Y) S′
+raise-same d p q = rw (p, q)
 
 module _ {A : Type 0} (K : View A) {w x : List ℕ} {n : ℕ} {r f r′ f′ : List ℕ} {s : State} {e : ℕ} {a : Answer} (q : Asks w x n r f s) (v : Raised (raised n s) r f s e r′ f′ a) (d : ℕ) (rd : List Consumed) (o : List ℕ) where
   pub raise-shows : Shows K (take (s .pos) o) (errs r (s .reported)) [] [] w x n o r′ f′ a (go d (P.raise {A = A} (unpack e)) (st-of w x n f rd s))

@@ -20,7 +20,7 @@ use Rattle.steps.specs.Tokens.{rest}
 use Rattle.steps.specs.Shows.{Asks, View, Reads, Goes, node}
 use Rattle.steps.proofs.Tokens.{rest-nil}
 use Rattle.steps.proofs.Moves.{refused-moved}
-use Rattle.steps.proofs.Answers.{Stopped, say, stops, follows}
+use Rattle.steps.proofs.Answers.{Stopped, say, stops}
 
 -- a token that is there stands within the list
 pub within : (w x : List ℕ) (n i : ℕ) → i ≤ n → i + min (head (rest w x n i) .kind) 1 ≤ n

@@ -2,7 +2,7 @@
 use mathlib.Core.Path.{_≡_, refl, sym, ap, subst}
 use mathlib.Core.Bool.{Bool, true, false}
 use mathlib.Core.List.{List, [], _∷_, _++_, append-nil}
-use Prim.Native.Nat.{ℕ, _+_, _≤_, _<_}
+use Prim.Native.Nat.{ℕ, _≤_, _<_}
 use native.Mathlib.Omega.{arith}
 use mathlib.Core.Logic.{⊎-elim}
 use lib.Dec.{ltb}
@@ -11,9 +11,9 @@ use denote.Enum.Declared.{tagOf}
 use lib.ListN.{take}
 use Rattle.definition.specs.Choice.{pick}
 use Rattle.definition.specs.Node.{recs-bytes}
-use Rattle.definition.specs.Fallible.{Err, Ans}
+use Rattle.definition.specs.Fallible.{Ans}
 use Rattle.definition.specs.Token.{Tok, head}
-use Rattle.definition.specs.Act.{Act, Role, plain, Consumed, St, now-read, run}
+use Rattle.definition.specs.Act.{Act, Role, plain, Consumed, now-read, run}
 use Rattle.definition.specs.Parser as P
 use Rattle.definition.specs.Go.{go}
 use Rattle.fallible.specs.declared.State.{State}
@@ -30,7 +30,7 @@ use Rattle.steps.specs.Tokens.{rest, budget, Seen}
 use Rattle.steps.specs.Shows.{st-of, Asks, Moved, done-of, token, Expects, Follows, ExpectedOf, Expected, FinishedOf, Finished}
 use Rattle.steps.proofs.Tokens.{yes, no, fore, adv}
 use Rattle.steps.proofs.Moves.{asks-fore, fore-moved, making-moved, moved-trans, abandoned-moved}
-use Rattle.steps.proofs.Answers.{Stopped, say, not-done, raise-shows}
+use Rattle.steps.proofs.Answers.{Stopped, say, not-done, raise-same, raise-shows}
 
 -- ---- a raised error's answer
 
@@ -47,9 +47,6 @@ raised-pos n s = go (ltb (s .full) 255)
     go : (b : Bool) → pick b (record { how = Fatal; state = one-more s; line = 0; column = 0 }) (refused-at n s 12) .state .pos ≡ s .pos
     go true = refl
     go false = refl
-
-go-same : {A : Type 0} (d : ℕ) {X Y : Err} {S S′ : St} → X ≡ Y → S ≡ S′ → go d (P.raise {A = A} X) S ≡ go d (P.raise {A = A} Y) S′
-go-same d p q = rw (p, q)
 
 module _ {w x : List ℕ} {n : ℕ} {r f : List ℕ} {s : State} {t : Front} (q : Asks w x n r f s) (v : Seen w x n (s .at) t) where
   -- the token is there
@@ -93,11 +90,11 @@ module _ {w x : List ℕ} {n : ℕ} {r f : List ℕ} {s : State} {t : Front} (q 
   module _ {k e : ℕ} {r′ f′ : List ℕ} {a : Answer} (m : t .kind ≡ k → ⊥) (g : Raised (raised n (fore s t)) r f (fore s t) e r′ f′ a) where
     pub expect-end : t .kind ≡ 0 → unpack e ≡ error-at 3 0 0 k 0 → Expects w x n (λ role. P.expect-as role k) r f s r′ f′ a
     unfolding go run
-    expect-end z i = missing (λ role. role) g (λ role d rd. rw (run, no v m, yes v z) (go-same d (sym i) (adv s v (λ _. role) f rd)))
+    expect-end z i = missing (λ role. role) g (λ role d rd. rw (run, no v m, yes v z) (raise-same d (sym i) (adv s v (λ _. role) f rd)))
 
     pub expect-other : (t .kind ≡ 0 → ⊥) → unpack e ≡ error-at 2 (t .line) (t .column) k (t .kind) → Expects w x n (λ role. P.expect-as role k) r f s r′ f′ a
     unfolding go run
-    expect-other z i = missing (λ role. role) g (λ role d rd. rw (run, no v m, no v z) (go-same d (rw (v .place, v .kind) (sym i)) (adv s v (λ _. role) f rd)))
+    expect-other z i = missing (λ role. role) g (λ role d rd. rw (run, no v m, no v z) (raise-same d (rw (v .place, v .kind) (sym i)) (adv s v (λ _. role) f rd)))
 
   -- ---- `expect_identifier`
 
@@ -108,11 +105,11 @@ module _ {w x : List ℕ} {n : ℕ} {r f : List ℕ} {s : State} {t : Front} (q 
   module _ {e : ℕ} {r′ f′ : List ℕ} {a : Answer} (m : t .kind ≡ 1 → ⊥) (g : Raised (raised n (fore s t)) r f (fore s t) e r′ f′ a) where
     pub identifier-end : t .kind ≡ 0 → unpack e ≡ error-at 5 0 0 0 0 → Expects w x n (λ role. P.expect-identifier) r f s r′ f′ a
     unfolding go run
-    identifier-end z i = missing (λ role. plain) g (λ role d rd. rw (run, no v m, yes v z) (go-same d (sym i) (adv s v (λ _. plain) f rd)))
+    identifier-end z i = missing (λ role. plain) g (λ role d rd. rw (run, no v m, yes v z) (raise-same d (sym i) (adv s v (λ _. plain) f rd)))
 
     pub identifier-other : (t .kind ≡ 0 → ⊥) → unpack e ≡ error-at 4 (t .line) (t .column) 0 0 → Expects w x n (λ role. P.expect-identifier) r f s r′ f′ a
     unfolding go run
-    identifier-other z i = missing (λ role. plain) g (λ role d rd. rw (run, no v m, no v z) (go-same d (rw (v .place) (sym i)) (adv s v (λ _. plain) f rd)))
+    identifier-other z i = missing (λ role. plain) g (λ role d rd. rw (run, no v m, no v z) (raise-same d (rw (v .place) (sym i)) (adv s v (λ _. plain) f rd)))
 
 -- ---- `expect` behind an answer
 

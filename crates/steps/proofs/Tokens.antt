@@ -7,7 +7,7 @@ use native.Mathlib.Omega.{arith}
 use lib.ListN.{length, take, drop, getD, length-drop}
 use lib.Seq.{length-take-le}
 use borrow.Author.Tests.{eq-eqb, ne-eqb}
-use Rattle.definition.specs.Token.{Tok, head, tail, _is_}
+use Rattle.definition.specs.Token.{Tok, head, _is_}
 use Rattle.definition.specs.Act.{Role, Consumed, advance, now-read}
 use Rattle.fallible.specs.declared.State.{State}
 use Rattle.steps.specs.declared.Front.{Front}

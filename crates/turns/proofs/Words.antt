@@ -12,6 +12,7 @@ use Rattle.definition.specs.Classes as C
 use Rattle.definition.specs.Kind as K
 use Rattle.definition.specs.Tokenizer.{Span, Turn, goes, refused}
 use Rattle.definition.specs.Tokenizer as Z
+use Rattle.definition.proofs.Tests.{never-both}
 use Rattle.source.specs.declared.Cursor.{Cursor}
 use Rattle.source.specs.Place.{rest}
 use Rattle.scan.specs.declared.Scan.{Scan}
@@ -43,7 +44,7 @@ white-runs (c ∷ cs) = go (white-runs cs) (ltb 127 (c .byte)) refl (C.is-white 
     go : Z.white cs ≡ run-of (ltb 127 (Z.look (blanks cs))) (record { text = []; rest = blanks cs }) → (t : Bool) → ltb 127 (c .byte) ≡ t → (u : Bool) → C.is-white (c .byte) ≡ u →
         (elim t as (λ _. Z.Run) [ true ↦ Z.foreign | false ↦ elim u as (λ _. Z.Run) [ true ↦ Z.white cs | false ↦ Z.ends (record { text = []; rest = c ∷ cs }) ] ])
         ≡ run-of (ltb 127 (Z.look (elim u as (λ _. List Ch) [ true ↦ blanks cs | false ↦ c ∷ cs ]))) (record { text = []; rest = elim u as (λ _. List Ch) [ true ↦ blanks cs | false ↦ c ∷ cs ] })
-    go ih true e true f = absurd (let z : true ≡ false = sym f ∙ above-white (c .byte) (ltb-true _ _ e) in let y : _≡_ {A = ℕ} 0 1 = cc in omega arith)
+    go ih true e true f = never-both f (above-white (c .byte) (ltb-true _ _ e))
     go ih true e false f = rw e
     go ih false e true f = ih
     go ih false e false f = rw e
@@ -63,7 +64,7 @@ word-runs (c ∷ cs) = go (word-runs cs) (ltb 127 (c .byte)) refl (C.is-word (c 
     go : Z.word cs ≡ run-of (ltb 127 (Z.look (letters cs .rest))) (letters cs) → (t : Bool) → ltb 127 (c .byte) ≡ t → (u : Bool) → C.is-word (c .byte) ≡ u →
         (elim t as (λ _. Z.Run) [ true ↦ Z.foreign | false ↦ elim u as (λ _. Z.Run) [ true ↦ Z.run-ahead (c .byte ∷ []) (Z.word cs) | false ↦ Z.ends (record { text = []; rest = c ∷ cs }) ] ])
         ≡ run-of (ltb 127 (Z.look (sp u .rest))) (sp u)
-    go ih true e true f = absurd (let z : true ≡ false = sym f ∙ above-word (c .byte) (ltb-true _ _ e) in let y : _≡_ {A = ℕ} 0 1 = cc in omega arith)
+    go ih true e true f = never-both f (above-word (c .byte) (ltb-true _ _ e))
     go ih true e false f = rw e
     go ih false e true f = ap (Z.run-ahead (c .byte ∷ [])) ih ∙ ahead-runs (ltb 127 (Z.look (letters cs .rest))) (c .byte ∷ []) (letters cs)
     go ih false e false f = rw e

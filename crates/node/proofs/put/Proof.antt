@@ -4,21 +4,5 @@ use borrow.Author.Needs.{needs}
 use Rattle.node.proofs.put.Statement.{statement}
 use Rattle.node.proofs.put.Tie as tie
 
--- src/lib.rt:13:5
-slice-write-file : tie.Need-slice-write-file
-slice-write-file c = search needs
-
--- src/lib.rt:14:5
-add-result : tie.Need-add-result
-add-result c = search needs
-
--- src/lib.rt:9:1
-same-length : tie.Need-same-length
-same-length c = search needs
-
--- src/lib.rt:9:1
-returns : tie.Need-returns
-returns c = grew-one (omega arith)
-
 pub put-spec : {M : Type 1} → statement M
-put-spec = tie.close (tie.spec slice-write-file add-result same-length returns)
+put-spec = tie.close (tie.spec (λ c. search needs) (λ c. search needs) (λ c. search needs) (λ c. grew-one (omega arith)))

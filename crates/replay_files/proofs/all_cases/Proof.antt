@@ -10,61 +10,22 @@ Inv-loop counts₀ turn₀ counts turn = Unit {0}
 abbrev μ-loop : tie.MeasureT-loop
 μ-loop counts₀ turn₀ counts turn = 1000000000 - turn
 
-none-requires : tie.Need-none-requires Inv-loop μ-loop
-none-requires c κs = tt
-
-loop-holds : tie.Need-loop-holds Inv-loop μ-loop
-loop-holds c = tt
-
-case-requires : tie.Need-case-requires Inv-loop μ-loop
-case-requires c κs = tt
-
-enum-told : tie.Need-enum-told Inv-loop μ-loop
-enum-told c = search needs
-
-one-agrees-requires : tie.Need-one-agrees-requires Inv-loop μ-loop
-one-agrees-requires c κs = tt
-
-enum-told-2 : tie.Need-enum-told-2 Inv-loop μ-loop
-enum-told-2 c = search needs
-
-one-differs-requires : tie.Need-one-differs-requires Inv-loop μ-loop
-one-differs-requires c κs = tt
-
-enum-told-3 : tie.Need-enum-told-3 Inv-loop μ-loop
-enum-told-3 c = search needs
-
-returns : tie.Need-returns Inv-loop μ-loop
-returns c = tt
-
-add-turn : tie.Need-add-turn Inv-loop μ-loop
-add-turn c = search needs
-
-loop-less : tie.Need-loop-less Inv-loop μ-loop
-loop-less c = search needs
-
-loop-again : tie.Need-loop-again Inv-loop μ-loop
-loop-again c = tt
-
-returns-2 : tie.Need-returns-2 Inv-loop μ-loop
-returns-2 c = tt
-
 pub all-cases-spec : {M : Type 1} → statement M
 all-cases-spec =
     tie.close
     (tie.spec
     Inv-loop
     μ-loop
-    none-requires
-    loop-holds
-    case-requires
-    enum-told
-    one-agrees-requires
-    enum-told-2
-    one-differs-requires
-    enum-told-3
-    returns
-    add-turn
-    loop-less
-    loop-again
-    returns-2)
+    (λ c κs. tt)
+    (λ c. tt)
+    (λ c κs. tt)
+    (λ c. search needs)
+    (λ c κs. tt)
+    (λ c. search needs)
+    (λ c κs. tt)
+    (λ c. search needs)
+    (λ c. tt)
+    (λ c. search needs)
+    (λ c. search needs)
+    (λ c. tt)
+    (λ c. tt))

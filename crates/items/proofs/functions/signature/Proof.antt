@@ -26,4 +26,4 @@ signature-spec =
     (λ c. omega (arith, c .before .before .before .before .before .before .before .before .before .before .before .before .before .before .before .before .before .before .before .before .before .before .before .before .before .before .before .before .before .before .list .kept, c .before .before .before .before .before .before .before .before .before .before .before .before .before .before .before .before .before .return-type .kept, c .before .before .before .before .before .before .before .before .before .abandon .kept, c .before .before .exchange .kept))
     (λ c. omega (arith, c .before .before .before .before .before .before .before .before .before .before .before .before .before .before .before .before .before .before .before .before .before .before .before .before .before .before .before .before .before .before .list .kept, c .before .before .before .before .before .before .before .before .before .before .before .before .before .before .before .before .before .return-type .kept, c .before .before .before .before .before .before .before .before .before .abandon .kept, c .before .before .exchange .kept))
     (λ c. omega (arith, c .before .before .before .before .before .before .before .before .before .before .before .before .before .before .before .before .before .before .before .before .before .before .before .before .before .before .before .before .before .before .list .kept, c .before .before .before .before .before .before .before .before .before .before .before .before .before .before .before .before .before .return-type .kept, c .before .before .before .before .before .before .before .before .before .abandon .kept, c .before .before .exchange .kept))
-    (λ c. signature-reads (c .before .before .before .before .before .before .before .before .before .before .before .before .before .before .before .before .before .before .before .before .before .before .before .before .before .before .before .before .before .before .before .before .before .before .before .before .before .before .before .pre) (c .before .before .before .before .before .before .before .before .before .before .before .before .before .before .before .before .before .before .before .before .before .before .before .before .before .before .before .before .before .before .list .ensures) (omega (arith, c .before .before .before .before .before .before .before .before .before .before .before .before .before .before .before .before .before .before .before .before .before .before .before .before .before .before .before .before .before .before .list .kept)) (c .before .before .before .before .before .before .before .before .before .before .before .before .before .before .before .before .before .return-type .ensures) (c .before .before .before .before .before .before .before .before .before .abandon .ensures) (c .before .before .before .before .before .before .before .before .before .before .before .before .before .before .before .before .before .before .before .before .before .before .enum-told .given .1) (c .before .before .before .before .before .enum-told2 .given .1) (omega (arith, c .before .before .before .before .before .before .before .before .before .abandon .kept, c .before .before .before .before .before .before .before .before .before .before .before .before .before .before .before .before .before .return-type .kept, c .before .before .before .before .before .before .before .before .before .before .before .before .before .before .before .before .before .before .before .before .before .before .before .before .before .before .before .before .before .before .list .kept)) (c .before .before .exchange .ensures)))
+    (λ c. signature-reads (c .before .before .before .before .before .before .before .before .before .before .before .before .before .before .before .before .before .before .before .before .before .before .before .before .before .before .before .before .before .before .before .before .before .before .before .before .before .before .before .pre) (c .before .before .before .before .before .before .before .before .before .before .before .before .before .before .before .before .before .before .before .before .before .before .before .before .before .before .before .before .before .before .list .ensures) (omega (arith, c .before .before .before .before .before .before .before .before .before .before .before .before .before .before .before .before .before .before .before .before .before .before .before .before .before .before .before .before .before .before .list .kept)) (c .before .before .before .before .before .before .before .before .before .before .before .before .before .before .before .before .before .return-type .ensures) (c .before .before .before .before .before .before .before .before .before .abandon .ensures) (c .before .before .before .before .before .before .before .before .before .before .before .before .before .before .before .before .before .before .before .before .before .before .enum-told .given .1) (c .before .before .before .before .before .enum-told2 .given .1) (c .before .before .exchange .ensures)))

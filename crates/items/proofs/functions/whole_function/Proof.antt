@@ -24,4 +24,4 @@ whole-function-spec =
     (λ c. omega (arith, c .before .before .before .before .before .before .before .before .before .before .before .before .before .before .before .before .before .before .before .before .before .before .body .kept, c .before .before .before .before .before .before .before .before .before .before .before .exchange .kept, c .before .before .before .before .before .before .before .finish .kept, c .before .before .finish2 .kept))
     (λ c. omega (arith, c .before .before .before .before .before .before .before .before .before .before .before .before .before .before .before .before .before .before .before .before .before .before .body .kept, c .before .before .before .before .before .before .before .before .before .before .before .exchange .kept, c .before .before .before .before .before .before .before .finish .kept, c .before .before .finish2 .kept))
     (λ c. omega (arith, c .before .before .before .before .before .before .before .before .before .before .before .before .before .before .before .before .before .before .before .before .before .before .body .kept, c .before .before .before .before .before .before .before .before .before .before .before .exchange .kept, c .before .before .before .before .before .before .before .finish .kept, c .before .before .finish2 .kept))
-    (λ c. whole-reads (c .before .before .before .before .before .before .before .before .before .before .before .before .before .before .before .before .before .before .before .before .before .before .before .before .before .before .before .before .before .before .before .before .before .before .pre) (c .before .before .before .before .before .before .before .before .before .before .before .before .before .before .before .before .before .before .before .before .before .before .before .before .before .before .before .enum-told .given .1) (c .before .before .before .before .before .before .before .before .before .before .before .before .before .before .before .before .before .before .before .before .before .before .body .ensures) (c .before .before .before .before .before .before .before .finish .ensures) (c .before .before .before .before .head .ensures) (c .before .before .before .before .before .before .before .before .before .before .before .before .before .before .enum-told2 .given .1) (omega (arith, c .before .before .before .before .before .before .before .before .before .before .before .before .before .before .before .before .before .before .before .before .before .before .body .kept)) (c .before .before .before .before .before .before .before .before .before .before .before .exchange .ensures) (c .before .before .finish2 .ensures)))
+    (λ c. whole-reads (c .before .before .before .before .before .before .before .before .before .before .before .before .before .before .before .before .before .before .before .before .before .before .before .before .before .before .before .before .before .before .before .before .before .before .pre) (c .before .before .before .before .before .before .before .before .before .before .before .before .before .before .before .before .before .before .before .before .before .before .before .before .before .before .before .enum-told .given .1) (c .before .before .before .before .before .before .before .before .before .before .before .before .before .before .before .before .before .before .before .before .before .before .body .ensures) (c .before .before .before .before .before .before .before .finish .ensures) (c .before .before .before .before .head .ensures) (c .before .before .before .before .before .before .before .before .before .before .before .before .before .before .enum-told2 .given .1) (c .before .before .before .before .before .before .before .before .before .before .before .exchange .ensures) (c .before .before .finish2 .ensures)))
