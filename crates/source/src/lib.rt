@@ -154,13 +154,11 @@ pub fn step(s: &[u8], c: Cursor) -> Cursor
 }
 
 // The place behind a character of one byte that is no newline.
-pub fn along(c: Cursor) -> Cursor
+pub fn along(mut c: Cursor) -> Cursor
     requires { ⌜ (c .at ≤ 16384) × (c .column ≤ 16385) ⌝ }
     ensures { λ r. ⌜ r ≡ along-line c ⌝ }
 {
-    Cursor {
-        at: c.at + 1,
-        line: c.line,
-        column: c.column + 1,
-    }
+    c.at += 1;
+    c.column += 1;
+    c
 }
