@@ -59,6 +59,12 @@ pub keyword-plain : (w : List ℕ) → Plain (Z.keyword w)
 unfolding Z.keyword
 keyword-plain w = search (plain-pick, plain-number) depth 60
 
+pub plain-textless : (k : ℕ) → Plain k → has-text k ≡ false
+plain-textless k p =
+    either-true (eqb k 0) (between 4 53 k) (λ e. rw (eqb-true k 0 e))
+    (λ e. let b = between-bounds 4 53 k e in rw (ne-eqb k 1 (λ z. omega arith), ne-eqb k 2 (λ z. omega arith), ne-eqb k 3 (λ z. omega arith), ne-eqb k 54 (λ z. omega arith)))
+    (p .plain)
+
 pub plain-formed : (k : ℕ) (p : Place) → Plain k → 0 < k → Formed (record { kind = k; place = p; text = []; base = 0 })
 plain-formed k p f h =
     let b : (4 ≤ k) × (k ≤ 53) = plain-bounds k f h in

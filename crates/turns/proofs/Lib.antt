@@ -1,5 +1,4 @@
 pub mod Turned
 mod Numbers
-pub mod Textless
 mod Words
 mod Strings

@@ -13,6 +13,7 @@ use Rattle.definition.specs.Kind as K
 use Rattle.definition.specs.Tokenizer.{Span, Turn, goes, refused}
 use Rattle.definition.specs.Tokenizer as Z
 use Rattle.definition.proofs.Tests.{never-both}
+use Rattle.definition.proofs.Formed.{keyword-plain, plain-textless}
 use Rattle.source.specs.declared.Cursor.{Cursor}
 use Rattle.source.specs.Place.{rest}
 use Rattle.scan.specs.declared.Scan.{Scan}
@@ -22,7 +23,6 @@ use Rattle.records.specs.declared.State.{State}
 use Rattle.records.specs.Push.{ErrorsPushed, TokenPushed}
 use Rattle.turns.specs.Turn.{at-text, at-cursor, Ready, Turned}
 use Rattle.turns.proofs.Turned.{passed-trans, on-text, end-token, end-errors, end-refused, end-plain, with-words, turned-on, turned-back, part-of}
-use Rattle.turns.proofs.Textless.{keyword-plain}
 
 -- ---- runs that may meet a character above 127
 
@@ -171,4 +171,4 @@ module _ {most : ℕ} {s : List ℕ} {st : State} {c : Cursor} {T X X₁ X₂ : 
           (with-words (record { kind = K.Identifier; place = p; text = first ∷ letters (rest s c) .text; base = 0 }) refl refl (omega (arith, written .count)) x)
 
       pub word-keyword-law : {E T′ : List ℕ} {r : State} → (y ≡ 0 → ⊥) → TokenPushed most T (at-cursor st (w .cursor)) (y ∷ p .line ∷ p .column ∷ 0 ∷ 0 ∷ 0 ∷ 0 ∷ 0 ∷ []) T′ r → Turned most (turn-at p first (rest s c)) s st c T E X r T′ E X₂
-      word-keyword-law z x = turned-back within written (end-plain (a .few) (a .asks .room) (sp .passed) (turn-kind ∙ word-keyword _ _ _ z) (rw g (keyword-plain (taken st w X₂) .is)) x)
+      word-keyword-law z x = turned-back within written (end-plain (a .few) (a .asks .room) (sp .passed) (turn-kind ∙ word-keyword _ _ _ z) (rw g (plain-textless _ (keyword-plain (taken st w X₂)))) x)
