@@ -17,7 +17,7 @@ use Rattle.definition.specs.Token.{Tok}
 use Rattle.definition.specs.Records.{has-text, token-words, tokens-words, tokens-text, errors-words, TokenWords, words-at, part, text-fits, good-alone, good-behind, place-of, text-end, token-of, token-before, tokens-of, ErrorWords, error-at, good-error, error-of, error-before, errors-of}
 use Rattle.definition.specs.Tokenizer as Z
 use Rattle.definition.specs.Tokenizer.{tokenize}
-use Rattle.definition.specs.Operations.{filled, Handed, both, handed}
+use Rattle.definition.specs.Operations.{Handed, both, handed}
 use Rattle.definition.proofs.Tests.{both-true, between-true, All}
 use Rattle.definition.proofs.Tokens.{Placed, Good, Fault, Behind, texts, Made, TokensOf, script-tokens}
 
@@ -151,28 +151,28 @@ errors-back ws (e ∷ es) i before rest w l f =
     same : _≡_ {A = Err} (record { number = e .number; place = e .place; expected = 0; got = 0 }) e
     same = λ x. record { number = e .number; place = e .place; expected = sym (f .0 .expected) x; got = sym (f .0 .got) x }
 
--- ---- what Tokenise writes
+-- ---- what Tokenise writes, before any words
 
-made-handed : (ts : List Tok) (es : List Err) → Made ts es → (a b c : ℕ)
-    → handed (filled a (tokens-words 0 ts)) (length ts) (filled b (errors-words es)) (length es) (filled c (tokens-text ts)) ≡ some (record { tokens = ts; errors = es })
+made-handed : (ts : List Tok) (es : List Err) → Made ts es → (u v w : List ℕ)
+    → handed (tokens-words 0 ts ++ u) (length ts) (errors-words es ++ v) (length es) (tokens-text ts ++ w) ≡ some (record { tokens = ts; errors = es })
 unfolding handed
-made-handed ts es m a b c =
+made-handed ts es m u v w =
     ap (λ (x : Bool). elim x as (λ _. Option Handed) [ true ↦ both (tokens-of ws text nowhere 0 0 (length ts)) (errors-of ws′ 0 (length es)) | false ↦ none ])
-    (both-true (both-true (both-true (le-leb (length ts) 2048 (m .tokens)) (le-leb (length es) 255 (m .errors))) (le-leb (8 * length ts) (length ws) (longer a (8 * length ts) (tokens-words 0 ts) (tokens-length 0 ts)))) (le-leb (4 * length es) (length ws′) (longer b (4 * length es) (errors-words es) (errors-length es))))
-    ∙ ap₂ both (tokens-back ws text ts nowhere 0 0 0 [] _ [] _ refl refl refl refl (omega arith) (omega (arith, m .text)) (m .behind) (m .good)) (errors-back ws′ es 0 [] _ refl refl (m .faults))
+    (both-true (both-true (both-true (le-leb (length ts) 2048 (m .tokens)) (le-leb (length es) 255 (m .errors))) (le-leb (8 * length ts) (length ws) (longer (8 * length ts) (tokens-words 0 ts) u (tokens-length 0 ts)))) (le-leb (4 * length es) (length ws′) (longer (4 * length es) (errors-words es) v (errors-length es))))
+    ∙ ap₂ both (tokens-back ws text ts nowhere 0 0 0 [] u [] w refl refl refl refl (omega arith) (omega (arith, m .text)) (m .behind) (m .good)) (errors-back ws′ es 0 [] v refl refl (m .faults))
   where
     ws : List ℕ
-    ws = filled a (tokens-words 0 ts)
+    ws = tokens-words 0 ts ++ u
 
     ws′ : List ℕ
-    ws′ = filled b (errors-words es)
+    ws′ = errors-words es ++ v
 
     text : List ℕ
-    text = filled c (tokens-text ts)
+    text = tokens-text ts ++ w
 
-    longer : (n k : ℕ) (xs : List ℕ) → length xs ≡ k → k ≤ length (filled n xs)
-    longer n k xs e = simp length-append (omega arith)
+    longer : (k : ℕ) (xs ys : List ℕ) → length xs ≡ k → k ≤ length (xs ++ ys)
+    longer k xs ys e = simp length-append (omega arith)
 
-pub read-back : (bs : List ℕ) (cs : List Ch) (ts : List Tok) (es : List Err) → length bs ≤ 16384 → characters bs ≡ some cs → tokenize cs ≡ Z.tokens ts es → (a b c : ℕ)
-    → handed (filled a (tokens-words 0 ts)) (length ts) (filled b (errors-words es)) (length es) (filled c (tokens-text ts)) ≡ some (record { tokens = ts; errors = es })
-read-back bs cs ts es h d t a b c = made-handed ts es (subst TokensOf t (script-tokens bs cs h d)) a b c
+pub read-back : (bs : List ℕ) (cs : List Ch) (ts : List Tok) (es : List Err) → length bs ≤ 16384 → characters bs ≡ some cs → tokenize cs ≡ Z.tokens ts es → (u v w : List ℕ)
+    → handed (tokens-words 0 ts ++ u) (length ts) (errors-words es ++ v) (length es) (tokens-text ts ++ w) ≡ some (record { tokens = ts; errors = es })
+read-back bs cs ts es h d t u v w = made-handed ts es (subst TokensOf t (script-tokens bs cs h d)) u v w

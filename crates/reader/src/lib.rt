@@ -3,10 +3,14 @@ use definition::limit;
 use definition::refusal;
 use parser::Written;
 use parser::read_tokens;
-use tokenizer::tokenize;
+use source::valid;
+use tokenizer::run;
 use zeros::clear_bytes;
 ghost use mathlib.Core.Path.{_≡_};
+ghost use Prim.Native.Nat.{_≤_};
+ghost use lib.ListN.{length};
 ghost use Rattle.definition.specs.Operations as O;
+ghost use Rattle.source.specs.Place.{Stands, origin};
 ghost use Rattle.parser.specs.Answer.{answer};
 
 // A refusal behind the tests: the file is zeros.
@@ -17,17 +21,37 @@ fn cleared(number: u32, file: &mut [u8]) -> Written
     Written { number, bytes: 0 }
 }
 
-// The whole operation, with token slices of its own: Tokenise's records are good, so they are not tested again.
-pub fn read_script(script: &[u8], file: &mut [u8]) -> Written
+// Behind the tests: tokens, errors and text in arrays of its own. The records of the loop are good, so they are not tested again.
+fn read_valid(script: &[u8], file: &mut [u8]) -> Written
+    requires { ⌜ Stands (now script) origin × (length (now script) ≤ 16384) × (65536 ≤ length (now file)) ⌝ }
     ensures { λ r. ⌜ answer r (now (file .exit)) ≡ O.whole (now (script .entry)) (now (file .entry)) ⌝ }
 {
     let mut tokens: [u32; 16384] = [0; 16384];
     let mut errors: [u32; 1024] = [0; 1024];
     let mut text: [u8; 16384] = [0; 16384];
-    let t = tokenize(script, &mut tokens, &mut errors, &mut text);
-    if (t.number == refusal::SCRIPT_LENGTH) | (t.number == refusal::NOT_UTF8) {
+    let st = run(limit::TOKENS, script, &mut tokens, &mut errors, &mut text);
+    if st.how != 0 {
+        return cleared(st.how, file);
+    }
+    if st.tokens == 0 {
+        return cleared(refusal::NO_TOKENS, file);
+    }
+    read_tokens(&tokens, st.tokens, &errors, st.errors, &text, file)
+}
+
+// The whole operation.
+pub fn read_script(script: &[u8], file: &mut [u8]) -> Written
+    ensures { λ r. ⌜ answer r (now (file .exit)) ≡ O.whole (now (script .entry)) (now (file .entry)) ⌝ }
+{
+    if limit::SCRIPT_BYTES < script.len() {
         return Written {
-            number: t.number,
+            number: refusal::SCRIPT_LENGTH,
+            bytes: 0,
+        };
+    }
+    if !valid(script) {
+        return Written {
+            number: refusal::NOT_UTF8,
             bytes: 0,
         };
     }
@@ -37,13 +61,7 @@ pub fn read_script(script: &[u8], file: &mut [u8]) -> Written
             bytes: 0,
         };
     }
-    if t.number != 0 {
-        return cleared(t.number, file);
-    }
-    if t.tokens == 0 {
-        return cleared(refusal::NO_TOKENS, file);
-    }
-    read_tokens(&tokens, t.tokens, &errors, t.errors, &text, file)
+    read_valid(script, file)
 }
 
 // The entry for C: the number, the file's bytes through `bytes`.

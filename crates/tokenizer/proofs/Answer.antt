@@ -13,6 +13,7 @@ use Rattle.definition.specs.Source.{Ch, characters, is-some, utf8}
 use Rattle.definition.specs.Records.{tokens-words, tokens-text, errors-words}
 use Rattle.definition.specs.Operations.{Tokenised, untouched, tokenised, tokenise}
 use Rattle.definition.specs.Tokenizer as Z
+use Rattle.definition.proofs.Tests.{left-true, right-true}
 use Rattle.source.specs.Place.{Stands, rest, origin}
 use Rattle.source.proofs.Laws.{stands-start}
 use Rattle.records.specs.declared.State.{State}
@@ -31,23 +32,15 @@ pub record Wide (T E X : List ℕ) : Type 0 where
   pub errors : 1024 ≤ length E
   pub text : 16384 ≤ length X
 
-and-left : (a b : Bool) → (a && b) ≡ true → a ≡ true
-and-left true b e = refl
-and-left false b e = e
-
-and-right : (a b : Bool) → (a && b) ≡ true → b ≡ true
-and-right true b e = e
-and-right false b e = absurd (let z : _≡_ {A = ℕ} 0 1 = cc in omega arith)
-
 pub wide-all : (T E X : List ℕ) → not (wide-enough T E X) ≡ false → Wide T E X
 wide-all T E X n =
     let e = not-false (wide-enough T E X) n in
-    let f = and-left (leb 16384 (length T) && leb 1024 (length E)) (leb 16384 (length X)) e in
-    record { tokens = leb-true _ _ (and-left (leb 16384 (length T)) (leb 1024 (length E)) f); errors = leb-true _ _ (and-right (leb 16384 (length T)) (leb 1024 (length E)) f); text = leb-true _ _ (and-right (leb 16384 (length T) && leb 1024 (length E)) (leb 16384 (length X)) e) }
+    let f = left-true (leb 16384 (length T) && leb 1024 (length E)) (leb 16384 (length X)) e in
+    record { tokens = leb-true _ _ (left-true (leb 16384 (length T)) (leb 1024 (length E)) f); errors = leb-true _ _ (right-true (leb 16384 (length T)) (leb 1024 (length E)) f); text = leb-true _ _ (right-true (leb 16384 (length T) && leb 1024 (length E)) (leb 16384 (length X)) e) }
 
 -- ---- before any work
 
-no-characters : (s : List ℕ) → utf8 s ≡ false → characters s ≡ none
+pub no-characters : (s : List ℕ) → utf8 s ≡ false → characters s ≡ none
 unfolding utf8
 no-characters s e = go (characters s) e
   where
@@ -59,7 +52,7 @@ no-characters s e = go (characters s) e
 pub at-start : (s : List ℕ) {v : Bool} → v ≡ utf8 s → not v ≡ false → Stands s origin
 at-start s {v} e n = stands-start s origin (sym e ∙ not-false v n) refl refl refl
 
-the-characters : (s : List ℕ) → Stands s origin → characters s ≡ some (rest s origin)
+pub the-characters : (s : List ℕ) → Stands s origin → characters s ≡ some (rest s origin)
 unfolding characters
 the-characters s z = z .is
 
@@ -81,7 +74,7 @@ too-narrow s T E X h e n w f = rw f (sym (of-characters s T E X h e n false (not
 
 -- ---- after the loop
 
-within-limit : (cs : List Ch) → Z.tokenize cs ≡ Z.tokenize-within 2048 cs
+pub within-limit : (cs : List Ch) → Z.tokenize cs ≡ Z.tokenize-within 2048 cs
 unfolding Z.tokenize
 within-limit cs = refl
 
