@@ -62,8 +62,7 @@ fn script_agrees(n: usize) -> bool {
     if SCRIPT < n {
         return false;
     }
-    let from = 0;
-    answer_agrees(&script[from..n])
+    answer_agrees(&script[..n])
 }
 
 fn case() -> Found {

@@ -113,7 +113,6 @@ fn parts_agree(
     expected: &[u8],
     o: Opening,
 ) -> bool {
-    let from = 0;
     let token_words = o.token_words;
     if tokens.len() < token_words {
         return false;
@@ -134,11 +133,11 @@ fn parts_agree(
         return false;
     }
     read_agrees(
-        &tokens[from..token_words],
-        &errors[from..error_words],
-        &text[from..text_bytes],
-        &mut file[from..file_bytes],
-        &expected[from..file_bytes],
+        &tokens[..token_words],
+        &errors[..error_words],
+        &text[..text_bytes],
+        &mut file[..file_bytes],
+        &expected[..file_bytes],
         o,
     )
 }

@@ -75,7 +75,7 @@ fn turn(
     }
 }
 
-// The loop: a turn at each character that is reached, until the end or a refusal. What stands behind the records is left as it is.
+// The loop: a turn at each character that is reached, until the end or a refusal. What stands behind the records is not cleared.
 pub fn run(most: usize, s: &[u8], tokens: &mut [u32], errors: &mut [u32], text: &mut [u8]) -> State
     requires { ⌜ Stands (now s) origin × (length (now s) ≤ 16384) × (8 * most ≤ length (now tokens)) × (1024 ≤ length (now errors)) × (16384 ≤ length (now text)) ⌝ }
     ensures { λ r. ⌜ Ran most (rest (now (s .entry)) origin) (now (tokens .exit)) (now (errors .exit)) (now (text .exit)) r ⌝ }
