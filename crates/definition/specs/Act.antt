@@ -1,7 +1,7 @@
 -- What a function of the parser does, step by step, and the answers it gives: the vocabulary of `Parser.antt`. Assumes nothing.
 use mathlib.Core.Bool.{Bool, true, false}
 use mathlib.Core.List.{List, [], _∷_, _++_}
-use Prim.Native.Nat.{ℕ, _+_}
+use Prim.Native.Nat.{ℕ}
 use lib.Dec.{ltb}
 use lib.ListN.{length}
 use Rattle.definition.specs.Source.{Place}

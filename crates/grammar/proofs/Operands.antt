@@ -11,7 +11,7 @@ use Rattle.definition.specs.Parser as P
 use Rattle.fallible.specs.declared.State.{State}
 use Rattle.fallible.specs.declared.Answer.{Answer}
 use Rattle.steps.specs.declared.Front.{Front}
-use Rattle.steps.specs.Tokens.{rest, Seen}
+use Rattle.steps.specs.Tokens.{Seen}
 use Rattle.steps.specs.Shows.{Asked, Reads, node, Finished}
 use Rattle.leaves.specs.Leaves.{there, identifier, is-name-alone}
 use Rattle.leaves.proofs.Choices.{neither, NameAlone, name-alone, no-prefix}

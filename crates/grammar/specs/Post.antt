@@ -1,7 +1,7 @@
 -- What the functions of the cycle show beyond `Reads` and `Goes`. Assumes nothing.
 use mathlib.Core.Path.{_≡_}
 use mathlib.Core.List.{List, [], _++_}
-use Prim.Native.Nat.{ℕ, min, _+_, _*_, _<_, _≤_}
+use Prim.Native.Nat.{ℕ, min, _+_, _*_, _≤_}
 use lib.Dec.{eqb}
 use lib.ListN.{length, take}
 use Rattle.definition.specs.Ascii.{ascii}

@@ -92,7 +92,8 @@ fn same_start(a: &[u8], b: &[u8], n: usize) -> bool {
     if b.len() < n {
         return false;
     }
-    check::same(&a[..n], &b[..n])
+    let from = 0;
+    check::same(&a[from..n], &b[from..n])
 }
 
 // Whether the next bytes of the input, so many, are the text.
@@ -134,8 +135,9 @@ fn part_agrees(tokens: &[u32], text: &[u8], at: usize) -> bool {
     if end == 0 {
         return true;
     }
+    let from = 0;
     let short = end - 1;
-    textless(tokens, &text[..short], at)
+    textless(tokens, &text[from..short], at)
 }
 
 // Whether a token has no text with another word in its record.
@@ -202,10 +204,11 @@ fn answer_agrees(space: &[u8], n: usize) -> bool {
     if space.len() < n {
         return false;
     }
+    let from = 0;
     let mut tokens = [0u32; 16384];
     let mut errors = [0u32; 1024];
     let mut text = [0u8; 16384];
-    let got = tokenizer::tokenize(&space[..n], &mut tokens, &mut errors, &mut text);
+    let got = tokenizer::tokenize(&space[from..n], &mut tokens, &mut errors, &mut text);
     let mut b = [0u8; 7];
     if io::read_full(STDIN_FILENO, &mut b) != 7 {
         return false;

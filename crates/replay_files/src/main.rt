@@ -62,7 +62,8 @@ fn script_agrees(n: usize) -> bool {
     if SCRIPT < n {
         return false;
     }
-    answer_agrees(&script[..n])
+    let from = 0;
+    answer_agrees(&script[from..n])
 }
 
 fn case() -> Found {

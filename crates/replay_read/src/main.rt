@@ -113,6 +113,7 @@ fn parts_agree(
     expected: &[u8],
     o: Opening,
 ) -> bool {
+    let from = 0;
     let token_words = o.token_words;
     if tokens.len() < token_words {
         return false;
@@ -133,11 +134,11 @@ fn parts_agree(
         return false;
     }
     read_agrees(
-        &tokens[..token_words],
-        &errors[..error_words],
-        &text[..text_bytes],
-        &mut file[..file_bytes],
-        &expected[..file_bytes],
+        &tokens[from..token_words],
+        &errors[from..error_words],
+        &text[from..text_bytes],
+        &mut file[from..file_bytes],
+        &expected[from..file_bytes],
         o,
     )
 }
