@@ -14,7 +14,7 @@ use Rattle.definition.specs.Parser.{rule, turn, loops, parse, parse-modu
 use Rattle.definition.proofs.Later.{Later, After, weaken}
 use Rattle.definition.proofs.Clean.{loops-later}
 use Rattle.definition.proofs.Total.{rank, rank-le, Enough, any, turn-enough, parse-after, Called}
-use Rattle.definition.proofs.Walk.{run-bind}
+use Rattle.definition.proofs.Bind.{run-bind}
 
 -- what follows an answer needs to agree only on answers that can be
 same-after : {A B : Type 0} (r r′ : Res A) (f g : A → St → Res B) (P : A → St → Type 0) → r ≡ r′ → After P r → ((a : A) (s : St) → P a s → f a s ≡ g a s) → after r f ≡ after r′ g

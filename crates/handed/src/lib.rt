@@ -4,7 +4,7 @@ use definition::token_error;
 use records::PLACES;
 use records::Words;
 use records::between;
-use records::good;
+use records::good_alone;
 use records::has_text;
 use records::words_at;
 ghost use mathlib.Core.Path.{_≡_};
@@ -76,7 +76,7 @@ fn good_tokens(tokens: &[u32], count: usize, text: &[u8]) -> bool
     let mut i = 0;
     while i < count {
         let w = words_at(tokens, i);
-        if good(text, w) & good_behind(f, w) {
+        if good_alone(text, w) & good_behind(f, w) {
             f = remember(f, w);
             i += 1;
         } else {

@@ -1,5 +1,5 @@
 -- Which operator, comparison or prefix a kind is. Assumes nothing.
-use mathlib.Core.Path.{_≡_, refl, sym, ap, _∙_, subst}
+use mathlib.Core.Path.{_≡_, refl, sym, _∙_, subst}
 use mathlib.Core.Bool.{Bool, true, false, not, _||_}
 use mathlib.Core.List.{List, [], _∷_}
 use Prim.Native.Nat.{ℕ, min, _+_, _-_, _≤_}
@@ -13,7 +13,7 @@ use Rattle.definition.specs.Act.{Node, Act, St, run}
 use Rattle.definition.specs.Kind as K
 use Rattle.definition.specs.Parser as P
 use Rattle.definition.specs.Go.{go}
-use Rattle.definition.proofs.Tests.{parts-true}
+use Rattle.definition.proofs.Tests.{clash, parts-true}
 use Rattle.leaves.specs.declared.Level.{Level}
 use Rattle.leaves.specs.Leaves.{level-of, Operator, is-arithmetic, Prefix, is-name-alone}
 
@@ -43,7 +43,7 @@ at-level {v} {v′} {k} {r} e h g i = subst (λ (z : Level). Operator (P.mapping
 -- ---- no operator of any level
 
 pub neither : (a b : Bool) → (a || b) ≡ false → (a ≡ false) × (b ≡ false)
-neither true b e = absurd (omega (arith, ap {B = ℕ} (λ (x : Bool). elim x as (λ _. ℕ) [ true ↦ 1 | false ↦ 0 ]) e))
+neither true b e = clash e
 neither false b e = (refl, e)
 
 module _ {k : ℕ} (bar : k ≡ K.Bar → ⊥) (caret : k ≡ K.Caret → ⊥) (ampersand : k ≡ K.Ampersand → ⊥) (left : k ≡ K.LeftShift → ⊥) (right : k ≡ K.RightShift → ⊥) (plus : k ≡ K.Plus → ⊥) (minus : k ≡ K.Minus → ⊥) (star : k ≡ K.Star → ⊥) where

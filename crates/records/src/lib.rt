@@ -261,7 +261,7 @@ pub fn words_at(tokens: &[u32], at: usize) -> Words
 }
 
 // The rules for a token record that need no other record.
-pub fn good(text: &[u8], w: Words) -> bool
+pub fn good_alone(text: &[u8], w: Words) -> bool
     ensures { λ r. ⌜ r ≡ R.good-alone (now (text .entry)) (words-of w) ⌝ }
 {
     if !fields_fit(w.kind, w.line, w.column, w.base, w.seventh, w.eighth) {
@@ -281,13 +281,6 @@ pub fn good(text: &[u8], w: Words) -> bool
     true
 }
 
-pub fn good_alone(tokens: &[u32], text: &[u8], at: usize) -> bool
-    requires { ⌜ 8 * at + 8 ≤ length (now tokens) ⌝ }
-    ensures { λ r. ⌜ r ≡ R.good-alone (now (text .entry)) (R.words-at (now (tokens .entry)) at) ⌝ }
-{
-    good(text, words_at(tokens, at))
-}
-
 // ---- token text
 
 // The text of a token, a part of the text slice; the empty part where the token has none or its record is bad.
@@ -298,7 +291,7 @@ pub fn token_text<'a>(tokens: &[u32], text: &'a [u8], at: usize) -> &'a [u8]
         return &text[0..0];
     }
     let w = words_at(tokens, at);
-    let there = has_text(w.kind) & good(text, w);
+    let there = has_text(w.kind) & good_alone(text, w);
     if !there {
         return &text[0..0];
     }

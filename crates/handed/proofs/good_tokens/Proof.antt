@@ -23,6 +23,6 @@ good-tokens-spec =
     (λ c κs. search needs)
     (λ c. search needs)
     (λ c. search needs)
-    (λ c. token-more (c .before .before .before .before .before .before .loop .inv) (c .before .before .before .before .before .loop-test .taken) (c .before .before .before .before .words-at .ensures) (c .before .before .before .good2 .ensures) (c .before .before .good-behind .ensures) (c .before .if1 .taken) (c .remember .ensures))
-    (λ c. token-bad (c .before .before .before .before .before .loop .inv) (c .before .before .before .before .loop-test .taken) (c .before .before .before .words-at .ensures) (c .before .before .good2 .ensures) (c .before .good-behind .ensures) (c .if1 .left))
+    (λ c. token-more (c .before .before .before .before .before .before .loop .inv) (c .before .before .before .before .before .loop-test .taken) (c .before .before .before .before .words-at .ensures) (c .before .before .before .good-alone .ensures) (c .before .before .good-behind .ensures) (c .before .if1 .taken) (c .remember .ensures))
+    (λ c. token-bad (c .before .before .before .before .before .loop .inv) (c .before .before .before .before .loop-test .taken) (c .before .before .before .words-at .ensures) (c .before .before .good-alone .ensures) (c .before .good-behind .ensures) (c .if1 .left))
     (λ c. tokens-end (c .before .loop .inv) (c .loop-test .left)))

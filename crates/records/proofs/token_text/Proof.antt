@@ -22,8 +22,8 @@ words-at-requires c κs = search needs
 has-text-requires : tie.Need-has-text-requires
 has-text-requires c κs = search needs
 
-good-requires : tie.Need-good-requires
-good-requires c κs = search needs
+good-alone-requires : tie.Need-good-alone-requires
+good-alone-requires c κs = search needs
 
 sub-result-2 : tie.Need-sub-result-2
 sub-result-2 c = search needs
@@ -53,10 +53,10 @@ part-result-start-3 : tie.Need-part-result-start-3
 part-result-start-3 c = search needs
 
 part-result-end-3 : tie.Need-part-result-end-3
-part-result-end-3 c = text-inside (c .before .before .before .before .before .before .before .before .before .args .text .now) (words-of (c .before .before .before .before .before .words-at .result)) (c .before .before .before .before .has-text .ensures) (c .before .before .before .good2 .ensures) (search)
+part-result-end-3 c = text-inside (c .before .before .before .before .before .before .before .before .before .args .text .now) (words-of (c .before .before .before .before .before .words-at .result)) (c .before .before .before .before .has-text .ensures) (c .before .before .before .good-alone .ensures) (search)
 
 returns-3 : tie.Need-returns-3
-returns-3 c = text-some (c .before .before .before .before .before .before .before .before .before .before .args .tokens .now) (c .before .before .before .before .before .before .before .before .before .before .args .text .now) (c .before .before .before .before .before .before .before .before .before .before .args .at) (search) (c .before .before .before .before .before .before .words-at .ensures) (c .before .before .before .before .before .has-text .ensures) (c .before .before .before .before .good2 .ensures) (search)
+returns-3 c = text-some (c .before .before .before .before .before .before .before .before .before .before .args .tokens .now) (c .before .before .before .before .before .before .before .before .before .before .args .text .now) (c .before .before .before .before .before .before .before .before .before .before .args .at) (search) (c .before .before .before .before .before .before .words-at .ensures) (c .before .before .before .before .before .has-text .ensures) (c .before .before .before .before .good-alone .ensures) (search)
 
 pub token-text-spec : {M : Type 1} → statement M
 token-text-spec =
@@ -68,7 +68,7 @@ token-text-spec =
     returns
     words-at-requires
     has-text-requires
-    good-requires
+    good-alone-requires
     sub-result-2
     part-result-start-2
     part-result-end-2
