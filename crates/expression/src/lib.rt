@@ -12,6 +12,7 @@ use fallible::note;
 use fallible::raise;
 use fallible::refuse;
 use fallible::silence;
+use leaves::LEVELS;
 use leaves::Level;
 use leaves::Listed;
 use leaves::arithmetic;
@@ -21,6 +22,7 @@ use leaves::closer;
 use leaves::comma;
 use leaves::comparison_operator;
 use leaves::counted;
+use leaves::level_at;
 use leaves::literal;
 use leaves::name;
 use leaves::name_alone;
@@ -165,7 +167,7 @@ fn comparison(
 }
 
 // parse_bitwise_or: bit_xor {`|` bit_xor}. All levels begin with the operand that is read here: where no operator of theirs
-// is behind it, it is the answer of each; else the loop of each goes on behind the answer of the level below.
+// is behind it, it is the answer of each; else the loop of each goes on behind the answer of the level below, the tightest first.
 fn bit_or(
     tokens: &[u32],
     text: &[u8],
@@ -179,7 +181,7 @@ fn bit_or(
     requires { ⌜ Asked (now tokens) (now text) n (now file) (now rep) (now full) st ⌝ }
     ensures { λ r. ⌜ Reads node (now (tokens .entry)) (now (text .entry)) n left P.parse-bitwise-or (now (file .entry)) (now (rep .entry)) (now (full .entry)) st (now (file .exit)) (now (rep .exit)) (now (full .exit)) r ⌝ }
 {
-    let a = cast(tokens, text, n, file, rep, full, st, left);
+    let mut a = cast(tokens, text, n, file, rep, full, st, left);
     let how = a.how;
     let How::Done = how else {
         return a;
@@ -190,84 +192,25 @@ fn bit_or(
     if !arithmetic(t.kind) {
         return a;
     }
-    let b = operators(
-        tokens,
-        text,
-        n,
-        file,
-        rep,
-        full,
-        Level::Mul,
-        a,
-        st.pos,
-        st.reported,
-        left,
-    );
-    let c = operators(
-        tokens,
-        text,
-        n,
-        file,
-        rep,
-        full,
-        Level::AddSub,
-        b,
-        st.pos,
-        st.reported,
-        left,
-    );
-    let d = operators(
-        tokens,
-        text,
-        n,
-        file,
-        rep,
-        full,
-        Level::BitShift,
-        c,
-        st.pos,
-        st.reported,
-        left,
-    );
-    let e = operators(
-        tokens,
-        text,
-        n,
-        file,
-        rep,
-        full,
-        Level::BitwiseAnd,
-        d,
-        st.pos,
-        st.reported,
-        left,
-    );
-    let g = operators(
-        tokens,
-        text,
-        n,
-        file,
-        rep,
-        full,
-        Level::BitwiseXor,
-        e,
-        st.pos,
-        st.reported,
-        left,
-    );
-    operators(
-        tokens,
-        text,
-        n,
-        file,
-        rep,
-        full,
-        Level::BitwiseOr,
-        g,
-        st.pos,
-        st.reported,
-        left,
-    )
+    let mut k = 0;
+    while k < LEVELS {
+        let level = level_at(k);
+        a = operators(
+            tokens,
+            text,
+            n,
+            file,
+            rep,
+            full,
+            level,
+            a,
+            st.pos,
+            st.reported,
+            left,
+        );
+        k += 1;
+    }
+    a
 }
 
 // parse_bitwise_xor: bit_and {`^` bit_and}

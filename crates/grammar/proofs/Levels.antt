@@ -1,8 +1,10 @@
 -- The levels of an expression: boolean and, comparison, the arithmetic operators, casts. Assumes nothing.
 use mathlib.Core.Path.{_≡_, refl, ap, _∙_}
 use mathlib.Core.List.{List, [], _∷_}
-use Prim.Native.Nat.{ℕ, _-_}
+use Prim.Native.Nat.{ℕ, zero, suc, _+_, _-_, _<_, _≤_}
+use native.Mathlib.Numerals.{add-one}
 use native.Mathlib.Omega.{arith}
+use lib.ListN.{length}
 use borrow.Author.Tests.{eq-eqb, ne-eqb}
 use Rattle.definition.specs.Node.{byte}
 use Rattle.definition.specs.Fallible.{Fallible, Ans, ok}
@@ -24,10 +26,10 @@ use Rattle.steps.specs.declared.Front.{Front}
 use Rattle.steps.specs.Tokens.{rest, Seen}
 use Rattle.steps.specs.Shows.{st-of, Asked, Reads, Goes, GoesOn, node, Finished}
 use Rattle.steps.proofs.Tokens.{yes, no, fore, adv}
-use Rattle.leaves.specs.Leaves.{Operator}
-use Rattle.grammar.specs.Post.{operators-on, casts-on}
+use Rattle.leaves.specs.Leaves.{level-at, Operator}
+use Rattle.grammar.specs.Post.{operators-on, operand-at, casts-on}
 use Rattle.grammar.proofs.Types.{past}
-use Rattle.grammar.proofs.Joins.{then-asked, goes-none, goes-joined, goes-turn}
+use Rattle.grammar.proofs.Joins.{then-asked, goes-none, goes-joined, goes-turn, goes-further}
 
 -- the record of an operator
 abbrev pub at-operator : Front → ℕ → Numbers → Record
@@ -103,17 +105,49 @@ module _ {w x : List ℕ} {n d i j : ℕ} {o r f : List ℕ} {a : Answer} {t : F
       goes-turn (head (rest w x n (a .state .at)) .place) [] q z u B C F (omega arith) (rw (u .place)) (past w x n (a .state .at)) (λ e b. P.binary 0x26 [] (head (rest w x n (a .state .at)) .place) e b) (λ e b. refl)
       (λ e rd. go-loop d (Casts e) (st-of w x n f rd (a .state)) ∙ rw (run, yes u h) (ap (λ (S : St). go d (P.parse-type >>? λ b. casts-on (P.binary 0x26 [] (head (rest w x n (a .state .at)) .place) e b)) S) (adv (a .state) u (λ _. plain) f rd))) G
 
--- ---- the six levels
+-- ---- the six levels, the tightest first
 
--- an operand, and the loop of each level behind the answer of the one before
+-- behind an operand a, at k levels: what was read stands for an operand of these levels
+pub record Levelled (w x : List ℕ) (n d : ℕ) (s : State) (o r f : List ℕ) (a : Answer) (o1 r1 f1 : List ℕ) (y : Answer) (k : ℕ) : Type 0 where
+  pub few : k ≤ 6
+  pub forward : s .at ≤ y .state .at
+  pub file : length o1 ≡ length o
+  pub rep : length r1 ≡ length r
+  pub full : length f1 ≡ length f
+  pub on : GoesOn w x n o1 r1 f1 y (s .pos) (s .reported)
+  pub reads : {o0 r0 f0 : List ℕ} → Asked w x n o0 r0 f0 s → Reads node w x n d P.parse-cast o0 r0 f0 s o r f a → Reads node w x n d (operand-at k) o0 r0 f0 s o1 r1 f1 y
+
+all-levels : {w x : List ℕ} {n d : ℕ} {o r f o1 r1 f1 : List ℕ} {s : State} {a : Answer} → Reads node w x n d (operand-at 6) o r f s o1 r1 f1 a → Reads node w x n d P.parse-bitwise-or o r f s o1 r1 f1 a
+unfolding operand-at P.parse-mul P.parse-add-sub P.parse-bit-shift P.parse-bitwise-and P.parse-bitwise-xor P.parse-bitwise-or
+all-levels R = R
+
+module _ {w x : List ℕ} {n d : ℕ} {s : State} {o r f : List ℕ} {a : Answer} where
+  pub levels-start : s .at ≤ a .state .at → GoesOn w x n o r f a (s .pos) (s .reported) → Levelled w x n d s o r f a o r f a 0
+  unfolding operand-at
+  levels-start h g = record { few = omega arith; forward = h; file = refl; rep = refl; full = refl; on = g; reads = λ q R. R }
+
+  module _ {o1 r1 f1 : List ℕ} {y : Answer} {k : ℕ} (z : Levelled w x n d s o r f a o1 r1 f1 y k) where
+    pub levels-more : {l : A.Level} {o2 r2 f2 : List ℕ} {y′ : Answer} → k < 6 → l ≡ level-at k → Goes node node w x n d (operators-on l) (s .pos) (s .reported) o1 r1 f1 y o2 r2 f2 y′ → length o2 ≡ length o1 → length r2 ≡ length r1 → length f2 ≡ length f1 → Levelled w x n d s o r f a o2 r2 f2 y′ (k + 1)
+    unfolding operand-at
+    levels-more h e g p q t = record {
+      few = omega arith;
+      forward = omega (arith, z .forward, g .moved .at);
+      file = p ∙ z .file;
+      rep = q ∙ z .rep;
+      full = t ∙ z .full;
+      on = goes-further (z .on) g p q t;
+      reads = λ asked R. rw (add-one, operand-at) (then-asked (operators-on (level-at k)) asked (z .reads asked R) (rw e at g));
+    }
+
+    pub levels-end : {o0 r0 f0 : List ℕ} → 6 ≤ k → Asked w x n o0 r0 f0 s → Reads node w x n d P.parse-cast o0 r0 f0 s o r f a → Reads node w x n d P.parse-bitwise-or o0 r0 f0 s o1 r1 f1 y
+    levels-end h q R = let e : k ≡ 6 = omega (arith, z .few) in all-levels (rw e at (z .reads q R))
+
+-- each gives what it is given
 module _ {w x : List ℕ} {n d : ℕ} {o r f o1 r1 f1 : List ℕ} {s : State} {a : Answer} (q : Asked w x n o r f s) (R : Reads node w x n d P.parse-cast o r f s o1 r1 f1 a) where
-  pub levels : {o2 r2 f2 o3 r3 f3 o4 r4 f4 o5 r5 f5 o6 r6 f6 o7 r7 f7 : List ℕ} {b2 b3 b4 b5 b6 y : Answer} → Goes node node w x n d (operators-on A.Mul) (s .pos) (s .reported) o1 r1 f1 a o2 r2 f2 b2 → Goes node node w x n d (operators-on A.AddSub) (s .pos) (s .reported) o2 r2 f2 b2 o3 r3 f3 b3
-      → Goes node node w x n d (operators-on A.Shift) (s .pos) (s .reported) o3 r3 f3 b3 o4 r4 f4 b4 → Goes node node w x n d (operators-on A.BitAnd) (s .pos) (s .reported) o4 r4 f4 b4 o5 r5 f5 b5 → Goes node node w x n d (operators-on A.BitXor) (s .pos) (s .reported) o5 r5 f5 b5 o6 r6 f6 b6
-      → Goes node node w x n d (operators-on A.BitOr) (s .pos) (s .reported) o6 r6 f6 b6 o7 r7 f7 y → Reads node w x n d P.parse-bitwise-or o r f s o7 r7 f7 y
-  unfolding P.parse-mul P.parse-add-sub P.parse-bit-shift P.parse-bitwise-and P.parse-bitwise-xor P.parse-bitwise-or
-  levels g h i j k l =
-      then-asked (operators-on A.BitOr) q (then-asked (operators-on A.BitXor) q (then-asked (operators-on A.BitAnd) q (then-asked (operators-on A.Shift) q (then-asked (operators-on A.AddSub) q (then-asked (operators-on A.Mul) q R g) h) i) j) k) l
-
-  -- each gives what it is given
   pub levels-pass : ((l : A.Level) → Goes node node w x n d (operators-on l) (s .pos) (s .reported) o1 r1 f1 a o1 r1 f1 a) → Reads node w x n d P.parse-bitwise-or o r f s o1 r1 f1 a
-  levels-pass g = levels (g A.Mul) (g A.AddSub) (g A.Shift) (g A.BitAnd) (g A.BitXor) (g A.BitOr)
+  unfolding operand-at
+  levels-pass g = all-levels (go 6)
+    where
+      go : (k : ℕ) → Reads node w x n d (operand-at k) o r f s o1 r1 f1 a
+      go zero = R
+      go (suc k) = then-asked (operators-on (level-at k)) q (go k) (g (level-at k))

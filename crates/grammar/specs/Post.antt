@@ -1,7 +1,7 @@
 -- What the functions of the cycle show beyond `Reads` and `Goes`. Assumes nothing.
 use mathlib.Core.Path.{_≡_}
 use mathlib.Core.List.{List, [], _++_}
-use Prim.Native.Nat.{ℕ, min, _+_, _*_, _≤_}
+use Prim.Native.Nat.{ℕ, zero, suc, min, _+_, _*_, _≤_}
 use lib.Dec.{eqb}
 use lib.ListN.{length, take}
 use Rattle.definition.specs.Ascii.{ascii}
@@ -12,7 +12,7 @@ use Rattle.definition.specs.Fallible.{Err, Fallible, Ans, ok}
 use Rattle.definition.specs.Kind as K
 use Rattle.definition.specs.Token.{Tok, head}
 use Rattle.definition.specs.Act as A
-use Rattle.definition.specs.Act.{Items, Node, Act, done, loop, ListOf, Casts, Suffixes, Operators, Consumed, _>>=_}
+use Rattle.definition.specs.Act.{Items, Node, Act, done, loop, ListOf, Casts, Suffixes, Operators, Consumed, _>>=_, _>>?_}
 use Rattle.definition.specs.Parser as P
 use Rattle.definition.specs.Go.{go}
 use Rattle.node.specs.Put.{Wrote, bare-of}
@@ -23,6 +23,7 @@ use Rattle.fallible.specs.declared.How.the-variants.{Done, Fatal, Refused}
 use Rattle.fallible.specs.declared.Answer.{Answer}
 use Rattle.fallible.specs.Lists.{errs}
 use Rattle.steps.specs.Tokens.{rest, budget, Held}
+use Rattle.leaves.specs.Leaves.{level-at}
 use Rattle.steps.specs.Shows.{st-of, Moved, Shows, done-of, typed, items}
 
 abbrev pub place-at : ℕ → ℕ → Place
@@ -32,6 +33,11 @@ place-at line column = record { line = line; column = column }
 
 abbrev pub operators-on : A.Level → Fallible Node → Act (Ans Node)
 operators-on l e = loop (Operators l e) done
+
+-- an operand of the k tightest levels
+unfoldable pub operand-at : ℕ → Act (Ans Node)
+operand-at zero = P.parse-cast
+operand-at (suc k) = operand-at k >>? operators-on (level-at k)
 
 abbrev pub casts-on : Fallible Node → Act (Ans Node)
 casts-on e = loop (Casts e) done

@@ -4,6 +4,7 @@ use mathlib.Core.Bool.{Bool, true, false, _&&_, _||_, not}
 use mathlib.Core.List.{List, _++_}
 use Prim.Native.Nat.{ℕ, min, _+_, _-_, _^_, _≤_}
 use lib.Dec.{eqb, ltb}
+use Rattle.definition.specs.Choice.{pick}
 use Rattle.definition.specs.Fallible.{Err, Ans}
 use Rattle.definition.specs.Token.{Tok, head, dashed, number}
 use Rattle.definition.specs.Act as A
@@ -87,6 +88,10 @@ level-of Lv.BitwiseAnd = A.BitAnd
 level-of Lv.BitShift = A.Shift
 level-of Lv.AddSub = A.AddSub
 level-of Lv.Mul = A.Mul
+
+-- the levels by number, the tightest first
+abbrev pub level-at : ℕ → A.Level
+level-at k = pick (eqb k 0) A.Mul (pick (eqb k 1) A.AddSub (pick (eqb k 2) A.Shift (pick (eqb k 3) A.BitAnd (pick (eqb k 4) A.BitXor A.BitOr))))
 
 -- the kind k is the operator r - 1 of the table, or none of them where r is 0: which way the definition goes
 pub record Operator (ops : List P.Op) (k r : ℕ) : Type 0 where

@@ -21,7 +21,7 @@ ghost use Rattle.definition.specs.Parser as P;
 ghost use Rattle.definition.specs.Token.{digit};
 ghost use Rattle.node.specs.Put.{Room};
 ghost use Rattle.steps.specs.Shows.{Asks, Reads, Finished, node};
-ghost use Rattle.leaves.specs.Leaves.{is-arithmetic, listed-of, Counted, Commas, Valued, level-of, Operator, Prefix, there, identifier, is-name-alone, Literal, Closed};
+ghost use Rattle.leaves.specs.Leaves.{is-arithmetic, listed-of, Counted, Commas, Valued, level-of, level-at, Operator, Prefix, there, identifier, is-name-alone, Literal, Closed};
 
 // The lists of parse_bounded_list_of.
 pub enum Listed {
@@ -206,6 +206,30 @@ pub fn operator(level: Level, k: u32) -> u8
         }
         Level::Mul => if k == kind::STAR { 3 } else { 0 },
     }
+}
+
+pub const LEVELS: usize = 6;
+
+// The levels by number, the tightest first.
+pub fn level_at(k: usize) -> Level
+    ensures { λ r. ⌜ level-of r ≡ level-at k ⌝ }
+{
+    if k == 0 {
+        return Level::Mul;
+    }
+    if k == 1 {
+        return Level::AddSub;
+    }
+    if k == 2 {
+        return Level::BitShift;
+    }
+    if k == 3 {
+        return Level::BitwiseAnd;
+    }
+    if k == 4 {
+        return Level::BitwiseXor;
+    }
+    Level::BitwiseOr
 }
 
 // Whether a kind is an operator of any level.

@@ -142,7 +142,7 @@ pub +access+add-sub+array+atom+bit-and+bit-or+bit-xor+boolean+call+cascade+cast+
     (λ t. array-lts.spec (N-array.given t) (array-at t) array.Post (N-array.head-requires t) (N-array.entry-requires t) (N-array.raise-requires t) (N-array.same-length t) (N-array.same-length-2 t) (N-array.returns t) (N-array.array-size-requires t) (N-array.entry-requires-2 t) (N-array.raise-requires-2 t) (N-array.same-length-3 t) (N-array.same-length-4 t) (N-array.returns-2 t) (N-array.expect-requires t) (N-array.enum-told t) (N-array.same-length-5 t) (N-array.same-length-6 t) (N-array.returns-3 t) (N-array.ty-requires t) (N-array.finish-requires t) (N-array.same-length-7 t) (N-array.same-length-8 t) (N-array.same-length-9 t) (N-array.returns-4 t))
     (λ t. atom-lts.spec (N-atom.given t) (atom-at t) atom.Post (N-atom.head-requires t) (N-atom.literal-requires t) (N-atom.same-length t) (N-atom.same-length-2 t) (N-atom.same-length-3 t) (N-atom.returns t) (N-atom.expression-requires t) (N-atom.close-requires t) (N-atom.same-length-4 t) (N-atom.same-length-5 t) (N-atom.same-length-6 t) (N-atom.returns-2 t))
     (λ t. bit-and-lts.spec (N-bit-and.given t) (bit-and-at t) bit-and.Post (N-bit-and.shift-requires t) (N-bit-and.operators-requires t) (N-bit-and.same-length t) (N-bit-and.same-length-2 t) (N-bit-and.same-length-3 t) (N-bit-and.returns t))
-    (λ t. bit-or-lts.spec (N-bit-or.given t) (bit-or-at t) bit-or.Post (N-bit-or.cast-requires t) (N-bit-or.enum-told t) (N-bit-or.same-length t) (N-bit-or.same-length-2 t) (N-bit-or.same-length-3 t) (N-bit-or.returns t) (N-bit-or.head-requires t) (N-bit-or.arithmetic-requires t) (N-bit-or.same-length-4 t) (N-bit-or.same-length-5 t) (N-bit-or.same-length-6 t) (N-bit-or.returns-2 t) (N-bit-or.operators-requires t) (N-bit-or.operators-requires-2 t) (N-bit-or.operators-requires-3 t) (N-bit-or.operators-requires-4 t) (N-bit-or.operators-requires-5 t) (N-bit-or.operators-requires-6 t) (N-bit-or.same-length-7 t) (N-bit-or.same-length-8 t) (N-bit-or.same-length-9 t) (N-bit-or.returns-3 t))
+    (λ t. bit-or-lts.spec (N-bit-or.given t) (bit-or-at t) bit-or.Post N-bit-or.Inv-loop N-bit-or.μ-loop (N-bit-or.cast-requires t) (N-bit-or.enum-told t) (N-bit-or.same-length t) (N-bit-or.same-length-2 t) (N-bit-or.same-length-3 t) (N-bit-or.returns t) (N-bit-or.head-requires t) (N-bit-or.arithmetic-requires t) (N-bit-or.same-length-4 t) (N-bit-or.same-length-5 t) (N-bit-or.same-length-6 t) (N-bit-or.returns-2 t) (N-bit-or.loop-holds t) (N-bit-or.level-at-requires t) (N-bit-or.operators-requires t) (N-bit-or.add-k t) (N-bit-or.loop-less t) (N-bit-or.loop-again t) (N-bit-or.same-length-7 t) (N-bit-or.same-length-8 t) (N-bit-or.same-length-9 t) (N-bit-or.returns-3 t))
     (λ t. bit-xor-lts.spec (N-bit-xor.given t) (bit-xor-at t) bit-xor.Post (N-bit-xor.bit-and-requires t) (N-bit-xor.operators-requires t) (N-bit-xor.same-length t) (N-bit-xor.same-length-2 t) (N-bit-xor.same-length-3 t) (N-bit-xor.returns t))
     (λ t. boolean-lts.spec (N-boolean.given t) (boolean-at t) boolean.Post (N-boolean.comparison-requires t) (N-boolean.enum-told t) (N-boolean.same-length t) (N-boolean.same-length-2 t) (N-boolean.same-length-3 t) (N-boolean.returns t) (N-boolean.head-requires t) (N-boolean.same-length-4 t) (N-boolean.same-length-5 t) (N-boolean.same-length-6 t) (N-boolean.returns-2 t) (N-boolean.comparison-requires-2 t) (N-boolean.abandon-requires t) (N-boolean.finish-requires t) (N-boolean.same-length-7 t) (N-boolean.same-length-8 t) (N-boolean.same-length-9 t) (N-boolean.returns-3 t))
     (λ t. call-lts.spec (N-call.given t) (call-at t) call.Post (N-call.sizeof-requires t) (N-call.enum-told t) (N-call.same-length t) (N-call.same-length-2 t) (N-call.same-length-3 t) (N-call.returns t) (N-call.head-requires t) (N-call.same-length-4 t) (N-call.same-length-5 t) (N-call.same-length-6 t) (N-call.returns-2 t) (N-call.list-requires t) (N-call.silence-requires t) (N-call.finish-requires t) (N-call.same-length-7 t) (N-call.same-length-8 t) (N-call.same-length-9 t) (N-call.returns-3 t))

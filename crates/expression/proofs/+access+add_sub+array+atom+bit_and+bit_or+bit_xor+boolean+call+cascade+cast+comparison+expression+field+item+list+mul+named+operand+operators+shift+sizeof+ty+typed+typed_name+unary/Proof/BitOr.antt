@@ -1,86 +1,93 @@
 -- The needs of `bit_or`.
 use mathlib.Core.Path.{refl, sym, _∙_}
 use Rattle.leaves.proofs.Choices.{no-operator}
-use Rattle.grammar.proofs.Joins.{goes-on, goes-stops, goes-further}
-use Rattle.grammar.proofs.Levels.{operators-none, levels, levels-pass}
+use Rattle.grammar.proofs.Joins.{goes-on, goes-stops}
+use Rattle.grammar.proofs.Levels.{operators-none, Levelled, levels-start, levels-more, levels-end, levels-pass}
 use borrow.Author.Tests.{not-true}
 use borrow.Author.Needs.{needs}
 use native.Mathlib.Omega.{arith}
-use Prim.Native.Nat.{ℕ}
+use Prim.Native.Nat.{ℕ, _-_}
 use Rattle.expression.proofs.+access+add_sub+array+atom+bit_and+bit_or+bit_xor+boolean+call+cascade+cast+comparison+expression+field+item+list+mul+named+operand+operators+shift+sizeof+ty+typed+typed_name+unary.Lts-bit_or as lts
 use Rattle.expression.proofs.bit_or.Reads as bit-or
 use Rattle.expression.proofs.cast.Reads as cast
 use Rattle.expression.proofs.operators.Reads as operators
 use Rattle.leaves.proofs.arithmetic.Reads as arithmetic-reads
+use Rattle.leaves.proofs.level_at.Reads as level-at-reads
 use Rattle.steps.proofs.head.Reads as head-reads
 use Rattle.expression.proofs.+access+add_sub+array+atom+bit_and+bit_or+bit_xor+boolean+call+cascade+cast+comparison+expression+field+item+list+mul+named+operand+operators+shift+sizeof+ty+typed+typed_name+unary.Proof.Falls.{bit-or-at, cast-below, operators-below}
 
+abbrev pub Inv-loop : lts.InvT-loop
+Inv-loop w x n o₀ r₀ f₀ st d a₀ at k₀ o r f a k = Levelled w x n d st o₀ r₀ f₀ a₀ o r f a k
+
+abbrev pub μ-loop : lts.MeasureT-loop
+μ-loop w x n o₀ r₀ f₀ st d a₀ at k₀ o r f a k = 6 - k
+
 module _ (t : ℕ) where
   abbrev pub given : lts.Claims
-  given = (cast-below t, cast.Post, head-reads.Asked, head-reads.Learnt, arithmetic-reads.Asked, arithmetic-reads.Learnt, operators-below t, operators.Post)
+  given = (cast-below t, cast.Post, head-reads.Asked, head-reads.Learnt, arithmetic-reads.Asked, arithmetic-reads.Learnt, level-at-reads.Asked, level-at-reads.Learnt, operators-below t, operators.Post)
 
-  pub cast-requires : lts.Need-cast-requires given (bit-or-at t) bit-or.Post
+  pub cast-requires : lts.Need-cast-requires given (bit-or-at t) bit-or.Post Inv-loop μ-loop
   cast-requires c κs = (omega (arith, c .before .before .before .before .before .before .before .before .pre .0), c .before .before .before .before .before .before .before .before .pre .1)
 
-  pub enum-told : lts.Need-enum-told given (bit-or-at t) bit-or.Post
+  pub enum-told : lts.Need-enum-told given (bit-or-at t) bit-or.Post Inv-loop μ-loop
   enum-told c = search needs
 
-  pub same-length : lts.Need-same-length given (bit-or-at t) bit-or.Post
+  pub same-length : lts.Need-same-length given (bit-or-at t) bit-or.Post Inv-loop μ-loop
   same-length c = omega (arith, c .before .before .before .before .before .before .before .cast .kept)
 
-  pub same-length-2 : lts.Need-same-length-2 given (bit-or-at t) bit-or.Post
+  pub same-length-2 : lts.Need-same-length-2 given (bit-or-at t) bit-or.Post Inv-loop μ-loop
   same-length-2 c = omega (arith, c .before .before .before .before .before .before .before .cast .kept)
 
-  pub same-length-3 : lts.Need-same-length-3 given (bit-or-at t) bit-or.Post
+  pub same-length-3 : lts.Need-same-length-3 given (bit-or-at t) bit-or.Post Inv-loop μ-loop
   same-length-3 c = omega (arith, c .before .before .before .before .before .before .before .cast .kept)
 
-  pub same-length-4 : lts.Need-same-length-4 given (bit-or-at t) bit-or.Post
+  pub same-length-4 : lts.Need-same-length-4 given (bit-or-at t) bit-or.Post Inv-loop μ-loop
   same-length-4 c = omega (arith, c .before .before .before .before .before .before .before .before .before .before .before .before .cast .kept)
 
-  pub same-length-5 : lts.Need-same-length-5 given (bit-or-at t) bit-or.Post
+  pub same-length-5 : lts.Need-same-length-5 given (bit-or-at t) bit-or.Post Inv-loop μ-loop
   same-length-5 c = omega (arith, c .before .before .before .before .before .before .before .before .before .before .before .before .cast .kept)
 
-  pub same-length-6 : lts.Need-same-length-6 given (bit-or-at t) bit-or.Post
+  pub same-length-6 : lts.Need-same-length-6 given (bit-or-at t) bit-or.Post Inv-loop μ-loop
   same-length-6 c = omega (arith, c .before .before .before .before .before .before .before .before .before .before .before .before .cast .kept)
 
-  pub returns : lts.Need-returns given (bit-or-at t) bit-or.Post
+  pub returns : lts.Need-returns given (bit-or-at t) bit-or.Post Inv-loop μ-loop
   returns c = levels-pass (c .before .before .before .before .before .before .before .before .before .before .before .before .before .before .before .before .pre .1) (c .before .before .before .before .before .before .before .cast .ensures) (λ l. goes-stops (goes-on (c .before .before .before .before .before .before .before .before .before .before .before .before .before .before .before .before .pre .1) (c .before .before .before .before .before .before .before .cast .ensures) (omega (arith, c .before .before .before .before .before .before .before .cast .kept)) (omega (arith, c .before .before .before .before .before .before .before .cast .kept)) (omega (arith, c .before .before .before .before .before .before .before .cast .kept))) (c .match .keys2))
 
-  pub head-requires : lts.Need-head-requires given (bit-or-at t) bit-or.Post
+  pub head-requires : lts.Need-head-requires given (bit-or-at t) bit-or.Post Inv-loop μ-loop
   head-requires c κs = (c .before .before .before .before .before .before .before .before .before .before .before .before .before .before .before .before .before .before .pre .1 .asks .held, c .before .before .before .before .before .before .before .before .before .cast .ensures .moved .end)
 
-  pub arithmetic-requires : lts.Need-arithmetic-requires given (bit-or-at t) bit-or.Post
+  pub arithmetic-requires : lts.Need-arithmetic-requires given (bit-or-at t) bit-or.Post Inv-loop μ-loop
   arithmetic-requires c κs = search needs
 
-  pub returns-2 : lts.Need-returns-2 given (bit-or-at t) bit-or.Post
+  pub returns-2 : lts.Need-returns-2 given (bit-or-at t) bit-or.Post Inv-loop μ-loop
   returns-2 c = levels-pass (c .before .before .before .before .before .before .before .before .before .before .before .before .before .before .before .before .before .before .before .before .before .pre .1) (c .before .before .before .before .before .before .before .before .before .before .before .before .cast .ensures) (λ l. operators-none (goes-on (c .before .before .before .before .before .before .before .before .before .before .before .before .before .before .before .before .before .before .before .before .before .pre .1) (c .before .before .before .before .before .before .before .before .before .before .before .before .cast .ensures) (omega (arith, c .before .before .before .before .before .before .before .before .before .before .before .before .cast .kept)) (omega (arith, c .before .before .before .before .before .before .before .before .before .before .before .before .cast .kept)) (omega (arith, c .before .before .before .before .before .before .before .before .before .before .before .before .cast .kept))) (c .before .before .before .before .enum-told .given .1) (c .before .before .head .ensures) l (no-operator _ (sym (c .before .arithmetic .ensures) ∙ not-true _ (c .if1 .taken)) l) refl)
 
-  pub operators-requires : lts.Need-operators-requires given (bit-or-at t) bit-or.Post
-  operators-requires c κs = (omega (arith, c .before .before .before .before .before .before .before .before .before .before .before .before .before .before .before .before .before .before .before .before .before .before .before .before .pre .0, c .before .before .before .before .before .before .before .before .before .before .before .before .before .before .before .before .before .before .before .before .before .before .before .before .pre .1 .asks .at, c .before .before .before .before .before .before .before .before .before .before .before .before .before .before .before .cast .ensures .moved .at), goes-on (c .before .before .before .before .before .before .before .before .before .before .before .before .before .before .before .before .before .before .before .before .before .before .before .before .pre .1) (c .before .before .before .before .before .before .before .before .before .before .before .before .before .before .before .cast .ensures) (omega (arith, c .before .before .before .before .before .before .before .before .before .before .before .before .before .before .before .cast .kept)) (omega (arith, c .before .before .before .before .before .before .before .before .before .before .before .before .before .before .before .cast .kept)) (omega (arith, c .before .before .before .before .before .before .before .before .before .before .before .before .before .before .before .cast .kept)))
+  pub loop-holds : lts.Need-loop-holds given (bit-or-at t) bit-or.Post Inv-loop μ-loop
+  loop-holds c = levels-start (c .before .before .before .before .before .before .before .before .before .before .before .before .cast .ensures .moved .at) (goes-on (c .before .before .before .before .before .before .before .before .before .before .before .before .before .before .before .before .before .before .before .before .before .pre .1) (c .before .before .before .before .before .before .before .before .before .before .before .before .cast .ensures) (omega (arith, c .before .before .before .before .before .before .before .before .before .before .before .before .cast .kept)) (omega (arith, c .before .before .before .before .before .before .before .before .before .before .before .before .cast .kept)) (omega (arith, c .before .before .before .before .before .before .before .before .before .before .before .before .cast .kept)))
 
-  pub operators-requires-2 : lts.Need-operators-requires-2 given (bit-or-at t) bit-or.Post
-  operators-requires-2 c κs = (omega (arith, c .before .before .before .before .before .before .before .before .before .before .before .before .before .before .before .before .before .before .before .before .before .before .before .before .before .before .before .before .before .before .before .before .before .before .pre .0, c .before .before .before .before .before .before .before .before .before .before .before .before .before .before .before .before .before .before .before .before .before .before .before .before .before .before .before .before .before .before .before .before .before .before .pre .1 .asks .at, c .before .before .before .before .before .before .before .before .before .before .before .before .before .before .before .before .before .before .before .before .before .before .before .before .before .cast .ensures .moved .at, c .before .before .before .before .before .before .before .before .before .operators .ensures .moved .at), goes-further (goes-on (c .before .before .before .before .before .before .before .before .before .before .before .before .before .before .before .before .before .before .before .before .before .before .before .before .before .before .before .before .before .before .before .before .before .before .pre .1) (c .before .before .before .before .before .before .before .before .before .before .before .before .before .before .before .before .before .before .before .before .before .before .before .before .before .cast .ensures) (omega (arith, c .before .before .before .before .before .before .before .before .before .before .before .before .before .before .before .before .before .before .before .before .before .before .before .before .before .cast .kept)) (omega (arith, c .before .before .before .before .before .before .before .before .before .before .before .before .before .before .before .before .before .before .before .before .before .before .before .before .before .cast .kept)) (omega (arith, c .before .before .before .before .before .before .before .before .before .before .before .before .before .before .before .before .before .before .before .before .before .before .before .before .before .cast .kept))) (c .before .before .before .before .before .before .before .before .before .operators .ensures) (omega (arith, c .before .before .before .before .before .before .before .before .before .operators .kept)) (omega (arith, c .before .before .before .before .before .before .before .before .before .operators .kept)) (omega (arith, c .before .before .before .before .before .before .before .before .before .operators .kept)))
+  pub level-at-requires : lts.Need-level-at-requires given (bit-or-at t) bit-or.Post Inv-loop μ-loop
+  level-at-requires c κs = search needs
 
-  pub operators-requires-3 : lts.Need-operators-requires-3 given (bit-or-at t) bit-or.Post
-  operators-requires-3 c κs = (omega (arith, c .before .before .before .before .before .before .before .before .before .before .before .before .before .before .before .before .before .before .before .before .before .before .before .before .before .before .before .before .before .before .before .before .before .before .before .before .before .before .before .before .before .before .before .before .pre .0, c .before .before .before .before .before .before .before .before .before .before .before .before .before .before .before .before .before .before .before .before .before .before .before .before .before .before .before .before .before .before .before .before .before .before .before .before .before .before .before .before .before .before .before .before .pre .1 .asks .at, c .before .before .before .before .before .before .before .before .before .before .before .before .before .before .before .before .before .before .before .before .before .before .before .before .before .before .before .before .before .before .before .before .before .before .before .cast .ensures .moved .at, c .before .before .before .before .before .before .before .before .before .before .before .before .before .before .before .before .before .before .before .operators .ensures .moved .at, c .before .before .before .before .before .before .before .before .before .operators2 .ensures .moved .at), goes-further (goes-further (goes-on (c .before .before .before .before .before .before .before .before .before .before .before .before .before .before .before .before .before .before .before .before .before .before .before .before .before .before .before .before .before .before .before .before .before .before .before .before .before .before .before .before .before .before .before .before .pre .1) (c .before .before .before .before .before .before .before .before .before .before .before .before .before .before .before .before .before .before .before .before .before .before .before .before .before .before .before .before .before .before .before .before .before .before .before .cast .ensures) (omega (arith, c .before .before .before .before .before .before .before .before .before .before .before .before .before .before .before .before .before .before .before .before .before .before .before .before .before .before .before .before .before .before .before .before .before .before .before .cast .kept)) (omega (arith, c .before .before .before .before .before .before .before .before .before .before .before .before .before .before .before .before .before .before .before .before .before .before .before .before .before .before .before .before .before .before .before .before .before .before .before .cast .kept)) (omega (arith, c .before .before .before .before .before .before .before .before .before .before .before .before .before .before .before .before .before .before .before .before .before .before .before .before .before .before .before .before .before .before .before .before .before .before .before .cast .kept))) (c .before .before .before .before .before .before .before .before .before .before .before .before .before .before .before .before .before .before .before .operators .ensures) (omega (arith, c .before .before .before .before .before .before .before .before .before .before .before .before .before .before .before .before .before .before .before .operators .kept)) (omega (arith, c .before .before .before .before .before .before .before .before .before .before .before .before .before .before .before .before .before .before .before .operators .kept)) (omega (arith, c .before .before .before .before .before .before .before .before .before .before .before .before .before .before .before .before .before .before .before .operators .kept))) (c .before .before .before .before .before .before .before .before .before .operators2 .ensures) (omega (arith, c .before .before .before .before .before .before .before .before .before .operators2 .kept)) (omega (arith, c .before .before .before .before .before .before .before .before .before .operators2 .kept)) (omega (arith, c .before .before .before .before .before .before .before .before .before .operators2 .kept)))
+  pub operators-requires : lts.Need-operators-requires given (bit-or-at t) bit-or.Post Inv-loop μ-loop
+  operators-requires c κs = (omega (arith, c .before .before .before .before .before .before .before .before .before .before .before .before .before .before .before .before .before .before .before .before .before .before .before .before .before .before .before .pre .0, c .before .before .before .before .before .before .before .before .before .before .before .before .before .before .before .before .before .before .before .before .before .before .before .before .before .before .before .pre .1 .asks .at, c .before .before .before .before .before .loop .inv .forward), c .before .before .before .before .before .loop .inv .on)
 
-  pub operators-requires-4 : lts.Need-operators-requires-4 given (bit-or-at t) bit-or.Post
-  operators-requires-4 c κs = (omega (arith, c .before .before .before .before .before .before .before .before .before .before .before .before .before .before .before .before .before .before .before .before .before .before .before .before .before .before .before .before .before .before .before .before .before .before .before .before .before .before .before .before .before .before .before .before .before .before .before .before .before .before .before .before .before .before .pre .0, c .before .before .before .before .before .before .before .before .before .before .before .before .before .before .before .before .before .before .before .before .before .before .before .before .before .before .before .before .before .before .before .before .before .before .before .before .before .before .before .before .before .before .before .before .before .before .before .before .before .before .before .before .before .before .pre .1 .asks .at, c .before .before .before .before .before .before .before .before .before .before .before .before .before .before .before .before .before .before .before .before .before .before .before .before .before .before .before .before .before .before .before .before .before .before .before .before .before .before .before .before .before .before .before .before .before .cast .ensures .moved .at, c .before .before .before .before .before .before .before .before .before .before .before .before .before .before .before .before .before .before .before .before .before .before .before .before .before .before .before .before .before .operators .ensures .moved .at, c .before .before .before .before .before .before .before .before .before .before .before .before .before .before .before .before .before .before .before .operators2 .ensures .moved .at, c .before .before .before .before .before .before .before .before .before .operators3 .ensures .moved .at), goes-further (goes-further (goes-further (goes-on (c .before .before .before .before .before .before .before .before .before .before .before .before .before .before .before .before .before .before .before .before .before .before .before .before .before .before .before .before .before .before .before .before .before .before .before .before .before .before .before .before .before .before .before .before .before .before .before .before .before .before .before .before .before .before .pre .1) (c .before .before .before .before .before .before .before .before .before .before .before .before .before .before .before .before .before .before .before .before .before .before .before .before .before .before .before .before .before .before .before .before .before .before .before .before .before .before .before .before .before .before .before .before .before .cast .ensures) (omega (arith, c .before .before .before .before .before .before .before .before .before .before .before .before .before .before .before .before .before .before .before .before .before .before .before .before .before .before .before .before .before .before .before .before .before .before .before .before .before .before .before .before .before .before .before .before .before .cast .kept)) (omega (arith, c .before .before .before .before .before .before .before .before .before .before .before .before .before .before .before .before .before .before .before .before .before .before .before .before .before .before .before .before .before .before .before .before .before .before .before .before .before .before .before .before .before .before .before .before .before .cast .kept)) (omega (arith, c .before .before .before .before .before .before .before .before .before .before .before .before .before .before .before .before .before .before .before .before .before .before .before .before .before .before .before .before .before .before .before .before .before .before .before .before .before .before .before .before .before .before .before .before .before .cast .kept))) (c .before .before .before .before .before .before .before .before .before .before .before .before .before .before .before .before .before .before .before .before .before .before .before .before .before .before .before .before .before .operators .ensures) (omega (arith, c .before .before .before .before .before .before .before .before .before .before .before .before .before .before .before .before .before .before .before .before .before .before .before .before .before .before .before .before .before .operators .kept)) (omega (arith, c .before .before .before .before .before .before .before .before .before .before .before .before .before .before .before .before .before .before .before .before .before .before .before .before .before .before .before .before .before .operators .kept)) (omega (arith, c .before .before .before .before .before .before .before .before .before .before .before .before .before .before .before .before .before .before .before .before .before .before .before .before .before .before .before .before .before .operators .kept))) (c .before .before .before .before .before .before .before .before .before .before .before .before .before .before .before .before .before .before .before .operators2 .ensures) (omega (arith, c .before .before .before .before .before .before .before .before .before .before .before .before .before .before .before .before .before .before .before .operators2 .kept)) (omega (arith, c .before .before .before .before .before .before .before .before .before .before .before .before .before .before .before .before .before .before .before .operators2 .kept)) (omega (arith, c .before .before .before .before .before .before .before .before .before .before .before .before .before .before .before .before .before .before .before .operators2 .kept))) (c .before .before .before .before .before .before .before .before .before .operators3 .ensures) (omega (arith, c .before .before .before .before .before .before .before .before .before .operators3 .kept)) (omega (arith, c .before .before .before .before .before .before .before .before .before .operators3 .kept)) (omega (arith, c .before .before .before .before .before .before .before .before .before .operators3 .kept)))
+  pub add-k : lts.Need-add-k given (bit-or-at t) bit-or.Post Inv-loop μ-loop
+  add-k c = search needs
 
-  pub operators-requires-5 : lts.Need-operators-requires-5 given (bit-or-at t) bit-or.Post
-  operators-requires-5 c κs = (omega (arith, c .before .before .before .before .before .before .before .before .before .before .before .before .before .before .before .before .before .before .before .before .before .before .before .before .before .before .before .before .before .before .before .before .before .before .before .before .before .before .before .before .before .before .before .before .before .before .before .before .before .before .before .before .before .before .before .before .before .before .before .before .before .before .before .before .pre .0, c .before .before .before .before .before .before .before .before .before .before .before .before .before .before .before .before .before .before .before .before .before .before .before .before .before .before .before .before .before .before .before .before .before .before .before .before .before .before .before .before .before .before .before .before .before .before .before .before .before .before .before .before .before .before .before .before .before .before .before .before .before .before .before .before .pre .1 .asks .at, c .before .before .before .before .before .before .before .before .before .before .before .before .before .before .before .before .before .before .before .before .before .before .before .before .before .before .before .before .before .before .before .before .before .before .before .before .before .before .before .before .before .before .before .before .before .before .before .before .before .before .before .before .before .before .before .cast .ensures .moved .at, c .before .before .before .before .before .before .before .before .before .before .before .before .before .before .before .before .before .before .before .before .before .before .before .before .before .before .before .before .before .before .before .before .before .before .before .before .before .before .before .operators .ensures .moved .at, c .before .before .before .before .before .before .before .before .before .before .before .before .before .before .before .before .before .before .before .before .before .before .before .before .before .before .before .before .before .operators2 .ensures .moved .at, c .before .before .before .before .before .before .before .before .before .before .before .before .before .before .before .before .before .before .before .operators3 .ensures .moved .at, c .before .before .before .before .before .before .before .before .before .operators4 .ensures .moved .at), goes-further (goes-further (goes-further (goes-further (goes-on (c .before .before .before .before .before .before .before .before .before .before .before .before .before .before .before .before .before .before .before .before .before .before .before .before .before .before .before .before .before .before .before .before .before .before .before .before .before .before .before .before .before .before .before .before .before .before .before .before .before .before .before .before .before .before .before .before .before .before .before .before .before .before .before .before .pre .1) (c .before .before .before .before .before .before .before .before .before .before .before .before .before .before .before .before .before .before .before .before .before .before .before .before .before .before .before .before .before .before .before .before .before .before .before .before .before .before .before .before .before .before .before .before .before .before .before .before .before .before .before .before .before .before .before .cast .ensures) (omega (arith, c .before .before .before .before .before .before .before .before .before .before .before .before .before .before .before .before .before .before .before .before .before .before .before .before .before .before .before .before .before .before .before .before .before .before .before .before .before .before .before .before .before .before .before .before .before .before .before .before .before .before .before .before .before .before .before .cast .kept)) (omega (arith, c .before .before .before .before .before .before .before .before .before .before .before .before .before .before .before .before .before .before .before .before .before .before .before .before .before .before .before .before .before .before .before .before .before .before .before .before .before .before .before .before .before .before .before .before .before .before .before .before .before .before .before .before .before .before .before .cast .kept)) (omega (arith, c .before .before .before .before .before .before .before .before .before .before .before .before .before .before .before .before .before .before .before .before .before .before .before .before .before .before .before .before .before .before .before .before .before .before .before .before .before .before .before .before .before .before .before .before .before .before .before .before .before .before .before .before .before .before .before .cast .kept))) (c .before .before .before .before .before .before .before .before .before .before .before .before .before .before .before .before .before .before .before .before .before .before .before .before .before .before .before .before .before .before .before .before .before .before .before .before .before .before .before .operators .ensures) (omega (arith, c .before .before .before .before .before .before .before .before .before .before .before .before .before .before .before .before .before .before .before .before .before .before .before .before .before .before .before .before .before .before .before .before .before .before .before .before .before .before .before .operators .kept)) (omega (arith, c .before .before .before .before .before .before .before .before .before .before .before .before .before .before .before .before .before .before .before .before .before .before .before .before .before .before .before .before .before .before .before .before .before .before .before .before .before .before .before .operators .kept)) (omega (arith, c .before .before .before .before .before .before .before .before .before .before .before .before .before .before .before .before .before .before .before .before .before .before .before .before .before .before .before .before .before .before .before .before .before .before .before .before .before .before .before .operators .kept))) (c .before .before .before .before .before .before .before .before .before .before .before .before .before .before .before .before .before .before .before .before .before .before .before .before .before .before .before .before .before .operators2 .ensures) (omega (arith, c .before .before .before .before .before .before .before .before .before .before .before .before .before .before .before .before .before .before .before .before .before .before .before .before .before .before .before .before .before .operators2 .kept)) (omega (arith, c .before .before .before .before .before .before .before .before .before .before .before .before .before .before .before .before .before .before .before .before .before .before .before .before .before .before .before .before .before .operators2 .kept)) (omega (arith, c .before .before .before .before .before .before .before .before .before .before .before .before .before .before .before .before .before .before .before .before .before .before .before .before .before .before .before .before .before .operators2 .kept))) (c .before .before .before .before .before .before .before .before .before .before .before .before .before .before .before .before .before .before .before .operators3 .ensures) (omega (arith, c .before .before .before .before .before .before .before .before .before .before .before .before .before .before .before .before .before .before .before .operators3 .kept)) (omega (arith, c .before .before .before .before .before .before .before .before .before .before .before .before .before .before .before .before .before .before .before .operators3 .kept)) (omega (arith, c .before .before .before .before .before .before .before .before .before .before .before .before .before .before .before .before .before .before .before .operators3 .kept))) (c .before .before .before .before .before .before .before .before .before .operators4 .ensures) (omega (arith, c .before .before .before .before .before .before .before .before .before .operators4 .kept)) (omega (arith, c .before .before .before .before .before .before .before .before .before .operators4 .kept)) (omega (arith, c .before .before .before .before .before .before .before .before .before .operators4 .kept)))
+  pub loop-less : lts.Need-loop-less given (bit-or-at t) bit-or.Post Inv-loop μ-loop
+  loop-less c = search needs
 
-  pub operators-requires-6 : lts.Need-operators-requires-6 given (bit-or-at t) bit-or.Post
-  operators-requires-6 c κs = (omega (arith, c .before .before .before .before .before .before .before .before .before .before .before .before .before .before .before .before .before .before .before .before .before .before .before .before .before .before .before .before .before .before .before .before .before .before .before .before .before .before .before .before .before .before .before .before .before .before .before .before .before .before .before .before .before .before .before .before .before .before .before .before .before .before .before .before .before .before .before .before .before .before .before .before .before .before .pre .0, c .before .before .before .before .before .before .before .before .before .before .before .before .before .before .before .before .before .before .before .before .before .before .before .before .before .before .before .before .before .before .before .before .before .before .before .before .before .before .before .before .before .before .before .before .before .before .before .before .before .before .before .before .before .before .before .before .before .before .before .before .before .before .before .before .before .before .before .before .before .before .before .before .before .before .pre .1 .asks .at, c .before .before .before .before .before .before .before .before .before .before .before .before .before .before .before .before .before .before .before .before .before .before .before .before .before .before .before .before .before .before .before .before .before .before .before .before .before .before .before .before .before .before .before .before .before .before .before .before .before .before .before .before .before .before .before .before .before .before .before .before .before .before .before .before .before .cast .ensures .moved .at, c .before .before .before .before .before .before .before .before .before .before .before .before .before .before .before .before .before .before .before .before .before .before .before .before .before .before .before .before .before .before .before .before .before .before .before .before .before .before .before .before .before .before .before .before .before .before .before .before .before .operators .ensures .moved .at, c .before .before .before .before .before .before .before .before .before .before .before .before .before .before .before .before .before .before .before .before .before .before .before .before .before .before .before .before .before .before .before .before .before .before .before .before .before .before .before .operators2 .ensures .moved .at, c .before .before .before .before .before .before .before .before .before .before .before .before .before .before .before .before .before .before .before .before .before .before .before .before .before .before .before .before .before .operators3 .ensures .moved .at, c .before .before .before .before .before .before .before .before .before .before .before .before .before .before .before .before .before .before .before .operators4 .ensures .moved .at, c .before .before .before .before .before .before .before .before .before .operators5 .ensures .moved .at), goes-further (goes-further (goes-further (goes-further (goes-further (goes-on (c .before .before .before .before .before .before .before .before .before .before .before .before .before .before .before .before .before .before .before .before .before .before .before .before .before .before .before .before .before .before .before .before .before .before .before .before .before .before .before .before .before .before .before .before .before .before .before .before .before .before .before .before .before .before .before .before .before .before .before .before .before .before .before .before .before .before .before .before .before .before .before .before .before .before .pre .1) (c .before .before .before .before .before .before .before .before .before .before .before .before .before .before .before .before .before .before .before .before .before .before .before .before .before .before .before .before .before .before .before .before .before .before .before .before .before .before .before .before .before .before .before .before .before .before .before .before .before .before .before .before .before .before .before .before .before .before .before .before .before .before .before .before .before .cast .ensures) (omega (arith, c .before .before .before .before .before .before .before .before .before .before .before .before .before .before .before .before .before .before .before .before .before .before .before .before .before .before .before .before .before .before .before .before .before .before .before .before .before .before .before .before .before .before .before .before .before .before .before .before .before .before .before .before .before .before .before .before .before .before .before .before .before .before .before .before .before .cast .kept)) (omega (arith, c .before .before .before .before .before .before .before .before .before .before .before .before .before .before .before .before .before .before .before .before .before .before .before .before .before .before .before .before .before .before .before .before .before .before .before .before .before .before .before .before .before .before .before .before .before .before .before .before .before .before .before .before .before .before .before .before .before .before .before .before .before .before .before .before .before .cast .kept)) (omega (arith, c .before .before .before .before .before .before .before .before .before .before .before .before .before .before .before .before .before .before .before .before .before .before .before .before .before .before .before .before .before .before .before .before .before .before .before .before .before .before .before .before .before .before .before .before .before .before .before .before .before .before .before .before .before .before .before .before .before .before .before .before .before .before .before .before .before .cast .kept))) (c .before .before .before .before .before .before .before .before .before .before .before .before .before .before .before .before .before .before .before .before .before .before .before .before .before .before .before .before .before .before .before .before .before .before .before .before .before .before .before .before .before .before .before .before .before .before .before .before .before .operators .ensures) (omega (arith, c .before .before .before .before .before .before .before .before .before .before .before .before .before .before .before .before .before .before .before .before .before .before .before .before .before .before .before .before .before .before .before .before .before .before .before .before .before .before .before .before .before .before .before .before .before .before .before .before .before .operators .kept)) (omega (arith, c .before .before .before .before .before .before .before .before .before .before .before .before .before .before .before .before .before .before .before .before .before .before .before .before .before .before .before .before .before .before .before .before .before .before .before .before .before .before .before .before .before .before .before .before .before .before .before .before .before .operators .kept)) (omega (arith, c .before .before .before .before .before .before .before .before .before .before .before .before .before .before .before .before .before .before .before .before .before .before .before .before .before .before .before .before .before .before .before .before .before .before .before .before .before .before .before .before .before .before .before .before .before .before .before .before .before .operators .kept))) (c .before .before .before .before .before .before .before .before .before .before .before .before .before .before .before .before .before .before .before .before .before .before .before .before .before .before .before .before .before .before .before .before .before .before .before .before .before .before .before .operators2 .ensures) (omega (arith, c .before .before .before .before .before .before .before .before .before .before .before .before .before .before .before .before .before .before .before .before .before .before .before .before .before .before .before .before .before .before .before .before .before .before .before .before .before .before .before .operators2 .kept)) (omega (arith, c .before .before .before .before .before .before .before .before .before .before .before .before .before .before .before .before .before .before .before .before .before .before .before .before .before .before .before .before .before .before .before .before .before .before .before .before .before .before .before .operators2 .kept)) (omega (arith, c .before .before .before .before .before .before .before .before .before .before .before .before .before .before .before .before .before .before .before .before .before .before .before .before .before .before .before .before .before .before .before .before .before .before .before .before .before .before .before .operators2 .kept))) (c .before .before .before .before .before .before .before .before .before .before .before .before .before .before .before .before .before .before .before .before .before .before .before .before .before .before .before .before .before .operators3 .ensures) (omega (arith, c .before .before .before .before .before .before .before .before .before .before .before .before .before .before .before .before .before .before .before .before .before .before .before .before .before .before .before .before .before .operators3 .kept)) (omega (arith, c .before .before .before .before .before .before .before .before .before .before .before .before .before .before .before .before .before .before .before .before .before .before .before .before .before .before .before .before .before .operators3 .kept)) (omega (arith, c .before .before .before .before .before .before .before .before .before .before .before .before .before .before .before .before .before .before .before .before .before .before .before .before .before .before .before .before .before .operators3 .kept))) (c .before .before .before .before .before .before .before .before .before .before .before .before .before .before .before .before .before .before .before .operators4 .ensures) (omega (arith, c .before .before .before .before .before .before .before .before .before .before .before .before .before .before .before .before .before .before .before .operators4 .kept)) (omega (arith, c .before .before .before .before .before .before .before .before .before .before .before .before .before .before .before .before .before .before .before .operators4 .kept)) (omega (arith, c .before .before .before .before .before .before .before .before .before .before .before .before .before .before .before .before .before .before .before .operators4 .kept))) (c .before .before .before .before .before .before .before .before .before .operators5 .ensures) (omega (arith, c .before .before .before .before .before .before .before .before .before .operators5 .kept)) (omega (arith, c .before .before .before .before .before .before .before .before .before .operators5 .kept)) (omega (arith, c .before .before .before .before .before .before .before .before .before .operators5 .kept)))
+  pub loop-again : lts.Need-loop-again given (bit-or-at t) bit-or.Post Inv-loop μ-loop
+  loop-again c = levels-more (c .before .before .before .before .before .before .before .before .before .before .before .before .loop .inv) (c .before .before .before .before .before .before .before .before .before .before .before .loop-test .taken) (c .before .before .before .before .before .before .before .before .before .before .level-at .ensures) (c .before .before .before .before .before .before .operators .ensures) (omega (arith, c .before .before .before .before .before .before .operators .kept)) (omega (arith, c .before .before .before .before .before .before .operators .kept)) (omega (arith, c .before .before .before .before .before .before .operators .kept))
 
-  pub same-length-7 : lts.Need-same-length-7 given (bit-or-at t) bit-or.Post
-  same-length-7 c = omega (arith, c .before .before .before .before .before .before .operators6 .kept, c .before .before .before .before .before .before .before .before .before .before .before .before .before .before .before .before .operators5 .kept, c .before .before .before .before .before .before .before .before .before .before .before .before .before .before .before .before .before .before .before .before .before .before .before .before .before .before .operators4 .kept, c .before .before .before .before .before .before .before .before .before .before .before .before .before .before .before .before .before .before .before .before .before .before .before .before .before .before .before .before .before .before .before .before .before .before .before .before .operators3 .kept, c .before .before .before .before .before .before .before .before .before .before .before .before .before .before .before .before .before .before .before .before .before .before .before .before .before .before .before .before .before .before .before .before .before .before .before .before .before .before .before .before .before .before .before .before .before .before .operators2 .kept, c .before .before .before .before .before .before .before .before .before .before .before .before .before .before .before .before .before .before .before .before .before .before .before .before .before .before .before .before .before .before .before .before .before .before .before .before .before .before .before .before .before .before .before .before .before .before .before .before .before .before .before .before .before .before .before .before .operators .kept, c .before .before .before .before .before .before .before .before .before .before .before .before .before .before .before .before .before .before .before .before .before .before .before .before .before .before .before .before .before .before .before .before .before .before .before .before .before .before .before .before .before .before .before .before .before .before .before .before .before .before .before .before .before .before .before .before .before .before .before .before .before .before .before .before .before .before .before .before .before .before .before .before .cast .kept)
+  pub same-length-7 : lts.Need-same-length-7 given (bit-or-at t) bit-or.Post Inv-loop μ-loop
+  same-length-7 c = omega (arith, c .before .loop .inv .file, c .before .before .before .before .before .before .before .before .before .before .before .before .before .before .cast .kept)
 
-  pub same-length-8 : lts.Need-same-length-8 given (bit-or-at t) bit-or.Post
-  same-length-8 c = omega (arith, c .before .before .before .before .before .before .operators6 .kept, c .before .before .before .before .before .before .before .before .before .before .before .before .before .before .before .before .operators5 .kept, c .before .before .before .before .before .before .before .before .before .before .before .before .before .before .before .before .before .before .before .before .before .before .before .before .before .before .operators4 .kept, c .before .before .before .before .before .before .before .before .before .before .before .before .before .before .before .before .before .before .before .before .before .before .before .before .before .before .before .before .before .before .before .before .before .before .before .before .operators3 .kept, c .before .before .before .before .before .before .before .before .before .before .before .before .before .before .before .before .before .before .before .before .before .before .before .before .before .before .before .before .before .before .before .before .before .before .before .before .before .before .before .before .before .before .before .before .before .before .operators2 .kept, c .before .before .before .before .before .before .before .before .before .before .before .before .before .before .before .before .before .before .before .before .before .before .before .before .before .before .before .before .before .before .before .before .before .before .before .before .before .before .before .before .before .before .before .before .before .before .before .before .before .before .before .before .before .before .before .before .operators .kept, c .before .before .before .before .before .before .before .before .before .before .before .before .before .before .before .before .before .before .before .before .before .before .before .before .before .before .before .before .before .before .before .before .before .before .before .before .before .before .before .before .before .before .before .before .before .before .before .before .before .before .before .before .before .before .before .before .before .before .before .before .before .before .before .before .before .before .before .before .before .before .before .before .cast .kept)
+  pub same-length-8 : lts.Need-same-length-8 given (bit-or-at t) bit-or.Post Inv-loop μ-loop
+  same-length-8 c = omega (arith, c .before .loop .inv .rep, c .before .before .before .before .before .before .before .before .before .before .before .before .before .before .cast .kept)
 
-  pub same-length-9 : lts.Need-same-length-9 given (bit-or-at t) bit-or.Post
-  same-length-9 c = omega (arith, c .before .before .before .before .before .before .operators6 .kept, c .before .before .before .before .before .before .before .before .before .before .before .before .before .before .before .before .operators5 .kept, c .before .before .before .before .before .before .before .before .before .before .before .before .before .before .before .before .before .before .before .before .before .before .before .before .before .before .operators4 .kept, c .before .before .before .before .before .before .before .before .before .before .before .before .before .before .before .before .before .before .before .before .before .before .before .before .before .before .before .before .before .before .before .before .before .before .before .before .operators3 .kept, c .before .before .before .before .before .before .before .before .before .before .before .before .before .before .before .before .before .before .before .before .before .before .before .before .before .before .before .before .before .before .before .before .before .before .before .before .before .before .before .before .before .before .before .before .before .before .operators2 .kept, c .before .before .before .before .before .before .before .before .before .before .before .before .before .before .before .before .before .before .before .before .before .before .before .before .before .before .before .before .before .before .before .before .before .before .before .before .before .before .before .before .before .before .before .before .before .before .before .before .before .before .before .before .before .before .before .before .operators .kept, c .before .before .before .before .before .before .before .before .before .before .before .before .before .before .before .before .before .before .before .before .before .before .before .before .before .before .before .before .before .before .before .before .before .before .before .before .before .before .before .before .before .before .before .before .before .before .before .before .before .before .before .before .before .before .before .before .before .before .before .before .before .before .before .before .before .before .before .before .before .before .before .before .cast .kept)
+  pub same-length-9 : lts.Need-same-length-9 given (bit-or-at t) bit-or.Post Inv-loop μ-loop
+  same-length-9 c = omega (arith, c .before .loop .inv .full, c .before .before .before .before .before .before .before .before .before .before .before .before .before .before .cast .kept)
 
-  pub returns-3 : lts.Need-returns-3 given (bit-or-at t) bit-or.Post
-  returns-3 c = levels (c .before .before .before .before .before .before .before .before .before .before .before .before .before .before .before .before .before .before .before .before .before .before .before .before .before .before .before .before .before .before .before .before .before .before .before .before .before .before .before .before .before .before .before .before .before .before .before .before .before .before .before .before .before .before .before .before .before .before .before .before .before .before .before .before .before .before .before .before .before .before .before .before .before .before .before .before .before .before .before .before .before .pre .1) (c .before .before .before .before .before .before .before .before .before .before .before .before .before .before .before .before .before .before .before .before .before .before .before .before .before .before .before .before .before .before .before .before .before .before .before .before .before .before .before .before .before .before .before .before .before .before .before .before .before .before .before .before .before .before .before .before .before .before .before .before .before .before .before .before .before .before .before .before .before .before .before .before .cast .ensures) (c .before .before .before .before .before .before .before .before .before .before .before .before .before .before .before .before .before .before .before .before .before .before .before .before .before .before .before .before .before .before .before .before .before .before .before .before .before .before .before .before .before .before .before .before .before .before .before .before .before .before .before .before .before .before .before .before .operators .ensures) (c .before .before .before .before .before .before .before .before .before .before .before .before .before .before .before .before .before .before .before .before .before .before .before .before .before .before .before .before .before .before .before .before .before .before .before .before .before .before .before .before .before .before .before .before .before .before .operators2 .ensures) (c .before .before .before .before .before .before .before .before .before .before .before .before .before .before .before .before .before .before .before .before .before .before .before .before .before .before .before .before .before .before .before .before .before .before .before .before .operators3 .ensures) (c .before .before .before .before .before .before .before .before .before .before .before .before .before .before .before .before .before .before .before .before .before .before .before .before .before .before .operators4 .ensures) (c .before .before .before .before .before .before .before .before .before .before .before .before .before .before .before .before .operators5 .ensures) (c .before .before .before .before .before .before .operators6 .ensures)
+  pub returns-3 : lts.Need-returns-3 given (bit-or-at t) bit-or.Post Inv-loop μ-loop
+  returns-3 c = levels-end (c .before .loop .inv) (c .loop-test .left) (c .before .before .before .before .before .before .before .before .before .before .before .before .before .before .before .before .before .before .before .before .before .before .before .pre .1) (c .before .before .before .before .before .before .before .before .before .before .before .before .before .before .cast .ensures)
