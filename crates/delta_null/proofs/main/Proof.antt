@@ -19,7 +19,11 @@ main-spec =
     (λ c κs. search needs)
     (λ c κs. search needs)
     (λ c. search needs)
-    (λ c. file-fits _ _ (c .before .before .before .read-script .ensures) (omega (arith, c .if3 .left)) (omega (arith, c .before .before .before .read-script .kept)))
-    (λ c. file-length _ _ (c .before .before .before .before .read-script .ensures) (omega (arith, c .before .if3 .left)) (omega (arith, c .before .before .before .before .read-script .kept)))
+    (λ c.
+    let at-read-script = c .before .before .before in
+    file-fits _ _ (at-read-script .read-script .ensures) (omega (arith, c .if3 .left)) (omega (arith, at-read-script .read-script .kept)))
+    (λ c.
+    let at-read-script = c .before .before .before .before in
+    file-length _ _ (at-read-script .read-script .ensures) (omega (arith, c .before .if3 .left)) (omega (arith, at-read-script .read-script .kept)))
     (λ c κs. search needs)
     (λ c. search needs))

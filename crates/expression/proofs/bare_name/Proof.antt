@@ -10,10 +10,27 @@ bare-name-spec =
     (λ c. search needs)
     (λ c. bare-stops (c .before .before .before .before .pre) (c .match .keys2))
     (λ c κs. search needs)
-    (λ c κs. bare-room (c .before .before .before .before .before .before .before .before .before .before .pre) (c .before .before .before .before .before .enum-told .given .1) (c .before .before .before .head .ensures))
+    (λ c κs.
+    let at-head = c .before .before .before in
+    let at-enum-told = at-head .before .before in
+    let start = at-enum-told .before .before .before .before .before in
+    bare-room (start .pre) (at-enum-told .enum-told .given .1) (at-head .head .ensures))
     (λ c. search needs)
-    (λ c. bare-name (c .before .before .before .before .before .before .before .before .before .before .before .before .before .pre) (c .before .before .before .before .before .before .before .before .enum-told .given .1) (c .before .before .before .before .before .before .head .ensures) (c .before .before .before .before .if1 .taken) (c .before .before .write-bare .ensures))
+    (λ c.
+    let at-if1 = c .before .before .before .before in
+    let at-head = at-if1 .before .before in
+    let at-enum-told = at-head .before .before in
+    let start = at-enum-told .before .before .before .before .before in
+    bare-name (start .pre) (at-enum-told .enum-told .given .1) (at-head .head .ensures) (at-if1 .if1 .taken) (c .before .before .write-bare .ensures))
     (λ c. search needs)
-    (λ c κs. unknown-room (c .before .before .before .before .before .before .before .before .before .before .before .pre) (c .before .before .before .before .before .before .enum-told .given .1))
+    (λ c κs.
+    let at-enum-told = c .before .before .before .before .before .before in
+    let start = at-enum-told .before .before .before .before .before in
+    unknown-room (start .pre) (at-enum-told .enum-told .given .1))
     (λ c. search needs)
-    (λ c. bare-unknown (c .before .before .before .before .before .before .before .before .before .before .before .before .before .before .pre) (c .before .before .before .before .before .before .before .before .before .enum-told .given .1) (c .before .before .before .before .before .before .before .head .ensures) (c .before .before .before .before .before .if1 .left) (c .before .before .write-bare2 .ensures)))
+    (λ c.
+    let at-if1 = c .before .before .before .before .before in
+    let at-head = at-if1 .before .before in
+    let at-enum-told = at-head .before .before in
+    let start = at-enum-told .before .before .before .before .before in
+    bare-unknown (start .pre) (at-enum-told .enum-told .given .1) (at-head .head .ensures) (at-if1 .if1 .left) (c .before .before .write-bare2 .ensures)))

@@ -22,4 +22,8 @@ exchange-spec =
     (λ c. search needs)
     (λ c κs. search needs)
     (λ c. search needs)
-    (λ c. exchanged _ (c .before .before .before .before .before .before .before .before .before .before .before .before .before .before .before .before .pre .0) (c .before .before .before .before .before .before .before .before .before .before .before .before .before .before .before .before .pre .1 .0) (c .before .before .before .before .before .before .before .before .before .before .before .before .before .before .before .before .pre .1 .1 .1) (omega arith) (c .before .before .before .before .before .before .before .before .before .before .before .copy .ensures) (c .before .before .before .before .before .before .before .copy2 .ensures) (c .before .before .copy3 .ensures)))
+    (λ c.
+    let at-copy2 = c .before .before .before .before .before .before .before in
+    let at-copy = at-copy2 .before .before .before .before in
+    let start = at-copy .before .before .before .before .before in
+    exchanged _ (start .pre .0) (start .pre .1 .0) (start .pre .1 .1 .1) (omega arith) (at-copy .copy .ensures) (at-copy2 .copy2 .ensures) (c .before .before .copy3 .ensures)))

@@ -13,4 +13,7 @@ make-spec =
     (λ c κs. omega (arith, c .before .before .if1 .left))
     (λ c. search needs)
     (λ c. search needs)
-    (λ c. made _ _ _ (omega (arith, c .before .before .before .before .before .before .before .if1 .left)) (c .before .before .before .before .add-error .ensures)))
+    (λ c.
+    let at-add-error = c .before .before .before .before in
+    let at-if1 = at-add-error .before .before .before in
+    made _ _ _ (omega (arith, at-if1 .if1 .left)) (at-add-error .add-error .ensures)))

@@ -13,4 +13,7 @@ pushed-spec =
     (λ c. search needs)
     (λ c. search needs)
     (λ c. search needs)
-    (λ c. record { is = refl; rep = c .before .before .before .before .before .before .before .before .push .ensures; full = c .before .before .before .before .push2 .ensures }))
+    (λ c.
+    let at-push2 = c .before .before .before .before in
+    let at-push = at-push2 .before .before .before .before in
+    record { is = refl; rep = at-push .push .ensures; full = at-push2 .push2 .ensures }))

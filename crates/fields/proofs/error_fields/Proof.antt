@@ -29,6 +29,8 @@ error-fields-spec =
     (λ c κs. search needs)
     (λ c. search needs)
     (λ c. search needs)
-    (λ c. fields-more (c .before .before .before .before .before .before .loop .inv) (omega arith) (errs-next _ _ (omega arith)) (c .before .before .error-field .ensures) (omega (arith, c .before .before .error-field .kept)))
+    (λ c.
+    let at-loop = c .before .before .before .before .before .before in
+    fields-more (at-loop .loop .inv) (omega arith) (errs-next _ _ (omega arith)) (c .before .before .error-field .ensures) (omega (arith, c .before .before .error-field .kept)))
     (λ c. c .before .loop .inv .size)
     (λ c. fields-done (c .before .loop .inv) (omega arith)))

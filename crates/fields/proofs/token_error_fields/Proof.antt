@@ -36,10 +36,19 @@ token-error-fields-spec =
     (λ c. search needs)
     (λ c. search needs)
     (λ c κs. search needs)
-    (λ c κs. entry-fits _ _ (c .before .before .before .before .wide .ensures) (c .before .before .wide2 .ensures) (c .wide3 .ensures) _ (c .before .before .before .before .before .before .before .before .before .before .pre .1 .1) (omega arith))
+    (λ c κs.
+    let at-wide = c .before .before .before .before in
+    let start = at-wide .before .before .before .before .before .before in
+    entry-fits _ _ (at-wide .wide .ensures) (c .before .before .wide2 .ensures) (c .wide3 .ensures) _ (start .pre .1 .1) (omega arith))
     (λ c κs. search needs)
     (λ c. search needs)
     (λ c. search needs)
-    (λ c. token-more _ _ (c .before .before .before .before .before .before .before .before .before .wide .ensures) (c .before .before .before .before .before .before .before .wide2 .ensures) (c .before .before .before .before .before .wide3 .ensures) _ (c .before .before .before .before .before .before .before .before .before .before .before .before .loop .inv) (omega arith) (c .before .before .before .before .entry .ensures) (c .before .before .error-field .ensures) (omega (arith, c .before .before .error-field .kept)))
+    (λ c.
+    let at-entry = c .before .before .before .before in
+    let at-wide3 = at-entry .before in
+    let at-wide2 = at-wide3 .before .before in
+    let at-wide = at-wide2 .before .before in
+    let at-loop = at-wide .before .before .before in
+    token-more _ _ (at-wide .wide .ensures) (at-wide2 .wide2 .ensures) (at-wide3 .wide3 .ensures) _ (at-loop .loop .inv) (omega arith) (at-entry .entry .ensures) (c .before .before .error-field .ensures) (omega (arith, c .before .before .error-field .kept)))
     (λ c. c .before .loop .inv .size)
     (λ c. token-done _ (c .before .loop .inv) (omega arith)))

@@ -32,6 +32,12 @@ good-errors-spec =
     (λ c κs. search needs)
     (λ c. search needs)
     (λ c. search needs)
-    (λ c. error-more (c .before .before .before .before .before .before .before .loop .inv) (c .before .before .before .before .before .before .loop-test .taken) (c .before .good-error .ensures) (c .if1 .taken))
-    (λ c. error-bad (c .before .before .before .before .before .before .before .loop .inv) (c .before .before .before .before .before .before .loop-test .taken) (c .before .good-error .ensures) (c .if1 .left))
+    (λ c.
+    let at-loop-test = c .before .before .before .before .before .before in
+    let at-loop = at-loop-test .before in
+    error-more (at-loop .loop .inv) (at-loop-test .loop-test .taken) (c .before .good-error .ensures) (c .if1 .taken))
+    (λ c.
+    let at-loop-test = c .before .before .before .before .before .before in
+    let at-loop = at-loop-test .before in
+    error-bad (at-loop .loop .inv) (at-loop-test .loop-test .taken) (c .before .good-error .ensures) (c .if1 .left))
     (λ c. errors-end (c .before .loop .inv) (c .loop-test .left)))

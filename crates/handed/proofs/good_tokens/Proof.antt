@@ -23,6 +23,15 @@ good-tokens-spec =
     (λ c κs. search needs)
     (λ c. search needs)
     (λ c. search needs)
-    (λ c. token-more (c .before .before .before .before .before .before .loop .inv) (c .before .before .before .before .before .loop-test .taken) (c .before .before .before .before .words-at .ensures) (c .before .before .before .good-alone .ensures) (c .before .before .good-behind .ensures) (c .before .if1 .taken) (c .remember .ensures))
-    (λ c. token-bad (c .before .before .before .before .before .loop .inv) (c .before .before .before .before .loop-test .taken) (c .before .before .before .words-at .ensures) (c .before .before .good-alone .ensures) (c .before .good-behind .ensures) (c .if1 .left))
+    (λ c.
+    let at-good-alone = c .before .before .before in
+    let at-words-at = at-good-alone .before in
+    let at-loop-test = at-words-at .before in
+    let at-loop = at-loop-test .before in
+    token-more (at-loop .loop .inv) (at-loop-test .loop-test .taken) (at-words-at .words-at .ensures) (at-good-alone .good-alone .ensures) (c .before .before .good-behind .ensures) (c .before .if1 .taken) (c .remember .ensures))
+    (λ c.
+    let at-words-at = c .before .before .before in
+    let at-loop-test = at-words-at .before in
+    let at-loop = at-loop-test .before in
+    token-bad (at-loop .loop .inv) (at-loop-test .loop-test .taken) (at-words-at .words-at .ensures) (c .before .before .good-alone .ensures) (c .before .good-behind .ensures) (c .if1 .left))
     (λ c. tokens-end (c .before .loop .inv) (c .loop-test .left)))

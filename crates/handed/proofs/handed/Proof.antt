@@ -9,10 +9,25 @@ pub handed-spec : {M : Type 1} → statement M
 handed-spec =
     tie.close
     (tie.spec
-    (λ c. too-many (c .before .before .before .before .args .tokens .now) (c .before .before .before .before .args .count) (c .before .before .before .before .args .errors .now) (c .before .before .before .before .args .error-count) (c .before .before .before .before .args .text .now) (c .if1 .taken))
-    (λ c. omega (arith, within 2048 (c .before .before .before .before .args .count) 255 (c .before .before .before .before .args .error-count) (c .if1 .left)))
-    (λ c. omega (arith, within 2048 (c .before .before .before .before .args .count) 255 (c .before .before .before .before .args .error-count) (c .if1 .left)))
-    (λ c. too-short (c .before .before .before .before .before .args .tokens .now) (c .before .before .before .before .before .args .count) (c .before .before .before .before .before .args .errors .now) (c .before .before .before .before .before .args .error-count) (c .before .before .before .before .before .args .text .now) (c .before .if1 .left) (c .if2 .taken))
-    (λ c κs. within (length (c .before .before .before .before .before .args .tokens .now)) (8 * c .before .before .before .before .before .args .count) (length (c .before .before .before .before .before .args .errors .now)) (4 * c .before .before .before .before .before .args .error-count) (c .if2 .left) .0)
-    (λ c κs. within (length (c .before .before .before .before .before .before .args .tokens .now)) (8 * c .before .before .before .before .before .before .args .count) (length (c .before .before .before .before .before .before .args .errors .now)) (4 * c .before .before .before .before .before .before .args .error-count) (c .before .if2 .left) .1)
-    (λ c. both-tested (c .before .before .before .before .before .before .before .args .tokens .now) (c .before .before .before .before .before .before .before .args .count) (c .before .before .before .before .before .before .before .args .errors .now) (c .before .before .before .before .before .before .before .args .error-count) (c .before .before .before .before .before .before .before .args .text .now) (c .before .before .before .if1 .left) (c .before .before .if2 .left) (c .before .good-tokens .ensures) (c .good-errors .ensures)))
+    (λ c.
+    let start = c .before .before .before .before in
+    too-many (start .args .tokens .now) (start .args .count) (start .args .errors .now) (start .args .error-count) (start .args .text .now) (c .if1 .taken))
+    (λ c.
+    let start = c .before .before .before .before in
+    omega (arith, within 2048 (start .args .count) 255 (start .args .error-count) (c .if1 .left)))
+    (λ c.
+    let start = c .before .before .before .before in
+    omega (arith, within 2048 (start .args .count) 255 (start .args .error-count) (c .if1 .left)))
+    (λ c.
+    let start = c .before .before .before .before .before in
+    too-short (start .args .tokens .now) (start .args .count) (start .args .errors .now) (start .args .error-count) (start .args .text .now) (c .before .if1 .left) (c .if2 .taken))
+    (λ c κs.
+    let start = c .before .before .before .before .before in
+    within (length (start .args .tokens .now)) (8 * start .args .count) (length (start .args .errors .now)) (4 * start .args .error-count) (c .if2 .left) .0)
+    (λ c κs.
+    let start = c .before .before .before .before .before .before in
+    within (length (start .args .tokens .now)) (8 * start .args .count) (length (start .args .errors .now)) (4 * start .args .error-count) (c .before .if2 .left) .1)
+    (λ c.
+    let at-if1 = c .before .before .before in
+    let start = at-if1 .before .before .before .before in
+    both-tested (start .args .tokens .now) (start .args .count) (start .args .errors .now) (start .args .error-count) (start .args .text .now) (at-if1 .if1 .left) (c .before .before .if2 .left) (c .before .good-tokens .ensures) (c .good-errors .ensures)))

@@ -26,13 +26,41 @@ module-spec =
     (λ c. omega (arith, c .before .before .before .loop .inv .1))
     (λ c. omega (arith, c .before .before .before .loop .inv .1))
     (λ c. omega (arith, c .before .before .before .loop .inv .1))
-    (λ c. module-reads (c .before .before .before .loop .inv .1 .rest (module-end (c .before .before .before .loop .inv .0) (c .before .before .head .ensures) (c .if1 .taken))))
+    (λ c.
+    let at-loop = c .before .before .before in
+    module-reads (at-loop .loop .inv .1 .rest (module-end (at-loop .loop .inv .0) (c .before .before .head .ensures) (c .if1 .taken))))
     (λ c κs. c .before .before .before .before .before .before .loop .inv .0 .0)
     (λ c. search needs)
-    (λ c. omega (arith, c .before .before .before .before .before .before .before .before .before .before .before .before .before .before .before .before .loop .inv .1, c .before .before .before .before .before .before .before .before .before .top-level-item .kept))
-    (λ c. omega (arith, c .before .before .before .before .before .before .before .before .before .before .before .before .before .before .before .before .loop .inv .1, c .before .before .before .before .before .before .before .before .before .top-level-item .kept))
-    (λ c. omega (arith, c .before .before .before .before .before .before .before .before .before .before .before .before .before .before .before .before .loop .inv .1, c .before .before .before .before .before .before .before .before .before .top-level-item .kept))
-    (λ c. module-reads (c .before .before .before .before .before .before .before .before .before .before .before .before .before .before .before .before .loop .inv .1 .rest (module-refused (c .before .before .before .before .before .before .before .before .before .before .before .before .before .before .before .before .loop .inv .0) (c .before .before .before .before .before .before .before .before .before .before .before .before .before .before .before .head .ensures) (c .before .before .before .before .before .before .before .before .before .before .before .before .before .if1 .left) (c .before .before .before .before .before .before .before .before .before .top-level-item .ensures) (c .before .match .keys1))))
-    (λ c κs. omega (arith, c .before .before .before .before .before .before .before .before .before .before .before .before .before .before .before .loop .inv .0 .1, c .before .before .before .before .before .before .before .before .before .before .before .before .before .before .before .loop .inv .0 .0 .asks .at, c .before .before .before .before .before .before .before .before .before .before .before .before .before .before .before .loop .inv .0 .0 .asks .held .few))
-    (λ c. omega (arith, c .before .before .before .before .before .before .before .before .before .before .before .before .before .before .before .before .loop .inv .0 .0 .asks .at, c .before .before .before .before .before .before .before .before .before .before .before .before .before .before .before .head .ensures .kind, c .before .before .before .before .before .before .before .before .before .before .before .before .before .if1 .left, c .before .before .before .before .before .before .before .before .before .top-level-item .ensures .on, c .before .before .before .before .before .before .before .before .before .top-level-item .ensures .moved))
-    (λ c. (loop-asked (c .before .before .before .before .before .before .before .before .before .before .before .before .before .before .before .before .loop .inv .0) (c .before .before .before .before .before .before .before .before .before .before .before .before .before .before .before .head .ensures) (c .before .before .before .before .before .before .before .before .before .before .before .before .before .if1 .left) (c .before .before .before .before .before .before .before .before .before .top-level-item .ensures) (c .counted .ensures) (omega (arith, c .before .before .before .before .before .before .before .before .before .top-level-item .kept)) (omega (arith, c .before .before .before .before .before .before .before .before .before .top-level-item .kept)) (omega (arith, c .before .before .before .before .before .before .before .before .before .top-level-item .kept)), one-turn (c .before .before .before .before .before .before .before .before .before .before .before .before .before .before .before .before .loop .inv .1) (omega (arith, c .before .before .before .before .before .before .before .before .before .top-level-item .kept)) (omega (arith, c .before .before .before .before .before .before .before .before .before .top-level-item .kept)) (omega (arith, c .before .before .before .before .before .before .before .before .before .top-level-item .kept)) (c .before .before .before .before .before .before .before .before .before .top-level-item .ensures .moved .at) (λ _ _ _ _ g. module-next (c .before .before .before .before .before .before .before .before .before .before .before .before .before .before .before .before .loop .inv .0) (c .before .before .before .before .before .before .before .before .before .before .before .before .before .before .before .head .ensures) (c .before .before .before .before .before .before .before .before .before .before .before .before .before .if1 .left) (c .before .before .before .before .before .before .before .before .before .top-level-item .ensures) (c .before .match .keys2) (c .counted .ensures) g))))
+    (λ c.
+    let at-top-level-item = c .before .before .before .before .before .before .before .before .before in
+    let at-loop = at-top-level-item .before .before .before .before .before .before .before in
+    omega (arith, at-loop .loop .inv .1, at-top-level-item .top-level-item .kept))
+    (λ c.
+    let at-top-level-item = c .before .before .before .before .before .before .before .before .before in
+    let at-loop = at-top-level-item .before .before .before .before .before .before .before in
+    omega (arith, at-loop .loop .inv .1, at-top-level-item .top-level-item .kept))
+    (λ c.
+    let at-top-level-item = c .before .before .before .before .before .before .before .before .before in
+    let at-loop = at-top-level-item .before .before .before .before .before .before .before in
+    omega (arith, at-loop .loop .inv .1, at-top-level-item .top-level-item .kept))
+    (λ c.
+    let at-top-level-item = c .before .before .before .before .before .before .before .before .before in
+    let at-if1 = at-top-level-item .before .before .before .before in
+    let at-head = at-if1 .before .before in
+    let at-loop = at-head .before in
+    module-reads (at-loop .loop .inv .1 .rest (module-refused (at-loop .loop .inv .0) (at-head .head .ensures) (at-if1 .if1 .left) (at-top-level-item .top-level-item .ensures) (c .before .match .keys1))))
+    (λ c κs.
+    let at-loop = c .before .before .before .before .before .before .before .before .before .before .before .before .before .before .before in
+    omega (arith, at-loop .loop .inv .0 .1, at-loop .loop .inv .0 .0 .asks .at, at-loop .loop .inv .0 .0 .asks .held .few))
+    (λ c.
+    let at-top-level-item = c .before .before .before .before .before .before .before .before .before in
+    let at-if1 = at-top-level-item .before .before .before .before in
+    let at-head = at-if1 .before .before in
+    let at-loop = at-head .before in
+    omega (arith, at-loop .loop .inv .0 .0 .asks .at, at-head .head .ensures .kind, at-if1 .if1 .left, at-top-level-item .top-level-item .ensures .on, at-top-level-item .top-level-item .ensures .moved))
+    (λ c.
+    let at-top-level-item = c .before .before .before .before .before .before .before .before .before in
+    let at-if1 = at-top-level-item .before .before .before .before in
+    let at-head = at-if1 .before .before in
+    let at-loop = at-head .before in
+    (loop-asked (at-loop .loop .inv .0) (at-head .head .ensures) (at-if1 .if1 .left) (at-top-level-item .top-level-item .ensures) (c .counted .ensures) (omega (arith, at-top-level-item .top-level-item .kept)) (omega (arith, at-top-level-item .top-level-item .kept)) (omega (arith, at-top-level-item .top-level-item .kept)), one-turn (at-loop .loop .inv .1) (omega (arith, at-top-level-item .top-level-item .kept)) (omega (arith, at-top-level-item .top-level-item .kept)) (omega (arith, at-top-level-item .top-level-item .kept)) (at-top-level-item .top-level-item .ensures .moved .at) (λ _ _ _ _ g. module-next (at-loop .loop .inv .0) (at-head .head .ensures) (at-if1 .if1 .left) (at-top-level-item .top-level-item .ensures) (c .before .match .keys2) (c .counted .ensures) g))))

@@ -14,27 +14,79 @@ top-level-item-spec =
     (λ c. omega (arith, c .before .before .before .before .before .before .function-definition .kept))
     (λ c. omega (arith, c .before .before .before .before .before .before .function-definition .kept))
     (λ c. omega (arith, c .before .before .before .before .before .before .function-definition .kept))
-    (λ c. item-function (c .before .before .before .before .before .before .before .before .before .before .before .before .before .head .ensures) (c .before .before .before .before .before .before .before .before .before .before .if1 .taken) (c .before .before .before .before .before .before .function-definition .ensures))
+    (λ c.
+    let at-function-definition = c .before .before .before .before .before .before in
+    let at-if1 = at-function-definition .before .before .before .before in
+    let at-head = at-if1 .before .before .before in
+    item-function (at-head .head .ensures) (at-if1 .if1 .taken) (at-function-definition .function-definition .ensures))
     (λ c κs. c .before .before .before .before .before .before .before .before .before .before .before .before .before .before .before .before .pre)
     (λ c. omega (arith, c .before .before .before .before .before .before .type-alias .kept))
     (λ c. omega (arith, c .before .before .before .before .before .before .type-alias .kept))
     (λ c. omega (arith, c .before .before .before .before .before .before .type-alias .kept))
-    (λ c. item-alias (c .before .before .before .before .before .before .before .before .before .before .before .before .before .before .before .before .before .head .ensures) (c .before .before .before .before .before .before .before .before .before .before .before .before .before .before .if1 .left) (c .before .before .before .before .before .before .before .before .before .before .if2 .taken) (c .before .before .before .before .before .before .type-alias .ensures))
-    (λ c κs. c .before .before .before .before .before .before .before .before .before .before .before .before .before .before .before .before .before .before .pre)
+    (λ c.
+    let at-type-alias = c .before .before .before .before .before .before in
+    let at-if2 = at-type-alias .before .before .before .before in
+    let at-if1 = at-if2 .before .before .before .before in
+    let at-head = at-if1 .before .before .before in
+    item-alias (at-head .head .ensures) (at-if1 .if1 .left) (at-if2 .if2 .taken) (at-type-alias .type-alias .ensures))
+    (λ c κs.
+    let start = c .before .before .before .before .before .before .before .before .before .before .before .before .before .before .before .before .before .before in
+    start .pre)
     (λ c. omega (arith, c .before .before .before .before .before .before .use-path .kept))
     (λ c. omega (arith, c .before .before .before .before .before .before .use-path .kept))
     (λ c. omega (arith, c .before .before .before .before .before .before .use-path .kept))
-    (λ c. item-use (c .before .before .before .before .before .before .before .before .before .before .before .before .before .before .before .before .before .before .before .head .ensures) (c .before .before .before .before .before .before .before .before .before .before .before .before .before .before .before .before .if1 .left) (c .before .before .before .before .before .before .before .before .before .before .before .before .if2 .left) (c .before .before .before .before .before .before .before .before .before .before .if3 .taken) (c .before .before .before .before .before .before .use-path .ensures _))
-    (λ c κs. c .before .before .before .before .before .before .before .before .before .before .before .before .before .before .before .before .before .before .before .before .pre)
+    (λ c.
+    let at-use-path = c .before .before .before .before .before .before in
+    let at-if3 = at-use-path .before .before .before .before in
+    let at-if2 = at-if3 .before .before in
+    let at-if1 = at-if2 .before .before .before .before in
+    let at-head = at-if1 .before .before .before in
+    item-use (at-head .head .ensures) (at-if1 .if1 .left) (at-if2 .if2 .left) (at-if3 .if3 .taken) (at-use-path .use-path .ensures _))
+    (λ c κs.
+    let start = c .before .before .before .before .before .before .before .before .before .before .before .before .before .before .before .before .before .before .before .before in
+    start .pre)
     (λ c. omega (arith, c .before .before .before .before .before .before .top-level-var-declaration .kept))
     (λ c. omega (arith, c .before .before .before .before .before .before .top-level-var-declaration .kept))
     (λ c. omega (arith, c .before .before .before .before .before .before .top-level-var-declaration .kept))
-    (λ c. item-variable (c .before .before .before .before .before .before .before .before .before .before .before .before .before .before .before .before .before .before .before .before .before .head .ensures) (c .before .before .before .before .before .before .before .before .before .before .before .before .before .before .before .before .before .before .if1 .left) (c .before .before .before .before .before .before .before .before .before .before .before .before .before .before .if2 .left) (c .before .before .before .before .before .before .before .before .before .before .before .before .if3 .left) (c .before .before .before .before .before .before .before .before .before .before .if4 .taken) (c .before .before .before .before .before .before .top-level-var-declaration .ensures))
-    (λ c κs. record { room = omega (arith, (c .before .before .before .before .before .before .before .before .before .before .before .before .before .before .before .before .before .before .before .before .pre) .room, c .before .before .before .before .before .before .before .before .before .before .before .before .before .before .head .ensures .pays); part = c .before .before .before .before .before .before .before .before .before .before .before .before .before .before .head .ensures .part })
+    (λ c.
+    let at-top-level-var-declaration = c .before .before .before .before .before .before in
+    let at-if4 = at-top-level-var-declaration .before .before .before .before in
+    let at-if3 = at-if4 .before .before in
+    let at-if2 = at-if3 .before .before in
+    let at-if1 = at-if2 .before .before .before .before in
+    let at-head = at-if1 .before .before .before in
+    item-variable (at-head .head .ensures) (at-if1 .if1 .left) (at-if2 .if2 .left) (at-if3 .if3 .left) (at-if4 .if4 .taken) (at-top-level-var-declaration .top-level-var-declaration .ensures))
+    (λ c κs.
+    let at-head = c .before .before .before .before .before .before .before .before .before .before .before .before .before .before in
+    let start = at-head .before .before .before .before .before .before in
+    record { room = omega (arith, (start .pre) .room, at-head .head .ensures .pays); part = at-head .head .ensures .part })
     (λ c. omega (arith, c .before .before .finish .kept))
-    (λ c. item-assembly (c .before .before .before .before .before .before .before .before .before .before .before .before .before .before .before .before .before .head .ensures) (c .before .before .before .before .before .before .before .before .before .before .before .before .before .before .if1 .left) (c .before .before .before .before .before .before .before .before .before .before .if2 .left) (c .before .before .before .before .before .before .before .before .if3 .left) (c .before .before .before .before .before .before .if4 .left) (c .before .before .before .before .before .before .before .before .before .before .before .before .before .before .before .before .before .before .before .before .before .before .before .pre) (c .before .before .before .before .if5 .taken) (c .before .before .finish .ensures))
-    (λ c κs. omega (arith, c .before .before .before .before .before .before .before .before .before .before .before .before .before .before .before .head .ensures))
-    (λ c κs. raise-asked (asked-seen (c .before .before .before .before .before .before .before .before .before .before .before .before .before .before .before .before .before .before .before .before .before .before .pre) (c .before .before .before .before .before .before .before .before .before .before .before .before .before .before .before .before .head .ensures)))
+    (λ c.
+    let at-if5 = c .before .before .before .before in
+    let at-if4 = at-if5 .before .before in
+    let at-if3 = at-if4 .before .before in
+    let at-if2 = at-if3 .before .before in
+    let at-if1 = at-if2 .before .before .before .before in
+    let at-head = at-if1 .before .before .before in
+    let start = at-head .before .before .before .before .before .before in
+    item-assembly (at-head .head .ensures) (at-if1 .if1 .left) (at-if2 .if2 .left) (at-if3 .if3 .left) (at-if4 .if4 .left) (start .pre) (at-if5 .if5 .taken) (c .before .before .finish .ensures))
+    (λ c κs.
+    let at-head = c .before .before .before .before .before .before .before .before .before .before .before .before .before .before .before in
+    omega (arith, at-head .head .ensures))
+    (λ c κs.
+    let at-head = c .before .before .before .before .before .before .before .before .before .before .before .before .before .before .before .before in
+    let start = at-head .before .before .before .before .before .before in
+    raise-asked (asked-seen (start .pre) (at-head .head .ensures)))
     (λ c. omega (arith, c .before .before .before .before .raise .kept))
     (λ c. omega (arith, c .before .before .before .before .raise .kept))
-    (λ c. item-other (c .before .before .before .before .before .before .before .before .before .before .before .before .before .before .before .before .before .before .before .before .before .head .ensures) (c .before .before .before .before .before .before .before .before .before .before .before .before .before .before .before .before .before .before .if1 .left) (c .before .before .before .before .before .before .before .before .before .before .before .before .before .before .if2 .left) (c .before .before .before .before .before .before .before .before .before .before .before .before .if3 .left) (c .before .before .before .before .before .before .before .before .before .before .if4 .left) (c .before .before .before .before .before .before .before .before .before .before .before .before .before .before .before .before .before .before .before .before .before .before .before .before .before .before .before .pre) (c .before .before .before .before .before .before .before .before .if5 .left) (c .before .before .before .before .before .entry .ensures) (c .before .before .before .before .raise .ensures)))
+    (λ c.
+    let at-raise = c .before .before .before .before in
+    let at-entry = at-raise .before in
+    let at-if5 = at-entry .before .before .before in
+    let at-if4 = at-if5 .before .before in
+    let at-if3 = at-if4 .before .before in
+    let at-if2 = at-if3 .before .before in
+    let at-if1 = at-if2 .before .before .before .before in
+    let at-head = at-if1 .before .before .before in
+    let start = at-head .before .before .before .before .before .before in
+    item-other (at-head .head .ensures) (at-if1 .if1 .left) (at-if2 .if2 .left) (at-if3 .if3 .left) (at-if4 .if4 .left) (start .pre) (at-if5 .if5 .left) (at-entry .entry .ensures) (at-raise .raise .ensures)))

@@ -20,16 +20,30 @@ array-size-spec =
     (λ c. size-none (c .before .before .args .text .now) (c .before .before .args .start) (c .if1 .taken))
     (λ c. search needs)
     (λ c. size-dash _ _ (c .before .before .before .before .pre .0) (c .before .before .if1 .left) (c .if2 .taken))
-    (λ c. size-start _ _ (c .before .before .before .before .pre .0) (c .before .before .if1 .left) (c .before .before .before .before .pre .1 .0) (c .if2 .left))
+    (λ c.
+    let start = c .before .before .before .before in
+    size-start _ _ (start .pre .0) (c .before .before .if1 .left) (start .pre .1 .0) (c .if2 .left))
     (λ c. search needs)
     (λ c. search needs)
     (λ c κs. search needs)
     (λ c. search needs)
     (λ c. search needs)
-    (λ c. size-over (c .before .before .before .before .loop .inv) (c .before .before .before .loop-test .taken) (c .before .digit-value .ensures) (c .if3 .taken))
-    (λ c. omega (arith, size-fits (c .before .before .before .before .loop .inv) (c .before .before .before .loop-test .taken) (c .before .digit-value .ensures) (c .if3 .left)))
-    (λ c. omega (arith, size-fits (c .before .before .before .before .loop .inv) (c .before .before .before .loop-test .taken) (c .before .digit-value .ensures) (c .if3 .left)))
+    (λ c.
+    let at-loop-test = c .before .before .before in
+    let at-loop = at-loop-test .before in
+    size-over (at-loop .loop .inv) (at-loop-test .loop-test .taken) (c .before .digit-value .ensures) (c .if3 .taken))
+    (λ c.
+    let at-loop-test = c .before .before .before in
+    let at-loop = at-loop-test .before in
+    omega (arith, size-fits (at-loop .loop .inv) (at-loop-test .loop-test .taken) (c .before .digit-value .ensures) (c .if3 .left)))
+    (λ c.
+    let at-loop-test = c .before .before .before in
+    let at-loop = at-loop-test .before in
+    omega (arith, size-fits (at-loop .loop .inv) (at-loop-test .loop-test .taken) (c .before .digit-value .ensures) (c .if3 .left)))
     (λ c. search needs)
     (λ c. search needs)
-    (λ c. size-more (c .before .before .before .before .loop .inv) (c .before .before .before .loop-test .taken) (c .before .digit-value .ensures) (c .if3 .left))
+    (λ c.
+    let at-loop-test = c .before .before .before in
+    let at-loop = at-loop-test .before in
+    size-more (at-loop .loop .inv) (at-loop-test .loop-test .taken) (c .before .digit-value .ensures) (c .if3 .left))
     (λ c. size-done (c .before .loop .inv) (c .loop-test .left)))

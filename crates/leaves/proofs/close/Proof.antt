@@ -13,7 +13,15 @@ close-spec =
     (λ c. search needs)
     (λ c. search needs)
     (λ c. search needs)
-    (λ c. close-refused (c .before .before .before .before .before .before .before .before .before .before .before .before .before .before .before .pre) (c .before .before .before .before .before .before .before .before .before .before .match .keys2) (c .before .before .before .before .before .before .expect .ensures) (c .before .match2 .keys1))
+    (λ c.
+    let at-expect = c .before .before .before .before .before .before in
+    let at-match = at-expect .before .before .before .before in
+    let start = at-match .before .before .before .before .before in
+    close-refused (start .pre) (at-match .match .keys2) (at-expect .expect .ensures) (c .before .match2 .keys1))
     (λ c. search needs)
     (λ c. search needs)
-    (λ c. close-on (c .before .before .before .before .before .before .before .before .before .before .before .before .before .before .before .pre) (c .before .before .before .before .before .before .before .before .before .before .match .keys2) (c .before .before .before .before .before .before .expect .ensures) (c .before .match2 .keys2)))
+    (λ c.
+    let at-expect = c .before .before .before .before .before .before in
+    let at-match = at-expect .before .before .before .before in
+    let start = at-match .before .before .before .before .before in
+    close-on (start .pre) (at-match .match .keys2) (at-expect .expect .ensures) (c .before .match2 .keys2)))

@@ -12,4 +12,8 @@ put-eight-spec =
     (λ c κs. search needs)
     (λ c κs. search needs)
     (λ c. search needs)
-    (λ c. rw eight-twos (then (then (then (c .before .before .before .before .before .before .before .before .before .before .before .before .before .before .put-two .ensures) (c .before .before .before .before .before .before .before .before .before .before .put-two2 .ensures)) (c .before .before .before .before .before .before .put-two3 .ensures)) (c .before .before .put-two4 .ensures))))
+    (λ c.
+    let at-put-two3 = c .before .before .before .before .before .before in
+    let at-put-two2 = at-put-two3 .before .before .before .before in
+    let at-put-two = at-put-two2 .before .before .before .before in
+    rw eight-twos (then (then (then (at-put-two .put-two .ensures) (at-put-two2 .put-two2 .ensures)) (at-put-two3 .put-two3 .ensures)) (c .before .before .put-two4 .ensures))))

@@ -22,7 +22,10 @@ returns-4 c = rw (c .before .before .before .before .before .numbers3 .given .1)
 
 returns-5 : tie.Need-returns-5
 unfolding nums-bytes
-returns-5 c = rw (c .before .before .before .before .before .before .before .before .before .numbers4 .given .1) (then (c .before .before .before .before .before .before .put2 .ensures) (c .before .before .put-two2 .ensures))
+returns-5 c =
+    let at-put2 = c .before .before .before .before .before .before in
+    let at-numbers4 = at-put2 .before .before .before in
+    rw (at-numbers4 .numbers4 .given .1) (then (at-put2 .put2 .ensures) (c .before .before .put-two2 .ensures))
 
 pub put-numbers-spec : {M : Type 1} → statement M
 put-numbers-spec =

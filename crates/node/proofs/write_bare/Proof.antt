@@ -14,4 +14,9 @@ write-bare-spec =
     (λ c κs. search needs)
     (λ c κs. search needs)
     (λ c. search needs)
-    (λ c. is-bare (c .before .before .before .before .before .before .before .before .before .before .before .before .before .before .before .put .ensures) (rw (c .before .before .before .before .before .before .before .before .before .before .before .width .ensures .0) at (c .before .before .before .before .before .before .before .before .before .before .put-two .ensures)) (c .before .before .before .before .before .before .put-numbers .ensures) (c .before .before .put-part .ensures)))
+    (λ c.
+    let at-put-numbers = c .before .before .before .before .before .before in
+    let at-put-two = at-put-numbers .before .before .before .before in
+    let at-width = at-put-two .before in
+    let at-put = at-width .before .before .before .before in
+    is-bare (at-put .put .ensures) (rw (at-width .width .ensures .0) at (at-put-two .put-two .ensures)) (at-put-numbers .put-numbers .ensures) (c .before .before .put-part .ensures)))

@@ -14,4 +14,8 @@ write-record-spec =
     (λ c κs. search needs)
     (λ c κs. search needs)
     (λ c. search needs)
-    (λ c. is-record (rw (c .before .before .before .before .before .before .before .before .before .before .before .before .width .ensures .0) at (c .before .before .before .before .before .before .before .before .before .before .opening .ensures)) (c .before .before .before .before .before .before .put-numbers .ensures) (c .before .before .put-part .ensures)))
+    (λ c.
+    let at-put-numbers = c .before .before .before .before .before .before in
+    let at-opening = at-put-numbers .before .before .before .before in
+    let at-width = at-opening .before .before in
+    is-record (rw (at-width .width .ensures .0) at (at-opening .opening .ensures)) (at-put-numbers .put-numbers .ensures) (c .before .before .put-part .ensures)))

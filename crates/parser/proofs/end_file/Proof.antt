@@ -10,9 +10,38 @@ end-file-spec =
     (tie.spec
     (λ c. search needs)
     (λ c κs. record { room = omega (arith, (c .before .before .before .before .before .before .pre) .room); part = omega arith })
-    (λ c κs. (omega (arith, (c .before .before .before .before .before .before .before .before .before .before .pre) .room, c .before .before .before .write-bare .ensures .end, c .before .before .before .write-bare .kept), ((c .before .before .before .before .before .before .before .before .before .before .pre) .words, (c .before .before .before .before .before .before .before .before .before .before .pre) .good)))
-    (λ c κs. (omega (arith, (c .before .before .before .before .before .before .before .before .before .before .before .before .before .before .pre) .room, c .before .before .before .before .before .before .before .write-bare .ensures .end, token-end _ _ ((c .before .before .before .before .before .before .before .before .before .before .before .before .before .before .pre) .good) (c .before .before .before .token-error-fields .ensures), c .before .before .before .before .before .before .before .write-bare .kept, c .before .before .before .token-error-fields .kept), omega (arith, (c .before .before .before .before .before .before .before .before .before .before .before .before .before .before .pre) .reps)))
-    (λ c κs. (omega (arith, (c .before .before .before .before .before .before .before .before .before .before .before .before .before .before .before .before .before .before .pre) .room, c .before .before .before .before .before .before .before .before .before .before .before .write-bare .ensures .end, token-end _ _ ((c .before .before .before .before .before .before .before .before .before .before .before .before .before .before .before .before .before .before .pre) .good) (c .before .before .before .before .before .before .before .token-error-fields .ensures), list-end _ _ (c .before .before .before .error-fields .ensures) ((c .before .before .before .before .before .before .before .before .before .before .before .before .before .before .before .before .before .before .pre) .reps), c .before .before .before .before .before .before .before .before .before .before .before .write-bare .kept, c .before .before .before .before .before .before .before .token-error-fields .kept, c .before .before .before .error-fields .kept), omega (arith, (c .before .before .before .before .before .before .before .before .before .before .before .before .before .before .before .before .before .before .pre) .fulls)))
-    (λ c κs. omega (arith, end-room (c .before .before .before .before .before .before .before .before .before .before .before .before .before .before .before .before .before .before .before .before .before .before .pre) (c .before .before .before .before .before .before .before .before .before .before .before .before .before .before .before .write-bare .ensures) (c .before .before .before .before .before .before .before .before .before .before .before .token-error-fields .ensures) (c .before .before .before .before .before .before .before .error-fields .ensures) (c .before .before .before .error-fields2 .ensures) (omega (arith, c .before .before .before .before .before .before .before .before .before .before .before .before .before .before .before .write-bare .kept, c .before .before .before .before .before .before .before .before .before .before .before .token-error-fields .kept, c .before .before .before .before .before .before .before .error-fields .kept, c .before .before .before .error-fields2 .kept))))
-    (λ c. omega (arith, c .before .before .clear-bytes .kept, c .before .before .before .before .before .before .error-fields2 .kept, c .before .before .before .before .before .before .before .before .before .before .error-fields .kept, c .before .before .before .before .before .before .before .before .before .before .before .before .before .before .token-error-fields .kept, c .before .before .before .before .before .before .before .before .before .before .before .before .before .before .before .before .before .before .write-bare .kept))
-    (λ c. ended (c .before .before .before .before .before .before .before .before .before .before .before .before .before .before .before .before .before .before .before .before .before .before .before .before .before .pre) (c .before .before .before .before .before .before .before .before .before .before .before .before .before .before .before .before .before .before .write-bare .ensures) (c .before .before .before .before .before .before .before .before .before .before .before .before .before .before .token-error-fields .ensures) (c .before .before .before .before .before .before .before .before .before .before .error-fields .ensures) (c .before .before .before .before .before .before .error-fields2 .ensures) (c .before .before .clear-bytes .ensures) (omega (arith, c .before .before .before .before .before .before .before .before .before .before .before .before .before .before .before .before .before .before .write-bare .kept, c .before .before .before .before .before .before .before .before .before .before .before .before .before .before .token-error-fields .kept, c .before .before .before .before .before .before .before .before .before .before .error-fields .kept, c .before .before .before .before .before .before .error-fields2 .kept))))
+    (λ c κs.
+    let at-write-bare = c .before .before .before in
+    let start = at-write-bare .before .before .before .before .before .before .before in
+    (omega (arith, (start .pre) .room, at-write-bare .write-bare .ensures .end, at-write-bare .write-bare .kept), ((start .pre) .words, (start .pre) .good)))
+    (λ c κs.
+    let at-token-error-fields = c .before .before .before in
+    let at-write-bare = at-token-error-fields .before .before .before .before in
+    let start = at-write-bare .before .before .before .before .before .before .before in
+    (omega (arith, (start .pre) .room, at-write-bare .write-bare .ensures .end, token-end _ _ ((start .pre) .good) (at-token-error-fields .token-error-fields .ensures), at-write-bare .write-bare .kept, at-token-error-fields .token-error-fields .kept), omega (arith, (start .pre) .reps)))
+    (λ c κs.
+    let at-error-fields = c .before .before .before in
+    let at-token-error-fields = at-error-fields .before .before .before .before in
+    let at-write-bare = at-token-error-fields .before .before .before .before in
+    let start = at-write-bare .before .before .before .before .before .before .before in
+    (omega (arith, (start .pre) .room, at-write-bare .write-bare .ensures .end, token-end _ _ ((start .pre) .good) (at-token-error-fields .token-error-fields .ensures), list-end _ _ (at-error-fields .error-fields .ensures) ((start .pre) .reps), at-write-bare .write-bare .kept, at-token-error-fields .token-error-fields .kept, at-error-fields .error-fields .kept), omega (arith, (start .pre) .fulls)))
+    (λ c κs.
+    let at-error-fields2 = c .before .before .before in
+    let at-error-fields = at-error-fields2 .before .before .before .before in
+    let at-token-error-fields = at-error-fields .before .before .before .before in
+    let at-write-bare = at-token-error-fields .before .before .before .before in
+    let start = at-write-bare .before .before .before .before .before .before .before in
+    omega (arith, end-room (start .pre) (at-write-bare .write-bare .ensures) (at-token-error-fields .token-error-fields .ensures) (at-error-fields .error-fields .ensures) (at-error-fields2 .error-fields2 .ensures) (omega (arith, at-write-bare .write-bare .kept, at-token-error-fields .token-error-fields .kept, at-error-fields .error-fields .kept, at-error-fields2 .error-fields2 .kept))))
+    (λ c.
+    let at-error-fields2 = c .before .before .before .before .before .before in
+    let at-error-fields = at-error-fields2 .before .before .before .before in
+    let at-token-error-fields = at-error-fields .before .before .before .before in
+    let at-write-bare = at-token-error-fields .before .before .before .before in
+    omega (arith, c .before .before .clear-bytes .kept, at-error-fields2 .error-fields2 .kept, at-error-fields .error-fields .kept, at-token-error-fields .token-error-fields .kept, at-write-bare .write-bare .kept))
+    (λ c.
+    let at-error-fields2 = c .before .before .before .before .before .before in
+    let at-error-fields = at-error-fields2 .before .before .before .before in
+    let at-token-error-fields = at-error-fields .before .before .before .before in
+    let at-write-bare = at-token-error-fields .before .before .before .before in
+    let start = at-write-bare .before .before .before .before .before .before .before in
+    ended (start .pre) (at-write-bare .write-bare .ensures) (at-token-error-fields .token-error-fields .ensures) (at-error-fields .error-fields .ensures) (at-error-fields2 .error-fields2 .ensures) (c .before .before .clear-bytes .ensures) (omega (arith, at-write-bare .write-bare .kept, at-token-error-fields .token-error-fields .kept, at-error-fields .error-fields .kept, at-error-fields2 .error-fields2 .kept))))

@@ -16,7 +16,9 @@ has-text-requires : tie.Need-has-text-requires
 has-text-requires c κs = search needs
 
 returns-2 : tie.Need-returns-2
-returns-2 c = no-text (c .before .before .before .before .before .before .before .args .text .now) (words-of (c .before .before .before .before .before .before .before .args .w)) (search holds) (search fails)
+returns-2 c =
+    let start = c .before .before .before .before .before .before .before in
+    no-text (start .args .text .now) (words-of (start .args .w)) (search holds) (search fails)
 
 cast-start : tie.Need-cast-start
 cast-start c = search needs
@@ -40,13 +42,17 @@ part-integer-text-start : tie.Need-part-integer-text-start
 part-integer-text-start c = search needs
 
 part-integer-text-end : tie.Need-part-integer-text-end
-part-integer-text-end c = part-inside (c .before .before .before .before .before .before .before .before .before .before .before .args .text .now) (c .before .before .before .before .before .before .before .before .before .before .before .args .w .start) (c .before .before .before .before .before .before .before .before .before .before .before .args .w .start + c .before .before .before .before .before .before .before .before .before .before .before .args .w .size) (search holds)
+part-integer-text-end c =
+    let start = c .before .before .before .before .before .before .before .before .before .before .before in
+    part-inside (start .args .text .now) (start .args .w .start) (start .args .w .start + start .args .w .size) (search holds)
 
 integer-text-requires : tie.Need-integer-text-requires
 integer-text-requires c κs = search needs
 
 returns-4 : tie.Need-returns-4
-returns-4 c = c .integer-text .ensures ∙ good-integer (c .before .before .before .before .before .before .before .before .before .before .before .before .before .args .text .now) (words-of (c .before .before .before .before .before .before .before .before .before .before .before .before .before .args .w)) (search holds) (search holds) (search holds) (search)
+returns-4 c =
+    let start = c .before .before .before .before .before .before .before .before .before .before .before .before .before in
+    c .integer-text .ensures ∙ good-integer (start .args .text .now) (words-of (start .args .w)) (search holds) (search holds) (search holds) (search)
 
 returns-5 : tie.Need-returns-5
 returns-5 c = search (good-text, holds, c .if4 .left)

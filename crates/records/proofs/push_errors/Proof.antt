@@ -35,7 +35,10 @@ loop-less : tie.Need-loop-less Inv-loop μ-loop
 loop-less c = search needs
 
 loop-again : tie.Need-loop-again Inv-loop μ-loop
-loop-again c = pushing-more (c .before .before .before .before .before .loop .inv) (c .before .before .before .before .loop-test .taken) (c .before .before .put-four .ensures)
+loop-again c =
+    let at-loop-test = c .before .before .before .before in
+    let at-loop = at-loop-test .before in
+    pushing-more (at-loop .loop .inv) (at-loop-test .loop-test .taken) (c .before .before .put-four .ensures)
 
 same-length : tie.Need-same-length Inv-loop μ-loop
 same-length c = c .before .loop .inv .wrote .size

@@ -53,10 +53,20 @@ part-result-start-3 : tie.Need-part-result-start-3
 part-result-start-3 c = search needs
 
 part-result-end-3 : tie.Need-part-result-end-3
-part-result-end-3 c = text-inside (c .before .before .before .before .before .before .before .before .before .args .text .now) (words-of (c .before .before .before .before .before .words-at .result)) (c .before .before .before .before .has-text .ensures) (c .before .before .before .good-alone .ensures) (search)
+part-result-end-3 c =
+    let at-good-alone = c .before .before .before in
+    let at-has-text = at-good-alone .before in
+    let at-words-at = at-has-text .before in
+    let start = at-words-at .before .before .before .before in
+    text-inside (start .args .text .now) (words-of (at-words-at .words-at .result)) (at-has-text .has-text .ensures) (at-good-alone .good-alone .ensures) (search)
 
 returns-3 : tie.Need-returns-3
-returns-3 c = text-some (c .before .before .before .before .before .before .before .before .before .before .args .tokens .now) (c .before .before .before .before .before .before .before .before .before .before .args .text .now) (c .before .before .before .before .before .before .before .before .before .before .args .at) (search) (c .before .before .before .before .before .before .words-at .ensures) (c .before .before .before .before .before .has-text .ensures) (c .before .before .before .before .good-alone .ensures) (search)
+returns-3 c =
+    let at-good-alone = c .before .before .before .before in
+    let at-has-text = at-good-alone .before in
+    let at-words-at = at-has-text .before in
+    let start = at-words-at .before .before .before .before in
+    text-some (start .args .tokens .now) (start .args .text .now) (start .args .at) (search) (at-words-at .words-at .ensures) (at-has-text .has-text .ensures) (at-good-alone .good-alone .ensures) (search)
 
 pub token-text-spec : {M : Type 1} → statement M
 token-text-spec =

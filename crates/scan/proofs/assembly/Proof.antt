@@ -41,7 +41,12 @@ loop-less : tie.Need-loop-less Inv-loop μ-loop
 loop-less c = search needs
 
 loop-again : tie.Need-loop-again Inv-loop μ-loop
-loop-again c = spanning-more (c .before .before .before .before .before .before .before .before .loop .inv) (c .before .before .before .before .before .step .ensures) (asm-go _ _ (c .before .before .before .before .if2 .left)) (char-copied (c .before .before .before .before .before .step .ensures) (c .before .before .before .before .before .before .before .if1 .left) (c .before .before .copy .ensures)) (copied-room (c .before .before .before .before .before .step .ensures) (c .before .before .copy .ensures) (c .before .before .before .before .before .before .before .before .loop .inv .asks .room))
+loop-again c =
+    let at-if2 = c .before .before .before .before in
+    let at-step = at-if2 .before in
+    let at-if1 = at-step .before .before in
+    let at-loop = at-if1 .before in
+    spanning-more (at-loop .loop .inv) (at-step .step .ensures) (asm-go _ _ (at-if2 .if2 .left)) (char-copied (at-step .step .ensures) (at-if1 .if1 .left) (c .before .before .copy .ensures)) (copied-room (at-step .step .ensures) (c .before .before .copy .ensures) (at-loop .loop .inv .asks .room))
 
 pub assembly-spec : {M : Type 1} → statement M
 assembly-spec =

@@ -36,7 +36,10 @@ loop-again : tie.Need-loop-again Inv-loop μ-loop
 loop-again c = search (passing-more, blanks-go, told, needs)
 
 returns-2 : tie.Need-returns-2 Inv-loop μ-loop
-returns-2 c = passing-stop (c .before .before .before .before .loop .inv) (c .before .before .before .if1 .left) (λ cs. blanks-stop _ _ (sym (c .before .is-white .ensures) ∙ c .if2 .left))
+returns-2 c =
+    let at-if1 = c .before .before .before in
+    let at-loop = at-if1 .before in
+    passing-stop (at-loop .loop .inv) (at-if1 .if1 .left) (λ cs. blanks-stop _ _ (sym (c .before .is-white .ensures) ∙ c .if2 .left))
 
 pub white-spec : {M : Type 1} → statement M
 white-spec =

@@ -49,7 +49,10 @@ same-length-2 : tie.Need-same-length-2 Inv-loop μ-loop
 same-length-2 c = search needs
 
 returns-2 : tie.Need-returns-2 Inv-loop μ-loop
-returns-2 c = spanning-stop (c .before .before .before .before .loop .inv) (c .before .before .before .if1 .left) (λ cs. letters-stop _ _ (sym (c .before .is-word .ensures) ∙ c .if2 .left))
+returns-2 c =
+    let at-if1 = c .before .before .before in
+    let at-loop = at-if1 .before in
+    spanning-stop (at-loop .loop .inv) (at-if1 .if1 .left) (λ cs. letters-stop _ _ (sym (c .before .is-word .ensures) ∙ c .if2 .left))
 
 pub word-spec : {M : Type 1} → statement M
 word-spec =

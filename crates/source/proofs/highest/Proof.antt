@@ -23,5 +23,7 @@ highest-spec =
     (λ c. search needs)
     (λ c. search needs)
     (λ c. search needs)
-    (λ c. high-more (c .before .before .before .loop .inv) (omega arith) (⊎-elim (λ z. omega (arith, z .0 .taken, z .1)) (λ z. omega (arith, z .0 .left, z .1)) (c .if1 .came)))
+    (λ c.
+    let at-loop = c .before .before .before in
+    high-more (at-loop .loop .inv) (omega arith) (⊎-elim (λ z. omega (arith, z .0 .taken, z .1)) (λ z. omega (arith, z .0 .left, z .1)) (c .if1 .came)))
     (λ c. high-end (c .before .loop .inv) (omega arith)))

@@ -13,4 +13,9 @@ and-expect-spec =
     (λ c κs. search needs)
     (λ c. search needs)
     (λ c. search needs)
-    (λ c. expected-on (c .before .before .before .before .before .before .before .before .before .before .before .before .before .before .before .before .before .before .before .pre .0) (c .before .before .before .before .before .before .before .before .before .before .before .before .before .enum-told .given .1) (c .before .before .before .before .before .before .before .before .before .expect .ensures) (c .before .before .before .abandon .ensures)))
+    (λ c.
+    let at-abandon = c .before .before .before in
+    let at-expect = at-abandon .before .before .before .before .before .before in
+    let at-enum-told = at-expect .before .before .before .before in
+    let start = at-enum-told .before .before .before .before .before .before in
+    expected-on (start .pre .0) (at-enum-told .enum-told .given .1) (at-expect .expect .ensures) (at-abandon .abandon .ensures)))

@@ -8,14 +8,30 @@ expect-spec =
     tie.close
     (tie.spec
     (λ c κs. search needs)
-    (λ c. expect-there (c .before .before .before .before .before .before .before .pre .0) (c .before .before .head .ensures) (c .before .before .before .before .before .before .before .pre .1 .0) (c .if1 .taken))
+    (λ c.
+    let start = c .before .before .before .before .before .before .before in
+    expect-there (start .pre .0) (c .before .before .head .ensures) (start .pre .1 .0) (c .if1 .taken))
     (λ c κs. search needs)
     (λ c κs. search needs)
     (λ c. search needs)
     (λ c. search needs)
-    (λ c. expect-end (c .before .before .before .before .before .before .before .before .before .before .before .before .before .before .before .before .before .pre .0) (c .before .before .before .before .before .before .before .before .before .before .before .before .head .ensures) (c .before .before .before .before .before .before .before .before .before .before .if1 .left) (c .before .before .before .before .raise .ensures) (c .before .before .before .before .before .before .before .before .if2 .taken) (c .before .before .before .before .before .entry .ensures))
+    (λ c.
+    let at-raise = c .before .before .before .before in
+    let at-entry = at-raise .before in
+    let at-if2 = at-entry .before .before .before in
+    let at-if1 = at-if2 .before .before in
+    let at-head = at-if1 .before .before in
+    let start = at-head .before .before .before .before .before in
+    expect-end (start .pre .0) (at-head .head .ensures) (at-if1 .if1 .left) (at-raise .raise .ensures) (at-if2 .if2 .taken) (at-entry .entry .ensures))
     (λ c κs. search needs)
     (λ c κs. search needs)
     (λ c. search needs)
     (λ c. search needs)
-    (λ c. expect-other (c .before .before .before .before .before .before .before .before .before .before .before .before .before .before .before .before .before .pre .0) (c .before .before .before .before .before .before .before .before .before .before .before .before .head .ensures) (c .before .before .before .before .before .before .before .before .before .before .if1 .left) (c .before .before .before .before .raise2 .ensures) (c .before .before .before .before .before .before .before .before .if2 .left) (c .before .before .before .before .before .entry2 .ensures)))
+    (λ c.
+    let at-raise2 = c .before .before .before .before in
+    let at-entry2 = at-raise2 .before in
+    let at-if2 = at-entry2 .before .before .before in
+    let at-if1 = at-if2 .before .before in
+    let at-head = at-if1 .before .before in
+    let start = at-head .before .before .before .before .before in
+    expect-other (start .pre .0) (at-head .head .ensures) (at-if1 .if1 .left) (at-raise2 .raise2 .ensures) (at-if2 .if2 .left) (at-entry2 .entry2 .ensures)))

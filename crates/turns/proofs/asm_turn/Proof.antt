@@ -23,7 +23,10 @@ assembly-requires : tie.Need-assembly-requires
 assembly-requires c κs = search needs
 
 with-text-requires : tie.Need-with-text-requires
-with-text-requires c κs = (c .before .before .before .before .before .before .before .before .before .before .before .before .before .before .before .before .pre .0 .few, omega (arith, c .before .before .before .before .before .before .before .before .before .before .before .before .before .before .before .before .pre .0 .wide), omega (arith, c .before .before .before .before .assembly .ensures .wrote .count), omega (arith, c .before .before .before .before .assembly .ensures .room, c .before .before .before .before .assembly .ensures .passed .stands .inside, c .before .before .before .before .before .before .before .before .before .before .before .before .before .before .before .before .pre .0 .asks .small))
+with-text-requires c κs =
+    let at-assembly = c .before .before .before .before in
+    let start = at-assembly .before .before .before .before .before .before .before .before .before .before .before .before in
+    (start .pre .0 .few, omega (arith, start .pre .0 .wide), omega (arith, at-assembly .assembly .ensures .wrote .count), omega (arith, at-assembly .assembly .ensures .room, at-assembly .assembly .ensures .passed .stands .inside, start .pre .0 .asks .small))
 
 same-length : tie.Need-same-length
 same-length c = search needs
@@ -32,7 +35,15 @@ same-length-2 : tie.Need-same-length-2
 same-length-2 c = search needs
 
 returns-2 : tie.Need-returns-2
-returns-2 c = asm-open-law _ (c .before .before .before .before .before .before .before .before .before .before .before .before .before .white .ensures) (c .before .before .before .before .before .before .before .before .before .before .before .before .look .ensures) (c .before .before .before .before .before .before .before .before .before .before .before .before .before .before .before .before .before .before .before .pre .0) (c .before .before .before .before .before .before .before .before .before .before .before .if1 .left) (c .before .before .before .before .before .before .before .before .before .before .skip .ensures) (c .before .before .before .before .before .before .before .before .before .if2 .taken) (c .before .before .before .before .before .before .before .assembly .ensures) (c .before .before .with-text .ensures)
+returns-2 c =
+    let at-assembly = c .before .before .before .before .before .before .before in
+    let at-if2 = at-assembly .before .before in
+    let at-skip = at-if2 .before in
+    let at-if1 = at-skip .before in
+    let at-look = at-if1 .before in
+    let at-white = at-look .before in
+    let start = at-white .before .before .before .before .before .before in
+    asm-open-law _ (at-white .white .ensures) (at-look .look .ensures) (start .pre .0) (at-if1 .if1 .left) (at-skip .skip .ensures) (at-if2 .if2 .taken) (at-assembly .assembly .ensures) (c .before .before .with-text .ensures)
 
 with-errors-requires : tie.Need-with-errors-requires
 with-errors-requires c κs = search needs

@@ -17,10 +17,18 @@ same-length-2 : tie.Need-same-length-2
 same-length-2 c = search needs
 
 returns : tie.Need-returns
-returns c = string-full-law _ (c .before .before .before .before .before .before .before .before .before .before .before .before .before .before .before .before .pre .0) (c .before .before .before .before .before .before .before .before .before .quoted .ensures) (c .before .before .before .before .with-errors .ensures) (c .if1 .taken)
+returns c =
+    let at-with-errors = c .before .before .before .before in
+    let at-quoted = at-with-errors .before .before .before .before .before in
+    let start = at-quoted .before .before .before .before .before .before .before in
+    string-full-law _ (start .pre .0) (at-quoted .quoted .ensures) (at-with-errors .with-errors .ensures) (c .if1 .taken)
 
 with-text-requires : tie.Need-with-text-requires
-with-text-requires c κs = (escapes-few _ (c .before .before .before .before .before .before .before .before .before .before .before .before .before .before .before .before .before .before .pre .0) (c .before .before .before .before .before .before .before .before .before .before .before .quoted .ensures) (c .before .before .before .before .before .before .with-errors .ensures) (c .before .before .if1 .left), omega (arith, c .before .before .before .before .before .before .before .before .before .before .before .before .before .before .before .before .before .before .pre .0 .wide), omega (arith, escapes-went _ (c .before .before .before .before .before .before .before .before .before .before .before .before .before .before .before .before .before .before .pre .0) (c .before .before .before .before .before .before .before .before .before .before .before .quoted .ensures) (c .before .before .before .before .before .before .with-errors .ensures) (c .before .before .if1 .left) .text, c .before .before .before .before .before .before .before .before .before .before .before .quoted .ensures .wrote .count), omega (arith, c .before .before .before .before .before .before .before .before .before .before .before .quoted .ensures .room, c .before .before .before .before .before .before .before .before .before .before .before .quoted .ensures .passed .stands .inside, c .before .before .before .before .before .before .before .before .before .before .before .before .before .before .before .before .before .before .pre .0 .asks .small))
+with-text-requires c κs =
+    let at-with-errors = c .before .before .before .before .before .before in
+    let at-quoted = at-with-errors .before .before .before .before .before in
+    let start = at-quoted .before .before .before .before .before .before .before in
+    (escapes-few _ (start .pre .0) (at-quoted .quoted .ensures) (at-with-errors .with-errors .ensures) (c .before .before .if1 .left), omega (arith, start .pre .0 .wide), omega (arith, escapes-went _ (start .pre .0) (at-quoted .quoted .ensures) (at-with-errors .with-errors .ensures) (c .before .before .if1 .left) .text, at-quoted .quoted .ensures .wrote .count), omega (arith, at-quoted .quoted .ensures .room, at-quoted .quoted .ensures .passed .stands .inside, start .pre .0 .asks .small))
 
 same-length-3 : tie.Need-same-length-3
 same-length-3 c = search needs
@@ -32,10 +40,20 @@ same-length-5 : tie.Need-same-length-5
 same-length-5 c = search needs
 
 returns-2 : tie.Need-returns-2
-returns-2 c = string-closed-law _ (c .before .before .before .before .before .before .before .before .before .before .before .before .before .before .before .before .before .before .before .before .before .pre .0) (c .before .before .before .before .before .before .before .before .before .before .before .before .before .before .quoted .ensures) (c .before .before .before .before .before .before .before .before .before .with-errors .ensures) (c .before .before .before .before .before .if1 .left) (c .before .before .before .before .if2 .taken) (c .before .before .with-text .ensures)
+returns-2 c =
+    let at-if2 = c .before .before .before .before in
+    let at-if1 = at-if2 .before in
+    let at-with-errors = at-if1 .before .before .before .before in
+    let at-quoted = at-with-errors .before .before .before .before .before in
+    let start = at-quoted .before .before .before .before .before .before .before in
+    string-closed-law _ (start .pre .0) (at-quoted .quoted .ensures) (at-with-errors .with-errors .ensures) (at-if1 .if1 .left) (at-if2 .if2 .taken) (c .before .before .with-text .ensures)
 
 with-errors-requires-2 : tie.Need-with-errors-requires-2
-with-errors-requires-2 c κs = (omega (arith, c .before .before .before .before .before .before .before .before .before .before .before .before .before .before .before .before .before .before .pre .1, c .before .before .before .before .before .before .with-errors .kept .0), escapes-few _ (c .before .before .before .before .before .before .before .before .before .before .before .before .before .before .before .before .before .before .pre .0) (c .before .before .before .before .before .before .before .before .before .before .before .quoted .ensures) (c .before .before .before .before .before .before .with-errors .ensures) (c .before .before .if1 .left) .errors, omega arith)
+with-errors-requires-2 c κs =
+    let at-with-errors = c .before .before .before .before .before .before in
+    let at-quoted = at-with-errors .before .before .before .before .before in
+    let start = at-quoted .before .before .before .before .before .before .before in
+    (omega (arith, start .pre .1, at-with-errors .with-errors .kept .0), escapes-few _ (start .pre .0) (at-quoted .quoted .ensures) (at-with-errors .with-errors .ensures) (c .before .before .if1 .left) .errors, omega arith)
 
 same-length-6 : tie.Need-same-length-6
 same-length-6 c = search needs
@@ -44,7 +62,13 @@ same-length-7 : tie.Need-same-length-7
 same-length-7 c = search needs
 
 returns-3 : tie.Need-returns-3
-returns-3 c = string-open-law _ (c .before .before .before .before .before .before .before .before .before .before .before .before .before .before .before .before .before .before .before .before .before .pre .0) (c .before .before .before .before .before .before .before .before .before .before .before .before .before .before .quoted .ensures) (c .before .before .before .before .before .before .before .before .before .with-errors .ensures) (c .before .before .before .before .before .if1 .left) (c .before .before .before .before .if2 .left) (c .before .before .with-errors2 .ensures)
+returns-3 c =
+    let at-if2 = c .before .before .before .before in
+    let at-if1 = at-if2 .before in
+    let at-with-errors = at-if1 .before .before .before .before in
+    let at-quoted = at-with-errors .before .before .before .before .before in
+    let start = at-quoted .before .before .before .before .before .before .before in
+    string-open-law _ (start .pre .0) (at-quoted .quoted .ensures) (at-with-errors .with-errors .ensures) (at-if1 .if1 .left) (at-if2 .if2 .left) (c .before .before .with-errors2 .ensures)
 
 pub string-turn-spec : {M : Type 1} → statement M
 string-turn-spec =

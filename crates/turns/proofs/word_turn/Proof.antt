@@ -39,7 +39,11 @@ same-requires : tie.Need-same-requires
 same-requires c κs = search needs
 
 asm-turn-requires : tie.Need-asm-turn-requires
-asm-turn-requires c κs = (ready-on (ready-wrote (ready-wrote (c .before .before .before .before .before .before .before .before .before .before .before .before .before .before .before .before .before .before .before .before .before .before .before .before .pre .0) (c .before .before .before .before .before .before .before .before .before .before .before .before .before .before .before .before .before .put8 .ensures)) (c .before .before .before .before .before .before .before .before .before .before .before .before .before .word .ensures .wrote)) (c .before .before .before .before .before .before .before .before .before .before .before .before .before .word .ensures .passed), omega arith)
+asm-turn-requires c κs =
+    let at-word = c .before .before .before .before .before .before .before .before .before .before .before .before .before in
+    let at-put8 = at-word .before .before .before .before in
+    let start = at-put8 .before .before .before .before .before .before .before in
+    (ready-on (ready-wrote (ready-wrote (start .pre .0) (at-put8 .put8 .ensures)) (at-word .word .ensures .wrote)) (at-word .word .ensures .passed), omega arith)
 
 same-length-2 : tie.Need-same-length-2
 same-length-2 c = search needs
@@ -51,7 +55,16 @@ same-length-4 : tie.Need-same-length-4
 same-length-4 c = search needs
 
 returns-2 : tie.Need-returns-2
-returns-2 c = word-asm-law _ (c .before .before .before .before .before .before .before .before .before .before .before .before .before .before .before .before .before .before .before .before .before .before .before .before .before .before .before .before .before .before .before .pre .0) (c .before .before .before .before .before .before .before .before .before .before .before .before .before .before .before .before .before .before .before .before .before .before .before .before .put8 .ensures) (c .before .before .before .before .before .before .before .before .before .before .before .before .before .before .before .before .before .before .before .before .word .ensures) (c .before .before .before .before .before .before .before .before .before .before .before .before .before .before .before .before .look .ensures) (c .before .before .before .before .before .before .before .before .before .before .before .before .before .before .before .if1 .left) (c .before .before .before .before .before .before .before .before .before .before .before .same .ensures) (c .before .before .before .before .before .before .before .before .before .before .if2 .taken) (c .before .before .before .before .before .before .asm-turn .ensures)
+returns-2 c =
+    let at-asm-turn = c .before .before .before .before .before .before in
+    let at-if2 = at-asm-turn .before .before .before .before in
+    let at-same = at-if2 .before in
+    let at-if1 = at-same .before .before .before .before in
+    let at-look = at-if1 .before in
+    let at-word = at-look .before .before .before .before in
+    let at-put8 = at-word .before .before .before .before in
+    let start = at-put8 .before .before .before .before .before .before .before in
+    word-asm-law _ (start .pre .0) (at-put8 .put8 .ensures) (at-word .word .ensures) (at-look .look .ensures) (at-if1 .if1 .left) (at-same .same .ensures) (at-if2 .if2 .taken) (at-asm-turn .asm-turn .ensures)
 
 sub-keyword : tie.Need-sub-keyword
 sub-keyword c = search needs
@@ -66,7 +79,11 @@ keyword-requires : tie.Need-keyword-requires
 keyword-requires c κs = search needs
 
 with-text-requires : tie.Need-with-text-requires
-with-text-requires c κs = (c .before .before .before .before .before .before .before .before .before .before .before .before .before .before .before .before .before .before .before .before .before .before .before .before .before .before .pre .0 .few, omega (arith, c .before .before .before .before .before .before .before .before .before .before .before .before .before .before .before .before .before .before .before .before .before .before .before .before .before .before .pre .0 .wide), omega (arith, c .before .before .before .before .before .before .before .before .before .before .before .before .before .before .before .before .before .before .before .put8 .ensures .count, c .before .before .before .before .before .before .before .before .before .before .before .before .before .before .before .word .ensures .wrote .count), omega (arith, c .before .before .before .before .before .before .before .before .before .before .before .before .before .before .before .word .ensures .room, c .before .before .before .before .before .before .before .before .before .before .before .before .before .before .before .word .ensures .passed .stands .inside, c .before .before .before .before .before .before .before .before .before .before .before .before .before .before .before .before .before .before .before .before .before .before .before .before .before .before .pre .0 .asks .small))
+with-text-requires c κs =
+    let at-word = c .before .before .before .before .before .before .before .before .before .before .before .before .before .before .before in
+    let at-put8 = at-word .before .before .before .before in
+    let start = at-put8 .before .before .before .before .before .before .before in
+    (start .pre .0 .few, omega (arith, start .pre .0 .wide), omega (arith, at-put8 .put8 .ensures .count, at-word .word .ensures .wrote .count), omega (arith, at-word .word .ensures .room, at-word .word .ensures .passed .stands .inside, start .pre .0 .asks .small))
 
 same-length-5 : tie.Need-same-length-5
 same-length-5 c = search needs
@@ -75,10 +92,22 @@ same-length-6 : tie.Need-same-length-6
 same-length-6 c = search needs
 
 returns-3 : tie.Need-returns-3
-returns-3 c = word-identifier-law _ (c .before .before .before .before .before .before .before .before .before .before .before .before .before .before .before .before .before .before .before .before .before .before .before .before .before .before .before .before .before .pre .0) (c .before .before .before .before .before .before .before .before .before .before .before .before .before .before .before .before .before .before .before .before .before .before .put8 .ensures) (c .before .before .before .before .before .before .before .before .before .before .before .before .before .before .before .before .before .before .word .ensures) (c .before .before .before .before .before .before .before .before .before .before .before .before .before .before .look .ensures) (c .before .before .before .before .before .before .before .before .before .before .before .before .before .if1 .left) (c .before .before .before .before .before .before .before .before .before .same .ensures) (c .before .before .before .before .before .before .before .before .if2 .left) (c .before .before .before .before .before .keyword .ensures) (c .before .before .before .before .if3 .taken) (c .before .before .with-text .ensures)
+returns-3 c =
+    let at-if3 = c .before .before .before .before in
+    let at-keyword = at-if3 .before in
+    let at-if2 = at-keyword .before .before .before in
+    let at-same = at-if2 .before in
+    let at-if1 = at-same .before .before .before .before in
+    let at-look = at-if1 .before in
+    let at-word = at-look .before .before .before .before in
+    let at-put8 = at-word .before .before .before .before in
+    let start = at-put8 .before .before .before .before .before .before .before in
+    word-identifier-law _ (start .pre .0) (at-put8 .put8 .ensures) (at-word .word .ensures) (at-look .look .ensures) (at-if1 .if1 .left) (at-same .same .ensures) (at-if2 .if2 .left) (at-keyword .keyword .ensures) (at-if3 .if3 .taken) (c .before .before .with-text .ensures)
 
 plain-requires : tie.Need-plain-requires
-plain-requires c κs = (c .before .before .before .before .before .before .before .before .before .before .before .before .before .before .before .before .before .before .before .before .before .before .before .before .before .before .pre .0 .few, omega (arith, c .before .before .before .before .before .before .before .before .before .before .before .before .before .before .before .before .before .before .before .before .before .before .before .before .before .before .pre .0 .wide))
+plain-requires c κs =
+    let start = c .before .before .before .before .before .before .before .before .before .before .before .before .before .before .before .before .before .before .before .before .before .before .before .before .before .before in
+    (start .pre .0 .few, omega (arith, start .pre .0 .wide))
 
 same-length-7 : tie.Need-same-length-7
 same-length-7 c = search needs
@@ -87,7 +116,17 @@ same-length-8 : tie.Need-same-length-8
 same-length-8 c = search needs
 
 returns-4 : tie.Need-returns-4
-returns-4 c = word-keyword-law _ (c .before .before .before .before .before .before .before .before .before .before .before .before .before .before .before .before .before .before .before .before .before .before .before .before .before .before .before .before .before .pre .0) (c .before .before .before .before .before .before .before .before .before .before .before .before .before .before .before .before .before .before .before .before .before .before .put8 .ensures) (c .before .before .before .before .before .before .before .before .before .before .before .before .before .before .before .before .before .before .word .ensures) (c .before .before .before .before .before .before .before .before .before .before .before .before .before .before .look .ensures) (c .before .before .before .before .before .before .before .before .before .before .before .before .before .if1 .left) (c .before .before .before .before .before .before .before .before .before .same .ensures) (c .before .before .before .before .before .before .before .before .if2 .left) (c .before .before .before .before .before .keyword .ensures) (c .before .before .before .before .if3 .left) (c .before .before .plain .ensures)
+returns-4 c =
+    let at-if3 = c .before .before .before .before in
+    let at-keyword = at-if3 .before in
+    let at-if2 = at-keyword .before .before .before in
+    let at-same = at-if2 .before in
+    let at-if1 = at-same .before .before .before .before in
+    let at-look = at-if1 .before in
+    let at-word = at-look .before .before .before .before in
+    let at-put8 = at-word .before .before .before .before in
+    let start = at-put8 .before .before .before .before .before .before .before in
+    word-keyword-law _ (start .pre .0) (at-put8 .put8 .ensures) (at-word .word .ensures) (at-look .look .ensures) (at-if1 .if1 .left) (at-same .same .ensures) (at-if2 .if2 .left) (at-keyword .keyword .ensures) (at-if3 .if3 .left) (c .before .before .plain .ensures)
 
 pub word-turn-spec : {M : Type 1} → statement M
 word-turn-spec =

@@ -62,7 +62,9 @@ loop-less : tie.Need-loop-less Inv-loop μ-loop
 loop-less c = search needs
 
 loop-again : tie.Need-loop-again Inv-loop μ-loop
-loop-again c = (search-more (c .before .before .before .before .loop .inv .0) (search needs) (sym (c .before .same .ensures) ∙ c .if1 .left), search needs, search needs, search needs, search needs)
+loop-again c =
+    let at-loop = c .before .before .before .before in
+    (search-more (at-loop .loop .inv .0) (search needs) (sym (c .before .same .ensures) ∙ c .if1 .left), search needs, search needs, search needs, search needs)
 
 returns-2 : tie.Need-returns-2 Inv-loop μ-loop
 returns-2 c = search (search-end, needs)

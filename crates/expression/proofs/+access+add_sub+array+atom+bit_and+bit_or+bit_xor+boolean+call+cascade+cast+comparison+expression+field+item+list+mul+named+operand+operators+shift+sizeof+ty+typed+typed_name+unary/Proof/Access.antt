@@ -33,10 +33,15 @@ module _ (t : ℕ) where
   given = (atom-below t, atom.Post, head-reads.Asked, head-reads.Learnt, refuse-reads.Asked, refuse-reads.Learnt, entry-reads.Asked, entry-reads.Learnt, note-reads.Asked, note-reads.Learnt, finish-reads.Asked, finish-reads.Learnt, expression-below t, expression.Post, abandon-reads.Asked, abandon-reads.Learnt, and-expect-reads.Asked, and-expect-reads.Learnt)
 
   pub atom-requires : lts.Need-atom-requires given (access-at t) access.Post Inv-loop μ-loop
-  atom-requires c κs = (omega (arith, c .before .before .before .before .before .before .before .before .pre .0), c .before .before .before .before .before .before .before .before .pre .1)
+  atom-requires c κs =
+      let start = c .before .before .before .before .before .before .before .before in
+      (omega (arith, start .pre .0), start .pre .1)
 
   pub loop-holds : lts.Need-loop-holds given (access-at t) access.Post Inv-loop μ-loop
-  loop-holds c = (goes-on (c .before .before .before .before .before .before .before .before .before .before .before .before .before .before .before .pre .1) (c .before .before .before .before .before .before .atom .ensures) (omega (arith, c .before .before .before .before .before .before .atom .kept)) (omega (arith, c .before .before .before .before .before .before .atom .kept)) (omega (arith, c .before .before .before .before .before .before .atom .kept)), at-start)
+  loop-holds c =
+      let at-atom = c .before .before .before .before .before .before in
+      let start = at-atom .before .before .before .before .before .before .before .before .before in
+      (goes-on (start .pre .1) (at-atom .atom .ensures) (omega (arith, at-atom .atom .kept)) (omega (arith, at-atom .atom .kept)) (omega (arith, at-atom .atom .kept)), at-start)
 
   pub enum-told : lts.Need-enum-told given (access-at t) access.Post Inv-loop μ-loop
   enum-told c = search needs
@@ -52,94 +57,225 @@ module _ (t : ℕ) where
 
   pub returns : lts.Need-returns given (access-at t) access.Post Inv-loop μ-loop
   unfolding P.parse-field-access-or-index
-  returns c = then-asked suffixes-on (c .before .before .before .before .before .before .before .before .before .before .before .before .before .before .before .before .before .pre .1) (c .before .before .before .before .before .before .before .before .atom .ensures) (c .before .loop .inv .1 .rest (goes-stops (c .before .loop .inv .0) (c .match .keys2)))
+  returns c =
+      let at-atom = c .before .before .before .before .before .before .before .before in
+      let start = at-atom .before .before .before .before .before .before .before .before .before in
+      then-asked suffixes-on (start .pre .1) (at-atom .atom .ensures) (c .before .loop .inv .1 .rest (goes-stops (c .before .loop .inv .0) (c .match .keys2)))
 
   pub head-requires : lts.Need-head-requires given (access-at t) access.Post Inv-loop μ-loop
   head-requires c κs = (c .before .before .before .loop .inv .0 .asked .asks .held, c .before .before .before .loop .inv .0 .asked .asks .at)
 
   pub head-requires-2 : lts.Need-head-requires-2 given (access-at t) access.Post Inv-loop μ-loop
-  head-requires-2 c κs = (c .before .before .before .before .before .before .loop .inv .0 .asked .asks .held, omega (arith, c .before .before .head .ensures .end))
+  head-requires-2 c κs =
+      let at-loop = c .before .before .before .before .before .before in
+      (at-loop .loop .inv .0 .asked .asks .held, omega (arith, c .before .before .head .ensures .end))
 
   pub refuse-requires : lts.Need-refuse-requires given (access-at t) access.Post Inv-loop μ-loop
   refuse-requires c κs = search needs
 
   pub same-length-4 : lts.Need-same-length-4 given (access-at t) access.Post Inv-loop μ-loop
-  same-length-4 c = omega (arith, c .before .before .before .before .before .before .before .before .before .before .loop .inv .1, c .before .before .before .before .before .before .before .before .before .before .before .before .before .before .before .before .before .atom .kept)
+  same-length-4 c =
+      let at-loop = c .before .before .before .before .before .before .before .before .before .before in
+      let at-atom = at-loop .before .before .before .before .before .before .before in
+      omega (arith, at-loop .loop .inv .1, at-atom .atom .kept)
 
   pub same-length-5 : lts.Need-same-length-5 given (access-at t) access.Post Inv-loop μ-loop
-  same-length-5 c = omega (arith, c .before .before .before .before .before .before .before .before .before .before .loop .inv .1, c .before .before .before .before .before .before .before .before .before .before .before .before .before .before .before .before .before .atom .kept)
+  same-length-5 c =
+      let at-loop = c .before .before .before .before .before .before .before .before .before .before in
+      let at-atom = at-loop .before .before .before .before .before .before .before in
+      omega (arith, at-loop .loop .inv .1, at-atom .atom .kept)
 
   pub same-length-6 : lts.Need-same-length-6 given (access-at t) access.Post Inv-loop μ-loop
-  same-length-6 c = omega (arith, c .before .before .before .before .before .before .before .before .before .before .loop .inv .1, c .before .before .before .before .before .before .before .before .before .before .before .before .before .before .before .before .before .atom .kept)
+  same-length-6 c =
+      let at-loop = c .before .before .before .before .before .before .before .before .before .before in
+      let at-atom = at-loop .before .before .before .before .before .before .before in
+      omega (arith, at-loop .loop .inv .1, at-atom .atom .kept)
 
   pub returns-2 : lts.Need-returns-2 given (access-at t) access.Post Inv-loop μ-loop
   unfolding P.parse-field-access-or-index
-  returns-2 c = then-asked suffixes-on (c .before .before .before .before .before .before .before .before .before .before .before .before .before .before .before .before .before .before .before .before .before .before .before .before .before .before .pre .1) (c .before .before .before .before .before .before .before .before .before .before .before .before .before .before .before .before .before .atom .ensures) (c .before .before .before .before .before .before .before .before .before .before .loop .inv .1 .rest (dot-end (c .before .before .before .before .before .before .before .before .before .before .loop .inv .0) (c .before .before .before .before .before .before .before .before .enum-told .given .1) (c .before .before .before .before .before .before .head .ensures) (c .before .before .before .before .if1 .taken) (c .before .before .before .head2 .ensures) (c .before .if2 .taken) (c .refuse .ensures)))
+  returns-2 c =
+      let at-head2 = c .before .before .before in
+      let at-if1 = at-head2 .before in
+      let at-head = at-if1 .before .before in
+      let at-enum-told = at-head .before .before in
+      let at-loop = at-enum-told .before .before in
+      let at-atom = at-loop .before .before .before .before .before .before .before in
+      let start = at-atom .before .before .before .before .before .before .before .before .before in
+      then-asked suffixes-on (start .pre .1) (at-atom .atom .ensures) (at-loop .loop .inv .1 .rest (dot-end (at-loop .loop .inv .0) (at-enum-told .enum-told .given .1) (at-head .head .ensures) (at-if1 .if1 .taken) (at-head2 .head2 .ensures) (c .before .if2 .taken) (c .refuse .ensures)))
 
   pub entry-requires : lts.Need-entry-requires given (access-at t) access.Post Inv-loop μ-loop
   entry-requires c κs = omega (arith, c .before .before .before .before .before .before .head2 .ensures)
 
   pub note-requires : lts.Need-note-requires given (access-at t) access.Post Inv-loop μ-loop
-  note-requires c κs = omega (arith, c .before .before .before .before .before .before .before .before .before .before .before .before .before .before .loop .inv .0 .asked .asks)
+  note-requires c κs =
+      let at-loop = c .before .before .before .before .before .before .before .before .before .before .before .before .before .before in
+      omega (arith, at-loop .loop .inv .0 .asked .asks)
 
   pub same-length-7 : lts.Need-same-length-7 given (access-at t) access.Post Inv-loop μ-loop
-  same-length-7 c = omega (arith, c .before .before .before .before .before .before .before .before .before .before .before .before .before .before .before .before .before .before .before .before .loop .inv .1, c .before .before .before .before .before .before .before .before .before .before .before .before .before .before .before .before .before .before .before .before .before .before .before .before .before .before .before .atom .kept)
+  same-length-7 c =
+      let at-loop = c .before .before .before .before .before .before .before .before .before .before .before .before .before .before .before .before .before .before .before .before in
+      let at-atom = at-loop .before .before .before .before .before .before .before in
+      omega (arith, at-loop .loop .inv .1, at-atom .atom .kept)
 
   pub same-length-8 : lts.Need-same-length-8 given (access-at t) access.Post Inv-loop μ-loop
-  same-length-8 c = omega (arith, c .before .before .before .before .before .before .before .before .before .before .before .before .before .before .before .before .before .before .before .before .loop .inv .1, c .before .before .before .before .before .before .before .before .before .before .before .before .before .before .before .before .before .before .before .before .before .before .before .before .before .before .before .atom .kept, c .before .before .before .before .before .note .kept)
+  same-length-8 c =
+      let at-note = c .before .before .before .before .before in
+      let at-loop = at-note .before .before .before .before .before .before .before .before .before .before .before .before .before .before .before in
+      let at-atom = at-loop .before .before .before .before .before .before .before in
+      omega (arith, at-loop .loop .inv .1, at-atom .atom .kept, at-note .note .kept)
 
   pub same-length-9 : lts.Need-same-length-9 given (access-at t) access.Post Inv-loop μ-loop
-  same-length-9 c = omega (arith, c .before .before .before .before .before .before .before .before .before .before .before .before .before .before .before .before .before .before .before .before .loop .inv .1, c .before .before .before .before .before .before .before .before .before .before .before .before .before .before .before .before .before .before .before .before .before .before .before .before .before .before .before .atom .kept, c .before .before .before .before .before .note .kept)
+  same-length-9 c =
+      let at-note = c .before .before .before .before .before in
+      let at-loop = at-note .before .before .before .before .before .before .before .before .before .before .before .before .before .before .before in
+      let at-atom = at-loop .before .before .before .before .before .before .before in
+      omega (arith, at-loop .loop .inv .1, at-atom .atom .kept, at-note .note .kept)
 
   pub returns-3 : lts.Need-returns-3 given (access-at t) access.Post Inv-loop μ-loop
   unfolding P.parse-field-access-or-index
-  returns-3 c = then-asked suffixes-on (c .before .before .before .before .before .before .before .before .before .before .before .before .before .before .before .before .before .before .before .before .before .before .before .before .before .before .before .before .before .before .before .before .before .before .before .before .pre .1) (c .before .before .before .before .before .before .before .before .before .before .before .before .before .before .before .before .before .before .before .before .before .before .before .before .before .before .before .atom .ensures) (c .before .before .before .before .before .before .before .before .before .before .before .before .before .before .before .before .before .before .before .before .loop .inv .1 .rest (dot-other (c .before .before .before .before .before .before .before .before .before .before .before .before .before .before .before .before .before .before .before .before .loop .inv .0) (c .before .before .before .before .before .before .before .before .before .before .before .before .before .before .before .before .before .before .enum-told .given .1) (c .before .before .before .before .before .before .before .before .before .before .before .before .before .before .before .before .head .ensures) (c .before .before .before .before .before .before .before .before .before .before .before .before .before .before .if1 .taken) (c .before .before .before .before .before .before .before .before .before .before .before .before .before .head2 .ensures) (c .before .before .before .before .before .before .before .before .before .before .before .if2 .left) (c .before .before .before .before .before .before .before .before .before .if3 .taken) (c .before .before .before .before .before .before .entry .ensures) (c .before .before .before .before .before .note .ensures)))
+  returns-3 c =
+      let at-note = c .before .before .before .before .before in
+      let at-entry = at-note .before in
+      let at-if3 = at-entry .before .before .before in
+      let at-if2 = at-if3 .before .before in
+      let at-head2 = at-if2 .before .before in
+      let at-if1 = at-head2 .before in
+      let at-head = at-if1 .before .before in
+      let at-enum-told = at-head .before .before in
+      let at-loop = at-enum-told .before .before in
+      let at-atom = at-loop .before .before .before .before .before .before .before in
+      let start = at-atom .before .before .before .before .before .before .before .before .before in
+      then-asked suffixes-on (start .pre .1) (at-atom .atom .ensures) (at-loop .loop .inv .1 .rest (dot-other (at-loop .loop .inv .0) (at-enum-told .enum-told .given .1) (at-head .head .ensures) (at-if1 .if1 .taken) (at-head2 .head2 .ensures) (at-if2 .if2 .left) (at-if3 .if3 .taken) (at-entry .entry .ensures) (at-note .note .ensures)))
 
   pub finish-requires : lts.Need-finish-requires given (access-at t) access.Post Inv-loop μ-loop
-  finish-requires c κs = record { room = omega (arith, c .before .before .before .before .before .before .before .before .before .before .before .before .loop .inv .0 .asked .room, c .before .before .before .before .before .before .before .before .head .ensures .pays, c .before .before .before .before .before .head2 .ensures .pays); part = c .before .before .before .before .before .head2 .ensures .part }
+  finish-requires c κs =
+      let at-head2 = c .before .before .before .before .before in
+      let at-head = at-head2 .before .before .before in
+      let at-loop = at-head .before .before .before .before in
+      record { room = omega (arith, at-loop .loop .inv .0 .asked .room, at-head .head .ensures .pays, at-head2 .head2 .ensures .pays); part = at-head2 .head2 .ensures .part }
 
   pub loop-less : lts.Need-loop-less given (access-at t) access.Post Inv-loop μ-loop
-  loop-less c = omega (arith, c .before .before .before .before .before .before .before .before .before .before .before .before .before .before .before .loop .inv .0 .asked .asks .at, c .before .before .before .before .before .before .before .before .before .before .before .head .ensures, c .before .before .before .before .before .before .before .before .before .if1 .taken, c .before .before .before .before .before .before .before .before .head2 .ensures, c .before .before .finish .ensures .at)
+  loop-less c =
+      let at-head2 = c .before .before .before .before .before .before .before .before in
+      let at-if1 = at-head2 .before in
+      let at-head = at-if1 .before .before in
+      let at-loop = at-head .before .before .before .before in
+      omega (arith, at-loop .loop .inv .0 .asked .asks .at, at-head .head .ensures, at-if1 .if1 .taken, at-head2 .head2 .ensures, c .before .before .finish .ensures .at)
 
   pub loop-again : lts.Need-loop-again given (access-at t) access.Post Inv-loop μ-loop
-  loop-again c = (turn-on (c .before .before .before .before .before .before .before .before .before .before .before .before .before .before .before .loop .inv .0) (dot-moved (c .before .before .before .before .before .before .before .before .before .before .before .before .before .before .before .loop .inv .0) (c .before .before .before .before .before .before .before .before .before .before .before .head .ensures) (c .before .before .before .before .before .before .before .before .head2 .ensures) (c .before .before .before .before .if3 .left) (c .before .before .finish .ensures)) (omega (arith, c .before .before .finish .kept)) refl refl, one-turn (c .before .before .before .before .before .before .before .before .before .before .before .before .before .before .before .loop .inv .1) (omega (arith, c .before .before .finish .kept)) refl refl (omega (arith, c .before .before .before .before .before .before .before .before .before .before .before .head .ensures .up, c .before .before .before .before .before .before .before .before .head2 .ensures .up, c .before .before .finish .ensures .at)) (λ _ _ _ _ g. dot-name (c .before .before .before .before .before .before .before .before .before .before .before .before .before .before .before .loop .inv .0) (c .before .before .before .before .before .before .before .before .before .before .before .before .before .enum-told .given .1) (c .before .before .before .before .before .before .before .before .before .before .before .head .ensures) (c .before .before .before .before .before .before .before .before .before .if1 .taken) (c .before .before .before .before .before .before .before .before .head2 .ensures) (c .before .before .before .before .before .before .if2 .left) (c .before .before .before .before .if3 .left) (c .before .before .finish .ensures) g))
+  loop-again c =
+      let at-if3 = c .before .before .before .before in
+      let at-if2 = at-if3 .before .before in
+      let at-head2 = at-if2 .before .before in
+      let at-if1 = at-head2 .before in
+      let at-head = at-if1 .before .before in
+      let at-enum-told = at-head .before .before in
+      let at-loop = at-enum-told .before .before in
+      (turn-on (at-loop .loop .inv .0) (dot-moved (at-loop .loop .inv .0) (at-head .head .ensures) (at-head2 .head2 .ensures) (at-if3 .if3 .left) (c .before .before .finish .ensures)) (omega (arith, c .before .before .finish .kept)) refl refl, one-turn (at-loop .loop .inv .1) (omega (arith, c .before .before .finish .kept)) refl refl (omega (arith, at-head .head .ensures .up, at-head2 .head2 .ensures .up, c .before .before .finish .ensures .at)) (λ _ _ _ _ g. dot-name (at-loop .loop .inv .0) (at-enum-told .enum-told .given .1) (at-head .head .ensures) (at-if1 .if1 .taken) (at-head2 .head2 .ensures) (at-if2 .if2 .left) (at-if3 .if3 .left) (c .before .before .finish .ensures) g))
 
   pub finish-requires-2 : lts.Need-finish-requires-2 given (access-at t) access.Post Inv-loop μ-loop
-  finish-requires-2 c κs = record { room = omega (arith, c .before .before .before .before .before .before .before .before .before .loop .inv .0 .asked .room); part = omega arith }
+  finish-requires-2 c κs =
+      let at-loop = c .before .before .before .before .before .before .before .before .before in
+      record { room = omega (arith, at-loop .loop .inv .0 .asked .room); part = omega arith }
 
   pub loop-less-2 : lts.Need-loop-less-2 given (access-at t) access.Post Inv-loop μ-loop
-  loop-less-2 c = omega (arith, c .before .before .before .before .before .before .before .before .before .before .before .before .loop .inv .0 .asked .asks .at, c .before .before .before .before .before .before .before .before .head .ensures, c .before .before .before .before .if4 .taken, c .before .before .finish2 .ensures .at)
+  loop-less-2 c =
+      let at-if4 = c .before .before .before .before in
+      let at-head = at-if4 .before .before .before .before in
+      let at-loop = at-head .before .before .before .before in
+      omega (arith, at-loop .loop .inv .0 .asked .asks .at, at-head .head .ensures, at-if4 .if4 .taken, c .before .before .finish2 .ensures .at)
 
   pub loop-again-2 : lts.Need-loop-again-2 given (access-at t) access.Post Inv-loop μ-loop
-  loop-again-2 c = (turn-on (c .before .before .before .before .before .before .before .before .before .before .before .before .loop .inv .0) (star-moved (c .before .before .before .before .before .before .before .before .before .before .before .before .loop .inv .0) (c .before .before .before .before .before .before .before .before .head .ensures) (c .before .before .before .before .if4 .taken) (c .before .before .finish2 .ensures)) (omega (arith, c .before .before .finish2 .kept)) refl refl, one-turn (c .before .before .before .before .before .before .before .before .before .before .before .before .loop .inv .1) (omega (arith, c .before .before .finish2 .kept)) refl refl (omega (arith, c .before .before .before .before .before .before .before .before .head .ensures .up, c .before .before .finish2 .ensures .at)) (λ _ _ _ _ g. suffix-star (c .before .before .before .before .before .before .before .before .before .before .before .before .loop .inv .0) (c .before .before .before .before .before .before .before .before .before .before .enum-told .given .1) (c .before .before .before .before .before .before .before .before .head .ensures) (c .before .before .before .before .before .before .if1 .left) (c .before .before .before .before .if4 .taken) (c .before .before .finish2 .ensures) g))
+  loop-again-2 c =
+      let at-if4 = c .before .before .before .before in
+      let at-if1 = at-if4 .before .before in
+      let at-head = at-if1 .before .before in
+      let at-enum-told = at-head .before .before in
+      let at-loop = at-enum-told .before .before in
+      (turn-on (at-loop .loop .inv .0) (star-moved (at-loop .loop .inv .0) (at-head .head .ensures) (at-if4 .if4 .taken) (c .before .before .finish2 .ensures)) (omega (arith, c .before .before .finish2 .kept)) refl refl, one-turn (at-loop .loop .inv .1) (omega (arith, c .before .before .finish2 .kept)) refl refl (omega (arith, at-head .head .ensures .up, c .before .before .finish2 .ensures .at)) (λ _ _ _ _ g. suffix-star (at-loop .loop .inv .0) (at-enum-told .enum-told .given .1) (at-head .head .ensures) (at-if1 .if1 .left) (at-if4 .if4 .taken) (c .before .before .finish2 .ensures) g))
 
   pub same-length-10 : lts.Need-same-length-10 given (access-at t) access.Post Inv-loop μ-loop
-  same-length-10 c = omega (arith, c .before .before .before .before .before .before .before .before .before .before .loop .inv .1, c .before .before .before .before .before .before .before .before .before .before .before .before .before .before .before .before .before .atom .kept)
+  same-length-10 c =
+      let at-loop = c .before .before .before .before .before .before .before .before .before .before in
+      let at-atom = at-loop .before .before .before .before .before .before .before in
+      omega (arith, at-loop .loop .inv .1, at-atom .atom .kept)
 
   pub same-length-11 : lts.Need-same-length-11 given (access-at t) access.Post Inv-loop μ-loop
-  same-length-11 c = omega (arith, c .before .before .before .before .before .before .before .before .before .before .loop .inv .1, c .before .before .before .before .before .before .before .before .before .before .before .before .before .before .before .before .before .atom .kept)
+  same-length-11 c =
+      let at-loop = c .before .before .before .before .before .before .before .before .before .before in
+      let at-atom = at-loop .before .before .before .before .before .before .before in
+      omega (arith, at-loop .loop .inv .1, at-atom .atom .kept)
 
   pub same-length-12 : lts.Need-same-length-12 given (access-at t) access.Post Inv-loop μ-loop
-  same-length-12 c = omega (arith, c .before .before .before .before .before .before .before .before .before .before .loop .inv .1, c .before .before .before .before .before .before .before .before .before .before .before .before .before .before .before .before .before .atom .kept)
+  same-length-12 c =
+      let at-loop = c .before .before .before .before .before .before .before .before .before .before in
+      let at-atom = at-loop .before .before .before .before .before .before .before in
+      omega (arith, at-loop .loop .inv .1, at-atom .atom .kept)
 
   pub returns-4 : lts.Need-returns-4 given (access-at t) access.Post Inv-loop μ-loop
   unfolding P.parse-field-access-or-index
-  returns-4 c = then-asked suffixes-on (c .before .before .before .before .before .before .before .before .before .before .before .before .before .before .before .before .before .before .before .before .before .before .before .before .before .before .pre .1) (c .before .before .before .before .before .before .before .before .before .before .before .before .before .before .before .before .before .atom .ensures) (c .before .before .before .before .before .before .before .before .before .before .loop .inv .1 .rest (suffix-none (c .before .before .before .before .before .before .before .before .before .before .loop .inv .0) (c .before .before .before .before .before .before .before .before .enum-told .given .1) (c .before .before .before .before .before .before .head .ensures) (c .before .before .before .before .if1 .left) (c .before .before .if4 .left) (c .if5 .taken)))
+  returns-4 c =
+      let at-if1 = c .before .before .before .before in
+      let at-head = at-if1 .before .before in
+      let at-enum-told = at-head .before .before in
+      let at-loop = at-enum-told .before .before in
+      let at-atom = at-loop .before .before .before .before .before .before .before in
+      let start = at-atom .before .before .before .before .before .before .before .before .before in
+      then-asked suffixes-on (start .pre .1) (at-atom .atom .ensures) (at-loop .loop .inv .1 .rest (suffix-none (at-loop .loop .inv .0) (at-enum-told .enum-told .given .1) (at-head .head .ensures) (at-if1 .if1 .left) (c .before .before .if4 .left) (c .if5 .taken)))
 
   pub expression-requires : lts.Need-expression-requires given (access-at t) access.Post Inv-loop μ-loop
-  expression-requires c κs = (omega (arith, c .before .before .before .before .before .before .before .before .before .before .before .before .before .before .before .before .before .before .before .before .before .before .before .before .before .before .before .before .before .pre .0, c .before .before .before .before .before .before .before .before .before .before .before .before .before .before .before .before .before .before .before .before .atom .ensures .moved .at, c .before .before .before .before .before .before .before .before .before .before .before .before .before .loop .inv .1 .on, c .before .before .before .before .before .before .before .before .before .before .before .before .before .loop .inv .0 .asked .asks .at, c .before .before .before .before .before .before .before .before .before .head .ensures, c .before .before .before .if5 .left), asked-seen (c .before .before .before .before .before .before .before .before .before .before .before .before .before .loop .inv .0 .asked) (c .before .before .before .before .before .before .before .before .before .head .ensures))
+  expression-requires c κs =
+      let at-if5 = c .before .before .before in
+      let at-head = at-if5 .before .before .before .before .before .before in
+      let at-loop = at-head .before .before .before .before in
+      let at-atom = at-loop .before .before .before .before .before .before .before in
+      let start = at-atom .before .before .before .before .before .before .before .before .before in
+      (omega (arith, start .pre .0, at-atom .atom .ensures .moved .at, at-loop .loop .inv .1 .on, at-loop .loop .inv .0 .asked .asks .at, at-head .head .ensures, at-if5 .if5 .left), asked-seen (at-loop .loop .inv .0 .asked) (at-head .head .ensures))
 
   pub abandon-requires : lts.Need-abandon-requires given (access-at t) access.Post Inv-loop μ-loop
-  abandon-requires c κs = join-cuts (c .before .before .before .before .before .before .before .before .before .before .before .before .before .before .before .before .before .before .before .before .before .loop .inv .0) (c .before .before .before .before .before .before .before .before .before .before .before .before .before .before .before .before .before .head .ensures) (c .before .before .before .before .before .before .before .expression .ensures) (omega (arith, c .before .before .before .before .before .before .before .expression .kept))
+  abandon-requires c κs =
+      let at-expression = c .before .before .before .before .before .before .before in
+      let at-head = at-expression .before .before .before .before .before .before .before .before .before .before in
+      let at-loop = at-head .before .before .before .before in
+      join-cuts (at-loop .loop .inv .0) (at-head .head .ensures) (at-expression .expression .ensures) (omega (arith, at-expression .expression .kept))
 
   pub and-expect-requires : lts.Need-and-expect-requires given (access-at t) access.Post Inv-loop μ-loop
-  and-expect-requires c κs = (index-asks (c .before .before .before .before .before .before .before .before .before .before .before .before .before .before .before .before .before .before .before .before .before .before .before .before .before .before .loop .inv .0) (c .before .before .before .before .before .before .before .before .before .before .before .before .before .before .before .before .before .before .before .before .before .before .before .before .enum-told .given .1) (c .before .before .before .before .before .before .before .before .before .before .before .before .before .before .before .before .before .before .before .before .before .before .head .ensures) (c .before .before .before .before .before .before .before .before .before .before .before .before .expression .ensures) (c .before .before .before .before .abandon .ensures) (omega (arith, c .before .before .before .before .abandon .kept, c .before .before .before .before .before .before .before .before .before .before .before .before .expression .kept)) (omega (arith, c .before .before .before .before .before .before .before .before .before .before .before .before .expression .kept)), (omega arith, omega arith))
+  and-expect-requires c κs =
+      let at-abandon = c .before .before .before .before in
+      let at-expression = at-abandon .before .before .before .before .before .before .before .before in
+      let at-head = at-expression .before .before .before .before .before .before .before .before .before .before in
+      let at-enum-told = at-head .before .before in
+      let at-loop = at-enum-told .before .before in
+      (index-asks (at-loop .loop .inv .0) (at-enum-told .enum-told .given .1) (at-head .head .ensures) (at-expression .expression .ensures) (at-abandon .abandon .ensures) (omega (arith, at-abandon .abandon .kept, at-expression .expression .kept)) (omega (arith, at-expression .expression .kept)), (omega arith, omega arith))
 
   pub finish-requires-3 : lts.Need-finish-requires-3 given (access-at t) access.Post Inv-loop μ-loop
-  finish-requires-3 c κs = record { room = omega (arith, c .before .before .before .before .before .before .before .before .before .before .before .before .before .before .before .before .before .before .before .before .before .before .before .before .before .before .before .before .before .before .before .before .loop .inv .0 .asked .room, c .before .before .before .before .before .before .before .before .before .before .before .before .before .before .before .before .before .before .before .before .before .before .before .before .before .before .before .before .head .ensures .pays, c .before .before .before .before .before .before .before .before .before .before .before .before .before .before .before .before .before .before .expression .ensures .moved .room, c .before .before .before .before .before .before .before .before .before .before .abandon .ensures .high, c .before .before .before .before .before .and-expect .ensures .high, c .before .before .before .before .before .before .before .before .before .before .before .before .before .before .before .before .before .before .expression .kept); part = omega arith }
+  finish-requires-3 c κs =
+      let at-and-expect = c .before .before .before .before .before in
+      let at-abandon = at-and-expect .before .before .before .before .before in
+      let at-expression = at-abandon .before .before .before .before .before .before .before .before in
+      let at-head = at-expression .before .before .before .before .before .before .before .before .before .before in
+      let at-loop = at-head .before .before .before .before in
+      record { room = omega (arith, at-loop .loop .inv .0 .asked .room, at-head .head .ensures .pays, at-expression .expression .ensures .moved .room, at-abandon .abandon .ensures .high, at-and-expect .and-expect .ensures .high, at-expression .expression .kept); part = omega arith }
 
   pub loop-less-3 : lts.Need-loop-less-3 given (access-at t) access.Post Inv-loop μ-loop
-  loop-less-3 c = omega (arith, c .before .before .before .before .before .before .before .before .before .before .before .before .before .before .before .before .before .before .before .before .before .before .before .before .before .before .before .before .before .before .before .before .before .before .before .loop .inv .0 .asked .asks .at, c .before .before .before .before .before .before .before .before .before .before .before .before .before .before .before .before .before .before .before .before .before .before .before .before .before .before .before .before .before .before .before .head .ensures, c .before .before .before .before .before .before .before .before .before .before .before .before .before .before .before .before .before .before .before .before .before .before .before .before .before .if5 .left, c .before .before .before .before .before .before .before .before .before .before .before .before .before .before .before .before .before .before .before .before .before .expression .ensures .moved, c .before .before .before .before .before .before .before .before .before .before .before .before .before .abandon .ensures .at, c .before .before .before .before .before .before .before .before .and-expect .ensures .moved, c .before .before .finish3 .ensures .at)
+  loop-less-3 c =
+      let at-and-expect = c .before .before .before .before .before .before .before .before in
+      let at-abandon = at-and-expect .before .before .before .before .before in
+      let at-expression = at-abandon .before .before .before .before .before .before .before .before in
+      let at-if5 = at-expression .before .before .before .before in
+      let at-head = at-if5 .before .before .before .before .before .before in
+      let at-loop = at-head .before .before .before .before in
+      omega (arith, at-loop .loop .inv .0 .asked .asks .at, at-head .head .ensures, at-if5 .if5 .left, at-expression .expression .ensures .moved, at-abandon .abandon .ensures .at, at-and-expect .and-expect .ensures .moved, c .before .before .finish3 .ensures .at)
 
   pub loop-again-3 : lts.Need-loop-again-3 given (access-at t) access.Post Inv-loop μ-loop
-  loop-again-3 c = (turn-on (c .before .before .before .before .before .before .before .before .before .before .before .before .before .before .before .before .before .before .before .before .before .before .before .before .before .before .before .before .before .before .before .before .before .before .before .loop .inv .0) (index-moved (c .before .before .before .before .before .before .before .before .before .before .before .before .before .before .before .before .before .before .before .before .before .before .before .before .before .before .before .before .before .before .before .before .before .before .before .loop .inv .0) (c .before .before .before .before .before .before .before .before .before .before .before .before .before .before .before .before .before .before .before .before .before .before .before .before .before .before .before .before .before .before .before .before .before .enum-told .given .1) (c .before .before .before .before .before .before .before .before .before .before .before .before .before .before .before .before .before .before .before .before .before .before .before .before .before .before .before .before .before .before .before .head .ensures) (c .before .before .before .before .before .before .before .before .before .before .before .before .before .before .before .before .before .before .before .before .before .before .before .before .before .if5 .left) (c .before .before .before .before .before .before .before .before .before .before .before .before .before .before .before .before .before .before .before .before .before .expression .ensures) (c .before .before .before .before .before .before .before .before .before .before .before .before .before .abandon .ensures) (omega (arith, c .before .before .before .before .before .before .before .before .before .before .before .before .before .abandon .kept, c .before .before .before .before .before .before .before .before .before .before .before .before .before .before .before .before .before .before .before .before .before .expression .kept)) (omega (arith, c .before .before .before .before .before .before .before .before .before .before .before .before .before .before .before .before .before .before .before .before .before .expression .kept)) (c .before .before .before .before .before .before .before .before .and-expect .ensures) (c .before .before .finish3 .ensures)) (omega (arith, c .before .before .finish3 .kept, c .before .before .before .before .before .before .before .before .before .before .before .before .before .before .before .before .before .before .before .before .before .expression .kept)) (omega (arith, c .before .before .before .before .before .before .before .before .and-expect .kept, c .before .before .before .before .before .before .before .before .before .before .before .before .before .abandon .kept, c .before .before .before .before .before .before .before .before .before .before .before .before .before .before .before .before .before .before .before .before .before .expression .kept)) (omega (arith, c .before .before .before .before .before .before .before .before .and-expect .kept, c .before .before .before .before .before .before .before .before .before .before .before .before .before .before .before .before .before .before .before .before .before .expression .kept)), one-turn (c .before .before .before .before .before .before .before .before .before .before .before .before .before .before .before .before .before .before .before .before .before .before .before .before .before .before .before .before .before .before .before .before .before .before .before .loop .inv .1) (omega (arith, c .before .before .finish3 .kept, c .before .before .before .before .before .before .before .before .before .before .before .before .before .before .before .before .before .before .before .before .before .expression .kept)) (omega (arith, c .before .before .before .before .before .before .before .before .and-expect .kept, c .before .before .before .before .before .before .before .before .before .before .before .before .before .abandon .kept, c .before .before .before .before .before .before .before .before .before .before .before .before .before .before .before .before .before .before .before .before .before .expression .kept)) (omega (arith, c .before .before .before .before .before .before .before .before .and-expect .kept, c .before .before .before .before .before .before .before .before .before .before .before .before .before .before .before .before .before .before .before .before .before .expression .kept)) (omega (arith, c .before .before .before .before .before .before .before .before .before .before .before .before .before .before .before .before .before .before .before .before .before .before .before .before .before .before .before .before .before .before .before .head .ensures .up, c .before .before .before .before .before .before .before .before .before .before .before .before .before .before .before .before .before .before .before .before .before .expression .ensures .moved, c .before .before .before .before .before .before .before .before .before .before .before .before .before .abandon .ensures .at, c .before .before .before .before .before .before .before .before .and-expect .ensures .moved, c .before .before .finish3 .ensures .at)) (λ _ _ _ _ g. suffix-index (c .before .before .before .before .before .before .before .before .before .before .before .before .before .before .before .before .before .before .before .before .before .before .before .before .before .before .before .before .before .before .before .before .before .before .before .loop .inv .0) (c .before .before .before .before .before .before .before .before .before .before .before .before .before .before .before .before .before .before .before .before .before .before .before .before .before .before .before .before .before .before .before .before .before .enum-told .given .1) (c .before .before .before .before .before .before .before .before .before .before .before .before .before .before .before .before .before .before .before .before .before .before .before .before .before .before .before .before .before .before .before .head .ensures) (c .before .before .before .before .before .before .before .before .before .before .before .before .before .before .before .before .before .before .before .before .before .before .before .before .before .if5 .left) (c .before .before .before .before .before .before .before .before .before .before .before .before .before .before .before .before .before .before .before .before .before .expression .ensures) (c .before .before .before .before .before .before .before .before .before .before .before .before .before .abandon .ensures) (omega (arith, c .before .before .before .before .before .before .before .before .before .before .before .before .before .abandon .kept, c .before .before .before .before .before .before .before .before .before .before .before .before .before .before .before .before .before .before .before .before .before .expression .kept)) (omega (arith, c .before .before .before .before .before .before .before .before .before .before .before .before .before .before .before .before .before .before .before .before .before .expression .kept)) (c .before .before .before .before .before .before .before .before .and-expect .ensures) (c .before .before .finish3 .ensures) (c .before .before .before .before .before .before .before .before .before .before .before .before .before .before .before .before .before .before .before .before .before .before .before .before .before .before .before .before .before .if1 .left) (c .before .before .before .before .before .before .before .before .before .before .before .before .before .before .before .before .before .before .before .before .before .before .before .before .before .before .before .if4 .left) g))
+  loop-again-3 c =
+      let at-and-expect = c .before .before .before .before .before .before .before .before in
+      let at-abandon = at-and-expect .before .before .before .before .before in
+      let at-expression = at-abandon .before .before .before .before .before .before .before .before in
+      let at-if5 = at-expression .before .before .before .before in
+      let at-if4 = at-if5 .before .before in
+      let at-if1 = at-if4 .before .before in
+      let at-head = at-if1 .before .before in
+      let at-enum-told = at-head .before .before in
+      let at-loop = at-enum-told .before .before in
+      (turn-on (at-loop .loop .inv .0) (index-moved (at-loop .loop .inv .0) (at-enum-told .enum-told .given .1) (at-head .head .ensures) (at-if5 .if5 .left) (at-expression .expression .ensures) (at-abandon .abandon .ensures) (omega (arith, at-abandon .abandon .kept, at-expression .expression .kept)) (omega (arith, at-expression .expression .kept)) (at-and-expect .and-expect .ensures) (c .before .before .finish3 .ensures)) (omega (arith, c .before .before .finish3 .kept, at-expression .expression .kept)) (omega (arith, at-and-expect .and-expect .kept, at-abandon .abandon .kept, at-expression .expression .kept)) (omega (arith, at-and-expect .and-expect .kept, at-expression .expression .kept)), one-turn (at-loop .loop .inv .1) (omega (arith, c .before .before .finish3 .kept, at-expression .expression .kept)) (omega (arith, at-and-expect .and-expect .kept, at-abandon .abandon .kept, at-expression .expression .kept)) (omega (arith, at-and-expect .and-expect .kept, at-expression .expression .kept)) (omega (arith, at-head .head .ensures .up, at-expression .expression .ensures .moved, at-abandon .abandon .ensures .at, at-and-expect .and-expect .ensures .moved, c .before .before .finish3 .ensures .at)) (λ _ _ _ _ g. suffix-index (at-loop .loop .inv .0) (at-enum-told .enum-told .given .1) (at-head .head .ensures) (at-if5 .if5 .left) (at-expression .expression .ensures) (at-abandon .abandon .ensures) (omega (arith, at-abandon .abandon .kept, at-expression .expression .kept)) (omega (arith, at-expression .expression .kept)) (at-and-expect .and-expect .ensures) (c .before .before .finish3 .ensures) (at-if1 .if1 .left) (at-if4 .if4 .left) g))

@@ -16,20 +16,38 @@ module _ (t : ℕ) where
   given = (mul-below t, mul.Post, operators-below t, operators.Post)
 
   pub mul-requires : lts.Need-mul-requires given (add-sub-at t) add-sub.Post
-  mul-requires c κs = (omega (arith, c .before .before .before .before .before .before .before .before .pre .0), c .before .before .before .before .before .before .before .before .pre .1)
+  mul-requires c κs =
+      let start = c .before .before .before .before .before .before .before .before in
+      (omega (arith, start .pre .0), start .pre .1)
 
   pub operators-requires : lts.Need-operators-requires given (add-sub-at t) add-sub.Post
-  operators-requires c κs = (omega (arith, c .before .before .before .before .before .before .before .before .before .before .before .before .before .before .before .before .before .before .pre .0, c .before .before .before .before .before .before .before .before .before .before .before .before .before .before .before .before .before .before .pre .1 .asks .at, c .before .before .before .before .before .before .before .before .before .mul .ensures .moved .at), goes-on (c .before .before .before .before .before .before .before .before .before .before .before .before .before .before .before .before .before .before .pre .1) (c .before .before .before .before .before .before .before .before .before .mul .ensures) (omega (arith, c .before .before .before .before .before .before .before .before .before .mul .kept)) (omega (arith, c .before .before .before .before .before .before .before .before .before .mul .kept)) (omega (arith, c .before .before .before .before .before .before .before .before .before .mul .kept)))
+  operators-requires c κs =
+      let at-mul = c .before .before .before .before .before .before .before .before .before in
+      let start = at-mul .before .before .before .before .before .before .before .before .before in
+      (omega (arith, start .pre .0, start .pre .1 .asks .at, at-mul .mul .ensures .moved .at), goes-on (start .pre .1) (at-mul .mul .ensures) (omega (arith, at-mul .mul .kept)) (omega (arith, at-mul .mul .kept)) (omega (arith, at-mul .mul .kept)))
 
   pub same-length : lts.Need-same-length given (add-sub-at t) add-sub.Post
-  same-length c = omega (arith, c .before .before .before .before .before .before .operators .kept, c .before .before .before .before .before .before .before .before .before .before .before .before .before .before .before .before .mul .kept)
+  same-length c =
+      let at-operators = c .before .before .before .before .before .before in
+      let at-mul = at-operators .before .before .before .before .before .before .before .before .before .before in
+      omega (arith, at-operators .operators .kept, at-mul .mul .kept)
 
   pub same-length-2 : lts.Need-same-length-2 given (add-sub-at t) add-sub.Post
-  same-length-2 c = omega (arith, c .before .before .before .before .before .before .operators .kept, c .before .before .before .before .before .before .before .before .before .before .before .before .before .before .before .before .mul .kept)
+  same-length-2 c =
+      let at-operators = c .before .before .before .before .before .before in
+      let at-mul = at-operators .before .before .before .before .before .before .before .before .before .before in
+      omega (arith, at-operators .operators .kept, at-mul .mul .kept)
 
   pub same-length-3 : lts.Need-same-length-3 given (add-sub-at t) add-sub.Post
-  same-length-3 c = omega (arith, c .before .before .before .before .before .before .operators .kept, c .before .before .before .before .before .before .before .before .before .before .before .before .before .before .before .before .mul .kept)
+  same-length-3 c =
+      let at-operators = c .before .before .before .before .before .before in
+      let at-mul = at-operators .before .before .before .before .before .before .before .before .before .before in
+      omega (arith, at-operators .operators .kept, at-mul .mul .kept)
 
   pub returns : lts.Need-returns given (add-sub-at t) add-sub.Post
   unfolding P.parse-add-sub
-  returns c = then-asked (operators-on AddSub) (c .before .before .before .before .before .before .before .before .before .before .before .before .before .before .before .before .before .before .before .before .before .before .before .before .before .pre .1) (c .before .before .before .before .before .before .before .before .before .before .before .before .before .before .before .before .mul .ensures) (c .before .before .before .before .before .before .operators .ensures)
+  returns c =
+      let at-operators = c .before .before .before .before .before .before in
+      let at-mul = at-operators .before .before .before .before .before .before .before .before .before .before in
+      let start = at-mul .before .before .before .before .before .before .before .before .before in
+      then-asked (operators-on AddSub) (start .pre .1) (at-mul .mul .ensures) (at-operators .operators .ensures)

@@ -26,7 +26,10 @@ module _ (t : ℕ) where
   entry-requires c κs = omega (arith, c .before .before .before .before .before .before .before .before .before .before .pre .1 .1)
 
   pub raise-requires : lts.Need-raise-requires given (array-at t) array.Post
-  raise-requires c κs = raise-asked (asked-seen (c .before .before .before .before .before .before .before .before .before .before .before .pre .1 .0) (c .before .before .before .before .before .head .ensures))
+  raise-requires c κs =
+      let at-head = c .before .before .before .before .before in
+      let start = at-head .before .before .before .before .before .before in
+      raise-asked (asked-seen (start .pre .1 .0) (at-head .head .ensures))
 
   pub same-length : lts.Need-same-length given (array-at t) array.Post
   same-length c = omega (arith, c .before .before .before .before .raise .kept)
@@ -35,16 +38,27 @@ module _ (t : ℕ) where
   same-length-2 c = omega (arith, c .before .before .before .before .raise .kept)
 
   pub returns : lts.Need-returns given (array-at t) array.Post
-  returns c = array-no-integer (c .before .before .before .before .before .before .before .before .before .before .before .before .before .before .before .before .args .line) (c .before .before .before .before .before .before .before .before .before .before .before .before .before .before .before .before .args .column) (c .before .before .before .before .before .before .before .before .before .before .before .before .before .before .before .before .pre .1) (c .before .before .before .before .before .before .before .before .before .before .head .ensures) (c .before .before .before .before .before .before .before .before .if1 .taken) (c .before .before .before .before .before .entry .ensures) (c .before .before .before .before .raise .ensures)
+  returns c =
+      let at-raise = c .before .before .before .before in
+      let at-entry = at-raise .before in
+      let at-if1 = at-entry .before .before .before in
+      let at-head = at-if1 .before .before in
+      let start = at-head .before .before .before .before .before .before in
+      array-no-integer (start .args .line) (start .args .column) (start .pre .1) (at-head .head .ensures) (at-if1 .if1 .taken) (at-entry .entry .ensures) (at-raise .raise .ensures)
 
   pub array-size-requires : lts.Need-array-size-requires given (array-at t) array.Post
-  array-size-requires c κs = size-asked (c .before .before .before .before .before .before .before .before .pre .1 .0) (c .before .before .head .ensures) (c .if1 .left)
+  array-size-requires c κs =
+      let start = c .before .before .before .before .before .before .before .before in
+      size-asked (start .pre .1 .0) (c .before .before .head .ensures) (c .if1 .left)
 
   pub entry-requires-2 : lts.Need-entry-requires-2 given (array-at t) array.Post
   entry-requires-2 c κs = omega (arith, c .before .before .before .before .before .before .before .before .before .before .before .before .before .pre .1 .1)
 
   pub raise-requires-2 : lts.Need-raise-requires-2 given (array-at t) array.Post
-  raise-requires-2 c κs = raise-asked (asked-seen (c .before .before .before .before .before .before .before .before .before .before .before .before .before .before .pre .1 .0) (c .before .before .before .before .before .before .before .before .head .ensures))
+  raise-requires-2 c κs =
+      let at-head = c .before .before .before .before .before .before .before .before in
+      let start = at-head .before .before .before .before .before .before in
+      raise-asked (asked-seen (start .pre .1 .0) (at-head .head .ensures))
 
   pub same-length-3 : lts.Need-same-length-3 given (array-at t) array.Post
   same-length-3 c = omega (arith, c .before .before .before .before .raise2 .kept)
@@ -53,10 +67,21 @@ module _ (t : ℕ) where
   same-length-4 c = omega (arith, c .before .before .before .before .raise2 .kept)
 
   pub returns-2 : lts.Need-returns-2 given (array-at t) array.Post
-  returns-2 c = array-no-size (c .before .before .before .before .before .before .before .before .before .before .before .before .before .before .before .before .before .before .before .args .line) (c .before .before .before .before .before .before .before .before .before .before .before .before .before .before .before .before .before .before .before .args .column) (c .before .before .before .before .before .before .before .before .before .before .before .before .before .before .before .before .before .before .before .pre .1) (c .before .before .before .before .before .before .before .before .before .before .before .before .before .head .ensures) (c .before .before .before .before .before .before .before .before .before .before .before .if1 .left) (c .before .before .before .before .before .before .before .before .before .before .array-size .ensures) (c .before .before .before .before .before .before .before .before .if2 .taken) (c .before .before .before .before .before .entry2 .ensures) (c .before .before .before .before .raise2 .ensures)
+  returns-2 c =
+      let at-raise2 = c .before .before .before .before in
+      let at-entry2 = at-raise2 .before in
+      let at-if2 = at-entry2 .before .before .before in
+      let at-array-size = at-if2 .before .before in
+      let at-if1 = at-array-size .before in
+      let at-head = at-if1 .before .before in
+      let start = at-head .before .before .before .before .before .before in
+      array-no-size (start .args .line) (start .args .column) (start .pre .1) (at-head .head .ensures) (at-if1 .if1 .left) (at-array-size .array-size .ensures) (at-if2 .if2 .taken) (at-entry2 .entry2 .ensures) (at-raise2 .raise2 .ensures)
 
   pub expect-requires : lts.Need-expect-requires given (array-at t) array.Post
-  expect-requires c κs = (asks-fore (c .before .before .before .before .before .before .before .before .before .before .before .before .before .pre .1 .0 .asks) (c .before .before .before .before .before .before .before .head .ensures), (omega arith, omega arith))
+  expect-requires c κs =
+      let at-head = c .before .before .before .before .before .before .before in
+      let start = at-head .before .before .before .before .before .before in
+      (asks-fore (start .pre .1 .0 .asks) (at-head .head .ensures), (omega arith, omega arith))
 
   pub enum-told : lts.Need-enum-told given (array-at t) array.Post
   enum-told c = search needs
@@ -68,22 +93,56 @@ module _ (t : ℕ) where
   same-length-6 c = omega (arith, c .before .before .before .before .before .expect .kept)
 
   pub returns-3 : lts.Need-returns-3 given (array-at t) array.Post
-  returns-3 c = array-open (c .before .before .before .before .before .before .before .before .before .before .before .before .before .before .before .before .before .before .before .args .line) (c .before .before .before .before .before .before .before .before .before .before .before .before .before .before .before .before .before .before .before .args .column) (c .before .before .before .before .before .before .before .before .before .before .before .before .before .before .before .before .before .before .before .pre .1) (c .before .before .before .before .before .before .before .before .before .before .before .before .before .head .ensures) (c .before .before .before .before .before .before .before .before .before .before .before .if1 .left) (c .before .before .before .before .before .before .before .before .before .before .array-size .ensures) (c .before .before .before .before .before .before .before .before .if2 .left) (c .before .before .before .before .before .expect .ensures) (c .match .keys2)
+  returns-3 c =
+      let at-expect = c .before .before .before .before .before in
+      let at-if2 = at-expect .before .before .before in
+      let at-array-size = at-if2 .before .before in
+      let at-if1 = at-array-size .before in
+      let at-head = at-if1 .before .before in
+      let start = at-head .before .before .before .before .before .before in
+      array-open (start .args .line) (start .args .column) (start .pre .1) (at-head .head .ensures) (at-if1 .if1 .left) (at-array-size .array-size .ensures) (at-if2 .if2 .left) (at-expect .expect .ensures) (c .match .keys2)
 
   pub ty-requires : lts.Need-ty-requires given (array-at t) array.Post
-  ty-requires c κs = (omega (arith, c .before .before .before .before .before .before .before .before .before .before .before .before .before .before .before .before .before .before .before .before .before .before .before .before .pre .0, c .before .before .before .before .before .before .before .before .before .before .before .before .before .before .before .before .before .before .head .ensures, c .before .before .before .before .before .before .before .before .before .before .expect .ensures .moved), bracket-asked (c .before .before .before .before .before .before .before .before .before .before .before .before .before .before .before .before .before .before .before .before .before .before .before .before .pre .1 .0) (c .before .before .before .before .before .before .before .before .before .before .before .before .before .before .before .before .before .before .head .ensures) (c .before .before .before .before .before .before .before .before .before .before .expect .ensures) (omega (arith, c .before .before .before .before .before .before .before .before .before .before .expect .kept)) (omega (arith, c .before .before .before .before .before .before .before .before .before .before .expect .kept)))
+  ty-requires c κs =
+      let at-expect = c .before .before .before .before .before .before .before .before .before .before in
+      let at-head = at-expect .before .before .before .before .before .before .before .before in
+      let start = at-head .before .before .before .before .before .before in
+      (omega (arith, start .pre .0, at-head .head .ensures, at-expect .expect .ensures .moved), bracket-asked (start .pre .1 .0) (at-head .head .ensures) (at-expect .expect .ensures) (omega (arith, at-expect .expect .kept)) (omega (arith, at-expect .expect .kept)))
 
   pub finish-requires : lts.Need-finish-requires given (array-at t) array.Post
-  finish-requires c κs = array-room (c .before .before .before .before .before .before .before .before .before .before .before .before .before .before .before .before .before .before .before .before .before .before .before .before .before .before .before .before .before .before .before .before .pre .1 .0) (c .before .before .before .before .before .before .before .before .before .before .before .before .before .before .before .before .before .before .before .before .before .before .before .before .before .before .head .ensures) (c .before .before .before .before .before .before .before .before .before .before .before .before .before .before .before .before .before .before .expect .ensures) (c .before .before .before .before .before .before .before .ty .ensures) (omega (arith, c .before .before .before .before .before .before .before .ty .kept))
+  finish-requires c κs =
+      let at-ty = c .before .before .before .before .before .before .before in
+      let at-expect = at-ty .before .before .before .before .before .before .before .before .before .before .before in
+      let at-head = at-expect .before .before .before .before .before .before .before .before in
+      let start = at-head .before .before .before .before .before .before in
+      array-room (start .pre .1 .0) (at-head .head .ensures) (at-expect .expect .ensures) (at-ty .ty .ensures) (omega (arith, at-ty .ty .kept))
 
   pub same-length-7 : lts.Need-same-length-7 given (array-at t) array.Post
-  same-length-7 c = omega (arith, c .before .before .finish .kept, c .before .before .before .before .before .before .before .before .before .before .ty .kept, c .before .before .before .before .before .before .before .before .before .before .before .before .before .before .before .before .before .before .before .before .before .expect .kept)
+  same-length-7 c =
+      let at-ty = c .before .before .before .before .before .before .before .before .before .before in
+      let at-expect = at-ty .before .before .before .before .before .before .before .before .before .before .before in
+      omega (arith, c .before .before .finish .kept, at-ty .ty .kept, at-expect .expect .kept)
 
   pub same-length-8 : lts.Need-same-length-8 given (array-at t) array.Post
-  same-length-8 c = omega (arith, c .before .before .before .before .before .before .before .before .before .before .ty .kept, c .before .before .before .before .before .before .before .before .before .before .before .before .before .before .before .before .before .before .before .before .before .expect .kept)
+  same-length-8 c =
+      let at-ty = c .before .before .before .before .before .before .before .before .before .before in
+      let at-expect = at-ty .before .before .before .before .before .before .before .before .before .before .before in
+      omega (arith, at-ty .ty .kept, at-expect .expect .kept)
 
   pub same-length-9 : lts.Need-same-length-9 given (array-at t) array.Post
-  same-length-9 c = omega (arith, c .before .before .before .before .before .before .before .before .before .before .ty .kept, c .before .before .before .before .before .before .before .before .before .before .before .before .before .before .before .before .before .before .before .before .before .expect .kept)
+  same-length-9 c =
+      let at-ty = c .before .before .before .before .before .before .before .before .before .before in
+      let at-expect = at-ty .before .before .before .before .before .before .before .before .before .before .before in
+      omega (arith, at-ty .ty .kept, at-expect .expect .kept)
 
   pub returns-4 : lts.Need-returns-4 given (array-at t) array.Post
-  returns-4 c = array-done (c .before .before .before .before .before .before .before .before .before .before .before .before .before .before .before .before .before .before .before .before .before .before .before .before .before .before .before .before .before .before .before .before .before .before .before .args .line) (c .before .before .before .before .before .before .before .before .before .before .before .before .before .before .before .before .before .before .before .before .before .before .before .before .before .before .before .before .before .before .before .before .before .before .before .args .column) (c .before .before .before .before .before .before .before .before .before .before .before .before .before .before .before .before .before .before .before .before .before .before .before .before .before .before .before .before .before .before .before .before .before .before .before .pre .1) (c .before .before .before .before .before .before .before .before .before .before .before .before .before .before .before .before .before .before .before .before .before .before .before .before .before .before .before .before .before .head .ensures) (c .before .before .before .before .before .before .before .before .before .before .before .before .before .before .before .before .before .before .before .before .before .before .before .before .before .before .before .if1 .left) (c .before .before .before .before .before .before .before .before .before .before .before .before .before .before .before .before .before .before .before .before .before .before .before .before .before .before .array-size .ensures) (c .before .before .before .before .before .before .before .before .before .before .before .before .before .before .before .before .before .before .before .before .before .before .before .before .if2 .left) (c .before .before .before .before .before .before .before .before .before .before .before .before .before .before .before .before .before .before .before .before .before .expect .ensures) (c .before .before .before .before .before .before .before .before .before .before .before .before .before .before .before .enum-told .given .1) (c .before .before .before .before .before .before .before .before .before .before .ty .ensures) (c .before .before .finish .ensures)
+  returns-4 c =
+      let at-ty = c .before .before .before .before .before .before .before .before .before .before in
+      let at-enum-told = at-ty .before .before .before .before .before in
+      let at-expect = at-enum-told .before .before .before .before .before .before in
+      let at-if2 = at-expect .before .before .before in
+      let at-array-size = at-if2 .before .before in
+      let at-if1 = at-array-size .before in
+      let at-head = at-if1 .before .before in
+      let start = at-head .before .before .before .before .before .before in
+      array-done (start .args .line) (start .args .column) (start .pre .1) (at-head .head .ensures) (at-if1 .if1 .left) (at-array-size .array-size .ensures) (at-if2 .if2 .left) (at-expect .expect .ensures) (at-enum-told .enum-told .given .1) (at-ty .ty .ensures) (c .before .before .finish .ensures)

@@ -21,7 +21,11 @@ module _ (t : ℕ) where
   head-requires c κs = (c .before .before .before .before .before .pre .1 .asks .held, c .before .before .before .before .before .pre .1 .asks .at)
 
   pub literal-requires : lts.Need-literal-requires given (atom-at t) atom.Post
-  literal-requires c κs = record { asked = c .before .before .before .before .before .before .before .before .before .before .before .pre .1; bare = λ e. c .before .before .before .if1 .taken (sym (c .before .before .before .before .before .head .ensures .kind) ∙ e) }
+  literal-requires c κs =
+      let at-if1 = c .before .before .before in
+      let at-head = at-if1 .before .before in
+      let start = at-head .before .before .before .before .before .before in
+      record { asked = start .pre .1; bare = λ e. at-if1 .if1 .taken (sym (at-head .head .ensures .kind) ∙ e) }
 
   pub same-length : lts.Need-same-length given (atom-at t) atom.Post
   same-length c = omega (arith, c .before .before .before .before .before .before .literal .kept)
@@ -36,19 +40,42 @@ module _ (t : ℕ) where
   returns c = c .before .before .before .before .before .before .literal .ensures _
 
   pub expression-requires : lts.Need-expression-requires given (atom-at t) atom.Post
-  expression-requires c κs = (omega (arith, c .before .before .before .before .before .before .before .before .before .before .before .pre .0, c .before .before .before .before .before .before .before .before .before .before .before .pre .1 .asks .at, c .before .before .before .before .before .head .ensures, c .before .before .before .if1 .left), asked-seen (c .before .before .before .before .before .before .before .before .before .before .before .pre .1) (c .before .before .before .before .before .head .ensures))
+  expression-requires c κs =
+      let at-if1 = c .before .before .before in
+      let at-head = at-if1 .before .before in
+      let start = at-head .before .before .before .before .before .before in
+      (omega (arith, start .pre .0, start .pre .1 .asks .at, at-head .head .ensures, at-if1 .if1 .left), asked-seen (start .pre .1) (at-head .head .ensures))
 
   pub close-requires : lts.Need-close-requires given (atom-at t) atom.Post
-  close-requires c κs = asks-moved (c .before .before .before .before .before .before .before .before .before .before .before .before .before .before .before .before .before .before .before .before .pre .1 .asks) (moved-trans (fore-moved (c .before .before .before .before .before .before .before .before .before .before .before .before .before .before .before .before .before .before .before .before .pre .1 .asks) (c .before .before .before .before .before .before .before .before .before .before .before .before .before .before .head .ensures)) (c .before .before .before .before .before .before .before .before .expression .ensures .moved)) (omega (arith, c .before .before .before .before .before .before .before .before .expression .kept)) (omega (arith, c .before .before .before .before .before .before .before .before .expression .kept))
+  close-requires c κs =
+      let at-expression = c .before .before .before .before .before .before .before .before in
+      let at-head = at-expression .before .before .before .before .before .before in
+      let start = at-head .before .before .before .before .before .before in
+      asks-moved (start .pre .1 .asks) (moved-trans (fore-moved (start .pre .1 .asks) (at-head .head .ensures)) (at-expression .expression .ensures .moved)) (omega (arith, at-expression .expression .kept)) (omega (arith, at-expression .expression .kept))
 
   pub same-length-4 : lts.Need-same-length-4 given (atom-at t) atom.Post
-  same-length-4 c = omega (arith, c .before .before .before .before .close .kept, c .before .before .before .before .before .before .before .before .before .before .before .before .before .expression .kept)
+  same-length-4 c =
+      let at-close = c .before .before .before .before in
+      let at-expression = at-close .before .before .before .before .before .before .before .before .before in
+      omega (arith, at-close .close .kept, at-expression .expression .kept)
 
   pub same-length-5 : lts.Need-same-length-5 given (atom-at t) atom.Post
-  same-length-5 c = omega (arith, c .before .before .before .before .close .kept, c .before .before .before .before .before .before .before .before .before .before .before .before .before .expression .kept)
+  same-length-5 c =
+      let at-close = c .before .before .before .before in
+      let at-expression = at-close .before .before .before .before .before .before .before .before .before in
+      omega (arith, at-close .close .kept, at-expression .expression .kept)
 
   pub same-length-6 : lts.Need-same-length-6 given (atom-at t) atom.Post
-  same-length-6 c = omega (arith, c .before .before .before .before .close .kept, c .before .before .before .before .before .before .before .before .before .before .before .before .before .expression .kept)
+  same-length-6 c =
+      let at-close = c .before .before .before .before in
+      let at-expression = at-close .before .before .before .before .before .before .before .before .before in
+      omega (arith, at-close .close .kept, at-expression .expression .kept)
 
   pub returns-2 : lts.Need-returns-2 given (atom-at t) atom.Post
-  returns-2 c = atom-group (c .before .before .before .before .before .before .before .before .before .before .before .before .before .before .before .before .before .before .before .before .before .before .before .before .before .pre .1) (c .before .before .before .before .before .before .before .before .before .before .before .before .before .before .before .before .before .before .before .head .ensures) (c .before .before .before .before .before .before .before .before .before .before .before .before .before .before .before .before .before .if1 .left) (c .before .before .before .before .before .before .before .before .before .before .before .before .before .expression .ensures) (c .before .before .before .before .close .ensures)
+  returns-2 c =
+      let at-close = c .before .before .before .before in
+      let at-expression = at-close .before .before .before .before .before .before .before .before .before in
+      let at-if1 = at-expression .before .before .before .before in
+      let at-head = at-if1 .before .before in
+      let start = at-head .before .before .before .before .before .before in
+      atom-group (start .pre .1) (at-head .head .ensures) (at-if1 .if1 .left) (at-expression .expression .ensures) (at-close .close .ensures)

@@ -16,20 +16,38 @@ module _ (t : ℕ) where
   given = (shift-below t, shift.Post, operators-below t, operators.Post)
 
   pub shift-requires : lts.Need-shift-requires given (bit-and-at t) bit-and.Post
-  shift-requires c κs = (omega (arith, c .before .before .before .before .before .before .before .before .pre .0), c .before .before .before .before .before .before .before .before .pre .1)
+  shift-requires c κs =
+      let start = c .before .before .before .before .before .before .before .before in
+      (omega (arith, start .pre .0), start .pre .1)
 
   pub operators-requires : lts.Need-operators-requires given (bit-and-at t) bit-and.Post
-  operators-requires c κs = (omega (arith, c .before .before .before .before .before .before .before .before .before .before .before .before .before .before .before .before .before .before .pre .0, c .before .before .before .before .before .before .before .before .before .before .before .before .before .before .before .before .before .before .pre .1 .asks .at, c .before .before .before .before .before .before .before .before .before .shift .ensures .moved .at), goes-on (c .before .before .before .before .before .before .before .before .before .before .before .before .before .before .before .before .before .before .pre .1) (c .before .before .before .before .before .before .before .before .before .shift .ensures) (omega (arith, c .before .before .before .before .before .before .before .before .before .shift .kept)) (omega (arith, c .before .before .before .before .before .before .before .before .before .shift .kept)) (omega (arith, c .before .before .before .before .before .before .before .before .before .shift .kept)))
+  operators-requires c κs =
+      let at-shift = c .before .before .before .before .before .before .before .before .before in
+      let start = at-shift .before .before .before .before .before .before .before .before .before in
+      (omega (arith, start .pre .0, start .pre .1 .asks .at, at-shift .shift .ensures .moved .at), goes-on (start .pre .1) (at-shift .shift .ensures) (omega (arith, at-shift .shift .kept)) (omega (arith, at-shift .shift .kept)) (omega (arith, at-shift .shift .kept)))
 
   pub same-length : lts.Need-same-length given (bit-and-at t) bit-and.Post
-  same-length c = omega (arith, c .before .before .before .before .before .before .operators .kept, c .before .before .before .before .before .before .before .before .before .before .before .before .before .before .before .before .shift .kept)
+  same-length c =
+      let at-operators = c .before .before .before .before .before .before in
+      let at-shift = at-operators .before .before .before .before .before .before .before .before .before .before in
+      omega (arith, at-operators .operators .kept, at-shift .shift .kept)
 
   pub same-length-2 : lts.Need-same-length-2 given (bit-and-at t) bit-and.Post
-  same-length-2 c = omega (arith, c .before .before .before .before .before .before .operators .kept, c .before .before .before .before .before .before .before .before .before .before .before .before .before .before .before .before .shift .kept)
+  same-length-2 c =
+      let at-operators = c .before .before .before .before .before .before in
+      let at-shift = at-operators .before .before .before .before .before .before .before .before .before .before in
+      omega (arith, at-operators .operators .kept, at-shift .shift .kept)
 
   pub same-length-3 : lts.Need-same-length-3 given (bit-and-at t) bit-and.Post
-  same-length-3 c = omega (arith, c .before .before .before .before .before .before .operators .kept, c .before .before .before .before .before .before .before .before .before .before .before .before .before .before .before .before .shift .kept)
+  same-length-3 c =
+      let at-operators = c .before .before .before .before .before .before in
+      let at-shift = at-operators .before .before .before .before .before .before .before .before .before .before in
+      omega (arith, at-operators .operators .kept, at-shift .shift .kept)
 
   pub returns : lts.Need-returns given (bit-and-at t) bit-and.Post
   unfolding P.parse-bitwise-and
-  returns c = then-asked (operators-on BitAnd) (c .before .before .before .before .before .before .before .before .before .before .before .before .before .before .before .before .before .before .before .before .before .before .before .before .before .pre .1) (c .before .before .before .before .before .before .before .before .before .before .before .before .before .before .before .before .shift .ensures) (c .before .before .before .before .before .before .operators .ensures)
+  returns c =
+      let at-operators = c .before .before .before .before .before .before in
+      let at-shift = at-operators .before .before .before .before .before .before .before .before .before .before in
+      let start = at-shift .before .before .before .before .before .before .before .before .before in
+      then-asked (operators-on BitAnd) (start .pre .1) (at-shift .shift .ensures) (at-operators .operators .ensures)

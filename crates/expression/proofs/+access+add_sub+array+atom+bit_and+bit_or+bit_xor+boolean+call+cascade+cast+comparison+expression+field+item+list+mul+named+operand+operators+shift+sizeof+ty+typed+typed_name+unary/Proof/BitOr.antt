@@ -27,7 +27,9 @@ module _ (t : ℕ) where
   given = (cast-below t, cast.Post, head-reads.Asked, head-reads.Learnt, arithmetic-reads.Asked, arithmetic-reads.Learnt, level-at-reads.Asked, level-at-reads.Learnt, operators-below t, operators.Post)
 
   pub cast-requires : lts.Need-cast-requires given (bit-or-at t) bit-or.Post Inv-loop μ-loop
-  cast-requires c κs = (omega (arith, c .before .before .before .before .before .before .before .before .pre .0), c .before .before .before .before .before .before .before .before .pre .1)
+  cast-requires c κs =
+      let start = c .before .before .before .before .before .before .before .before in
+      (omega (arith, start .pre .0), start .pre .1)
 
   pub enum-told : lts.Need-enum-told given (bit-or-at t) bit-or.Post Inv-loop μ-loop
   enum-told c = search needs
@@ -51,25 +53,41 @@ module _ (t : ℕ) where
   same-length-6 c = omega (arith, c .before .before .before .before .before .before .before .before .before .before .before .before .cast .kept)
 
   pub returns : lts.Need-returns given (bit-or-at t) bit-or.Post Inv-loop μ-loop
-  returns c = levels-pass (c .before .before .before .before .before .before .before .before .before .before .before .before .before .before .before .before .pre .1) (c .before .before .before .before .before .before .before .cast .ensures) (λ l. goes-stops (goes-on (c .before .before .before .before .before .before .before .before .before .before .before .before .before .before .before .before .pre .1) (c .before .before .before .before .before .before .before .cast .ensures) (omega (arith, c .before .before .before .before .before .before .before .cast .kept)) (omega (arith, c .before .before .before .before .before .before .before .cast .kept)) (omega (arith, c .before .before .before .before .before .before .before .cast .kept))) (c .match .keys2))
+  returns c =
+      let at-cast = c .before .before .before .before .before .before .before in
+      let start = at-cast .before .before .before .before .before .before .before .before .before in
+      levels-pass (start .pre .1) (at-cast .cast .ensures) (λ l. goes-stops (goes-on (start .pre .1) (at-cast .cast .ensures) (omega (arith, at-cast .cast .kept)) (omega (arith, at-cast .cast .kept)) (omega (arith, at-cast .cast .kept))) (c .match .keys2))
 
   pub head-requires : lts.Need-head-requires given (bit-or-at t) bit-or.Post Inv-loop μ-loop
-  head-requires c κs = (c .before .before .before .before .before .before .before .before .before .before .before .before .before .before .before .before .before .before .pre .1 .asks .held, c .before .before .before .before .before .before .before .before .before .cast .ensures .moved .end)
+  head-requires c κs =
+      let at-cast = c .before .before .before .before .before .before .before .before .before in
+      let start = at-cast .before .before .before .before .before .before .before .before .before in
+      (start .pre .1 .asks .held, at-cast .cast .ensures .moved .end)
 
   pub arithmetic-requires : lts.Need-arithmetic-requires given (bit-or-at t) bit-or.Post Inv-loop μ-loop
   arithmetic-requires c κs = search needs
 
   pub returns-2 : lts.Need-returns-2 given (bit-or-at t) bit-or.Post Inv-loop μ-loop
-  returns-2 c = levels-pass (c .before .before .before .before .before .before .before .before .before .before .before .before .before .before .before .before .before .before .before .before .before .pre .1) (c .before .before .before .before .before .before .before .before .before .before .before .before .cast .ensures) (λ l. operators-none (goes-on (c .before .before .before .before .before .before .before .before .before .before .before .before .before .before .before .before .before .before .before .before .before .pre .1) (c .before .before .before .before .before .before .before .before .before .before .before .before .cast .ensures) (omega (arith, c .before .before .before .before .before .before .before .before .before .before .before .before .cast .kept)) (omega (arith, c .before .before .before .before .before .before .before .before .before .before .before .before .cast .kept)) (omega (arith, c .before .before .before .before .before .before .before .before .before .before .before .before .cast .kept))) (c .before .before .before .before .enum-told .given .1) (c .before .before .head .ensures) l (no-operator _ (sym (c .before .arithmetic .ensures) ∙ not-true _ (c .if1 .taken)) l) refl)
+  returns-2 c =
+      let at-enum-told = c .before .before .before .before in
+      let at-cast = at-enum-told .before .before .before .before .before .before .before .before in
+      let start = at-cast .before .before .before .before .before .before .before .before .before in
+      levels-pass (start .pre .1) (at-cast .cast .ensures) (λ l. operators-none (goes-on (start .pre .1) (at-cast .cast .ensures) (omega (arith, at-cast .cast .kept)) (omega (arith, at-cast .cast .kept)) (omega (arith, at-cast .cast .kept))) (at-enum-told .enum-told .given .1) (c .before .before .head .ensures) l (no-operator _ (sym (c .before .arithmetic .ensures) ∙ not-true _ (c .if1 .taken)) l) refl)
 
   pub loop-holds : lts.Need-loop-holds given (bit-or-at t) bit-or.Post Inv-loop μ-loop
-  loop-holds c = levels-start (c .before .before .before .before .before .before .before .before .before .before .before .before .cast .ensures .moved .at) (goes-on (c .before .before .before .before .before .before .before .before .before .before .before .before .before .before .before .before .before .before .before .before .before .pre .1) (c .before .before .before .before .before .before .before .before .before .before .before .before .cast .ensures) (omega (arith, c .before .before .before .before .before .before .before .before .before .before .before .before .cast .kept)) (omega (arith, c .before .before .before .before .before .before .before .before .before .before .before .before .cast .kept)) (omega (arith, c .before .before .before .before .before .before .before .before .before .before .before .before .cast .kept)))
+  loop-holds c =
+      let at-cast = c .before .before .before .before .before .before .before .before .before .before .before .before in
+      let start = at-cast .before .before .before .before .before .before .before .before .before in
+      levels-start (at-cast .cast .ensures .moved .at) (goes-on (start .pre .1) (at-cast .cast .ensures) (omega (arith, at-cast .cast .kept)) (omega (arith, at-cast .cast .kept)) (omega (arith, at-cast .cast .kept)))
 
   pub level-at-requires : lts.Need-level-at-requires given (bit-or-at t) bit-or.Post Inv-loop μ-loop
   level-at-requires c κs = search needs
 
   pub operators-requires : lts.Need-operators-requires given (bit-or-at t) bit-or.Post Inv-loop μ-loop
-  operators-requires c κs = (omega (arith, c .before .before .before .before .before .before .before .before .before .before .before .before .before .before .before .before .before .before .before .before .before .before .before .before .before .before .before .pre .0, c .before .before .before .before .before .before .before .before .before .before .before .before .before .before .before .before .before .before .before .before .before .before .before .before .before .before .before .pre .1 .asks .at, c .before .before .before .before .before .loop .inv .forward), c .before .before .before .before .before .loop .inv .on)
+  operators-requires c κs =
+      let at-loop = c .before .before .before .before .before in
+      let start = at-loop .before .before .before .before .before .before .before .before .before .before .before .before .before .before .before .before .before .before .before .before .before .before in
+      (omega (arith, start .pre .0, start .pre .1 .asks .at, at-loop .loop .inv .forward), at-loop .loop .inv .on)
 
   pub add-k : lts.Need-add-k given (bit-or-at t) bit-or.Post Inv-loop μ-loop
   add-k c = search needs
@@ -78,16 +96,30 @@ module _ (t : ℕ) where
   loop-less c = search needs
 
   pub loop-again : lts.Need-loop-again given (bit-or-at t) bit-or.Post Inv-loop μ-loop
-  loop-again c = levels-more (c .before .before .before .before .before .before .before .before .before .before .before .before .loop .inv) (c .before .before .before .before .before .before .before .before .before .before .before .loop-test .taken) (c .before .before .before .before .before .before .before .before .before .before .level-at .ensures) (c .before .before .before .before .before .before .operators .ensures) (omega (arith, c .before .before .before .before .before .before .operators .kept)) (omega (arith, c .before .before .before .before .before .before .operators .kept)) (omega (arith, c .before .before .before .before .before .before .operators .kept))
+  loop-again c =
+      let at-operators = c .before .before .before .before .before .before in
+      let at-level-at = at-operators .before .before .before .before in
+      let at-loop-test = at-level-at .before in
+      let at-loop = at-loop-test .before in
+      levels-more (at-loop .loop .inv) (at-loop-test .loop-test .taken) (at-level-at .level-at .ensures) (at-operators .operators .ensures) (omega (arith, at-operators .operators .kept)) (omega (arith, at-operators .operators .kept)) (omega (arith, at-operators .operators .kept))
 
   pub same-length-7 : lts.Need-same-length-7 given (bit-or-at t) bit-or.Post Inv-loop μ-loop
-  same-length-7 c = omega (arith, c .before .loop .inv .file, c .before .before .before .before .before .before .before .before .before .before .before .before .before .before .cast .kept)
+  same-length-7 c =
+      let at-cast = c .before .before .before .before .before .before .before .before .before .before .before .before .before .before in
+      omega (arith, c .before .loop .inv .file, at-cast .cast .kept)
 
   pub same-length-8 : lts.Need-same-length-8 given (bit-or-at t) bit-or.Post Inv-loop μ-loop
-  same-length-8 c = omega (arith, c .before .loop .inv .rep, c .before .before .before .before .before .before .before .before .before .before .before .before .before .before .cast .kept)
+  same-length-8 c =
+      let at-cast = c .before .before .before .before .before .before .before .before .before .before .before .before .before .before in
+      omega (arith, c .before .loop .inv .rep, at-cast .cast .kept)
 
   pub same-length-9 : lts.Need-same-length-9 given (bit-or-at t) bit-or.Post Inv-loop μ-loop
-  same-length-9 c = omega (arith, c .before .loop .inv .full, c .before .before .before .before .before .before .before .before .before .before .before .before .before .before .cast .kept)
+  same-length-9 c =
+      let at-cast = c .before .before .before .before .before .before .before .before .before .before .before .before .before .before in
+      omega (arith, c .before .loop .inv .full, at-cast .cast .kept)
 
   pub returns-3 : lts.Need-returns-3 given (bit-or-at t) bit-or.Post Inv-loop μ-loop
-  returns-3 c = levels-end (c .before .loop .inv) (c .loop-test .left) (c .before .before .before .before .before .before .before .before .before .before .before .before .before .before .before .before .before .before .before .before .before .before .before .pre .1) (c .before .before .before .before .before .before .before .before .before .before .before .before .before .before .cast .ensures)
+  returns-3 c =
+      let at-cast = c .before .before .before .before .before .before .before .before .before .before .before .before .before .before in
+      let start = at-cast .before .before .before .before .before .before .before .before .before in
+      levels-end (c .before .loop .inv) (c .loop-test .left) (start .pre .1) (at-cast .cast .ensures)

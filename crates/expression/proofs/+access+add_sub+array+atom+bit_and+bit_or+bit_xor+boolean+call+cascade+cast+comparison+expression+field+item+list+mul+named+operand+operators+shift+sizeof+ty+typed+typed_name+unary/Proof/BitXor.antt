@@ -16,20 +16,38 @@ module _ (t : ℕ) where
   given = (bit-and-below t, bit-and.Post, operators-below t, operators.Post)
 
   pub bit-and-requires : lts.Need-bit-and-requires given (bit-xor-at t) bit-xor.Post
-  bit-and-requires c κs = (omega (arith, c .before .before .before .before .before .before .before .before .pre .0), c .before .before .before .before .before .before .before .before .pre .1)
+  bit-and-requires c κs =
+      let start = c .before .before .before .before .before .before .before .before in
+      (omega (arith, start .pre .0), start .pre .1)
 
   pub operators-requires : lts.Need-operators-requires given (bit-xor-at t) bit-xor.Post
-  operators-requires c κs = (omega (arith, c .before .before .before .before .before .before .before .before .before .before .before .before .before .before .before .before .before .before .pre .0, c .before .before .before .before .before .before .before .before .before .before .before .before .before .before .before .before .before .before .pre .1 .asks .at, c .before .before .before .before .before .before .before .before .before .bit-and .ensures .moved .at), goes-on (c .before .before .before .before .before .before .before .before .before .before .before .before .before .before .before .before .before .before .pre .1) (c .before .before .before .before .before .before .before .before .before .bit-and .ensures) (omega (arith, c .before .before .before .before .before .before .before .before .before .bit-and .kept)) (omega (arith, c .before .before .before .before .before .before .before .before .before .bit-and .kept)) (omega (arith, c .before .before .before .before .before .before .before .before .before .bit-and .kept)))
+  operators-requires c κs =
+      let at-bit-and = c .before .before .before .before .before .before .before .before .before in
+      let start = at-bit-and .before .before .before .before .before .before .before .before .before in
+      (omega (arith, start .pre .0, start .pre .1 .asks .at, at-bit-and .bit-and .ensures .moved .at), goes-on (start .pre .1) (at-bit-and .bit-and .ensures) (omega (arith, at-bit-and .bit-and .kept)) (omega (arith, at-bit-and .bit-and .kept)) (omega (arith, at-bit-and .bit-and .kept)))
 
   pub same-length : lts.Need-same-length given (bit-xor-at t) bit-xor.Post
-  same-length c = omega (arith, c .before .before .before .before .before .before .operators .kept, c .before .before .before .before .before .before .before .before .before .before .before .before .before .before .before .before .bit-and .kept)
+  same-length c =
+      let at-operators = c .before .before .before .before .before .before in
+      let at-bit-and = at-operators .before .before .before .before .before .before .before .before .before .before in
+      omega (arith, at-operators .operators .kept, at-bit-and .bit-and .kept)
 
   pub same-length-2 : lts.Need-same-length-2 given (bit-xor-at t) bit-xor.Post
-  same-length-2 c = omega (arith, c .before .before .before .before .before .before .operators .kept, c .before .before .before .before .before .before .before .before .before .before .before .before .before .before .before .before .bit-and .kept)
+  same-length-2 c =
+      let at-operators = c .before .before .before .before .before .before in
+      let at-bit-and = at-operators .before .before .before .before .before .before .before .before .before .before in
+      omega (arith, at-operators .operators .kept, at-bit-and .bit-and .kept)
 
   pub same-length-3 : lts.Need-same-length-3 given (bit-xor-at t) bit-xor.Post
-  same-length-3 c = omega (arith, c .before .before .before .before .before .before .operators .kept, c .before .before .before .before .before .before .before .before .before .before .before .before .before .before .before .before .bit-and .kept)
+  same-length-3 c =
+      let at-operators = c .before .before .before .before .before .before in
+      let at-bit-and = at-operators .before .before .before .before .before .before .before .before .before .before in
+      omega (arith, at-operators .operators .kept, at-bit-and .bit-and .kept)
 
   pub returns : lts.Need-returns given (bit-xor-at t) bit-xor.Post
   unfolding P.parse-bitwise-xor
-  returns c = then-asked (operators-on BitXor) (c .before .before .before .before .before .before .before .before .before .before .before .before .before .before .before .before .before .before .before .before .before .before .before .before .before .pre .1) (c .before .before .before .before .before .before .before .before .before .before .before .before .before .before .before .before .bit-and .ensures) (c .before .before .before .before .before .before .operators .ensures)
+  returns c =
+      let at-operators = c .before .before .before .before .before .before in
+      let at-bit-and = at-operators .before .before .before .before .before .before .before .before .before .before in
+      let start = at-bit-and .before .before .before .before .before .before .before .before .before in
+      then-asked (operators-on BitXor) (start .pre .1) (at-bit-and .bit-and .ensures) (at-operators .operators .ensures)

@@ -20,7 +20,9 @@ module _ (t : ℕ) where
   given = (comparison-below t, comparison.Post, head-reads.Asked, head-reads.Learnt, abandon-reads.Asked, abandon-reads.Learnt, finish-reads.Asked, finish-reads.Learnt)
 
   pub comparison-requires : lts.Need-comparison-requires given (boolean-at t) boolean.Post
-  comparison-requires c κs = (omega (arith, c .before .before .before .before .before .before .before .before .pre .0), c .before .before .before .before .before .before .before .before .pre .1)
+  comparison-requires c κs =
+      let start = c .before .before .before .before .before .before .before .before in
+      (omega (arith, start .pre .0), start .pre .1)
 
   pub enum-told : lts.Need-enum-told given (boolean-at t) boolean.Post
   enum-told c = search needs
@@ -39,7 +41,10 @@ module _ (t : ℕ) where
   returns c = then-stops and-on (c .before .before .before .before .before .before .before .comparison .ensures) (c .match .keys2)
 
   pub head-requires : lts.Need-head-requires given (boolean-at t) boolean.Post
-  head-requires c κs = (c .before .before .before .before .before .before .before .before .before .before .before .before .before .before .before .before .before .before .pre .1 .asks .held, omega (arith, c .before .before .before .before .before .before .before .before .before .comparison .ensures .moved .end))
+  head-requires c κs =
+      let at-comparison = c .before .before .before .before .before .before .before .before .before in
+      let start = at-comparison .before .before .before .before .before .before .before .before .before in
+      (start .pre .1 .asks .held, omega (arith, at-comparison .comparison .ensures .moved .end))
 
   pub same-length-4 : lts.Need-same-length-4 given (boolean-at t) boolean.Post
   same-length-4 c = omega (arith, c .before .before .before .before .before .before .before .before .before .before .before .before .comparison .kept)
@@ -52,26 +57,66 @@ module _ (t : ℕ) where
 
   pub returns-2 : lts.Need-returns-2 given (boolean-at t) boolean.Post
   unfolding P.expression-rule
-  returns-2 c = then-asked and-on (c .before .before .before .before .before .before .before .before .before .before .before .before .before .before .before .before .before .before .before .before .before .pre .1) (c .before .before .before .before .before .before .before .before .before .before .before .before .comparison .ensures) (and-none (goes-on (c .before .before .before .before .before .before .before .before .before .before .before .before .before .before .before .before .before .before .before .before .before .pre .1) (c .before .before .before .before .before .before .before .before .before .before .before .before .comparison .ensures) (omega (arith, c .before .before .before .before .before .before .before .before .before .before .before .before .comparison .kept)) (omega (arith, c .before .before .before .before .before .before .before .before .before .before .before .before .comparison .kept)) (omega (arith, c .before .before .before .before .before .before .before .before .before .before .before .before .comparison .kept))) (c .before .before .before .before .enum-told .given .1) (c .before .before .head .ensures) (c .if1 .taken))
+  returns-2 c =
+      let at-enum-told = c .before .before .before .before in
+      let at-comparison = at-enum-told .before .before .before .before .before .before .before .before in
+      let start = at-comparison .before .before .before .before .before .before .before .before .before in
+      then-asked and-on (start .pre .1) (at-comparison .comparison .ensures) (and-none (goes-on (start .pre .1) (at-comparison .comparison .ensures) (omega (arith, at-comparison .comparison .kept)) (omega (arith, at-comparison .comparison .kept)) (omega (arith, at-comparison .comparison .kept))) (at-enum-told .enum-told .given .1) (c .before .before .head .ensures) (c .if1 .taken))
 
   pub comparison-requires-2 : lts.Need-comparison-requires-2 given (boolean-at t) boolean.Post
-  comparison-requires-2 c κs = (omega (arith, c .before .before .before .before .before .before .before .before .before .before .before .before .before .before .before .before .before .before .before .before .before .before .before .before .pre .0, c .before .before .before .before .before .before .before .before .before .before .before .before .before .before .before .before .before .before .before .before .before .before .before .before .pre .1 .asks .at, c .before .before .before .before .before .before .before .before .before .before .before .before .before .before .before .comparison .ensures .moved .at, c .before .before .before .before .before .head .ensures, c .before .before .before .if1 .left), asked-seen (asked-moved (c .before .before .before .before .before .before .before .before .before .before .before .before .before .before .before .before .before .before .before .before .before .before .before .before .pre .1) (c .before .before .before .before .before .before .before .before .before .before .before .before .before .before .before .comparison .ensures .moved) (omega (arith, c .before .before .before .before .before .before .before .before .before .before .before .before .before .before .before .comparison .kept)) (omega (arith, c .before .before .before .before .before .before .before .before .before .before .before .before .before .before .before .comparison .kept)) (omega (arith, c .before .before .before .before .before .before .before .before .before .before .before .before .before .before .before .comparison .kept))) (c .before .before .before .before .before .head .ensures))
+  comparison-requires-2 c κs =
+      let at-if1 = c .before .before .before in
+      let at-head = at-if1 .before .before in
+      let at-comparison = at-head .before .before .before .before .before .before .before .before .before .before in
+      let start = at-comparison .before .before .before .before .before .before .before .before .before in
+      (omega (arith, start .pre .0, start .pre .1 .asks .at, at-comparison .comparison .ensures .moved .at, at-head .head .ensures, at-if1 .if1 .left), asked-seen (asked-moved (start .pre .1) (at-comparison .comparison .ensures .moved) (omega (arith, at-comparison .comparison .kept)) (omega (arith, at-comparison .comparison .kept)) (omega (arith, at-comparison .comparison .kept))) (at-head .head .ensures))
 
   pub abandon-requires : lts.Need-abandon-requires given (boolean-at t) boolean.Post
-  abandon-requires c κs = join-cuts (goes-on (c .before .before .before .before .before .before .before .before .before .before .before .before .before .before .before .before .before .before .before .before .before .before .before .before .before .before .before .before .before .before .before .before .pre .1) (c .before .before .before .before .before .before .before .before .before .before .before .before .before .before .before .before .before .before .before .before .before .before .before .comparison .ensures) (omega (arith, c .before .before .before .before .before .before .before .before .before .before .before .before .before .before .before .before .before .before .before .before .before .before .before .comparison .kept)) (omega (arith, c .before .before .before .before .before .before .before .before .before .before .before .before .before .before .before .before .before .before .before .before .before .before .before .comparison .kept)) (omega (arith, c .before .before .before .before .before .before .before .before .before .before .before .before .before .before .before .before .before .before .before .before .before .before .before .comparison .kept))) (c .before .before .before .before .before .before .before .before .before .before .before .before .before .head .ensures) (c .before .before .before .before .before .before .before .comparison2 .ensures) (omega (arith, c .before .before .before .before .before .before .before .comparison2 .kept))
+  abandon-requires c κs =
+      let at-comparison2 = c .before .before .before .before .before .before .before in
+      let at-head = at-comparison2 .before .before .before .before .before .before in
+      let at-comparison = at-head .before .before .before .before .before .before .before .before .before .before in
+      let start = at-comparison .before .before .before .before .before .before .before .before .before in
+      join-cuts (goes-on (start .pre .1) (at-comparison .comparison .ensures) (omega (arith, at-comparison .comparison .kept)) (omega (arith, at-comparison .comparison .kept)) (omega (arith, at-comparison .comparison .kept))) (at-head .head .ensures) (at-comparison2 .comparison2 .ensures) (omega (arith, at-comparison2 .comparison2 .kept))
 
   pub finish-requires : lts.Need-finish-requires given (boolean-at t) boolean.Post
-  finish-requires c κs = join-room (goes-on (c .before .before .before .before .before .before .before .before .before .before .before .before .before .before .before .before .before .before .before .before .before .before .before .before .before .before .before .before .before .before .before .before .before .before .before .before .pre .1) (c .before .before .before .before .before .before .before .before .before .before .before .before .before .before .before .before .before .before .before .before .before .before .before .before .before .before .before .comparison .ensures) (omega (arith, c .before .before .before .before .before .before .before .before .before .before .before .before .before .before .before .before .before .before .before .before .before .before .before .before .before .before .before .comparison .kept)) (omega (arith, c .before .before .before .before .before .before .before .before .before .before .before .before .before .before .before .before .before .before .before .before .before .before .before .before .before .before .before .comparison .kept)) (omega (arith, c .before .before .before .before .before .before .before .before .before .before .before .before .before .before .before .before .before .before .before .before .before .before .before .before .before .before .before .comparison .kept))) (c .before .before .before .before .before .before .before .before .before .before .before .before .before .before .before .before .before .head .ensures) (c .before .before .before .before .before .before .before .before .before .before .before .comparison2 .ensures) (c .before .before .before .abandon .ensures) (omega (arith, c .before .before .before .before .before .before .before .before .before .before .before .comparison2 .kept))
+  finish-requires c κs =
+      let at-abandon = c .before .before .before in
+      let at-comparison2 = at-abandon .before .before .before .before .before .before .before .before in
+      let at-head = at-comparison2 .before .before .before .before .before .before in
+      let at-comparison = at-head .before .before .before .before .before .before .before .before .before .before in
+      let start = at-comparison .before .before .before .before .before .before .before .before .before in
+      join-room (goes-on (start .pre .1) (at-comparison .comparison .ensures) (omega (arith, at-comparison .comparison .kept)) (omega (arith, at-comparison .comparison .kept)) (omega (arith, at-comparison .comparison .kept))) (at-head .head .ensures) (at-comparison2 .comparison2 .ensures) (at-abandon .abandon .ensures) (omega (arith, at-comparison2 .comparison2 .kept))
 
   pub same-length-7 : lts.Need-same-length-7 given (boolean-at t) boolean.Post
-  same-length-7 c = omega (arith, c .before .before .finish .kept, c .before .before .before .before .before .before .abandon .kept, c .before .before .before .before .before .before .before .before .before .before .before .before .before .before .comparison2 .kept, c .before .before .before .before .before .before .before .before .before .before .before .before .before .before .before .before .before .before .before .before .before .before .before .before .before .before .before .before .before .before .comparison .kept)
+  same-length-7 c =
+      let at-abandon = c .before .before .before .before .before .before in
+      let at-comparison2 = at-abandon .before .before .before .before .before .before .before .before in
+      let at-comparison = at-comparison2 .before .before .before .before .before .before .before .before .before .before .before .before .before .before .before .before in
+      omega (arith, c .before .before .finish .kept, at-abandon .abandon .kept, at-comparison2 .comparison2 .kept, at-comparison .comparison .kept)
 
   pub same-length-8 : lts.Need-same-length-8 given (boolean-at t) boolean.Post
-  same-length-8 c = omega (arith, c .before .before .finish .kept, c .before .before .before .before .before .before .abandon .kept, c .before .before .before .before .before .before .before .before .before .before .before .before .before .before .comparison2 .kept, c .before .before .before .before .before .before .before .before .before .before .before .before .before .before .before .before .before .before .before .before .before .before .before .before .before .before .before .before .before .before .comparison .kept)
+  same-length-8 c =
+      let at-abandon = c .before .before .before .before .before .before in
+      let at-comparison2 = at-abandon .before .before .before .before .before .before .before .before in
+      let at-comparison = at-comparison2 .before .before .before .before .before .before .before .before .before .before .before .before .before .before .before .before in
+      omega (arith, c .before .before .finish .kept, at-abandon .abandon .kept, at-comparison2 .comparison2 .kept, at-comparison .comparison .kept)
 
   pub same-length-9 : lts.Need-same-length-9 given (boolean-at t) boolean.Post
-  same-length-9 c = omega (arith, c .before .before .finish .kept, c .before .before .before .before .before .before .abandon .kept, c .before .before .before .before .before .before .before .before .before .before .before .before .before .before .comparison2 .kept, c .before .before .before .before .before .before .before .before .before .before .before .before .before .before .before .before .before .before .before .before .before .before .before .before .before .before .before .before .before .before .comparison .kept)
+  same-length-9 c =
+      let at-abandon = c .before .before .before .before .before .before in
+      let at-comparison2 = at-abandon .before .before .before .before .before .before .before .before in
+      let at-comparison = at-comparison2 .before .before .before .before .before .before .before .before .before .before .before .before .before .before .before .before in
+      omega (arith, c .before .before .finish .kept, at-abandon .abandon .kept, at-comparison2 .comparison2 .kept, at-comparison .comparison .kept)
 
   pub returns-3 : lts.Need-returns-3 given (boolean-at t) boolean.Post
   unfolding P.expression-rule
-  returns-3 c = then-asked and-on (c .before .before .before .before .before .before .before .before .before .before .before .before .before .before .before .before .before .before .before .before .before .before .before .before .before .before .before .before .before .before .before .before .before .before .before .before .before .before .before .pre .1) (c .before .before .before .before .before .before .before .before .before .before .before .before .before .before .before .before .before .before .before .before .before .before .before .before .before .before .before .before .before .before .comparison .ensures) (and-found (goes-on (c .before .before .before .before .before .before .before .before .before .before .before .before .before .before .before .before .before .before .before .before .before .before .before .before .before .before .before .before .before .before .before .before .before .before .before .before .before .before .before .pre .1) (c .before .before .before .before .before .before .before .before .before .before .before .before .before .before .before .before .before .before .before .before .before .before .before .before .before .before .before .before .before .before .comparison .ensures) (omega (arith, c .before .before .before .before .before .before .before .before .before .before .before .before .before .before .before .before .before .before .before .before .before .before .before .before .before .before .before .before .before .before .comparison .kept)) (omega (arith, c .before .before .before .before .before .before .before .before .before .before .before .before .before .before .before .before .before .before .before .before .before .before .before .before .before .before .before .before .before .before .comparison .kept)) (omega (arith, c .before .before .before .before .before .before .before .before .before .before .before .before .before .before .before .before .before .before .before .before .before .before .before .before .before .before .before .before .before .before .comparison .kept))) (c .before .before .before .before .before .before .before .before .before .before .before .before .before .before .before .before .before .before .before .before .before .before .enum-told .given .1) (c .before .before .before .before .before .before .before .before .before .before .before .before .before .before .before .before .before .before .before .before .head .ensures) (c .before .before .before .before .before .before .before .before .before .before .before .before .before .before .before .before .before .before .if1 .left) (c .before .before .before .before .before .before .before .before .before .before .before .before .before .before .comparison2 .ensures) (c .before .before .before .before .before .before .abandon .ensures) (c .before .before .finish .ensures))
+  returns-3 c =
+      let at-abandon = c .before .before .before .before .before .before in
+      let at-comparison2 = at-abandon .before .before .before .before .before .before .before .before in
+      let at-if1 = at-comparison2 .before .before .before .before in
+      let at-head = at-if1 .before .before in
+      let at-enum-told = at-head .before .before in
+      let at-comparison = at-enum-told .before .before .before .before .before .before .before .before in
+      let start = at-comparison .before .before .before .before .before .before .before .before .before in
+      then-asked and-on (start .pre .1) (at-comparison .comparison .ensures) (and-found (goes-on (start .pre .1) (at-comparison .comparison .ensures) (omega (arith, at-comparison .comparison .kept)) (omega (arith, at-comparison .comparison .kept)) (omega (arith, at-comparison .comparison .kept))) (at-enum-told .enum-told .given .1) (at-head .head .ensures) (at-if1 .if1 .left) (at-comparison2 .comparison2 .ensures) (at-abandon .abandon .ensures) (c .before .before .finish .ensures))

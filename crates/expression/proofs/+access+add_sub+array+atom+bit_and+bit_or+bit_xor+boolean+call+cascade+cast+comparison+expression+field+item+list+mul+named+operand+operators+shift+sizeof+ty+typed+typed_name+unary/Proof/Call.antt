@@ -21,7 +21,9 @@ module _ (t : ℕ) where
   given = (sizeof-below t, sizeof.Post, head-reads.Asked, head-reads.Learnt, list-below t, list.Post, silence-reads.Asked, silence-reads.Learnt, finish-reads.Asked, finish-reads.Learnt)
 
   pub sizeof-requires : lts.Need-sizeof-requires given (call-at t) call.Post
-  sizeof-requires c κs = (omega (arith, c .before .before .before .before .before .before .before .before .pre .0), c .before .before .before .before .before .before .before .before .pre .1)
+  sizeof-requires c κs =
+      let start = c .before .before .before .before .before .before .before .before in
+      (omega (arith, start .pre .0), start .pre .1)
 
   pub enum-told : lts.Need-enum-told given (call-at t) call.Post
   enum-told c = search needs
@@ -40,7 +42,10 @@ module _ (t : ℕ) where
   returns c = then-stops call-on (c .before .before .before .before .before .before .before .sizeof .ensures) (c .match .keys2)
 
   pub head-requires : lts.Need-head-requires given (call-at t) call.Post
-  head-requires c κs = (c .before .before .before .before .before .before .before .before .before .before .before .before .before .before .before .before .before .before .pre .1 .asks .held, omega (arith, c .before .before .before .before .before .before .before .before .before .sizeof .ensures .moved .end))
+  head-requires c κs =
+      let at-sizeof = c .before .before .before .before .before .before .before .before .before in
+      let start = at-sizeof .before .before .before .before .before .before .before .before .before in
+      (start .pre .1 .asks .held, omega (arith, at-sizeof .sizeof .ensures .moved .end))
 
   pub same-length-4 : lts.Need-same-length-4 given (call-at t) call.Post
   same-length-4 c = omega (arith, c .before .before .before .before .before .before .before .before .before .before .before .before .sizeof .kept)
@@ -53,26 +58,56 @@ module _ (t : ℕ) where
 
   pub returns-2 : lts.Need-returns-2 given (call-at t) call.Post
   unfolding P.parse-call
-  returns-2 c = then-asked call-on (c .before .before .before .before .before .before .before .before .before .before .before .before .before .before .before .before .before .before .before .before .before .pre .1) (c .before .before .before .before .before .before .before .before .before .before .before .before .sizeof .ensures) (call-none (goes-on (c .before .before .before .before .before .before .before .before .before .before .before .before .before .before .before .before .before .before .before .before .before .pre .1) (c .before .before .before .before .before .before .before .before .before .before .before .before .sizeof .ensures) (omega (arith, c .before .before .before .before .before .before .before .before .before .before .before .before .sizeof .kept)) (omega (arith, c .before .before .before .before .before .before .before .before .before .before .before .before .sizeof .kept)) (omega (arith, c .before .before .before .before .before .before .before .before .before .before .before .before .sizeof .kept))) (c .before .before .before .before .enum-told .given .1) (c .before .before .head .ensures) (c .if1 .taken))
+  returns-2 c =
+      let at-enum-told = c .before .before .before .before in
+      let at-sizeof = at-enum-told .before .before .before .before .before .before .before .before in
+      let start = at-sizeof .before .before .before .before .before .before .before .before .before in
+      then-asked call-on (start .pre .1) (at-sizeof .sizeof .ensures) (call-none (goes-on (start .pre .1) (at-sizeof .sizeof .ensures) (omega (arith, at-sizeof .sizeof .kept)) (omega (arith, at-sizeof .sizeof .kept)) (omega (arith, at-sizeof .sizeof .kept))) (at-enum-told .enum-told .given .1) (c .before .before .head .ensures) (c .if1 .taken))
 
   pub list-requires : lts.Need-list-requires given (call-at t) call.Post
-  list-requires c κs = (omega (arith, c .before .before .before .before .before .before .before .before .before .before .before .before .before .before .before .before .before .before .before .before .before .before .before .before .pre .0, c .before .before .before .before .before .before .before .before .before .before .before .before .before .before .before .sizeof .ensures .moved .end, call-later (c .before .before .before .before .before .before .before .before .before .before .before .before .before .before .before .before .before .before .before .before .before .before .before .before .pre .1) (c .before .before .before .before .before .before .before .before .before .before .before .before .before .before .before .sizeof .ensures) (c .before .before .before .before .before .head .ensures) (c .before .before .before .if1 .left)), (asked-moved (c .before .before .before .before .before .before .before .before .before .before .before .before .before .before .before .before .before .before .before .before .before .before .before .before .pre .1) (c .before .before .before .before .before .before .before .before .before .before .before .before .before .before .before .sizeof .ensures .moved) (omega (arith, c .before .before .before .before .before .before .before .before .before .before .before .before .before .before .before .sizeof .kept)) (omega (arith, c .before .before .before .before .before .before .before .before .before .before .before .before .before .before .before .sizeof .kept)) (omega (arith, c .before .before .before .before .before .before .before .before .before .before .before .before .before .before .before .sizeof .kept))))
+  list-requires c κs =
+      let at-if1 = c .before .before .before in
+      let at-head = at-if1 .before .before in
+      let at-sizeof = at-head .before .before .before .before .before .before .before .before .before .before in
+      let start = at-sizeof .before .before .before .before .before .before .before .before .before in
+      (omega (arith, start .pre .0, at-sizeof .sizeof .ensures .moved .end, call-later (start .pre .1) (at-sizeof .sizeof .ensures) (at-head .head .ensures) (at-if1 .if1 .left)), (asked-moved (start .pre .1) (at-sizeof .sizeof .ensures .moved) (omega (arith, at-sizeof .sizeof .kept)) (omega (arith, at-sizeof .sizeof .kept)) (omega (arith, at-sizeof .sizeof .kept))))
 
   pub silence-requires : lts.Need-silence-requires given (call-at t) call.Post
   silence-requires c κs = search needs
 
   pub finish-requires : lts.Need-finish-requires given (call-at t) call.Post
-  finish-requires c κs = call-room (c .before .before .before .before .before .before .before .before .before .before .before .before .before .before .before .before .before .before .before .before .before .before .before .before .before .before .before .before .before .before .before .before .before .pre .1) (c .before .before .before .before .before .before .before .before .before .before .before .before .before .before .before .before .before .before .before .before .before .before .before .before .sizeof .ensures .moved) (c .before .before .before .before .before .before .before .before .list .ensures .moved) (c .before .silence .ensures) (omega (arith, c .before .before .before .before .before .before .before .before .list .kept, c .before .before .before .before .before .before .before .before .before .before .before .before .before .before .before .before .before .before .before .before .before .before .before .before .sizeof .kept))
+  finish-requires c κs =
+      let at-list = c .before .before .before .before .before .before .before .before in
+      let at-sizeof = at-list .before .before .before .before .before .before .before .before .before .before .before .before .before .before .before .before in
+      let start = at-sizeof .before .before .before .before .before .before .before .before .before in
+      call-room (start .pre .1) (at-sizeof .sizeof .ensures .moved) (at-list .list .ensures .moved) (c .before .silence .ensures) (omega (arith, at-list .list .kept, at-sizeof .sizeof .kept))
 
   pub same-length-7 : lts.Need-same-length-7 given (call-at t) call.Post
-  same-length-7 c = omega (arith, c .before .before .finish .kept, c .before .before .before .before .before .before .before .before .before .before .before .list .kept, c .before .before .before .before .before .before .before .before .before .before .before .before .before .before .before .before .before .before .before .before .before .before .before .before .before .before .before .sizeof .kept)
+  same-length-7 c =
+      let at-list = c .before .before .before .before .before .before .before .before .before .before .before in
+      let at-sizeof = at-list .before .before .before .before .before .before .before .before .before .before .before .before .before .before .before .before in
+      omega (arith, c .before .before .finish .kept, at-list .list .kept, at-sizeof .sizeof .kept)
 
   pub same-length-8 : lts.Need-same-length-8 given (call-at t) call.Post
-  same-length-8 c = omega (arith, c .before .before .finish .kept, c .before .before .before .before .before .before .before .before .before .before .before .list .kept, c .before .before .before .before .before .before .before .before .before .before .before .before .before .before .before .before .before .before .before .before .before .before .before .before .before .before .before .sizeof .kept)
+  same-length-8 c =
+      let at-list = c .before .before .before .before .before .before .before .before .before .before .before in
+      let at-sizeof = at-list .before .before .before .before .before .before .before .before .before .before .before .before .before .before .before .before in
+      omega (arith, c .before .before .finish .kept, at-list .list .kept, at-sizeof .sizeof .kept)
 
   pub same-length-9 : lts.Need-same-length-9 given (call-at t) call.Post
-  same-length-9 c = omega (arith, c .before .before .finish .kept, c .before .before .before .before .before .before .before .before .before .before .before .list .kept, c .before .before .before .before .before .before .before .before .before .before .before .before .before .before .before .before .before .before .before .before .before .before .before .before .before .before .before .sizeof .kept)
+  same-length-9 c =
+      let at-list = c .before .before .before .before .before .before .before .before .before .before .before in
+      let at-sizeof = at-list .before .before .before .before .before .before .before .before .before .before .before .before .before .before .before .before in
+      omega (arith, c .before .before .finish .kept, at-list .list .kept, at-sizeof .sizeof .kept)
 
   pub returns-3 : lts.Need-returns-3 given (call-at t) call.Post
   unfolding P.parse-call
-  returns-3 c = then-asked call-on (c .before .before .before .before .before .before .before .before .before .before .before .before .before .before .before .before .before .before .before .before .before .before .before .before .before .before .before .before .before .before .before .before .before .before .before .before .pre .1) (c .before .before .before .before .before .before .before .before .before .before .before .before .before .before .before .before .before .before .before .before .before .before .before .before .before .before .before .sizeof .ensures) (call-done (goes-on (c .before .before .before .before .before .before .before .before .before .before .before .before .before .before .before .before .before .before .before .before .before .before .before .before .before .before .before .before .before .before .before .before .before .before .before .before .pre .1) (c .before .before .before .before .before .before .before .before .before .before .before .before .before .before .before .before .before .before .before .before .before .before .before .before .before .before .before .sizeof .ensures) (omega (arith, c .before .before .before .before .before .before .before .before .before .before .before .before .before .before .before .before .before .before .before .before .before .before .before .before .before .before .before .sizeof .kept)) (omega (arith, c .before .before .before .before .before .before .before .before .before .before .before .before .before .before .before .before .before .before .before .before .before .before .before .before .before .before .before .sizeof .kept)) (omega (arith, c .before .before .before .before .before .before .before .before .before .before .before .before .before .before .before .before .before .before .before .before .before .before .before .before .before .before .before .sizeof .kept))) (c .before .before .before .before .before .before .before .before .before .before .before .before .before .before .before .before .before .before .before .enum-told .given .1) (c .before .before .before .before .before .before .before .before .before .before .before .before .before .before .before .before .before .head .ensures) (c .before .before .before .before .before .before .before .before .before .before .before .before .before .before .before .if1 .left) (c .before .before .before .before .before .before .before .before .before .before .before .list .ensures) (c .before .before .before .before .silence .ensures) (c .before .before .finish .ensures))
+  returns-3 c =
+      let at-silence = c .before .before .before .before in
+      let at-list = at-silence .before .before .before .before .before .before .before in
+      let at-if1 = at-list .before .before .before .before in
+      let at-head = at-if1 .before .before in
+      let at-enum-told = at-head .before .before in
+      let at-sizeof = at-enum-told .before .before .before .before .before .before .before .before in
+      let start = at-sizeof .before .before .before .before .before .before .before .before .before in
+      then-asked call-on (start .pre .1) (at-sizeof .sizeof .ensures) (call-done (goes-on (start .pre .1) (at-sizeof .sizeof .ensures) (omega (arith, at-sizeof .sizeof .kept)) (omega (arith, at-sizeof .sizeof .kept)) (omega (arith, at-sizeof .sizeof .kept))) (at-enum-told .enum-told .given .1) (at-head .head .ensures) (at-if1 .if1 .left) (at-list .list .ensures) (at-silence .silence .ensures) (c .before .before .finish .ensures))

@@ -20,37 +20,49 @@ module _ (t : ℕ) where
   enum-told c = search needs
 
   pub bit-xor-requires : lts.Need-bit-xor-requires given (cascade-at t) cascade.Post
-  bit-xor-requires c κs = (omega (arith, c .before .before .before .before .before .before .before .before .before .before .pre .0), c .before .before .before .before .before .before .before .before .before .before .pre .1)
+  bit-xor-requires c κs =
+      let start = c .before .before .before .before .before .before .before .before .before .before in
+      (omega (arith, start .pre .0), start .pre .1)
 
   pub enum-told-2 : lts.Need-enum-told-2 given (cascade-at t) cascade.Post
   enum-told-2 c = search needs
 
   pub bit-and-requires : lts.Need-bit-and-requires given (cascade-at t) cascade.Post
-  bit-and-requires c κs = (omega (arith, c .before .before .before .before .before .before .before .before .before .before .pre .0), c .before .before .before .before .before .before .before .before .before .before .pre .1)
+  bit-and-requires c κs =
+      let start = c .before .before .before .before .before .before .before .before .before .before in
+      (omega (arith, start .pre .0), start .pre .1)
 
   pub enum-told-3 : lts.Need-enum-told-3 given (cascade-at t) cascade.Post
   enum-told-3 c = search needs
 
   pub shift-requires : lts.Need-shift-requires given (cascade-at t) cascade.Post
-  shift-requires c κs = (omega (arith, c .before .before .before .before .before .before .before .before .before .before .pre .0), c .before .before .before .before .before .before .before .before .before .before .pre .1)
+  shift-requires c κs =
+      let start = c .before .before .before .before .before .before .before .before .before .before in
+      (omega (arith, start .pre .0), start .pre .1)
 
   pub enum-told-4 : lts.Need-enum-told-4 given (cascade-at t) cascade.Post
   enum-told-4 c = search needs
 
   pub add-sub-requires : lts.Need-add-sub-requires given (cascade-at t) cascade.Post
-  add-sub-requires c κs = (omega (arith, c .before .before .before .before .before .before .before .before .before .before .pre .0), c .before .before .before .before .before .before .before .before .before .before .pre .1)
+  add-sub-requires c κs =
+      let start = c .before .before .before .before .before .before .before .before .before .before in
+      (omega (arith, start .pre .0), start .pre .1)
 
   pub enum-told-5 : lts.Need-enum-told-5 given (cascade-at t) cascade.Post
   enum-told-5 c = search needs
 
   pub mul-requires : lts.Need-mul-requires given (cascade-at t) cascade.Post
-  mul-requires c κs = (omega (arith, c .before .before .before .before .before .before .before .before .before .before .pre .0), c .before .before .before .before .before .before .before .before .before .before .pre .1)
+  mul-requires c κs =
+      let start = c .before .before .before .before .before .before .before .before .before .before in
+      (omega (arith, start .pre .0), start .pre .1)
 
   pub enum-told-6 : lts.Need-enum-told-6 given (cascade-at t) cascade.Post
   enum-told-6 c = search needs
 
   pub cast-requires : lts.Need-cast-requires given (cascade-at t) cascade.Post
-  cast-requires c κs = (omega (arith, c .before .before .before .before .before .before .before .before .before .before .pre .0), c .before .before .before .before .before .before .before .before .before .before .pre .1)
+  cast-requires c κs =
+      let start = c .before .before .before .before .before .before .before .before .before .before in
+      (omega (arith, start .pre .0), start .pre .1)
 
   pub same-length : lts.Need-same-length given (cascade-at t) cascade.Post
   same-length c = omega (arith, c .before .before .before .before .before .before .bit-xor .kept)
@@ -62,7 +74,10 @@ module _ (t : ℕ) where
   same-length-3 c = omega (arith, c .before .before .before .before .before .before .bit-xor .kept)
 
   pub returns : lts.Need-returns given (cascade-at t) cascade.Post
-  returns c = rw (c .before .before .before .before .before .before .before .before .before .before .enum-told .given .1) (c .before .before .before .before .before .before .bit-xor .ensures)
+  returns c =
+      let at-bit-xor = c .before .before .before .before .before .before in
+      let at-enum-told = at-bit-xor .before .before .before .before in
+      rw (at-enum-told .enum-told .given .1) (at-bit-xor .bit-xor .ensures)
 
   pub same-length-4 : lts.Need-same-length-4 given (cascade-at t) cascade.Post
   same-length-4 c = omega (arith, c .before .before .before .before .before .before .bit-and .kept)
@@ -74,7 +89,10 @@ module _ (t : ℕ) where
   same-length-6 c = omega (arith, c .before .before .before .before .before .before .bit-and .kept)
 
   pub returns-2 : lts.Need-returns-2 given (cascade-at t) cascade.Post
-  returns-2 c = rw (c .before .before .before .before .before .before .before .before .before .before .enum-told2 .given .1) (c .before .before .before .before .before .before .bit-and .ensures)
+  returns-2 c =
+      let at-bit-and = c .before .before .before .before .before .before in
+      let at-enum-told2 = at-bit-and .before .before .before .before in
+      rw (at-enum-told2 .enum-told2 .given .1) (at-bit-and .bit-and .ensures)
 
   pub same-length-7 : lts.Need-same-length-7 given (cascade-at t) cascade.Post
   same-length-7 c = omega (arith, c .before .before .before .before .before .before .shift .kept)
@@ -86,7 +104,10 @@ module _ (t : ℕ) where
   same-length-9 c = omega (arith, c .before .before .before .before .before .before .shift .kept)
 
   pub returns-3 : lts.Need-returns-3 given (cascade-at t) cascade.Post
-  returns-3 c = rw (c .before .before .before .before .before .before .before .before .before .before .enum-told3 .given .1) (c .before .before .before .before .before .before .shift .ensures)
+  returns-3 c =
+      let at-shift = c .before .before .before .before .before .before in
+      let at-enum-told3 = at-shift .before .before .before .before in
+      rw (at-enum-told3 .enum-told3 .given .1) (at-shift .shift .ensures)
 
   pub same-length-10 : lts.Need-same-length-10 given (cascade-at t) cascade.Post
   same-length-10 c = omega (arith, c .before .before .before .before .before .before .add-sub .kept)
@@ -98,7 +119,10 @@ module _ (t : ℕ) where
   same-length-12 c = omega (arith, c .before .before .before .before .before .before .add-sub .kept)
 
   pub returns-4 : lts.Need-returns-4 given (cascade-at t) cascade.Post
-  returns-4 c = rw (c .before .before .before .before .before .before .before .before .before .before .enum-told4 .given .1) (c .before .before .before .before .before .before .add-sub .ensures)
+  returns-4 c =
+      let at-add-sub = c .before .before .before .before .before .before in
+      let at-enum-told4 = at-add-sub .before .before .before .before in
+      rw (at-enum-told4 .enum-told4 .given .1) (at-add-sub .add-sub .ensures)
 
   pub same-length-13 : lts.Need-same-length-13 given (cascade-at t) cascade.Post
   same-length-13 c = omega (arith, c .before .before .before .before .before .before .mul .kept)
@@ -110,7 +134,10 @@ module _ (t : ℕ) where
   same-length-15 c = omega (arith, c .before .before .before .before .before .before .mul .kept)
 
   pub returns-5 : lts.Need-returns-5 given (cascade-at t) cascade.Post
-  returns-5 c = rw (c .before .before .before .before .before .before .before .before .before .before .enum-told5 .given .1) (c .before .before .before .before .before .before .mul .ensures)
+  returns-5 c =
+      let at-mul = c .before .before .before .before .before .before in
+      let at-enum-told5 = at-mul .before .before .before .before in
+      rw (at-enum-told5 .enum-told5 .given .1) (at-mul .mul .ensures)
 
   pub same-length-16 : lts.Need-same-length-16 given (cascade-at t) cascade.Post
   same-length-16 c = omega (arith, c .before .before .before .before .before .before .cast .kept)
@@ -122,4 +149,7 @@ module _ (t : ℕ) where
   same-length-18 c = omega (arith, c .before .before .before .before .before .before .cast .kept)
 
   pub returns-6 : lts.Need-returns-6 given (cascade-at t) cascade.Post
-  returns-6 c = rw (c .before .before .before .before .before .before .before .before .before .before .enum-told6 .given .1) (c .before .before .before .before .before .before .cast .ensures)
+  returns-6 c =
+      let at-cast = c .before .before .before .before .before .before in
+      let at-enum-told6 = at-cast .before .before .before .before in
+      rw (at-enum-told6 .enum-told6 .given .1) (at-cast .cast .ensures)

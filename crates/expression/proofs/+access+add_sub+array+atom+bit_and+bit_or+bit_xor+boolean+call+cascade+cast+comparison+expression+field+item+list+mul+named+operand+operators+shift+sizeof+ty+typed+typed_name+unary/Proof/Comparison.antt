@@ -21,7 +21,9 @@ module _ (t : ℕ) where
   given = (bit-or-below t, bit-or.Post, head-reads.Asked, head-reads.Learnt, comparison-operator-reads.Asked, comparison-operator-reads.Learnt, abandon-reads.Asked, abandon-reads.Learnt, finish-reads.Asked, finish-reads.Learnt)
 
   pub bit-or-requires : lts.Need-bit-or-requires given (comparison-at t) comparison.Post
-  bit-or-requires c κs = (omega (arith, c .before .before .before .before .before .before .before .before .pre .0), c .before .before .before .before .before .before .before .before .pre .1)
+  bit-or-requires c κs =
+      let start = c .before .before .before .before .before .before .before .before in
+      (omega (arith, start .pre .0), start .pre .1)
 
   pub enum-told : lts.Need-enum-told given (comparison-at t) comparison.Post
   enum-told c = search needs
@@ -40,7 +42,10 @@ module _ (t : ℕ) where
   returns c = then-stops compare-on (c .before .before .before .before .before .before .before .bit-or .ensures) (c .match .keys2)
 
   pub head-requires : lts.Need-head-requires given (comparison-at t) comparison.Post
-  head-requires c κs = (c .before .before .before .before .before .before .before .before .before .before .before .before .before .before .before .before .before .before .pre .1 .asks .held, omega (arith, c .before .before .before .before .before .before .before .before .before .bit-or .ensures .moved .end))
+  head-requires c κs =
+      let at-bit-or = c .before .before .before .before .before .before .before .before .before in
+      let start = at-bit-or .before .before .before .before .before .before .before .before .before in
+      (start .pre .1 .asks .held, omega (arith, at-bit-or .bit-or .ensures .moved .end))
 
   pub comparison-operator-requires : lts.Need-comparison-operator-requires given (comparison-at t) comparison.Post
   comparison-operator-requires c κs = search needs
@@ -56,29 +61,71 @@ module _ (t : ℕ) where
 
   pub returns-2 : lts.Need-returns-2 given (comparison-at t) comparison.Post
   unfolding P.parse-comparison
-  returns-2 c = then-asked compare-on (c .before .before .before .before .before .before .before .before .before .before .before .before .before .before .before .before .before .before .before .before .before .pre .1) (c .before .before .before .before .before .before .before .before .before .before .before .before .bit-or .ensures) (compare-none (goes-on (c .before .before .before .before .before .before .before .before .before .before .before .before .before .before .before .before .before .before .before .before .before .pre .1) (c .before .before .before .before .before .before .before .before .before .before .before .before .bit-or .ensures) (omega (arith, c .before .before .before .before .before .before .before .before .before .before .before .before .bit-or .kept)) (omega (arith, c .before .before .before .before .before .before .before .before .before .before .before .before .bit-or .kept)) (omega (arith, c .before .before .before .before .before .before .before .before .before .before .before .before .bit-or .kept))) (c .before .before .before .before .enum-told .given .1) (c .before .before .head .ensures) (c .before .comparison-operator .ensures) (c .if1 .taken))
+  returns-2 c =
+      let at-enum-told = c .before .before .before .before in
+      let at-bit-or = at-enum-told .before .before .before .before .before .before .before .before in
+      let start = at-bit-or .before .before .before .before .before .before .before .before .before in
+      then-asked compare-on (start .pre .1) (at-bit-or .bit-or .ensures) (compare-none (goes-on (start .pre .1) (at-bit-or .bit-or .ensures) (omega (arith, at-bit-or .bit-or .kept)) (omega (arith, at-bit-or .bit-or .kept)) (omega (arith, at-bit-or .bit-or .kept))) (at-enum-told .enum-told .given .1) (c .before .before .head .ensures) (c .before .comparison-operator .ensures) (c .if1 .taken))
 
   pub bit-or-requires-2 : lts.Need-bit-or-requires-2 given (comparison-at t) comparison.Post
-  bit-or-requires-2 c κs = (omega (arith, c .before .before .before .before .before .before .before .before .before .before .before .before .before .before .before .before .before .before .before .before .before .before .before .before .pre .0, c .before .before .before .before .before .before .before .before .before .before .before .before .before .before .before .before .before .before .before .before .before .before .before .before .pre .1 .asks .at, c .before .before .before .before .before .before .before .before .before .before .before .before .before .before .before .bit-or .ensures .moved .at, c .before .before .before .before .before .head .ensures, c .before .before .before .before .comparison-operator .ensures, c .before .before .before .if1 .left), asked-seen (asked-moved (c .before .before .before .before .before .before .before .before .before .before .before .before .before .before .before .before .before .before .before .before .before .before .before .before .pre .1) (c .before .before .before .before .before .before .before .before .before .before .before .before .before .before .before .bit-or .ensures .moved) (omega (arith, c .before .before .before .before .before .before .before .before .before .before .before .before .before .before .before .bit-or .kept)) (omega (arith, c .before .before .before .before .before .before .before .before .before .before .before .before .before .before .before .bit-or .kept)) (omega (arith, c .before .before .before .before .before .before .before .before .before .before .before .before .before .before .before .bit-or .kept))) (c .before .before .before .before .before .head .ensures))
+  bit-or-requires-2 c κs =
+      let at-if1 = c .before .before .before in
+      let at-comparison-operator = at-if1 .before in
+      let at-head = at-comparison-operator .before in
+      let at-bit-or = at-head .before .before .before .before .before .before .before .before .before .before in
+      let start = at-bit-or .before .before .before .before .before .before .before .before .before in
+      (omega (arith, start .pre .0, start .pre .1 .asks .at, at-bit-or .bit-or .ensures .moved .at, at-head .head .ensures, at-comparison-operator .comparison-operator .ensures, at-if1 .if1 .left), asked-seen (asked-moved (start .pre .1) (at-bit-or .bit-or .ensures .moved) (omega (arith, at-bit-or .bit-or .kept)) (omega (arith, at-bit-or .bit-or .kept)) (omega (arith, at-bit-or .bit-or .kept))) (at-head .head .ensures))
 
   pub abandon-requires : lts.Need-abandon-requires given (comparison-at t) comparison.Post
-  abandon-requires c κs = join-cuts (goes-on (c .before .before .before .before .before .before .before .before .before .before .before .before .before .before .before .before .before .before .before .before .before .before .before .before .before .before .before .before .before .before .before .before .pre .1) (c .before .before .before .before .before .before .before .before .before .before .before .before .before .before .before .before .before .before .before .before .before .before .before .bit-or .ensures) (omega (arith, c .before .before .before .before .before .before .before .before .before .before .before .before .before .before .before .before .before .before .before .before .before .before .before .bit-or .kept)) (omega (arith, c .before .before .before .before .before .before .before .before .before .before .before .before .before .before .before .before .before .before .before .before .before .before .before .bit-or .kept)) (omega (arith, c .before .before .before .before .before .before .before .before .before .before .before .before .before .before .before .before .before .before .before .before .before .before .before .bit-or .kept))) (c .before .before .before .before .before .before .before .before .before .before .before .before .before .head .ensures) (c .before .before .before .before .before .before .before .bit-or2 .ensures) (omega (arith, c .before .before .before .before .before .before .before .bit-or2 .kept))
+  abandon-requires c κs =
+      let at-bit-or2 = c .before .before .before .before .before .before .before in
+      let at-head = at-bit-or2 .before .before .before .before .before .before in
+      let at-bit-or = at-head .before .before .before .before .before .before .before .before .before .before in
+      let start = at-bit-or .before .before .before .before .before .before .before .before .before in
+      join-cuts (goes-on (start .pre .1) (at-bit-or .bit-or .ensures) (omega (arith, at-bit-or .bit-or .kept)) (omega (arith, at-bit-or .bit-or .kept)) (omega (arith, at-bit-or .bit-or .kept))) (at-head .head .ensures) (at-bit-or2 .bit-or2 .ensures) (omega (arith, at-bit-or2 .bit-or2 .kept))
 
   pub sub-t38 : lts.Need-sub-t38 given (comparison-at t) comparison.Post
   sub-t38 c = omega arith
 
   pub finish-requires : lts.Need-finish-requires given (comparison-at t) comparison.Post
-  finish-requires c κs = join-room (goes-on (c .before .before .before .before .before .before .before .before .before .before .before .before .before .before .before .before .before .before .before .before .before .before .before .before .before .before .before .before .before .before .before .before .before .before .before .before .pre .1) (c .before .before .before .before .before .before .before .before .before .before .before .before .before .before .before .before .before .before .before .before .before .before .before .before .before .before .before .bit-or .ensures) (omega (arith, c .before .before .before .before .before .before .before .before .before .before .before .before .before .before .before .before .before .before .before .before .before .before .before .before .before .before .before .bit-or .kept)) (omega (arith, c .before .before .before .before .before .before .before .before .before .before .before .before .before .before .before .before .before .before .before .before .before .before .before .before .before .before .before .bit-or .kept)) (omega (arith, c .before .before .before .before .before .before .before .before .before .before .before .before .before .before .before .before .before .before .before .before .before .before .before .before .before .before .before .bit-or .kept))) (c .before .before .before .before .before .before .before .before .before .before .before .before .before .before .before .before .before .head .ensures) (c .before .before .before .before .before .before .before .before .before .before .before .bit-or2 .ensures) (c .before .before .before .abandon .ensures) (omega (arith, c .before .before .before .before .before .before .before .before .before .before .before .bit-or2 .kept))
+  finish-requires c κs =
+      let at-abandon = c .before .before .before in
+      let at-bit-or2 = at-abandon .before .before .before .before .before .before .before .before in
+      let at-head = at-bit-or2 .before .before .before .before .before .before in
+      let at-bit-or = at-head .before .before .before .before .before .before .before .before .before .before in
+      let start = at-bit-or .before .before .before .before .before .before .before .before .before in
+      join-room (goes-on (start .pre .1) (at-bit-or .bit-or .ensures) (omega (arith, at-bit-or .bit-or .kept)) (omega (arith, at-bit-or .bit-or .kept)) (omega (arith, at-bit-or .bit-or .kept))) (at-head .head .ensures) (at-bit-or2 .bit-or2 .ensures) (at-abandon .abandon .ensures) (omega (arith, at-bit-or2 .bit-or2 .kept))
 
   pub same-length-7 : lts.Need-same-length-7 given (comparison-at t) comparison.Post
-  same-length-7 c = omega (arith, c .before .before .finish .kept, c .before .before .before .before .before .before .abandon .kept, c .before .before .before .before .before .before .before .before .before .before .before .before .before .before .bit-or2 .kept, c .before .before .before .before .before .before .before .before .before .before .before .before .before .before .before .before .before .before .before .before .before .before .before .before .before .before .before .before .before .before .bit-or .kept)
+  same-length-7 c =
+      let at-abandon = c .before .before .before .before .before .before in
+      let at-bit-or2 = at-abandon .before .before .before .before .before .before .before .before in
+      let at-bit-or = at-bit-or2 .before .before .before .before .before .before .before .before .before .before .before .before .before .before .before .before in
+      omega (arith, c .before .before .finish .kept, at-abandon .abandon .kept, at-bit-or2 .bit-or2 .kept, at-bit-or .bit-or .kept)
 
   pub same-length-8 : lts.Need-same-length-8 given (comparison-at t) comparison.Post
-  same-length-8 c = omega (arith, c .before .before .finish .kept, c .before .before .before .before .before .before .abandon .kept, c .before .before .before .before .before .before .before .before .before .before .before .before .before .before .bit-or2 .kept, c .before .before .before .before .before .before .before .before .before .before .before .before .before .before .before .before .before .before .before .before .before .before .before .before .before .before .before .before .before .before .bit-or .kept)
+  same-length-8 c =
+      let at-abandon = c .before .before .before .before .before .before in
+      let at-bit-or2 = at-abandon .before .before .before .before .before .before .before .before in
+      let at-bit-or = at-bit-or2 .before .before .before .before .before .before .before .before .before .before .before .before .before .before .before .before in
+      omega (arith, c .before .before .finish .kept, at-abandon .abandon .kept, at-bit-or2 .bit-or2 .kept, at-bit-or .bit-or .kept)
 
   pub same-length-9 : lts.Need-same-length-9 given (comparison-at t) comparison.Post
-  same-length-9 c = omega (arith, c .before .before .finish .kept, c .before .before .before .before .before .before .abandon .kept, c .before .before .before .before .before .before .before .before .before .before .before .before .before .before .bit-or2 .kept, c .before .before .before .before .before .before .before .before .before .before .before .before .before .before .before .before .before .before .before .before .before .before .before .before .before .before .before .before .before .before .bit-or .kept)
+  same-length-9 c =
+      let at-abandon = c .before .before .before .before .before .before in
+      let at-bit-or2 = at-abandon .before .before .before .before .before .before .before .before in
+      let at-bit-or = at-bit-or2 .before .before .before .before .before .before .before .before .before .before .before .before .before .before .before .before in
+      omega (arith, c .before .before .finish .kept, at-abandon .abandon .kept, at-bit-or2 .bit-or2 .kept, at-bit-or .bit-or .kept)
 
   pub returns-3 : lts.Need-returns-3 given (comparison-at t) comparison.Post
   unfolding P.parse-comparison
-  returns-3 c = then-asked compare-on (c .before .before .before .before .before .before .before .before .before .before .before .before .before .before .before .before .before .before .before .before .before .before .before .before .before .before .before .before .before .before .before .before .before .before .before .before .before .before .before .pre .1) (c .before .before .before .before .before .before .before .before .before .before .before .before .before .before .before .before .before .before .before .before .before .before .before .before .before .before .before .before .before .before .bit-or .ensures) (compare-found (goes-on (c .before .before .before .before .before .before .before .before .before .before .before .before .before .before .before .before .before .before .before .before .before .before .before .before .before .before .before .before .before .before .before .before .before .before .before .before .before .before .before .pre .1) (c .before .before .before .before .before .before .before .before .before .before .before .before .before .before .before .before .before .before .before .before .before .before .before .before .before .before .before .before .before .before .bit-or .ensures) (omega (arith, c .before .before .before .before .before .before .before .before .before .before .before .before .before .before .before .before .before .before .before .before .before .before .before .before .before .before .before .before .before .before .bit-or .kept)) (omega (arith, c .before .before .before .before .before .before .before .before .before .before .before .before .before .before .before .before .before .before .before .before .before .before .before .before .before .before .before .before .before .before .bit-or .kept)) (omega (arith, c .before .before .before .before .before .before .before .before .before .before .before .before .before .before .before .before .before .before .before .before .before .before .before .before .before .before .before .before .before .before .bit-or .kept))) (c .before .before .before .before .before .before .before .before .before .before .before .before .before .before .before .before .before .before .before .before .before .before .enum-told .given .1) (c .before .before .before .before .before .before .before .before .before .before .before .before .before .before .before .before .before .before .before .before .head .ensures) (c .before .before .before .before .before .before .before .before .before .before .before .before .before .before .before .before .before .before .before .comparison-operator .ensures) (c .before .before .before .before .before .before .before .before .before .before .before .before .before .before .before .before .before .before .if1 .left) (c .before .before .before .before .before .before .before .before .before .before .before .before .before .before .bit-or2 .ensures) (c .before .before .before .before .before .before .abandon .ensures) (c .before .before .finish .ensures))
+  returns-3 c =
+      let at-abandon = c .before .before .before .before .before .before in
+      let at-bit-or2 = at-abandon .before .before .before .before .before .before .before .before in
+      let at-if1 = at-bit-or2 .before .before .before .before in
+      let at-comparison-operator = at-if1 .before in
+      let at-head = at-comparison-operator .before in
+      let at-enum-told = at-head .before .before in
+      let at-bit-or = at-enum-told .before .before .before .before .before .before .before .before in
+      let start = at-bit-or .before .before .before .before .before .before .before .before .before in
+      then-asked compare-on (start .pre .1) (at-bit-or .bit-or .ensures) (compare-found (goes-on (start .pre .1) (at-bit-or .bit-or .ensures) (omega (arith, at-bit-or .bit-or .kept)) (omega (arith, at-bit-or .bit-or .kept)) (omega (arith, at-bit-or .bit-or .kept))) (at-enum-told .enum-told .given .1) (at-head .head .ensures) (at-comparison-operator .comparison-operator .ensures) (at-if1 .if1 .left) (at-bit-or2 .bit-or2 .ensures) (at-abandon .abandon .ensures) (c .before .before .finish .ensures))

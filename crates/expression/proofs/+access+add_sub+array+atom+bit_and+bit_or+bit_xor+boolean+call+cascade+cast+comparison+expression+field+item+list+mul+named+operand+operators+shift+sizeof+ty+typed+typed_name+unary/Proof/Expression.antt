@@ -25,7 +25,9 @@ module _ (t : ℕ) where
   sub-boolean c = omega arith
 
   pub boolean-requires : lts.Need-boolean-requires given (expression-at t) expression.Post
-  boolean-requires c κs = (omega (arith, c .before .before .before .before .before .before .before .before .before .pre .0), c .before .before .before .before .before .before .before .before .before .pre .1)
+  boolean-requires c κs =
+      let start = c .before .before .before .before .before .before .before .before .before in
+      (omega (arith, start .pre .0), start .pre .1)
 
   pub same-length : lts.Need-same-length given (expression-at t) expression.Post
   same-length c = omega (arith, c .before .before .before .before .before .before .boolean .kept)
@@ -37,4 +39,7 @@ module _ (t : ℕ) where
   same-length-3 c = omega (arith, c .before .before .before .before .before .before .boolean .kept)
 
   pub returns-2 : lts.Need-returns-2 given (expression-at t) expression.Post
-  returns-2 c = down Expression (c .before .before .before .before .before .before .before .before .before .before .if1 .left) (c .before .before .before .before .before .before .boolean .ensures)
+  returns-2 c =
+      let at-boolean = c .before .before .before .before .before .before in
+      let at-if1 = at-boolean .before .before .before .before in
+      down Expression (at-if1 .if1 .left) (at-boolean .boolean .ensures)

@@ -23,34 +23,80 @@ module _ (t : ℕ) where
   expect-identifier-requires c κs = c .before .before .before .before .before .before .before .before .pre .1 .asks
 
   pub and-expect-requires : lts.Need-and-expect-requires given (field-at t) field.Post
-  and-expect-requires c κs = (field-follows (c .before .before .before .before .before .before .before .before .before .before .before .before .before .before .before .pre .1) (c .before .before .before .before .before .before .before .before .before .head .ensures) (c .before .before .before .before .before .before .expect-identifier .ensures) (omega (arith, c .before .before .before .before .before .before .expect-identifier .kept)) (omega (arith, c .before .before .before .before .before .before .expect-identifier .kept)), (omega arith, omega arith))
+  and-expect-requires c κs =
+      let at-expect-identifier = c .before .before .before .before .before .before in
+      let at-head = at-expect-identifier .before .before .before in
+      let start = at-head .before .before .before .before .before .before in
+      (field-follows (start .pre .1) (at-head .head .ensures) (at-expect-identifier .expect-identifier .ensures) (omega (arith, at-expect-identifier .expect-identifier .kept)) (omega (arith, at-expect-identifier .expect-identifier .kept)), (omega arith, omega arith))
 
   pub enum-told : lts.Need-enum-told given (field-at t) field.Post
   enum-told c = search needs
 
   pub same-length : lts.Need-same-length given (field-at t) field.Post
-  same-length c = omega (arith, c .before .before .before .before .before .and-expect .kept, c .before .before .before .before .before .before .before .before .before .before .before .before .expect-identifier .kept)
+  same-length c =
+      let at-and-expect = c .before .before .before .before .before in
+      let at-expect-identifier = at-and-expect .before .before .before .before .before .before .before in
+      omega (arith, at-and-expect .and-expect .kept, at-expect-identifier .expect-identifier .kept)
 
   pub same-length-2 : lts.Need-same-length-2 given (field-at t) field.Post
-  same-length-2 c = omega (arith, c .before .before .before .before .before .and-expect .kept, c .before .before .before .before .before .before .before .before .before .before .before .before .expect-identifier .kept)
+  same-length-2 c =
+      let at-and-expect = c .before .before .before .before .before in
+      let at-expect-identifier = at-and-expect .before .before .before .before .before .before .before in
+      omega (arith, at-and-expect .and-expect .kept, at-expect-identifier .expect-identifier .kept)
 
   pub returns : lts.Need-returns given (field-at t) field.Post
-  returns c = field-stops (c .before .before .before .before .before .before .before .before .before .before .before .before .before .before .before .before .before .before .before .before .before .pre .1) (c .before .before .before .before .before .before .before .before .before .before .before .before .before .before .before .head .ensures) (c .before .before .before .before .before .before .before .before .before .before .before .before .expect-identifier .ensures) (c .before .before .before .before .before .and-expect .ensures) (omega (arith, c .before .before .before .before .before .before .before .before .before .before .before .before .expect-identifier .kept)) (omega (arith, c .before .before .before .before .before .before .before .before .before .before .before .before .expect-identifier .kept)) (c .match .keys2)
+  returns c =
+      let at-and-expect = c .before .before .before .before .before in
+      let at-expect-identifier = at-and-expect .before .before .before .before .before .before .before in
+      let at-head = at-expect-identifier .before .before .before in
+      let start = at-head .before .before .before .before .before .before in
+      field-stops (start .pre .1) (at-head .head .ensures) (at-expect-identifier .expect-identifier .ensures) (at-and-expect .and-expect .ensures) (omega (arith, at-expect-identifier .expect-identifier .kept)) (omega (arith, at-expect-identifier .expect-identifier .kept)) (c .match .keys2)
 
   pub expression-requires : lts.Need-expression-requires given (field-at t) field.Post
-  expression-requires c κs = (omega (arith, c .before .before .before .before .before .before .before .before .before .before .before .before .before .before .before .before .before .before .before .before .before .before .before .before .before .before .pre .0, c .before .before .before .before .before .before .before .before .before .before .before .before .before .before .before .before .before .expect-identifier .ensures .moved, c .before .before .before .before .before .before .before .before .before .before .and-expect .ensures .moved), field-asked (c .before .before .before .before .before .before .before .before .before .before .before .before .before .before .before .before .before .before .before .before .before .before .before .before .before .before .pre .1) (c .before .before .before .before .before .before .before .before .before .before .before .before .before .before .before .before .before .before .before .before .head .ensures) (c .before .before .before .before .before .before .before .before .before .before .before .before .before .before .before .before .before .expect-identifier .ensures) (c .before .before .before .before .before .before .before .before .before .before .and-expect .ensures) (omega (arith, c .before .before .before .before .before .before .before .before .before .before .before .before .before .before .before .before .before .expect-identifier .kept, c .before .before .before .before .before .before .before .before .before .before .and-expect .kept)) (omega (arith, c .before .before .before .before .before .before .before .before .before .before .before .before .before .before .before .before .before .expect-identifier .kept, c .before .before .before .before .before .before .before .before .before .before .and-expect .kept)))
+  expression-requires c κs =
+      let at-and-expect = c .before .before .before .before .before .before .before .before .before .before in
+      let at-expect-identifier = at-and-expect .before .before .before .before .before .before .before in
+      let at-head = at-expect-identifier .before .before .before in
+      let start = at-head .before .before .before .before .before .before in
+      (omega (arith, start .pre .0, at-expect-identifier .expect-identifier .ensures .moved, at-and-expect .and-expect .ensures .moved), field-asked (start .pre .1) (at-head .head .ensures) (at-expect-identifier .expect-identifier .ensures) (at-and-expect .and-expect .ensures) (omega (arith, at-expect-identifier .expect-identifier .kept, at-and-expect .and-expect .kept)) (omega (arith, at-expect-identifier .expect-identifier .kept, at-and-expect .and-expect .kept)))
 
   pub finish-requires : lts.Need-finish-requires given (field-at t) field.Post
-  finish-requires c κs = field-room (c .before .before .before .before .before .before .before .before .before .before .before .before .before .before .before .before .before .before .before .before .before .before .before .before .before .before .before .before .before .before .before .before .before .before .pre .1) (c .before .before .before .before .before .before .before .before .before .before .before .before .before .before .before .before .before .before .before .before .before .before .before .before .before .before .before .before .head .ensures) (c .before .before .before .before .before .before .before .before .before .before .before .before .before .before .before .before .before .before .before .before .before .before .before .before .before .expect-identifier .ensures) (c .before .before .before .before .before .before .before .before .before .before .before .before .before .before .before .before .before .before .and-expect .ensures) (c .before .before .before .before .before .before .before .before .before .before .before .before .enum-told .given .1) (c .before .before .before .before .before .before .before .expression .ensures) (omega (arith, c .before .before .before .before .before .before .before .expression .kept))
+  finish-requires c κs =
+      let at-expression = c .before .before .before .before .before .before .before in
+      let at-enum-told = at-expression .before .before .before .before .before in
+      let at-and-expect = at-enum-told .before .before .before .before .before .before in
+      let at-expect-identifier = at-and-expect .before .before .before .before .before .before .before in
+      let at-head = at-expect-identifier .before .before .before in
+      let start = at-head .before .before .before .before .before .before in
+      field-room (start .pre .1) (at-head .head .ensures) (at-expect-identifier .expect-identifier .ensures) (at-and-expect .and-expect .ensures) (at-enum-told .enum-told .given .1) (at-expression .expression .ensures) (omega (arith, at-expression .expression .kept))
 
   pub same-length-3 : lts.Need-same-length-3 given (field-at t) field.Post
-  same-length-3 c = omega (arith, c .before .before .finish .kept, c .before .before .before .before .before .before .before .before .before .before .expression .kept, c .before .before .before .before .before .before .before .before .before .before .before .before .before .before .before .before .before .before .before .before .before .and-expect .kept, c .before .before .before .before .before .before .before .before .before .before .before .before .before .before .before .before .before .before .before .before .before .before .before .before .before .before .before .before .expect-identifier .kept)
+  same-length-3 c =
+      let at-expression = c .before .before .before .before .before .before .before .before .before .before in
+      let at-and-expect = at-expression .before .before .before .before .before .before .before .before .before .before .before in
+      let at-expect-identifier = at-and-expect .before .before .before .before .before .before .before in
+      omega (arith, c .before .before .finish .kept, at-expression .expression .kept, at-and-expect .and-expect .kept, at-expect-identifier .expect-identifier .kept)
 
   pub same-length-4 : lts.Need-same-length-4 given (field-at t) field.Post
-  same-length-4 c = omega (arith, c .before .before .before .before .before .before .before .before .before .before .expression .kept, c .before .before .before .before .before .before .before .before .before .before .before .before .before .before .before .before .before .before .before .before .before .and-expect .kept, c .before .before .before .before .before .before .before .before .before .before .before .before .before .before .before .before .before .before .before .before .before .before .before .before .before .before .before .before .expect-identifier .kept)
+  same-length-4 c =
+      let at-expression = c .before .before .before .before .before .before .before .before .before .before in
+      let at-and-expect = at-expression .before .before .before .before .before .before .before .before .before .before .before in
+      let at-expect-identifier = at-and-expect .before .before .before .before .before .before .before in
+      omega (arith, at-expression .expression .kept, at-and-expect .and-expect .kept, at-expect-identifier .expect-identifier .kept)
 
   pub same-length-5 : lts.Need-same-length-5 given (field-at t) field.Post
-  same-length-5 c = omega (arith, c .before .before .before .before .before .before .before .before .before .before .expression .kept, c .before .before .before .before .before .before .before .before .before .before .before .before .before .before .before .before .before .before .before .before .before .and-expect .kept, c .before .before .before .before .before .before .before .before .before .before .before .before .before .before .before .before .before .before .before .before .before .before .before .before .before .before .before .before .expect-identifier .kept)
+  same-length-5 c =
+      let at-expression = c .before .before .before .before .before .before .before .before .before .before in
+      let at-and-expect = at-expression .before .before .before .before .before .before .before .before .before .before .before in
+      let at-expect-identifier = at-and-expect .before .before .before .before .before .before .before in
+      omega (arith, at-expression .expression .kept, at-and-expect .and-expect .kept, at-expect-identifier .expect-identifier .kept)
 
   pub returns-2 : lts.Need-returns-2 given (field-at t) field.Post
-  returns-2 c = field-done (c .before .before .before .before .before .before .before .before .before .before .before .before .before .before .before .before .before .before .before .before .before .before .before .before .before .before .before .before .before .before .before .before .before .before .before .before .before .pre .1) (c .before .before .before .before .before .before .before .before .before .before .before .before .before .before .before .before .before .before .before .before .before .before .before .before .before .before .before .before .before .before .before .head .ensures) (c .before .before .before .before .before .before .before .before .before .before .before .before .before .before .before .before .before .before .before .before .before .before .before .before .before .before .before .before .expect-identifier .ensures) (c .before .before .before .before .before .before .before .before .before .before .before .before .before .before .before .before .before .before .before .before .before .and-expect .ensures) (c .before .before .before .before .before .before .before .before .before .before .before .before .before .before .before .enum-told .given .1) (c .before .before .before .before .before .before .before .before .before .before .expression .ensures) (c .before .before .finish .ensures)
+  returns-2 c =
+      let at-expression = c .before .before .before .before .before .before .before .before .before .before in
+      let at-enum-told = at-expression .before .before .before .before .before in
+      let at-and-expect = at-enum-told .before .before .before .before .before .before in
+      let at-expect-identifier = at-and-expect .before .before .before .before .before .before .before in
+      let at-head = at-expect-identifier .before .before .before in
+      let start = at-head .before .before .before .before .before .before in
+      field-done (start .pre .1) (at-head .head .ensures) (at-expect-identifier .expect-identifier .ensures) (at-and-expect .and-expect .ensures) (at-enum-told .enum-told .given .1) (at-expression .expression .ensures) (c .before .before .finish .ensures)

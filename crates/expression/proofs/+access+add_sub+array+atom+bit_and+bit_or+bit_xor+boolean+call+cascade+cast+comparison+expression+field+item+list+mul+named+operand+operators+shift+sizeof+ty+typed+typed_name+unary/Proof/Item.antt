@@ -18,31 +18,41 @@ module _ (t : ℕ) where
   enum-told c = search needs
 
   pub named-requires : lts.Need-named-requires given (item-at t) item.Post
-  named-requires c κs = (omega (arith, c .before .before .before .before .before .before .before .before .before .before .pre .0), c .before .before .before .before .before .before .before .before .before .before .pre .1)
+  named-requires c κs =
+      let start = c .before .before .before .before .before .before .before .before .before .before in
+      (omega (arith, start .pre .0), start .pre .1)
 
   pub enum-told-2 : lts.Need-enum-told-2 given (item-at t) item.Post
   enum-told-2 c = search needs
 
   pub expression-requires : lts.Need-expression-requires given (item-at t) item.Post
-  expression-requires c κs = (omega (arith, c .before .before .before .before .before .before .before .before .before .before .pre .0), c .before .before .before .before .before .before .before .before .before .before .pre .1)
+  expression-requires c κs =
+      let start = c .before .before .before .before .before .before .before .before .before .before in
+      (omega (arith, start .pre .0), start .pre .1)
 
   pub enum-told-3 : lts.Need-enum-told-3 given (item-at t) item.Post
   enum-told-3 c = search needs
 
   pub named-requires-2 : lts.Need-named-requires-2 given (item-at t) item.Post
-  named-requires-2 c κs = (omega (arith, c .before .before .before .before .before .before .before .before .before .before .pre .0), c .before .before .before .before .before .before .before .before .before .before .pre .1)
+  named-requires-2 c κs =
+      let start = c .before .before .before .before .before .before .before .before .before .before in
+      (omega (arith, start .pre .0), start .pre .1)
 
   pub enum-told-4 : lts.Need-enum-told-4 given (item-at t) item.Post
   enum-told-4 c = search needs
 
   pub expression-requires-2 : lts.Need-expression-requires-2 given (item-at t) item.Post
-  expression-requires-2 c κs = (omega (arith, c .before .before .before .before .before .before .before .before .before .before .pre .0), c .before .before .before .before .before .before .before .before .before .before .pre .1)
+  expression-requires-2 c κs =
+      let start = c .before .before .before .before .before .before .before .before .before .before in
+      (omega (arith, start .pre .0), start .pre .1)
 
   pub enum-told-5 : lts.Need-enum-told-5 given (item-at t) item.Post
   enum-told-5 c = search needs
 
   pub field-requires : lts.Need-field-requires given (item-at t) item.Post
-  field-requires c κs = (omega (arith, c .before .before .before .before .before .before .before .before .before .before .pre .0), c .before .before .before .before .before .before .before .before .before .before .pre .1)
+  field-requires c κs =
+      let start = c .before .before .before .before .before .before .before .before .before .before in
+      (omega (arith, start .pre .0), start .pre .1)
 
   pub same-length : lts.Need-same-length given (item-at t) item.Post
   same-length c = omega (arith, c .before .before .before .before .before .before .named .kept)
@@ -54,7 +64,10 @@ module _ (t : ℕ) where
   same-length-3 c = omega (arith, c .before .before .before .before .before .before .named .kept)
 
   pub returns : lts.Need-returns given (item-at t) item.Post
-  returns c = item-parameter (c .before .before .before .before .before .before .before .before .before .before .enum-told .given .1) (c .before .before .before .before .before .before .named .ensures)
+  returns c =
+      let at-named = c .before .before .before .before .before .before in
+      let at-enum-told = at-named .before .before .before .before in
+      item-parameter (at-enum-told .enum-told .given .1) (at-named .named .ensures)
 
   pub same-length-4 : lts.Need-same-length-4 given (item-at t) item.Post
   same-length-4 c = omega (arith, c .before .before .before .before .before .before .expression .kept)
@@ -66,7 +79,10 @@ module _ (t : ℕ) where
   same-length-6 c = omega (arith, c .before .before .before .before .before .before .expression .kept)
 
   pub returns-2 : lts.Need-returns-2 given (item-at t) item.Post
-  returns-2 c = item-argument (c .before .before .before .before .before .before .before .before .before .before .enum-told2 .given .1) (c .before .before .before .before .before .before .expression .ensures)
+  returns-2 c =
+      let at-expression = c .before .before .before .before .before .before in
+      let at-enum-told2 = at-expression .before .before .before .before in
+      item-argument (at-enum-told2 .enum-told2 .given .1) (at-expression .expression .ensures)
 
   pub same-length-7 : lts.Need-same-length-7 given (item-at t) item.Post
   same-length-7 c = omega (arith, c .before .before .before .before .before .before .named2 .kept)
@@ -78,7 +94,10 @@ module _ (t : ℕ) where
   same-length-9 c = omega (arith, c .before .before .before .before .before .before .named2 .kept)
 
   pub returns-3 : lts.Need-returns-3 given (item-at t) item.Post
-  returns-3 c = item-field (c .before .before .before .before .before .before .before .before .before .before .enum-told3 .given .1) (c .before .before .before .before .before .before .named2 .ensures)
+  returns-3 c =
+      let at-named2 = c .before .before .before .before .before .before in
+      let at-enum-told3 = at-named2 .before .before .before .before in
+      item-field (at-enum-told3 .enum-told3 .given .1) (at-named2 .named2 .ensures)
 
   pub same-length-10 : lts.Need-same-length-10 given (item-at t) item.Post
   same-length-10 c = omega (arith, c .before .before .before .before .before .before .expression2 .kept)
@@ -90,7 +109,10 @@ module _ (t : ℕ) where
   same-length-12 c = omega (arith, c .before .before .before .before .before .before .expression2 .kept)
 
   pub returns-4 : lts.Need-returns-4 given (item-at t) item.Post
-  returns-4 c = item-value (c .before .before .before .before .before .before .before .before .before .before .enum-told4 .given .1) (c .before .before .before .before .before .before .expression2 .ensures)
+  returns-4 c =
+      let at-expression2 = c .before .before .before .before .before .before in
+      let at-enum-told4 = at-expression2 .before .before .before .before in
+      item-value (at-enum-told4 .enum-told4 .given .1) (at-expression2 .expression2 .ensures)
 
   pub same-length-13 : lts.Need-same-length-13 given (item-at t) item.Post
   same-length-13 c = omega (arith, c .before .before .before .before .before .before .field .kept)
@@ -102,4 +124,7 @@ module _ (t : ℕ) where
   same-length-15 c = omega (arith, c .before .before .before .before .before .before .field .kept)
 
   pub returns-5 : lts.Need-returns-5 given (item-at t) item.Post
-  returns-5 c = item-named-value (c .before .before .before .before .before .before .before .before .before .before .enum-told5 .given .1) (c .before .before .before .before .before .before .field .ensures)
+  returns-5 c =
+      let at-field = c .before .before .before .before .before .before in
+      let at-enum-told5 = at-field .before .before .before .before in
+      item-named-value (at-enum-told5 .enum-told5 .given .1) (at-field .field .ensures)

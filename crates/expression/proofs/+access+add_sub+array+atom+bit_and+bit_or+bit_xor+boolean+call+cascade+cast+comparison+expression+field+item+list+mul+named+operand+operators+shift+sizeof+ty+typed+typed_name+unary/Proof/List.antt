@@ -48,13 +48,20 @@ module _ (t : ℕ) where
   same-length-2 c = omega (arith, c .before .before .before .before .before .before .expect .kept)
 
   pub returns : lts.Need-returns given (list-at t) list.Post Inv-loop μ-loop
-  returns c = list-refused _ (c .before .before .before .before .before .before .before .before .before .before .before .before .before .before .before .pre .1) (c .before .before .before .before .before .before .before .before .before .opener .ensures) (c .before .before .before .before .before .before .expect .ensures) (c .before .match .keys1)
+  returns c =
+      let at-expect = c .before .before .before .before .before .before in
+      let at-opener = at-expect .before .before .before in
+      let start = at-opener .before .before .before .before .before .before in
+      list-refused _ (start .pre .1) (at-opener .opener .ensures) (at-expect .expect .ensures) (c .before .match .keys1)
 
   pub closer-requires : lts.Need-closer-requires given (list-at t) list.Post Inv-loop μ-loop
   closer-requires c κs = search needs
 
   pub loop-holds : lts.Need-loop-holds given (list-at t) list.Post Inv-loop μ-loop
-  loop-holds c = ((asked-moved (c .before .before .before .before .before .before .before .before .before .before .before .before .before .before .before .before .pre .1) (c .before .before .before .before .before .before .before .expect .ensures .moved) refl (omega (arith, c .before .before .before .before .before .before .before .expect .kept)) (omega (arith, c .before .before .before .before .before .before .before .expect .kept)), omega arith), at-start)
+  loop-holds c =
+      let at-expect = c .before .before .before .before .before .before .before in
+      let start = at-expect .before .before .before .before .before .before .before .before .before in
+      ((asked-moved (start .pre .1) (at-expect .expect .ensures .moved) refl (omega (arith, at-expect .expect .kept)) (omega (arith, at-expect .expect .kept)), omega arith), at-start)
 
   pub head-requires : lts.Need-head-requires given (list-at t) list.Post Inv-loop μ-loop
   head-requires c κs = (c .loop .inv .0 .0 .asks .held, c .loop .inv .0 .0 .asks .at)
@@ -66,70 +73,184 @@ module _ (t : ℕ) where
   note-requires c κs = raise-asked (c .before .before .before .before .before .before .loop .inv .0 .0)
 
   pub same-length-3 : lts.Need-same-length-3 given (list-at t) list.Post Inv-loop μ-loop
-  same-length-3 c = omega (arith, c .before .before .before .before .before .before .before .before .before .before .before .before .loop .inv .1, c .before .before .before .before .before .before .before .before .before .before .before .before .before .before .before .before .before .before .before .before .expect .kept)
+  same-length-3 c =
+      let at-loop = c .before .before .before .before .before .before .before .before .before .before .before .before in
+      let at-expect = at-loop .before .before .before .before .before .before .before .before in
+      omega (arith, at-loop .loop .inv .1, at-expect .expect .kept)
 
   pub same-length-4 : lts.Need-same-length-4 given (list-at t) list.Post Inv-loop μ-loop
-  same-length-4 c = omega (arith, c .before .before .before .before .before .before .before .before .before .before .before .before .loop .inv .1, c .before .before .before .before .before .before .before .before .before .before .before .before .before .before .before .before .before .before .before .before .expect .kept, c .before .before .before .before .before .note .kept)
+  same-length-4 c =
+      let at-note = c .before .before .before .before .before in
+      let at-loop = at-note .before .before .before .before .before .before .before in
+      let at-expect = at-loop .before .before .before .before .before .before .before .before in
+      omega (arith, at-loop .loop .inv .1, at-expect .expect .kept, at-note .note .kept)
 
   pub same-length-5 : lts.Need-same-length-5 given (list-at t) list.Post Inv-loop μ-loop
-  same-length-5 c = omega (arith, c .before .before .before .before .before .before .before .before .before .before .before .before .loop .inv .1, c .before .before .before .before .before .before .before .before .before .before .before .before .before .before .before .before .before .before .before .before .expect .kept, c .before .before .before .before .before .note .kept)
+  same-length-5 c =
+      let at-note = c .before .before .before .before .before in
+      let at-loop = at-note .before .before .before .before .before .before .before in
+      let at-expect = at-loop .before .before .before .before .before .before .before .before in
+      omega (arith, at-loop .loop .inv .1, at-expect .expect .kept, at-note .note .kept)
 
   pub returns-2 : lts.Need-returns-2 given (list-at t) list.Post Inv-loop μ-loop
-  returns-2 c = list-on _ (c .before .before .before .before .before .before .before .before .before .before .before .before .before .before .before .before .before .before .before .before .before .before .before .before .before .before .before .before .before .pre .1) (c .before .before .before .before .before .before .before .before .before .before .before .before .before .before .before .before .before .before .before .before .before .before .before .opener .ensures) (c .before .before .before .before .before .before .before .before .before .before .before .before .before .before .before .before .before .before .before .before .expect .ensures) (c .before .before .before .before .before .before .before .before .before .before .before .before .before .before .before .match .keys2) (c .before .before .before .before .before .before .before .before .before .before .before .before .loop .inv .1 .rest (rest-end _ (c .before .before .before .before .before .before .before .before .before .before .before .before .loop .inv .0) (c .before .before .before .before .before .before .before .before .before .before .before .head .ensures) (c .before .before .before .before .before .before .before .before .before .if1 .taken) (c .before .before .before .before .before .before .entry .ensures) (c .before .before .before .before .before .note .ensures)))
+  returns-2 c =
+      let at-note = c .before .before .before .before .before in
+      let at-entry = at-note .before in
+      let at-if1 = at-entry .before .before .before in
+      let at-head = at-if1 .before .before in
+      let at-loop = at-head .before in
+      let at-match = at-loop .before .before .before in
+      let at-expect = at-match .before .before .before .before .before in
+      let at-opener = at-expect .before .before .before in
+      let start = at-opener .before .before .before .before .before .before in
+      list-on _ (start .pre .1) (at-opener .opener .ensures) (at-expect .expect .ensures) (at-match .match .keys2) (at-loop .loop .inv .1 .rest (rest-end _ (at-loop .loop .inv .0) (at-head .head .ensures) (at-if1 .if1 .taken) (at-entry .entry .ensures) (at-note .note .ensures)))
 
   pub same-length-6 : lts.Need-same-length-6 given (list-at t) list.Post Inv-loop μ-loop
-  same-length-6 c = omega (arith, c .before .before .before .before .before .loop .inv .1, c .before .before .before .before .before .before .before .before .before .before .before .before .before .expect .kept)
+  same-length-6 c =
+      let at-loop = c .before .before .before .before .before in
+      let at-expect = at-loop .before .before .before .before .before .before .before .before in
+      omega (arith, at-loop .loop .inv .1, at-expect .expect .kept)
 
   pub same-length-7 : lts.Need-same-length-7 given (list-at t) list.Post Inv-loop μ-loop
-  same-length-7 c = omega (arith, c .before .before .before .before .before .loop .inv .1, c .before .before .before .before .before .before .before .before .before .before .before .before .before .expect .kept)
+  same-length-7 c =
+      let at-loop = c .before .before .before .before .before in
+      let at-expect = at-loop .before .before .before .before .before .before .before .before in
+      omega (arith, at-loop .loop .inv .1, at-expect .expect .kept)
 
   pub same-length-8 : lts.Need-same-length-8 given (list-at t) list.Post Inv-loop μ-loop
-  same-length-8 c = omega (arith, c .before .before .before .before .before .loop .inv .1, c .before .before .before .before .before .before .before .before .before .before .before .before .before .expect .kept)
+  same-length-8 c =
+      let at-loop = c .before .before .before .before .before in
+      let at-expect = at-loop .before .before .before .before .before .before .before .before in
+      omega (arith, at-loop .loop .inv .1, at-expect .expect .kept)
 
   pub returns-3 : lts.Need-returns-3 given (list-at t) list.Post Inv-loop μ-loop
-  returns-3 c = list-on _ (c .before .before .before .before .before .before .before .before .before .before .before .before .before .before .before .before .before .before .before .before .before .before .pre .1) (c .before .before .before .before .before .before .before .before .before .before .before .before .before .before .before .before .opener .ensures) (c .before .before .before .before .before .before .before .before .before .before .before .before .before .expect .ensures) (c .before .before .before .before .before .before .before .before .match .keys2) (c .before .before .before .before .before .loop .inv .1 .rest (rest-closed _ (c .before .before .before .before .before .loop .inv .0) (c .before .before .before .before .head .ensures) (c .before .before .if1 .left) (c .before .before .before .before .before .before .before .closer .ensures) (c .if2 .taken)))
+  returns-3 c =
+      let at-head = c .before .before .before .before in
+      let at-loop = at-head .before in
+      let at-closer = at-loop .before .before in
+      let at-match = at-closer .before in
+      let at-expect = at-match .before .before .before .before .before in
+      let at-opener = at-expect .before .before .before in
+      let start = at-opener .before .before .before .before .before .before in
+      list-on _ (start .pre .1) (at-opener .opener .ensures) (at-expect .expect .ensures) (at-match .match .keys2) (at-loop .loop .inv .1 .rest (rest-closed _ (at-loop .loop .inv .0) (at-head .head .ensures) (c .before .before .if1 .left) (at-closer .closer .ensures) (c .if2 .taken)))
 
   pub item-requires : lts.Need-item-requires given (list-at t) list.Post Inv-loop μ-loop
-  item-requires c κs = (omega (arith, c .before .before .before .before .before .before .before .before .before .before .before .before .before .before .before .before .before .before .before .before .before .before .before .before .before .pre .0, c .before .before .before .before .before .before .before .before .before .before .before .before .before .before .before .before .expect .ensures .moved, c .before .before .before .before .before .before .before .before .loop .inv .1 .on), c .before .before .before .before .before .before .before .before .loop .inv .0 .0)
+  item-requires c κs =
+      let at-loop = c .before .before .before .before .before .before .before .before in
+      let at-expect = at-loop .before .before .before .before .before .before .before .before in
+      let start = at-expect .before .before .before .before .before .before .before .before .before in
+      (omega (arith, start .pre .0, at-expect .expect .ensures .moved, at-loop .loop .inv .1 .on), at-loop .loop .inv .0 .0)
 
   pub enum-told-2 : lts.Need-enum-told-2 given (list-at t) list.Post Inv-loop μ-loop
   enum-told-2 c = search needs
 
   pub same-length-9 : lts.Need-same-length-9 given (list-at t) list.Post Inv-loop μ-loop
-  same-length-9 c = omega (arith, c .before .before .before .before .before .before .before .before .before .before .before .before .before .before .before .before .before .before .loop .inv .1, c .before .before .before .before .before .before .before .before .before .before .before .before .before .before .before .before .before .before .before .before .before .before .before .before .before .before .expect .kept, c .before .before .before .before .before .before .before .before .before .item .kept)
+  same-length-9 c =
+      let at-item = c .before .before .before .before .before .before .before .before .before in
+      let at-loop = at-item .before .before .before .before .before .before .before .before .before in
+      let at-expect = at-loop .before .before .before .before .before .before .before .before in
+      omega (arith, at-loop .loop .inv .1, at-expect .expect .kept, at-item .item .kept)
 
   pub same-length-10 : lts.Need-same-length-10 given (list-at t) list.Post Inv-loop μ-loop
-  same-length-10 c = omega (arith, c .before .before .before .before .before .before .before .before .before .before .before .before .before .before .before .before .before .before .loop .inv .1, c .before .before .before .before .before .before .before .before .before .before .before .before .before .before .before .before .before .before .before .before .before .before .before .before .before .before .expect .kept, c .before .before .before .before .before .before .before .before .before .item .kept)
+  same-length-10 c =
+      let at-item = c .before .before .before .before .before .before .before .before .before in
+      let at-loop = at-item .before .before .before .before .before .before .before .before .before in
+      let at-expect = at-loop .before .before .before .before .before .before .before .before in
+      omega (arith, at-loop .loop .inv .1, at-expect .expect .kept, at-item .item .kept)
 
   pub same-length-11 : lts.Need-same-length-11 given (list-at t) list.Post Inv-loop μ-loop
-  same-length-11 c = omega (arith, c .before .before .before .before .before .before .before .before .before .before .before .before .before .before .before .before .before .before .loop .inv .1, c .before .before .before .before .before .before .before .before .before .before .before .before .before .before .before .before .before .before .before .before .before .before .before .before .before .before .expect .kept, c .before .before .before .before .before .before .before .before .before .item .kept)
+  same-length-11 c =
+      let at-item = c .before .before .before .before .before .before .before .before .before in
+      let at-loop = at-item .before .before .before .before .before .before .before .before .before in
+      let at-expect = at-loop .before .before .before .before .before .before .before .before in
+      omega (arith, at-loop .loop .inv .1, at-expect .expect .kept, at-item .item .kept)
 
   pub returns-4 : lts.Need-returns-4 given (list-at t) list.Post Inv-loop μ-loop
-  returns-4 c = list-on _ (c .before .before .before .before .before .before .before .before .before .before .before .before .before .before .before .before .before .before .before .before .before .before .before .before .before .before .before .before .before .before .before .before .before .before .before .pre .1) (c .before .before .before .before .before .before .before .before .before .before .before .before .before .before .before .before .before .before .before .before .before .before .before .before .before .before .before .before .before .opener .ensures) (c .before .before .before .before .before .before .before .before .before .before .before .before .before .before .before .before .before .before .before .before .before .before .before .before .before .before .expect .ensures) (c .before .before .before .before .before .before .before .before .before .before .before .before .before .before .before .before .before .before .before .before .before .match .keys2) (c .before .before .before .before .before .before .before .before .before .before .before .before .before .before .before .before .before .before .loop .inv .1 .rest (rest-item _ (c .before .before .before .before .before .before .before .before .before .before .before .before .before .before .before .before .before .before .loop .inv .0) (c .before .before .before .before .before .before .before .before .before .before .before .before .before .before .before .before .before .head .ensures) (c .before .before .before .before .before .before .before .before .before .before .before .before .before .before .before .if1 .left) (c .before .before .before .before .before .before .before .before .before .before .before .before .before .before .before .before .before .before .before .before .closer .ensures) (c .before .before .before .before .before .before .before .before .before .before .before .before .before .if2 .left) (c .before .before .before .before .before .before .before .before .before .item .ensures) (c .before .match2 .keys1)))
+  returns-4 c =
+      let at-item = c .before .before .before .before .before .before .before .before .before in
+      let at-if2 = at-item .before .before .before .before in
+      let at-if1 = at-if2 .before .before in
+      let at-head = at-if1 .before .before in
+      let at-loop = at-head .before in
+      let at-closer = at-loop .before .before in
+      let at-match = at-closer .before in
+      let at-expect = at-match .before .before .before .before .before in
+      let at-opener = at-expect .before .before .before in
+      let start = at-opener .before .before .before .before .before .before in
+      list-on _ (start .pre .1) (at-opener .opener .ensures) (at-expect .expect .ensures) (at-match .match .keys2) (at-loop .loop .inv .1 .rest (rest-item _ (at-loop .loop .inv .0) (at-head .head .ensures) (at-if1 .if1 .left) (at-closer .closer .ensures) (at-if2 .if2 .left) (at-item .item .ensures) (c .before .match2 .keys1)))
 
   pub comma-requires : lts.Need-comma-requires given (list-at t) list.Post Inv-loop μ-loop
-  comma-requires c κs = comma-asks (c .before .before .before .before .before .before .before .before .before .before .before .before .before .before .before .before .before .before .before .loop .inv .0) (c .before .before .before .before .before .before .before .before .before .before .before .before .before .before .before .before .before .before .head .ensures) (c .before .before .before .before .before .before .before .before .before .before .before .before .before .before .before .before .if1 .left) (c .before .before .before .before .before .before .before .before .before .before .item .ensures) (omega (arith, c .before .before .before .before .before .before .before .before .before .before .item .kept)) (omega (arith, c .before .before .before .before .before .before .before .before .before .before .item .kept))
+  comma-requires c κs =
+      let at-item = c .before .before .before .before .before .before .before .before .before .before in
+      let at-if1 = at-item .before .before .before .before .before .before in
+      let at-head = at-if1 .before .before in
+      let at-loop = at-head .before in
+      comma-asks (at-loop .loop .inv .0) (at-head .head .ensures) (at-if1 .if1 .left) (at-item .item .ensures) (omega (arith, at-item .item .kept)) (omega (arith, at-item .item .kept))
 
   pub enum-told-3 : lts.Need-enum-told-3 given (list-at t) list.Post Inv-loop μ-loop
   enum-told-3 c = search needs
 
   pub same-length-12 : lts.Need-same-length-12 given (list-at t) list.Post Inv-loop μ-loop
-  same-length-12 c = omega (arith, c .before .before .before .before .before .before .before .before .before .before .before .before .before .before .before .before .before .before .before .before .before .before .before .before .before .loop .inv .1, c .before .before .before .before .before .before .before .before .before .before .before .before .before .before .before .before .before .before .before .before .before .before .before .before .before .before .before .before .before .before .before .before .before .expect .kept, c .before .before .before .before .before .before .before .before .before .before .before .before .before .before .before .before .item .kept)
+  same-length-12 c =
+      let at-item = c .before .before .before .before .before .before .before .before .before .before .before .before .before .before .before .before in
+      let at-loop = at-item .before .before .before .before .before .before .before .before .before in
+      let at-expect = at-loop .before .before .before .before .before .before .before .before in
+      omega (arith, at-loop .loop .inv .1, at-expect .expect .kept, at-item .item .kept)
 
   pub same-length-13 : lts.Need-same-length-13 given (list-at t) list.Post Inv-loop μ-loop
-  same-length-13 c = omega (arith, c .before .before .before .before .before .before .before .before .before .before .before .before .before .before .before .before .before .before .before .before .before .before .before .before .before .loop .inv .1, c .before .before .before .before .before .before .before .before .before .before .before .before .before .before .before .before .before .before .before .before .before .before .before .before .before .before .before .before .before .before .before .before .before .expect .kept, c .before .before .before .before .before .comma .kept, c .before .before .before .before .before .before .before .before .before .before .before .before .before .before .before .before .item .kept)
+  same-length-13 c =
+      let at-comma = c .before .before .before .before .before in
+      let at-item = at-comma .before .before .before .before .before .before .before .before .before .before .before in
+      let at-loop = at-item .before .before .before .before .before .before .before .before .before in
+      let at-expect = at-loop .before .before .before .before .before .before .before .before in
+      omega (arith, at-loop .loop .inv .1, at-expect .expect .kept, at-comma .comma .kept, at-item .item .kept)
 
   pub same-length-14 : lts.Need-same-length-14 given (list-at t) list.Post Inv-loop μ-loop
-  same-length-14 c = omega (arith, c .before .before .before .before .before .before .before .before .before .before .before .before .before .before .before .before .before .before .before .before .before .before .before .before .before .loop .inv .1, c .before .before .before .before .before .before .before .before .before .before .before .before .before .before .before .before .before .before .before .before .before .before .before .before .before .before .before .before .before .before .before .before .before .expect .kept, c .before .before .before .before .before .comma .kept, c .before .before .before .before .before .before .before .before .before .before .before .before .before .before .before .before .item .kept)
+  same-length-14 c =
+      let at-comma = c .before .before .before .before .before in
+      let at-item = at-comma .before .before .before .before .before .before .before .before .before .before .before in
+      let at-loop = at-item .before .before .before .before .before .before .before .before .before in
+      let at-expect = at-loop .before .before .before .before .before .before .before .before in
+      omega (arith, at-loop .loop .inv .1, at-expect .expect .kept, at-comma .comma .kept, at-item .item .kept)
 
   pub returns-5 : lts.Need-returns-5 given (list-at t) list.Post Inv-loop μ-loop
-  returns-5 c = list-on _ (c .before .before .before .before .before .before .before .before .before .before .before .before .before .before .before .before .before .before .before .before .before .before .before .before .before .before .before .before .before .before .before .before .before .before .before .before .before .before .before .before .before .before .pre .1) (c .before .before .before .before .before .before .before .before .before .before .before .before .before .before .before .before .before .before .before .before .before .before .before .before .before .before .before .before .before .before .before .before .before .before .before .before .opener .ensures) (c .before .before .before .before .before .before .before .before .before .before .before .before .before .before .before .before .before .before .before .before .before .before .before .before .before .before .before .before .before .before .before .before .before .expect .ensures) (c .before .before .before .before .before .before .before .before .before .before .before .before .before .before .before .before .before .before .before .before .before .before .before .before .before .before .before .before .match .keys2) (c .before .before .before .before .before .before .before .before .before .before .before .before .before .before .before .before .before .before .before .before .before .before .before .before .before .loop .inv .1 .rest (rest-comma _ (c .before .before .before .before .before .before .before .before .before .before .before .before .before .before .before .before .before .before .before .before .before .before .before .before .before .loop .inv .0) (c .before .before .before .before .before .before .before .before .before .before .before .before .before .before .before .before .before .before .before .before .before .before .before .before .head .ensures) (c .before .before .before .before .before .before .before .before .before .before .before .before .before .before .before .before .before .before .before .before .before .before .if1 .left) (c .before .before .before .before .before .before .before .before .before .before .before .before .before .before .before .before .before .before .before .before .before .before .before .before .before .before .before .closer .ensures) (c .before .before .before .before .before .before .before .before .before .before .before .before .before .before .before .before .before .before .before .before .if2 .left) (c .before .before .before .before .before .before .before .before .before .before .before .before .before .before .before .before .item .ensures) (c .before .before .before .before .before .before .before .before .match2 .keys2) (c .before .before .before .before .before .comma .ensures) (c .match3 .keys2)))
+  returns-5 c =
+      let at-comma = c .before .before .before .before .before in
+      let at-match2 = at-comma .before .before .before in
+      let at-item = at-match2 .before .before .before .before .before .before .before .before in
+      let at-if2 = at-item .before .before .before .before in
+      let at-if1 = at-if2 .before .before in
+      let at-head = at-if1 .before .before in
+      let at-loop = at-head .before in
+      let at-closer = at-loop .before .before in
+      let at-match = at-closer .before in
+      let at-expect = at-match .before .before .before .before .before in
+      let at-opener = at-expect .before .before .before in
+      let start = at-opener .before .before .before .before .before .before in
+      list-on _ (start .pre .1) (at-opener .opener .ensures) (at-expect .expect .ensures) (at-match .match .keys2) (at-loop .loop .inv .1 .rest (rest-comma _ (at-loop .loop .inv .0) (at-head .head .ensures) (at-if1 .if1 .left) (at-closer .closer .ensures) (at-if2 .if2 .left) (at-item .item .ensures) (at-match2 .match2 .keys2) (at-comma .comma .ensures) (c .match3 .keys2)))
 
   pub counted-requires : lts.Need-counted-requires given (list-at t) list.Post Inv-loop μ-loop
-  counted-requires c κs = omega (arith, c .before .before .before .before .before .before .before .before .before .before .before .before .before .before .before .before .before .before .before .before .before .before .before .before .before .before .loop .inv .0 .1, c .before .before .before .before .before .before .before .before .before .before .before .before .before .before .before .before .before .before .before .before .before .before .before .before .before .before .loop .inv .0 .0 .asks .at, c .before .before .before .before .before .before .before .before .before .before .before .before .before .before .before .before .before .before .before .before .before .before .before .before .before .before .loop .inv .0 .0 .asks .held .few)
+  counted-requires c κs =
+      let at-loop = c .before .before .before .before .before .before .before .before .before .before .before .before .before .before .before .before .before .before .before .before .before .before .before .before .before .before in
+      omega (arith, at-loop .loop .inv .0 .1, at-loop .loop .inv .0 .0 .asks .at, at-loop .loop .inv .0 .0 .asks .held .few)
 
   pub loop-less : lts.Need-loop-less given (list-at t) list.Post Inv-loop μ-loop
-  loop-less c = omega (arith, c .before .before .before .before .before .before .before .before .before .before .before .before .before .before .before .before .before .before .before .before .before .before .before .before .before .before .before .before .loop .inv .0 .0 .asks .at, c .before .before .before .before .before .before .before .before .before .before .before .before .before .before .before .before .before .before .before .before .before .before .before .before .before .before .before .head .ensures .kind, c .before .before .before .before .before .before .before .before .before .before .before .before .before .before .before .before .before .before .before .before .before .before .before .before .before .if1 .left, c .before .before .before .before .before .before .before .before .before .before .before .before .before .before .before .before .before .before .before .item .ensures .on, c .before .before .before .before .before .before .before .before .before .before .before .before .before .before .before .before .before .before .before .item .ensures .moved, c .before .before .before .before .before .before .before .before .comma .ensures .moved)
+  loop-less c =
+      let at-comma = c .before .before .before .before .before .before .before .before in
+      let at-item = at-comma .before .before .before .before .before .before .before .before .before .before .before in
+      let at-if1 = at-item .before .before .before .before .before .before in
+      let at-head = at-if1 .before .before in
+      let at-loop = at-head .before in
+      omega (arith, at-loop .loop .inv .0 .0 .asks .at, at-head .head .ensures .kind, at-if1 .if1 .left, at-item .item .ensures .on, at-item .item .ensures .moved, at-comma .comma .ensures .moved)
 
   pub loop-again : lts.Need-loop-again given (list-at t) list.Post Inv-loop μ-loop
-  loop-again c = (rest-asked (c .before .before .before .before .before .before .before .before .before .before .before .before .before .before .before .before .before .before .before .before .before .before .before .before .before .before .before .before .loop .inv .0) (c .before .before .before .before .before .before .before .before .before .before .before .before .before .before .before .before .before .before .before .before .before .before .before .before .before .before .before .head .ensures) (c .before .before .before .before .before .before .before .before .before .before .before .before .before .before .before .before .before .before .before .before .before .before .before .before .before .if1 .left) (c .before .before .before .before .before .before .before .before .before .before .before .before .before .before .before .before .before .before .before .item .ensures) (c .before .before .before .before .before .before .before .before .comma .ensures) (c .before .counted .ensures) (omega (arith, c .before .before .before .before .before .before .before .before .before .before .before .before .before .before .before .before .before .before .before .item .kept)) (omega (arith, c .before .before .before .before .before .before .before .before .comma .kept, c .before .before .before .before .before .before .before .before .before .before .before .before .before .before .before .before .before .before .before .item .kept)) (omega (arith, c .before .before .before .before .before .before .before .before .comma .kept, c .before .before .before .before .before .before .before .before .before .before .before .before .before .before .before .before .before .before .before .item .kept)), one-turn (c .before .before .before .before .before .before .before .before .before .before .before .before .before .before .before .before .before .before .before .before .before .before .before .before .before .before .before .before .loop .inv .1) (omega (arith, c .before .before .before .before .before .before .before .before .before .before .before .before .before .before .before .before .before .before .before .item .kept)) (omega (arith, c .before .before .before .before .before .before .before .before .comma .kept, c .before .before .before .before .before .before .before .before .before .before .before .before .before .before .before .before .before .before .before .item .kept)) (omega (arith, c .before .before .before .before .before .before .before .before .comma .kept, c .before .before .before .before .before .before .before .before .before .before .before .before .before .before .before .before .before .before .before .item .kept)) (omega (arith, c .before .before .before .before .before .before .before .before .before .before .before .before .before .before .before .before .before .before .before .item .ensures .moved, c .before .before .before .before .before .before .before .before .comma .ensures .moved)) (λ _ _ _ _ g. rest-next _ (c .before .before .before .before .before .before .before .before .before .before .before .before .before .before .before .before .before .before .before .before .before .before .before .before .before .before .before .before .loop .inv .0) (c .before .before .before .before .before .before .before .before .before .before .before .before .before .before .before .before .before .before .before .before .before .before .before .before .before .before .before .head .ensures) (c .before .before .before .before .before .before .before .before .before .before .before .before .before .before .before .before .before .before .before .before .before .before .before .before .before .if1 .left) (c .before .before .before .before .before .before .before .before .before .before .before .before .before .before .before .before .before .before .before .before .before .before .before .before .before .before .before .before .before .before .closer .ensures) (c .before .before .before .before .before .before .before .before .before .before .before .before .before .before .before .before .before .before .before .before .before .before .before .if2 .left) (c .before .before .before .before .before .before .before .before .before .before .before .before .before .before .before .before .before .before .before .item .ensures) (c .before .before .before .before .before .before .before .before .before .before .before .match2 .keys2) (c .before .before .before .before .before .before .before .before .comma .ensures) (c .before .before .enum-told3 .given .1) (c .before .counted .ensures) g))
+  loop-again c =
+      let at-comma = c .before .before .before .before .before .before .before .before in
+      let at-match2 = at-comma .before .before .before in
+      let at-item = at-match2 .before .before .before .before .before .before .before .before in
+      let at-if2 = at-item .before .before .before .before in
+      let at-if1 = at-if2 .before .before in
+      let at-head = at-if1 .before .before in
+      let at-loop = at-head .before in
+      let at-closer = at-loop .before .before in
+      (rest-asked (at-loop .loop .inv .0) (at-head .head .ensures) (at-if1 .if1 .left) (at-item .item .ensures) (at-comma .comma .ensures) (c .before .counted .ensures) (omega (arith, at-item .item .kept)) (omega (arith, at-comma .comma .kept, at-item .item .kept)) (omega (arith, at-comma .comma .kept, at-item .item .kept)), one-turn (at-loop .loop .inv .1) (omega (arith, at-item .item .kept)) (omega (arith, at-comma .comma .kept, at-item .item .kept)) (omega (arith, at-comma .comma .kept, at-item .item .kept)) (omega (arith, at-item .item .ensures .moved, at-comma .comma .ensures .moved)) (λ _ _ _ _ g. rest-next _ (at-loop .loop .inv .0) (at-head .head .ensures) (at-if1 .if1 .left) (at-closer .closer .ensures) (at-if2 .if2 .left) (at-item .item .ensures) (at-match2 .match2 .keys2) (at-comma .comma .ensures) (c .before .before .enum-told3 .given .1) (c .before .counted .ensures) g))

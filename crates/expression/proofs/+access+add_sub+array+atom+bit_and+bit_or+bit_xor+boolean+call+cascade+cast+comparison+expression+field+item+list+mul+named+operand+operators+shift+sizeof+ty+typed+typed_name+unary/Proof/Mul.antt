@@ -16,20 +16,38 @@ module _ (t : ℕ) where
   given = (cast-below t, cast.Post, operators-below t, operators.Post)
 
   pub cast-requires : lts.Need-cast-requires given (mul-at t) mul.Post
-  cast-requires c κs = (omega (arith, c .before .before .before .before .before .before .before .before .pre .0), c .before .before .before .before .before .before .before .before .pre .1)
+  cast-requires c κs =
+      let start = c .before .before .before .before .before .before .before .before in
+      (omega (arith, start .pre .0), start .pre .1)
 
   pub operators-requires : lts.Need-operators-requires given (mul-at t) mul.Post
-  operators-requires c κs = (omega (arith, c .before .before .before .before .before .before .before .before .before .before .before .before .before .before .before .before .before .before .pre .0, c .before .before .before .before .before .before .before .before .before .before .before .before .before .before .before .before .before .before .pre .1 .asks .at, c .before .before .before .before .before .before .before .before .before .cast .ensures .moved .at), goes-on (c .before .before .before .before .before .before .before .before .before .before .before .before .before .before .before .before .before .before .pre .1) (c .before .before .before .before .before .before .before .before .before .cast .ensures) (omega (arith, c .before .before .before .before .before .before .before .before .before .cast .kept)) (omega (arith, c .before .before .before .before .before .before .before .before .before .cast .kept)) (omega (arith, c .before .before .before .before .before .before .before .before .before .cast .kept)))
+  operators-requires c κs =
+      let at-cast = c .before .before .before .before .before .before .before .before .before in
+      let start = at-cast .before .before .before .before .before .before .before .before .before in
+      (omega (arith, start .pre .0, start .pre .1 .asks .at, at-cast .cast .ensures .moved .at), goes-on (start .pre .1) (at-cast .cast .ensures) (omega (arith, at-cast .cast .kept)) (omega (arith, at-cast .cast .kept)) (omega (arith, at-cast .cast .kept)))
 
   pub same-length : lts.Need-same-length given (mul-at t) mul.Post
-  same-length c = omega (arith, c .before .before .before .before .before .before .operators .kept, c .before .before .before .before .before .before .before .before .before .before .before .before .before .before .before .before .cast .kept)
+  same-length c =
+      let at-operators = c .before .before .before .before .before .before in
+      let at-cast = at-operators .before .before .before .before .before .before .before .before .before .before in
+      omega (arith, at-operators .operators .kept, at-cast .cast .kept)
 
   pub same-length-2 : lts.Need-same-length-2 given (mul-at t) mul.Post
-  same-length-2 c = omega (arith, c .before .before .before .before .before .before .operators .kept, c .before .before .before .before .before .before .before .before .before .before .before .before .before .before .before .before .cast .kept)
+  same-length-2 c =
+      let at-operators = c .before .before .before .before .before .before in
+      let at-cast = at-operators .before .before .before .before .before .before .before .before .before .before in
+      omega (arith, at-operators .operators .kept, at-cast .cast .kept)
 
   pub same-length-3 : lts.Need-same-length-3 given (mul-at t) mul.Post
-  same-length-3 c = omega (arith, c .before .before .before .before .before .before .operators .kept, c .before .before .before .before .before .before .before .before .before .before .before .before .before .before .before .before .cast .kept)
+  same-length-3 c =
+      let at-operators = c .before .before .before .before .before .before in
+      let at-cast = at-operators .before .before .before .before .before .before .before .before .before .before in
+      omega (arith, at-operators .operators .kept, at-cast .cast .kept)
 
   pub returns : lts.Need-returns given (mul-at t) mul.Post
   unfolding P.parse-mul
-  returns c = then-asked (operators-on Mul) (c .before .before .before .before .before .before .before .before .before .before .before .before .before .before .before .before .before .before .before .before .before .before .before .before .before .pre .1) (c .before .before .before .before .before .before .before .before .before .before .before .before .before .before .before .before .cast .ensures) (c .before .before .before .before .before .before .operators .ensures)
+  returns c =
+      let at-operators = c .before .before .before .before .before .before in
+      let at-cast = at-operators .before .before .before .before .before .before .before .before .before .before in
+      let start = at-cast .before .before .before .before .before .before .before .before .before in
+      then-asked (operators-on Mul) (start .pre .1) (at-cast .cast .ensures) (at-operators .operators .ensures)

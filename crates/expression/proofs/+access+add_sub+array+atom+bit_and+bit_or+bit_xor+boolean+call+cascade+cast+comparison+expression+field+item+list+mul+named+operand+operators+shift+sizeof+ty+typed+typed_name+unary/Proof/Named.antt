@@ -13,10 +13,15 @@ module _ (t : ℕ) where
   given = (typed-name-below t, typed-name.Post, bare-name-reads.Asked, bare-name-reads.Learnt)
 
   pub typed-name-requires : lts.Need-typed-name-requires given (named-at t) named.Post
-  typed-name-requires c κs = (omega (arith, c .before .before .before .before .before .before .before .before .pre .0), c .before .before .before .before .before .before .before .before .pre .1)
+  typed-name-requires c κs =
+      let start = c .before .before .before .before .before .before .before .before in
+      (omega (arith, start .pre .0), start .pre .1)
 
   pub bare-name-requires : lts.Need-bare-name-requires given (named-at t) named.Post
-  bare-name-requires c κs = named-room (c .before .before .before .before .before .before .before .before .before .before .before .before .before .before .before .before .pre .1) (c .before .before .before .before .before .before .before .typed-name .ensures) (omega (arith, c .before .before .before .before .before .before .before .typed-name .kept))
+  bare-name-requires c κs =
+      let at-typed-name = c .before .before .before .before .before .before .before in
+      let start = at-typed-name .before .before .before .before .before .before .before .before .before in
+      named-room (start .pre .1) (at-typed-name .typed-name .ensures) (omega (arith, at-typed-name .typed-name .kept))
 
   pub same-length : lts.Need-same-length given (named-at t) named.Post
   same-length c = omega (arith, c .before .before .before .before .before .before .before .before .before .before .typed-name .kept)
@@ -28,4 +33,7 @@ module _ (t : ℕ) where
   same-length-3 c = omega (arith, c .before .before .before .before .before .before .before .before .before .before .typed-name .kept)
 
   pub returns : lts.Need-returns given (named-at t) named.Post
-  returns c = named-reads (c .before .before .before .before .before .before .before .before .before .before .before .before .before .before .before .before .before .before .before .pre .1) (c .before .before .before .before .before .before .before .before .before .before .typed-name .ensures) (c .before .before .bare-name .ensures)
+  returns c =
+      let at-typed-name = c .before .before .before .before .before .before .before .before .before .before in
+      let start = at-typed-name .before .before .before .before .before .before .before .before .before in
+      named-reads (start .pre .1) (at-typed-name .typed-name .ensures) (c .before .before .bare-name .ensures)

@@ -25,7 +25,9 @@ module _ (t : ℕ) where
   name-alone-requires c κs = search needs
 
   pub unary-requires : lts.Need-unary-requires given (operand-at t) operand.Post
-  unary-requires c κs = (omega (arith, c .before .before .before .before .before .before .before .before .before .before .before .before .pre .0), c .before .before .before .before .before .before .before .before .before .before .before .before .pre .1)
+  unary-requires c κs =
+      let start = c .before .before .before .before .before .before .before .before .before .before .before .before in
+      (omega (arith, start .pre .0), start .pre .1)
 
   pub same-length : lts.Need-same-length given (operand-at t) operand.Post
   same-length c = omega (arith, c .before .before .before .before .before .before .unary .kept)
@@ -40,10 +42,19 @@ module _ (t : ℕ) where
   returns c = c .before .before .before .before .before .before .unary .ensures
 
   pub name-requires : lts.Need-name-requires given (operand-at t) operand.Post
-  name-requires c κs = record { room = omega (arith, c .before .before .before .before .before .before .before .before .before .before .pre .1 .room, c .before .before .before .before .head .ensures .pays); part = c .before .before .before .before .head .ensures .part }
+  name-requires c κs =
+      let at-head = c .before .before .before .before in
+      let start = at-head .before .before .before .before .before .before in
+      record { room = omega (arith, start .pre .1 .room, at-head .head .ensures .pays); part = at-head .head .ensures .part }
 
   pub same-length-4 : lts.Need-same-length-4 given (operand-at t) operand.Post
   same-length-4 c = omega (arith, c .before .before .name .kept)
 
   pub returns-2 : lts.Need-returns-2 given (operand-at t) operand.Post
-  returns-2 c = name-operand (c .before .before .before .before .before .before .before .before .before .before .before .before .before .pre .1) (c .before .before .before .before .before .before .before .head .ensures) (c .before .before .before .before .before .before .head2 .ensures) (c .before .before .before .before .before .name-alone .ensures) (c .before .before .before .before .if1 .left) (c .before .before .name .ensures) (omega (arith, c .before .before .name .kept))
+  returns-2 c =
+      let at-if1 = c .before .before .before .before in
+      let at-name-alone = at-if1 .before in
+      let at-head2 = at-name-alone .before in
+      let at-head = at-head2 .before in
+      let start = at-head .before .before .before .before .before .before in
+      name-operand (start .pre .1) (at-head .head .ensures) (at-head2 .head2 .ensures) (at-name-alone .name-alone .ensures) (at-if1 .if1 .left) (c .before .before .name .ensures) (omega (arith, c .before .before .name .kept))

@@ -61,22 +61,55 @@ module _ (t : ℕ) where
   same-length-6 c = omega (arith, c .before .before .before .before .before .before .loop .inv .1)
 
   pub returns-2 : lts.Need-returns-2 given (operators-at t) operators.Post Inv-loop μ-loop
-  returns-2 c = c .before .before .before .before .before .before .loop .inv .1 .rest (operators-none (c .before .before .before .before .before .before .loop .inv .0) (c .before .before .before .before .enum-told .given .1) (c .before .before .head .ensures) _ (c .before .operator .ensures) (c .if1 .taken))
+  returns-2 c =
+      let at-enum-told = c .before .before .before .before in
+      let at-loop = at-enum-told .before .before in
+      at-loop .loop .inv .1 .rest (operators-none (at-loop .loop .inv .0) (at-enum-told .enum-told .given .1) (c .before .before .head .ensures) _ (c .before .operator .ensures) (c .if1 .taken))
 
   pub cascade-requires : lts.Need-cascade-requires given (operators-at t) operators.Post Inv-loop μ-loop
-  cascade-requires c κs = (omega (arith, c .before .before .before .before .before .before .before .before .before .before .before .before .before .before .before .pre .0, c .before .before .before .before .before .before .before .before .before .loop .inv .1 .on, c .before .before .before .before .before .before .before .before .before .loop .inv .0 .asked .asks .at, c .before .before .before .before .before .head .ensures, c .before .before .before .before .operator .ensures, c .before .before .before .if1 .left), asked-seen (c .before .before .before .before .before .before .before .before .before .loop .inv .0 .asked) (c .before .before .before .before .before .head .ensures))
+  cascade-requires c κs =
+      let at-if1 = c .before .before .before in
+      let at-operator = at-if1 .before in
+      let at-head = at-operator .before in
+      let at-loop = at-head .before .before .before .before in
+      let start = at-loop .before .before .before .before .before .before in
+      (omega (arith, start .pre .0, at-loop .loop .inv .1 .on, at-loop .loop .inv .0 .asked .asks .at, at-head .head .ensures, at-operator .operator .ensures, at-if1 .if1 .left), asked-seen (at-loop .loop .inv .0 .asked) (at-head .head .ensures))
 
   pub abandon-requires : lts.Need-abandon-requires given (operators-at t) operators.Post Inv-loop μ-loop
-  abandon-requires c κs = join-cuts (c .before .before .before .before .before .before .before .before .before .before .before .before .before .before .before .before .before .loop .inv .0) (c .before .before .before .before .before .before .before .before .before .before .before .before .before .head .ensures) (c .before .before .before .before .before .before .before .cascade .ensures) (omega (arith, c .before .before .before .before .before .before .before .cascade .kept))
+  abandon-requires c κs =
+      let at-cascade = c .before .before .before .before .before .before .before in
+      let at-head = at-cascade .before .before .before .before .before .before in
+      let at-loop = at-head .before .before .before .before in
+      join-cuts (at-loop .loop .inv .0) (at-head .head .ensures) (at-cascade .cascade .ensures) (omega (arith, at-cascade .cascade .kept))
 
   pub sub-t35 : lts.Need-sub-t35 given (operators-at t) operators.Post Inv-loop μ-loop
   sub-t35 c = omega arith
 
   pub finish-requires : lts.Need-finish-requires given (operators-at t) operators.Post Inv-loop μ-loop
-  finish-requires c κs = join-room (c .before .before .before .before .before .before .before .before .before .before .before .before .before .before .before .before .before .before .before .before .before .loop .inv .0) (c .before .before .before .before .before .before .before .before .before .before .before .before .before .before .before .before .before .head .ensures) (c .before .before .before .before .before .before .before .before .before .before .before .cascade .ensures) (c .before .before .before .abandon .ensures) (omega (arith, c .before .before .before .before .before .before .before .before .before .before .before .cascade .kept))
+  finish-requires c κs =
+      let at-abandon = c .before .before .before in
+      let at-cascade = at-abandon .before .before .before .before .before .before .before .before in
+      let at-head = at-cascade .before .before .before .before .before .before in
+      let at-loop = at-head .before .before .before .before in
+      join-room (at-loop .loop .inv .0) (at-head .head .ensures) (at-cascade .cascade .ensures) (at-abandon .abandon .ensures) (omega (arith, at-cascade .cascade .kept))
 
   pub loop-less : lts.Need-loop-less given (operators-at t) operators.Post Inv-loop μ-loop
-  loop-less c = omega (arith, c .before .before .before .before .before .before .before .before .before .before .before .before .before .before .before .before .before .before .before .before .before .before .before .before .loop .inv .0 .asked .asks .at, c .before .before .before .before .before .before .before .before .before .before .before .before .before .before .before .before .before .before .before .before .head .ensures, c .before .before .before .before .before .before .before .before .before .before .before .before .before .before .before .before .before .before .before .operator .ensures, c .before .before .before .before .before .before .before .before .before .before .before .before .before .before .before .before .before .before .if1 .left, c .before .before .before .before .before .before .before .before .before .before .before .before .before .before .cascade .ensures .moved, c .before .before .before .before .before .before .abandon .ensures .at, c .before .before .finish .ensures .at)
+  loop-less c =
+      let at-abandon = c .before .before .before .before .before .before in
+      let at-cascade = at-abandon .before .before .before .before .before .before .before .before in
+      let at-if1 = at-cascade .before .before .before .before in
+      let at-operator = at-if1 .before in
+      let at-head = at-operator .before in
+      let at-loop = at-head .before .before .before .before in
+      omega (arith, at-loop .loop .inv .0 .asked .asks .at, at-head .head .ensures, at-operator .operator .ensures, at-if1 .if1 .left, at-cascade .cascade .ensures .moved, at-abandon .abandon .ensures .at, c .before .before .finish .ensures .at)
 
   pub loop-again : lts.Need-loop-again given (operators-at t) operators.Post Inv-loop μ-loop
-  loop-again c = (joined-on (c .before .before .before .before .before .before .before .before .before .before .before .before .before .before .before .before .before .before .before .before .before .before .before .before .loop .inv .0) (c .before .before .before .before .before .before .before .before .before .before .before .before .before .before .before .before .before .before .before .before .head .ensures) (c .before .before .before .before .before .before .before .before .before .before .before .before .before .before .cascade .ensures) (c .before .before .before .before .before .before .abandon .ensures) (c .before .before .finish .ensures) (omega (arith, c .before .before .before .before .before .before .before .before .before .before .before .before .before .before .before .before .before .before .before .operator .ensures, c .before .before .before .before .before .before .before .before .before .before .before .before .before .before .before .before .before .before .if1 .left)) (omega (arith, c .before .before .finish .kept, c .before .before .before .before .before .before .before .before .before .before .before .before .before .before .cascade .kept)) (omega (arith, c .before .before .before .before .before .before .abandon .kept, c .before .before .before .before .before .before .before .before .before .before .before .before .before .before .cascade .kept)) (omega (arith, c .before .before .before .before .before .before .before .before .before .before .before .before .before .before .cascade .kept)), one-turn (c .before .before .before .before .before .before .before .before .before .before .before .before .before .before .before .before .before .before .before .before .before .before .before .before .loop .inv .1) (omega (arith, c .before .before .finish .kept, c .before .before .before .before .before .before .before .before .before .before .before .before .before .before .cascade .kept)) (omega (arith, c .before .before .before .before .before .before .abandon .kept, c .before .before .before .before .before .before .before .before .before .before .before .before .before .before .cascade .kept)) (omega (arith, c .before .before .before .before .before .before .before .before .before .before .before .before .before .before .cascade .kept)) (omega (arith, c .before .before .before .before .before .before .before .before .before .before .before .before .before .before .before .before .before .before .before .before .head .ensures .up, c .before .before .before .before .before .before .before .before .before .before .before .before .before .before .cascade .ensures .moved, c .before .before .before .before .before .before .abandon .ensures .at, c .before .before .finish .ensures .at)) (λ _ _ _ _ g. operators-more (c .before .before .before .before .before .before .before .before .before .before .before .before .before .before .before .before .before .before .before .before .before .before .before .before .loop .inv .0) (c .before .before .before .before .before .before .before .before .before .before .before .before .before .before .before .before .before .before .before .before .before .before .enum-told .given .1) (c .before .before .before .before .before .before .before .before .before .before .before .before .before .before .before .before .before .before .before .before .head .ensures) _ (c .before .before .before .before .before .before .before .before .before .before .before .before .before .before .before .before .before .before .before .operator .ensures) (c .before .before .before .before .before .before .before .before .before .before .before .before .before .before .before .before .before .before .if1 .left) (c .before .before .before .before .before .before .before .before .before .before .before .before .before .before .cascade .ensures) (c .before .before .before .before .before .before .abandon .ensures) (c .before .before .finish .ensures) g))
+  loop-again c =
+      let at-abandon = c .before .before .before .before .before .before in
+      let at-cascade = at-abandon .before .before .before .before .before .before .before .before in
+      let at-if1 = at-cascade .before .before .before .before in
+      let at-operator = at-if1 .before in
+      let at-head = at-operator .before in
+      let at-enum-told = at-head .before .before in
+      let at-loop = at-enum-told .before .before in
+      (joined-on (at-loop .loop .inv .0) (at-head .head .ensures) (at-cascade .cascade .ensures) (at-abandon .abandon .ensures) (c .before .before .finish .ensures) (omega (arith, at-operator .operator .ensures, at-if1 .if1 .left)) (omega (arith, c .before .before .finish .kept, at-cascade .cascade .kept)) (omega (arith, at-abandon .abandon .kept, at-cascade .cascade .kept)) (omega (arith, at-cascade .cascade .kept)), one-turn (at-loop .loop .inv .1) (omega (arith, c .before .before .finish .kept, at-cascade .cascade .kept)) (omega (arith, at-abandon .abandon .kept, at-cascade .cascade .kept)) (omega (arith, at-cascade .cascade .kept)) (omega (arith, at-head .head .ensures .up, at-cascade .cascade .ensures .moved, at-abandon .abandon .ensures .at, c .before .before .finish .ensures .at)) (λ _ _ _ _ g. operators-more (at-loop .loop .inv .0) (at-enum-told .enum-told .given .1) (at-head .head .ensures) _ (at-operator .operator .ensures) (at-if1 .if1 .left) (at-cascade .cascade .ensures) (at-abandon .abandon .ensures) (c .before .before .finish .ensures) g))

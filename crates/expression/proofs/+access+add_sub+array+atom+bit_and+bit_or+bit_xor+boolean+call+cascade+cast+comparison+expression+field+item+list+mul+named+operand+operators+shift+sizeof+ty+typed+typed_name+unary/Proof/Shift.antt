@@ -16,20 +16,38 @@ module _ (t : ℕ) where
   given = (add-sub-below t, add-sub.Post, operators-below t, operators.Post)
 
   pub add-sub-requires : lts.Need-add-sub-requires given (shift-at t) shift.Post
-  add-sub-requires c κs = (omega (arith, c .before .before .before .before .before .before .before .before .pre .0), c .before .before .before .before .before .before .before .before .pre .1)
+  add-sub-requires c κs =
+      let start = c .before .before .before .before .before .before .before .before in
+      (omega (arith, start .pre .0), start .pre .1)
 
   pub operators-requires : lts.Need-operators-requires given (shift-at t) shift.Post
-  operators-requires c κs = (omega (arith, c .before .before .before .before .before .before .before .before .before .before .before .before .before .before .before .before .before .before .pre .0, c .before .before .before .before .before .before .before .before .before .before .before .before .before .before .before .before .before .before .pre .1 .asks .at, c .before .before .before .before .before .before .before .before .before .add-sub .ensures .moved .at), goes-on (c .before .before .before .before .before .before .before .before .before .before .before .before .before .before .before .before .before .before .pre .1) (c .before .before .before .before .before .before .before .before .before .add-sub .ensures) (omega (arith, c .before .before .before .before .before .before .before .before .before .add-sub .kept)) (omega (arith, c .before .before .before .before .before .before .before .before .before .add-sub .kept)) (omega (arith, c .before .before .before .before .before .before .before .before .before .add-sub .kept)))
+  operators-requires c κs =
+      let at-add-sub = c .before .before .before .before .before .before .before .before .before in
+      let start = at-add-sub .before .before .before .before .before .before .before .before .before in
+      (omega (arith, start .pre .0, start .pre .1 .asks .at, at-add-sub .add-sub .ensures .moved .at), goes-on (start .pre .1) (at-add-sub .add-sub .ensures) (omega (arith, at-add-sub .add-sub .kept)) (omega (arith, at-add-sub .add-sub .kept)) (omega (arith, at-add-sub .add-sub .kept)))
 
   pub same-length : lts.Need-same-length given (shift-at t) shift.Post
-  same-length c = omega (arith, c .before .before .before .before .before .before .operators .kept, c .before .before .before .before .before .before .before .before .before .before .before .before .before .before .before .before .add-sub .kept)
+  same-length c =
+      let at-operators = c .before .before .before .before .before .before in
+      let at-add-sub = at-operators .before .before .before .before .before .before .before .before .before .before in
+      omega (arith, at-operators .operators .kept, at-add-sub .add-sub .kept)
 
   pub same-length-2 : lts.Need-same-length-2 given (shift-at t) shift.Post
-  same-length-2 c = omega (arith, c .before .before .before .before .before .before .operators .kept, c .before .before .before .before .before .before .before .before .before .before .before .before .before .before .before .before .add-sub .kept)
+  same-length-2 c =
+      let at-operators = c .before .before .before .before .before .before in
+      let at-add-sub = at-operators .before .before .before .before .before .before .before .before .before .before in
+      omega (arith, at-operators .operators .kept, at-add-sub .add-sub .kept)
 
   pub same-length-3 : lts.Need-same-length-3 given (shift-at t) shift.Post
-  same-length-3 c = omega (arith, c .before .before .before .before .before .before .operators .kept, c .before .before .before .before .before .before .before .before .before .before .before .before .before .before .before .before .add-sub .kept)
+  same-length-3 c =
+      let at-operators = c .before .before .before .before .before .before in
+      let at-add-sub = at-operators .before .before .before .before .before .before .before .before .before .before in
+      omega (arith, at-operators .operators .kept, at-add-sub .add-sub .kept)
 
   pub returns : lts.Need-returns given (shift-at t) shift.Post
   unfolding P.parse-bit-shift
-  returns c = then-asked (operators-on Shift) (c .before .before .before .before .before .before .before .before .before .before .before .before .before .before .before .before .before .before .before .before .before .before .before .before .before .pre .1) (c .before .before .before .before .before .before .before .before .before .before .before .before .before .before .before .before .add-sub .ensures) (c .before .before .before .before .before .before .operators .ensures)
+  returns c =
+      let at-operators = c .before .before .before .before .before .before in
+      let at-add-sub = at-operators .before .before .before .before .before .before .before .before .before .before in
+      let start = at-add-sub .before .before .before .before .before .before .before .before .before in
+      then-asked (operators-on Shift) (start .pre .1) (at-add-sub .add-sub .ensures) (at-operators .operators .ensures)

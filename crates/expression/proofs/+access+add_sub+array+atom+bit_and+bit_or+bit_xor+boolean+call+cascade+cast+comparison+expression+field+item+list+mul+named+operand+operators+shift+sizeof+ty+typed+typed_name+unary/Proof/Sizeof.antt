@@ -25,7 +25,9 @@ module _ (t : ℕ) where
   head-requires c κs = (c .before .before .before .before .before .pre .1 .asks .held, c .before .before .before .before .before .pre .1 .asks .at)
 
   pub access-requires : lts.Need-access-requires given (sizeof-at t) sizeof.Post
-  access-requires c κs = (omega (arith, c .before .before .before .before .before .before .before .before .before .before .before .pre .0), c .before .before .before .before .before .before .before .before .before .before .before .pre .1)
+  access-requires c κs =
+      let start = c .before .before .before .before .before .before .before .before .before .before .before in
+      (omega (arith, start .pre .0), start .pre .1)
 
   pub same-length : lts.Need-same-length given (sizeof-at t) sizeof.Post
   same-length c = omega (arith, c .before .before .before .before .before .before .access .kept)
@@ -37,10 +39,18 @@ module _ (t : ℕ) where
   same-length-3 c = omega (arith, c .before .before .before .before .before .before .access .kept)
 
   pub returns : lts.Need-returns given (sizeof-at t) sizeof.Post
-  returns c = sizeof-other (c .before .before .before .before .before .before .before .before .before .before .before .before .before .before .before .before .before .before .pre .1) (c .before .before .before .before .before .before .before .before .before .before .before .before .head .ensures) (c .before .before .before .before .before .before .before .before .before .before .if1 .taken) (c .before .before .before .before .before .before .access .ensures)
+  returns c =
+      let at-access = c .before .before .before .before .before .before in
+      let at-if1 = at-access .before .before .before .before in
+      let at-head = at-if1 .before .before in
+      let start = at-head .before .before .before .before .before .before in
+      sizeof-other (start .pre .1) (at-head .head .ensures) (at-if1 .if1 .taken) (at-access .access .ensures)
 
   pub expect-requires : lts.Need-expect-requires given (sizeof-at t) sizeof.Post
-  expect-requires c κs = (asks-fore (c .before .before .before .before .before .before .before .before .before .before .pre .1 .asks) (c .before .before .before .before .head .ensures), (omega arith, omega arith))
+  expect-requires c κs =
+      let at-head = c .before .before .before .before in
+      let start = at-head .before .before .before .before .before .before in
+      (asks-fore (start .pre .1 .asks) (at-head .head .ensures), (omega arith, omega arith))
 
   pub enum-told : lts.Need-enum-told given (sizeof-at t) sizeof.Post
   enum-told c = search needs
@@ -52,25 +62,68 @@ module _ (t : ℕ) where
   same-length-5 c = omega (arith, c .before .before .before .before .before .expect .kept)
 
   pub returns-2 : lts.Need-returns-2 given (sizeof-at t) sizeof.Post
-  returns-2 c = sizeof-stop (c .before .before .before .before .before .before .before .before .before .before .before .before .before .before .before .before .pre .1) (c .before .before .before .before .before .before .before .before .before .before .head .ensures) (c .before .before .before .before .before .before .before .before .if1 .left) (c .before .before .before .before .before .expect .ensures) (c .match .keys2)
+  returns-2 c =
+      let at-expect = c .before .before .before .before .before in
+      let at-if1 = at-expect .before .before .before in
+      let at-head = at-if1 .before .before in
+      let start = at-head .before .before .before .before .before .before in
+      sizeof-stop (start .pre .1) (at-head .head .ensures) (at-if1 .if1 .left) (at-expect .expect .ensures) (c .match .keys2)
 
   pub ty-requires : lts.Need-ty-requires given (sizeof-at t) sizeof.Post
-  ty-requires c κs = (omega (arith, c .before .before .before .before .before .before .before .before .before .before .before .before .before .before .before .before .before .before .before .before .before .pre .0, c .before .before .before .before .before .before .before .before .before .before .before .before .before .before .before .before .before .before .before .before .before .pre .1 .asks .at, c .before .before .before .before .before .before .before .before .before .before .before .before .before .before .before .head .ensures, c .before .before .before .before .before .before .before .before .before .before .before .before .before .if1 .left, c .before .before .before .before .before .before .before .before .before .before .expect .ensures .moved), asked-moved (asked-seen (c .before .before .before .before .before .before .before .before .before .before .before .before .before .before .before .before .before .before .before .before .before .pre .1) (c .before .before .before .before .before .before .before .before .before .before .before .before .before .before .before .head .ensures)) (c .before .before .before .before .before .before .before .before .before .before .expect .ensures .moved) refl (omega (arith, c .before .before .before .before .before .before .before .before .before .before .expect .kept)) (omega (arith, c .before .before .before .before .before .before .before .before .before .before .expect .kept)))
+  ty-requires c κs =
+      let at-expect = c .before .before .before .before .before .before .before .before .before .before in
+      let at-if1 = at-expect .before .before .before in
+      let at-head = at-if1 .before .before in
+      let start = at-head .before .before .before .before .before .before in
+      (omega (arith, start .pre .0, start .pre .1 .asks .at, at-head .head .ensures, at-if1 .if1 .left, at-expect .expect .ensures .moved), asked-moved (asked-seen (start .pre .1) (at-head .head .ensures)) (at-expect .expect .ensures .moved) refl (omega (arith, at-expect .expect .kept)) (omega (arith, at-expect .expect .kept)))
 
   pub and-expect-requires : lts.Need-and-expect-requires given (sizeof-at t) sizeof.Post
-  and-expect-requires c κs = (sizeof-asks (c .before .before .before .before .before .before .before .before .before .before .before .before .before .before .before .before .before .before .before .before .before .before .before .before .before .before .before .before .before .before .pre .1) (c .before .before .before .before .before .before .before .before .before .before .before .before .before .before .before .before .before .before .before .before .before .before .before .before .head .ensures) (c .before .before .before .before .before .before .before .before .before .before .before .before .before .before .before .before .before .before .before .before .before .before .if1 .left) (c .before .before .before .before .before .before .before .before .before .before .before .before .before .before .before .before .before .before .before .expect .ensures) (c .before .before .before .before .before .before .before .before .before .before .before .before .before .enum-told .given .1) (c .before .before .before .before .before .before .before .before .ty .ensures) (omega (arith, c .before .before .before .before .before .before .before .before .ty .kept, c .before .before .before .before .before .before .before .before .before .before .before .before .before .before .before .before .before .before .before .expect .kept)) (omega (arith, c .before .before .before .before .before .before .before .before .ty .kept, c .before .before .before .before .before .before .before .before .before .before .before .before .before .before .before .before .before .before .before .expect .kept)), (omega arith, omega arith))
+  and-expect-requires c κs =
+      let at-ty = c .before .before .before .before .before .before .before .before in
+      let at-enum-told = at-ty .before .before .before .before .before in
+      let at-expect = at-enum-told .before .before .before .before .before .before in
+      let at-if1 = at-expect .before .before .before in
+      let at-head = at-if1 .before .before in
+      let start = at-head .before .before .before .before .before .before in
+      (sizeof-asks (start .pre .1) (at-head .head .ensures) (at-if1 .if1 .left) (at-expect .expect .ensures) (at-enum-told .enum-told .given .1) (at-ty .ty .ensures) (omega (arith, at-ty .ty .kept, at-expect .expect .kept)) (omega (arith, at-ty .ty .kept, at-expect .expect .kept)), (omega arith, omega arith))
 
   pub finish-requires : lts.Need-finish-requires given (sizeof-at t) sizeof.Post
-  finish-requires c κs = room-at (c .before .before .before .before .before .before .before .before .before .before .before .before .before .before .before .before .before .before .before .before .before .before .before .before .before .before .before .before .before .before .before .before .before .before .before .before .pre .1) (moved-trans (moved-trans (moved-trans (fore-moved (c .before .before .before .before .before .before .before .before .before .before .before .before .before .before .before .before .before .before .before .before .before .before .before .before .before .before .before .before .before .before .before .before .before .before .before .before .pre .1 .asks) (c .before .before .before .before .before .before .before .before .before .before .before .before .before .before .before .before .before .before .before .before .before .before .before .before .before .before .before .before .before .before .head .ensures)) (c .before .before .before .before .before .before .before .before .before .before .before .before .before .before .before .before .before .before .before .before .before .before .before .before .before .expect .ensures .moved)) (c .before .before .before .before .before .before .before .before .before .before .before .before .before .before .ty .ensures .moved)) (c .before .before .before .before .before .and-expect .ensures .moved)) (omega (arith, c .before .before .before .before .before .before .before .before .before .before .before .before .before .before .ty .kept))
+  finish-requires c κs =
+      let at-and-expect = c .before .before .before .before .before in
+      let at-ty = at-and-expect .before .before .before .before .before .before .before .before .before in
+      let at-expect = at-ty .before .before .before .before .before .before .before .before .before .before .before in
+      let at-head = at-expect .before .before .before .before .before in
+      let start = at-head .before .before .before .before .before .before in
+      room-at (start .pre .1) (moved-trans (moved-trans (moved-trans (fore-moved (start .pre .1 .asks) (at-head .head .ensures)) (at-expect .expect .ensures .moved)) (at-ty .ty .ensures .moved)) (at-and-expect .and-expect .ensures .moved)) (omega (arith, at-ty .ty .kept))
 
   pub same-length-6 : lts.Need-same-length-6 given (sizeof-at t) sizeof.Post
-  same-length-6 c = omega (arith, c .before .before .finish .kept, c .before .before .before .before .before .before .before .before .and-expect .kept, c .before .before .before .before .before .before .before .before .before .before .before .before .before .before .before .before .before .ty .kept, c .before .before .before .before .before .before .before .before .before .before .before .before .before .before .before .before .before .before .before .before .before .before .before .before .before .before .before .before .expect .kept)
+  same-length-6 c =
+      let at-and-expect = c .before .before .before .before .before .before .before .before in
+      let at-ty = at-and-expect .before .before .before .before .before .before .before .before .before in
+      let at-expect = at-ty .before .before .before .before .before .before .before .before .before .before .before in
+      omega (arith, c .before .before .finish .kept, at-and-expect .and-expect .kept, at-ty .ty .kept, at-expect .expect .kept)
 
   pub same-length-7 : lts.Need-same-length-7 given (sizeof-at t) sizeof.Post
-  same-length-7 c = omega (arith, c .before .before .finish .kept, c .before .before .before .before .before .before .before .before .and-expect .kept, c .before .before .before .before .before .before .before .before .before .before .before .before .before .before .before .before .before .ty .kept, c .before .before .before .before .before .before .before .before .before .before .before .before .before .before .before .before .before .before .before .before .before .before .before .before .before .before .before .before .expect .kept)
+  same-length-7 c =
+      let at-and-expect = c .before .before .before .before .before .before .before .before in
+      let at-ty = at-and-expect .before .before .before .before .before .before .before .before .before in
+      let at-expect = at-ty .before .before .before .before .before .before .before .before .before .before .before in
+      omega (arith, c .before .before .finish .kept, at-and-expect .and-expect .kept, at-ty .ty .kept, at-expect .expect .kept)
 
   pub same-length-8 : lts.Need-same-length-8 given (sizeof-at t) sizeof.Post
-  same-length-8 c = omega (arith, c .before .before .finish .kept, c .before .before .before .before .before .before .before .before .and-expect .kept, c .before .before .before .before .before .before .before .before .before .before .before .before .before .before .before .before .before .ty .kept, c .before .before .before .before .before .before .before .before .before .before .before .before .before .before .before .before .before .before .before .before .before .before .before .before .before .before .before .before .expect .kept)
+  same-length-8 c =
+      let at-and-expect = c .before .before .before .before .before .before .before .before in
+      let at-ty = at-and-expect .before .before .before .before .before .before .before .before .before in
+      let at-expect = at-ty .before .before .before .before .before .before .before .before .before .before .before in
+      omega (arith, c .before .before .finish .kept, at-and-expect .and-expect .kept, at-ty .ty .kept, at-expect .expect .kept)
 
   pub returns-3 : lts.Need-returns-3 given (sizeof-at t) sizeof.Post
-  returns-3 c = sizeof-done (c .before .before .before .before .before .before .before .before .before .before .before .before .before .before .before .before .before .before .before .before .before .before .before .before .before .before .before .before .before .before .before .before .before .before .before .before .before .before .before .pre .1) (c .before .before .before .before .before .before .before .before .before .before .before .before .before .before .before .before .before .before .before .before .before .before .before .before .before .before .before .before .before .before .before .before .before .head .ensures) (c .before .before .before .before .before .before .before .before .before .before .before .before .before .before .before .before .before .before .before .before .before .before .before .before .before .before .before .before .before .before .before .if1 .left) (c .before .before .before .before .before .before .before .before .before .before .before .before .before .before .before .before .before .before .before .before .before .before .before .before .before .before .before .before .expect .ensures) (c .before .before .before .before .before .before .before .before .before .before .before .before .before .before .before .before .before .before .before .before .before .before .enum-told .given .1) (c .before .before .before .before .before .before .before .before .before .before .before .before .before .before .before .before .before .ty .ensures) (omega (arith, c .before .before .before .before .before .before .before .before .before .before .before .before .before .before .before .before .before .ty .kept, c .before .before .before .before .before .before .before .before .before .before .before .before .before .before .before .before .before .before .before .before .before .before .before .before .before .before .before .before .expect .kept)) (omega (arith, c .before .before .before .before .before .before .before .before .before .before .before .before .before .before .before .before .before .ty .kept, c .before .before .before .before .before .before .before .before .before .before .before .before .before .before .before .before .before .before .before .before .before .before .before .before .before .before .before .before .expect .kept)) (c .before .before .before .before .before .before .before .before .and-expect .ensures) (c .before .before .finish .ensures)
+  returns-3 c =
+      let at-and-expect = c .before .before .before .before .before .before .before .before in
+      let at-ty = at-and-expect .before .before .before .before .before .before .before .before .before in
+      let at-enum-told = at-ty .before .before .before .before .before in
+      let at-expect = at-enum-told .before .before .before .before .before .before in
+      let at-if1 = at-expect .before .before .before in
+      let at-head = at-if1 .before .before in
+      let start = at-head .before .before .before .before .before .before in
+      sizeof-done (start .pre .1) (at-head .head .ensures) (at-if1 .if1 .left) (at-expect .expect .ensures) (at-enum-told .enum-told .given .1) (at-ty .ty .ensures) (omega (arith, at-ty .ty .kept, at-expect .expect .kept)) (omega (arith, at-ty .ty .kept, at-expect .expect .kept)) (at-and-expect .and-expect .ensures) (c .before .before .finish .ensures)

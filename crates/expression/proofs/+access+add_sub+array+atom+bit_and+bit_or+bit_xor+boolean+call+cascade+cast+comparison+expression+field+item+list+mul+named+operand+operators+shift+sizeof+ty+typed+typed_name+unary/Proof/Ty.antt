@@ -27,43 +27,78 @@ module _ (t : ℕ) where
   returns c = type-deep (c .before .before .before .before .before .before .before .pre .1) (c .before .if1 .taken) (c .refuse .ensures)
 
   pub head-requires : lts.Need-head-requires given (ty-at t) ty.Post
-  head-requires c κs = (c .before .before .before .before .before .before .pre .1 .asks .held, c .before .before .before .before .before .before .pre .1 .asks .at)
+  head-requires c κs =
+      let start = c .before .before .before .before .before .before in
+      (start .pre .1 .asks .held, start .pre .1 .asks .at)
 
   pub finish-requires : lts.Need-finish-requires given (ty-at t) ty.Post
-  finish-requires c κs = room-token (c .before .before .before .before .before .before .before .before .before .before .pre .1) (c .before .before .before .head .ensures)
+  finish-requires c κs =
+      let at-head = c .before .before .before in
+      let start = at-head .before .before .before .before .before .before .before in
+      room-token (start .pre .1) (at-head .head .ensures)
 
   pub same-length : lts.Need-same-length given (ty-at t) ty.Post
   same-length c = omega (arith, c .before .before .finish .kept)
 
   pub returns-2 : lts.Need-returns-2 given (ty-at t) ty.Post
-  returns-2 c = type-name (c .before .before .before .before .before .before .before .before .before .before .before .before .before .pre .1) (c .before .before .before .before .before .before .before .if1 .left) (c .before .before .before .before .before .before .head .ensures) (c .before .before .before .before .if2 .taken) (c .before .before .finish .ensures)
+  returns-2 c =
+      let at-if2 = c .before .before .before .before in
+      let at-head = at-if2 .before .before in
+      let at-if1 = at-head .before in
+      let start = at-if1 .before .before .before .before .before .before in
+      type-name (start .pre .1) (at-if1 .if1 .left) (at-head .head .ensures) (at-if2 .if2 .taken) (c .before .before .finish .ensures)
 
   pub sub-ty : lts.Need-sub-ty given (ty-at t) ty.Post
   sub-ty c = omega arith
 
   pub ty-requires : lts.Need-ty-requires given (ty-at t) ty.Post
-  ty-requires c κs = (omega (arith, c .before .before .before .before .before .before .before .before .before .before .before .before .before .before .pre .0, c .before .before .before .before .before .before .before .head .ensures, c .before .before .before .if3 .taken), asked-seen (c .before .before .before .before .before .before .before .before .before .before .before .before .before .before .pre .1) (c .before .before .before .before .before .before .before .head .ensures))
+  ty-requires c κs =
+      let at-if3 = c .before .before .before in
+      let at-head = at-if3 .before .before .before .before in
+      let start = at-head .before .before .before .before .before .before .before in
+      (omega (arith, start .pre .0, at-head .head .ensures, at-if3 .if3 .taken), asked-seen (start .pre .1) (at-head .head .ensures))
 
   pub finish-requires-2 : lts.Need-finish-requires-2 given (ty-at t) ty.Post
-  finish-requires-2 c κs = star-room (c .before .before .before .before .before .before .before .before .before .before .before .before .before .before .before .before .before .before .before .before .before .before .pre .1) (c .before .before .before .before .before .before .before .before .before .before .before .before .before .before .before .head .ensures) (c .before .before .before .before .before .before .before .ty .ensures) (omega (arith, c .before .before .before .before .before .before .before .ty .kept))
+  finish-requires-2 c κs =
+      let at-ty = c .before .before .before .before .before .before .before in
+      let at-head = at-ty .before .before .before .before .before .before .before .before in
+      let start = at-head .before .before .before .before .before .before .before in
+      star-room (start .pre .1) (at-head .head .ensures) (at-ty .ty .ensures) (omega (arith, at-ty .ty .kept))
 
   pub same-length-2 : lts.Need-same-length-2 given (ty-at t) ty.Post
-  same-length-2 c = omega (arith, c .before .before .finish2 .kept, c .before .before .before .before .before .before .before .before .before .before .ty .kept)
+  same-length-2 c =
+      let at-ty = c .before .before .before .before .before .before .before .before .before .before in
+      omega (arith, c .before .before .finish2 .kept, at-ty .ty .kept)
 
   pub same-length-3 : lts.Need-same-length-3 given (ty-at t) ty.Post
-  same-length-3 c = omega (arith, c .before .before .finish2 .kept, c .before .before .before .before .before .before .before .before .before .before .ty .kept)
+  same-length-3 c =
+      let at-ty = c .before .before .before .before .before .before .before .before .before .before in
+      omega (arith, c .before .before .finish2 .kept, at-ty .ty .kept)
 
   pub same-length-4 : lts.Need-same-length-4 given (ty-at t) ty.Post
-  same-length-4 c = omega (arith, c .before .before .finish2 .kept, c .before .before .before .before .before .before .before .before .before .before .ty .kept)
+  same-length-4 c =
+      let at-ty = c .before .before .before .before .before .before .before .before .before .before in
+      omega (arith, c .before .before .finish2 .kept, at-ty .ty .kept)
 
   pub returns-3 : lts.Need-returns-3 given (ty-at t) ty.Post
-  returns-3 c = type-star (c .before .before .before .before .before .before .before .before .before .before .before .before .before .before .before .before .before .before .before .before .before .before .before .before .before .pre .1) (c .before .before .before .before .before .before .before .before .before .before .before .before .before .before .before .before .before .before .before .if1 .left) (c .before .before .before .before .before .before .before .before .before .before .before .before .before .before .before .before .before .before .head .ensures) (c .before .before .before .before .before .before .before .before .before .before .before .before .before .before .before .before .if2 .left) (c .before .before .before .before .before .before .before .before .before .before .before .before .before .before .if3 .taken) (c .before .before .before .before .before .before .before .before .before .before .ty .ensures) (c .before .before .finish2 .ensures)
+  returns-3 c =
+      let at-ty = c .before .before .before .before .before .before .before .before .before .before in
+      let at-if3 = at-ty .before .before .before .before in
+      let at-if2 = at-if3 .before .before in
+      let at-head = at-if2 .before .before in
+      let at-if1 = at-head .before in
+      let start = at-if1 .before .before .before .before .before .before in
+      type-star (start .pre .1) (at-if1 .if1 .left) (at-head .head .ensures) (at-if2 .if2 .left) (at-if3 .if3 .taken) (at-ty .ty .ensures) (c .before .before .finish2 .ensures)
 
   pub sub-array : lts.Need-sub-array given (ty-at t) ty.Post
   sub-array c = omega arith
 
   pub array-requires : lts.Need-array-requires given (ty-at t) ty.Post
-  array-requires c κs = (omega (arith, c .before .before .before .before .before .before .before .before .before .before .before .before .before .before .before .before .pre .0, c .before .before .before .before .before .before .before .before .before .head .ensures, c .before .before .before .if4 .taken), array-asked (c .before .before .before .before .before .before .before .before .before .before .before .before .before .before .before .before .pre .1) (c .before .before .before .before .before .before .before .before .before .head .ensures))
+  array-requires c κs =
+      let at-if4 = c .before .before .before in
+      let at-head = at-if4 .before .before .before .before .before .before in
+      let start = at-head .before .before .before .before .before .before .before in
+      (omega (arith, start .pre .0, at-head .head .ensures, at-if4 .if4 .taken), array-asked (start .pre .1) (at-head .head .ensures))
 
   pub same-length-5 : lts.Need-same-length-5 given (ty-at t) ty.Post
   same-length-5 c = omega (arith, c .before .before .before .before .before .before .array .kept)
@@ -75,37 +110,72 @@ module _ (t : ℕ) where
   same-length-7 c = omega (arith, c .before .before .before .before .before .before .array .kept)
 
   pub returns-4 : lts.Need-returns-4 given (ty-at t) ty.Post
-  returns-4 c = type-array (c .before .before .before .before .before .before .before .before .before .before .before .before .before .before .before .before .before .before .before .before .before .before .before .pre .1) (c .before .before .before .before .before .before .before .before .before .before .before .before .before .before .before .before .before .if1 .left) (c .before .before .before .before .before .before .before .before .before .before .before .before .before .before .before .before .head .ensures) (c .before .before .before .before .before .before .before .before .before .before .before .before .before .before .if2 .left) (c .before .before .before .before .before .before .before .before .before .before .before .before .if3 .left) (c .before .before .before .before .before .before .before .before .before .before .if4 .taken) (c .before .before .before .before .before .before .array .ensures)
+  returns-4 c =
+      let at-array = c .before .before .before .before .before .before in
+      let at-if4 = at-array .before .before .before .before in
+      let at-if3 = at-if4 .before .before in
+      let at-if2 = at-if3 .before .before in
+      let at-head = at-if2 .before .before in
+      let at-if1 = at-head .before in
+      let start = at-if1 .before .before .before .before .before .before in
+      type-array (start .pre .1) (at-if1 .if1 .left) (at-head .head .ensures) (at-if2 .if2 .left) (at-if3 .if3 .left) (at-if4 .if4 .taken) (at-array .array .ensures)
 
   pub sub-list : lts.Need-sub-list given (ty-at t) ty.Post
   sub-list c = omega arith
 
   pub list-requires : lts.Need-list-requires given (ty-at t) ty.Post
-  list-requires c κs = (omega (arith, c .before .before .before .before .before .before .before .before .before .before .before .before .before .before .before .before .before .before .pre .0, c .before .before .before .before .before .before .before .before .before .before .before .head .ensures, c .before .before .before .if5 .taken), asked-seen (c .before .before .before .before .before .before .before .before .before .before .before .before .before .before .before .before .before .before .pre .1) (c .before .before .before .before .before .before .before .before .before .before .before .head .ensures))
+  list-requires c κs =
+      let at-if5 = c .before .before .before in
+      let at-head = at-if5 .before .before .before .before .before .before .before .before in
+      let start = at-head .before .before .before .before .before .before .before in
+      (omega (arith, start .pre .0, at-head .head .ensures, at-if5 .if5 .taken), asked-seen (start .pre .1) (at-head .head .ensures))
 
   pub silence-requires : lts.Need-silence-requires given (ty-at t) ty.Post
   silence-requires c κs = search needs
 
   pub finish-requires-3 : lts.Need-finish-requires-3 given (ty-at t) ty.Post
-  finish-requires-3 c κs = struct-room (c .before .before .before .before .before .before .before .before .before .before .before .before .before .before .before .before .before .before .before .before .before .before .before .before .before .before .before .pre .1) (c .before .before .before .before .before .before .before .before .before .before .before .before .before .before .before .before .before .before .before .before .head .ensures) (c .before .before .before .before .before .before .before .before .list .ensures) (c .before .silence .ensures) (omega (arith, c .before .before .before .before .before .before .before .before .list .kept))
+  finish-requires-3 c κs =
+      let at-list = c .before .before .before .before .before .before .before .before in
+      let at-head = at-list .before .before .before .before .before .before .before .before .before .before .before .before in
+      let start = at-head .before .before .before .before .before .before .before in
+      struct-room (start .pre .1) (at-head .head .ensures) (at-list .list .ensures) (c .before .silence .ensures) (omega (arith, at-list .list .kept))
 
   pub same-length-8 : lts.Need-same-length-8 given (ty-at t) ty.Post
-  same-length-8 c = omega (arith, c .before .before .finish3 .kept, c .before .before .before .before .before .before .before .before .before .before .before .list .kept)
+  same-length-8 c =
+      let at-list = c .before .before .before .before .before .before .before .before .before .before .before in
+      omega (arith, c .before .before .finish3 .kept, at-list .list .kept)
 
   pub same-length-9 : lts.Need-same-length-9 given (ty-at t) ty.Post
-  same-length-9 c = omega (arith, c .before .before .finish3 .kept, c .before .before .before .before .before .before .before .before .before .before .before .list .kept)
+  same-length-9 c =
+      let at-list = c .before .before .before .before .before .before .before .before .before .before .before in
+      omega (arith, c .before .before .finish3 .kept, at-list .list .kept)
 
   pub same-length-10 : lts.Need-same-length-10 given (ty-at t) ty.Post
-  same-length-10 c = omega (arith, c .before .before .finish3 .kept, c .before .before .before .before .before .before .before .before .before .before .before .list .kept)
+  same-length-10 c =
+      let at-list = c .before .before .before .before .before .before .before .before .before .before .before in
+      omega (arith, c .before .before .finish3 .kept, at-list .list .kept)
 
   pub returns-5 : lts.Need-returns-5 given (ty-at t) ty.Post
-  returns-5 c = type-struct (c .before .before .before .before .before .before .before .before .before .before .before .before .before .before .before .before .before .before .before .before .before .before .before .before .before .before .before .before .before .before .pre .1) (c .before .before .before .before .before .before .before .before .before .before .before .before .before .before .before .before .before .before .before .before .before .before .before .before .if1 .left) (c .before .before .before .before .before .before .before .before .before .before .before .before .before .before .before .before .before .before .before .before .before .before .before .head .ensures) (c .before .before .before .before .before .before .before .before .before .before .before .before .before .before .before .before .before .before .before .before .before .if2 .left) (c .before .before .before .before .before .before .before .before .before .before .before .before .before .before .before .before .before .before .before .if3 .left) (c .before .before .before .before .before .before .before .before .before .before .before .before .before .before .before .before .before .if4 .left) (c .before .before .before .before .before .before .before .before .before .before .before .before .before .before .before .if5 .taken) (c .before .before .before .before .before .before .before .before .before .before .before .list .ensures) (c .before .before .before .before .silence .ensures) (c .before .before .finish3 .ensures)
+  returns-5 c =
+      let at-silence = c .before .before .before .before in
+      let at-list = at-silence .before .before .before .before .before .before .before in
+      let at-if5 = at-list .before .before .before .before in
+      let at-if4 = at-if5 .before .before in
+      let at-if3 = at-if4 .before .before in
+      let at-if2 = at-if3 .before .before in
+      let at-head = at-if2 .before .before in
+      let at-if1 = at-head .before in
+      let start = at-if1 .before .before .before .before .before .before in
+      type-struct (start .pre .1) (at-if1 .if1 .left) (at-head .head .ensures) (at-if2 .if2 .left) (at-if3 .if3 .left) (at-if4 .if4 .left) (at-if5 .if5 .taken) (at-list .list .ensures) (at-silence .silence .ensures) (c .before .before .finish3 .ensures)
 
   pub entry-requires : lts.Need-entry-requires given (ty-at t) ty.Post
   entry-requires c κs = omega arith
 
   pub raise-requires : lts.Need-raise-requires given (ty-at t) ty.Post
-  raise-requires c κs = raise-asked (asked-seen (c .before .before .before .before .before .before .before .before .before .before .before .before .before .before .before .before .before .before .before .before .pre .1) (c .before .before .before .before .before .before .before .before .before .before .before .before .before .head .ensures))
+  raise-requires c κs =
+      let at-head = c .before .before .before .before .before .before .before .before .before .before .before .before .before in
+      let start = at-head .before .before .before .before .before .before .before in
+      raise-asked (asked-seen (start .pre .1) (at-head .head .ensures))
 
   pub same-length-11 : lts.Need-same-length-11 given (ty-at t) ty.Post
   same-length-11 c = omega (arith, c .before .before .before .before .raise .kept)
@@ -114,13 +184,27 @@ module _ (t : ℕ) where
   same-length-12 c = omega (arith, c .before .before .before .before .raise .kept)
 
   pub returns-6 : lts.Need-returns-6 given (ty-at t) ty.Post
-  returns-6 c = type-end (c .before .before .before .before .before .before .before .before .before .before .before .before .before .before .before .before .before .before .before .before .before .before .before .before .before .pre .1) (c .before .before .before .before .before .before .before .before .before .before .before .before .before .before .before .before .before .before .before .if1 .left) (c .before .before .before .before .before .before .before .before .before .before .before .before .before .before .before .before .before .before .head .ensures) (c .before .before .before .before .before .before .before .before .before .before .before .before .before .before .before .before .if2 .left) (c .before .before .before .before .before .before .before .before .before .before .before .before .before .before .if3 .left) (c .before .before .before .before .before .before .before .before .before .before .before .before .if4 .left) (c .before .before .before .before .before .before .before .before .before .before .if5 .left) (c .before .before .before .before .before .before .before .before .if6 .taken) (c .before .before .before .before .before .entry .ensures) (c .before .before .before .before .raise .ensures)
+  returns-6 c =
+      let at-raise = c .before .before .before .before in
+      let at-entry = at-raise .before in
+      let at-if6 = at-entry .before .before .before in
+      let at-if5 = at-if6 .before .before in
+      let at-if4 = at-if5 .before .before in
+      let at-if3 = at-if4 .before .before in
+      let at-if2 = at-if3 .before .before in
+      let at-head = at-if2 .before .before in
+      let at-if1 = at-head .before in
+      let start = at-if1 .before .before .before .before .before .before in
+      type-end (start .pre .1) (at-if1 .if1 .left) (at-head .head .ensures) (at-if2 .if2 .left) (at-if3 .if3 .left) (at-if4 .if4 .left) (at-if5 .if5 .left) (at-if6 .if6 .taken) (at-entry .entry .ensures) (at-raise .raise .ensures)
 
   pub entry-requires-2 : lts.Need-entry-requires-2 given (ty-at t) ty.Post
   entry-requires-2 c κs = omega (arith, c .before .before .before .before .before .before .before .before .before .before .before .before .head .ensures)
 
   pub raise-requires-2 : lts.Need-raise-requires-2 given (ty-at t) ty.Post
-  raise-requires-2 c κs = raise-asked (asked-seen (c .before .before .before .before .before .before .before .before .before .before .before .before .before .before .before .before .before .before .before .before .pre .1) (c .before .before .before .before .before .before .before .before .before .before .before .before .before .head .ensures))
+  raise-requires-2 c κs =
+      let at-head = c .before .before .before .before .before .before .before .before .before .before .before .before .before in
+      let start = at-head .before .before .before .before .before .before .before in
+      raise-asked (asked-seen (start .pre .1) (at-head .head .ensures))
 
   pub same-length-13 : lts.Need-same-length-13 given (ty-at t) ty.Post
   same-length-13 c = omega (arith, c .before .before .before .before .raise2 .kept)
@@ -129,4 +213,15 @@ module _ (t : ℕ) where
   same-length-14 c = omega (arith, c .before .before .before .before .raise2 .kept)
 
   pub returns-7 : lts.Need-returns-7 given (ty-at t) ty.Post
-  returns-7 c = type-other (c .before .before .before .before .before .before .before .before .before .before .before .before .before .before .before .before .before .before .before .before .before .before .before .before .before .pre .1) (c .before .before .before .before .before .before .before .before .before .before .before .before .before .before .before .before .before .before .before .if1 .left) (c .before .before .before .before .before .before .before .before .before .before .before .before .before .before .before .before .before .before .head .ensures) (c .before .before .before .before .before .before .before .before .before .before .before .before .before .before .before .before .if2 .left) (c .before .before .before .before .before .before .before .before .before .before .before .before .before .before .if3 .left) (c .before .before .before .before .before .before .before .before .before .before .before .before .if4 .left) (c .before .before .before .before .before .before .before .before .before .before .if5 .left) (c .before .before .before .before .before .before .before .before .if6 .left) (c .before .before .before .before .before .entry2 .ensures) (c .before .before .before .before .raise2 .ensures)
+  returns-7 c =
+      let at-raise2 = c .before .before .before .before in
+      let at-entry2 = at-raise2 .before in
+      let at-if6 = at-entry2 .before .before .before in
+      let at-if5 = at-if6 .before .before in
+      let at-if4 = at-if5 .before .before in
+      let at-if3 = at-if4 .before .before in
+      let at-if2 = at-if3 .before .before in
+      let at-head = at-if2 .before .before in
+      let at-if1 = at-head .before in
+      let start = at-if1 .before .before .before .before .before .before in
+      type-other (start .pre .1) (at-if1 .if1 .left) (at-head .head .ensures) (at-if2 .if2 .left) (at-if3 .if3 .left) (at-if4 .if4 .left) (at-if5 .if5 .left) (at-if6 .if6 .left) (at-entry2 .entry2 .ensures) (at-raise2 .raise2 .ensures)

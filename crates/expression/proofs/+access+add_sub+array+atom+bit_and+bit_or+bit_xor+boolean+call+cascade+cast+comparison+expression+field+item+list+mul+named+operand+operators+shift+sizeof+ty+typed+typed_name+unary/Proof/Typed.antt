@@ -18,34 +18,73 @@ module _ (t : ℕ) where
   expect-requires c κs = (c .before .before .before .before .before .before .before .pre .1 .0 .asks, (omega arith, omega arith))
 
   pub abandon-requires : lts.Need-abandon-requires given (typed-at t) typed.Post
-  abandon-requires c κs = colon-cuts (c .before .before .before .before .before .before .before .before .before .before .before .before .before .pre .1) (c .before .before .before .before .before .expect .ensures) (omega (arith, c .before .before .before .before .before .expect .kept))
+  abandon-requires c κs =
+      let at-expect = c .before .before .before .before .before in
+      let start = at-expect .before .before .before .before .before .before .before .before in
+      colon-cuts (start .pre .1) (at-expect .expect .ensures) (omega (arith, at-expect .expect .kept))
 
   pub enum-told : lts.Need-enum-told given (typed-at t) typed.Post
   enum-told c = search needs
 
   pub same-length : lts.Need-same-length given (typed-at t) typed.Post
-  same-length c = omega (arith, c .before .before .before .abandon .kept, c .before .before .before .before .before .before .before .before .before .expect .kept)
+  same-length c =
+      let at-abandon = c .before .before .before in
+      let at-expect = at-abandon .before .before .before .before .before .before in
+      omega (arith, at-abandon .abandon .kept, at-expect .expect .kept)
 
   pub same-length-2 : lts.Need-same-length-2 given (typed-at t) typed.Post
-  same-length-2 c = omega (arith, c .before .before .before .abandon .kept, c .before .before .before .before .before .before .before .before .before .expect .kept)
+  same-length-2 c =
+      let at-abandon = c .before .before .before in
+      let at-expect = at-abandon .before .before .before .before .before .before in
+      omega (arith, at-abandon .abandon .kept, at-expect .expect .kept)
 
   pub returns : lts.Need-returns given (typed-at t) typed.Post
-  returns c = typed-colon (c .before .before .before .before .before .before .before .before .before .before .before .before .before .before .before .before .before .pre .1) (c .before .before .before .before .before .before .before .before .before .expect .ensures) (c .before .before .before .abandon .ensures) (c .match .keys2)
+  returns c =
+      let at-abandon = c .before .before .before in
+      let at-expect = at-abandon .before .before .before .before .before .before in
+      let start = at-expect .before .before .before .before .before .before .before .before in
+      typed-colon (start .pre .1) (at-expect .expect .ensures) (at-abandon .abandon .ensures) (c .match .keys2)
 
   pub ty-requires : lts.Need-ty-requires given (typed-at t) typed.Post
-  ty-requires c κs = (omega (arith, c .before .before .before .before .before .before .before .before .before .before .before .before .before .before .before .before .before .before .before .before .before .before .pre .0, c .before .before .before .before .before .before .before .before .before .before .before .before .before .before .expect .ensures .moved, c .before .before .before .before .before .before .before .before .abandon .ensures .at), type-asked (c .before .before .before .before .before .before .before .before .before .before .before .before .before .before .before .before .before .before .before .before .before .before .pre .1) (c .before .before .before .before .before .before .before .before .before .before .before .before .before .before .expect .ensures) (c .before .before .before .before .before .before .before .before .abandon .ensures) (omega (arith, c .before .before .before .before .before .before .before .before .before .before .before .before .before .before .expect .kept, c .before .before .before .before .before .before .before .before .abandon .kept)) (omega (arith, c .before .before .before .before .before .before .before .before .before .before .before .before .before .before .expect .kept, c .before .before .before .before .before .before .before .before .abandon .kept)))
+  ty-requires c κs =
+      let at-abandon = c .before .before .before .before .before .before .before .before in
+      let at-expect = at-abandon .before .before .before .before .before .before in
+      let start = at-expect .before .before .before .before .before .before .before .before in
+      (omega (arith, start .pre .0, at-expect .expect .ensures .moved, at-abandon .abandon .ensures .at), type-asked (start .pre .1) (at-expect .expect .ensures) (at-abandon .abandon .ensures) (omega (arith, at-expect .expect .kept, at-abandon .abandon .kept)) (omega (arith, at-expect .expect .kept, at-abandon .abandon .kept)))
 
   pub abandon-requires-2 : lts.Need-abandon-requires-2 given (typed-at t) typed.Post
-  abandon-requires-2 c κs = type-cuts (c .before .before .before .before .before .before .before .before .before .before .before .before .before .before .before .before .before .before .before .before .before .before .before .before .before .before .before .before .before .before .pre .1) (c .before .before .before .before .before .before .before .before .before .before .before .before .before .before .before .before .before .before .before .before .before .before .expect .ensures) (c .before .before .before .before .before .before .before .before .before .before .before .before .before .before .before .before .abandon .ensures) (c .before .before .before .before .before .before .before .ty .ensures) (omega (arith, c .before .before .before .before .before .before .before .before .before .before .before .before .before .before .before .before .before .before .before .before .before .before .expect .kept, c .before .before .before .before .before .before .before .before .before .before .before .before .before .before .before .before .abandon .kept)) (omega (arith, c .before .before .before .before .before .before .before .before .before .before .before .before .before .before .before .before .before .before .before .before .before .before .expect .kept, c .before .before .before .before .before .before .before .before .before .before .before .before .before .before .before .before .abandon .kept)) (omega (arith, c .before .before .before .before .before .before .before .ty .kept))
+  abandon-requires-2 c κs =
+      let at-ty = c .before .before .before .before .before .before .before in
+      let at-abandon = at-ty .before .before .before .before .before .before .before .before .before in
+      let at-expect = at-abandon .before .before .before .before .before .before in
+      let start = at-expect .before .before .before .before .before .before .before .before in
+      type-cuts (start .pre .1) (at-expect .expect .ensures) (at-abandon .abandon .ensures) (at-ty .ty .ensures) (omega (arith, at-expect .expect .kept, at-abandon .abandon .kept)) (omega (arith, at-expect .expect .kept, at-abandon .abandon .kept)) (omega (arith, at-ty .ty .kept))
 
   pub same-length-3 : lts.Need-same-length-3 given (typed-at t) typed.Post
-  same-length-3 c = omega (arith, c .before .before .abandon2 .kept, c .before .before .before .before .before .before .before .before .before .before .ty .kept, c .before .before .before .before .before .before .before .before .before .before .before .before .before .before .before .before .before .before .before .abandon .kept, c .before .before .before .before .before .before .before .before .before .before .before .before .before .before .before .before .before .before .before .before .before .before .before .before .before .expect .kept)
+  same-length-3 c =
+      let at-ty = c .before .before .before .before .before .before .before .before .before .before in
+      let at-abandon = at-ty .before .before .before .before .before .before .before .before .before in
+      let at-expect = at-abandon .before .before .before .before .before .before in
+      omega (arith, c .before .before .abandon2 .kept, at-ty .ty .kept, at-abandon .abandon .kept, at-expect .expect .kept)
 
   pub same-length-4 : lts.Need-same-length-4 given (typed-at t) typed.Post
-  same-length-4 c = omega (arith, c .before .before .abandon2 .kept, c .before .before .before .before .before .before .before .before .before .before .ty .kept, c .before .before .before .before .before .before .before .before .before .before .before .before .before .before .before .before .before .before .before .abandon .kept, c .before .before .before .before .before .before .before .before .before .before .before .before .before .before .before .before .before .before .before .before .before .before .before .before .before .expect .kept)
+  same-length-4 c =
+      let at-ty = c .before .before .before .before .before .before .before .before .before .before in
+      let at-abandon = at-ty .before .before .before .before .before .before .before .before .before in
+      let at-expect = at-abandon .before .before .before .before .before .before in
+      omega (arith, c .before .before .abandon2 .kept, at-ty .ty .kept, at-abandon .abandon .kept, at-expect .expect .kept)
 
   pub same-length-5 : lts.Need-same-length-5 given (typed-at t) typed.Post
-  same-length-5 c = omega (arith, c .before .before .before .before .before .before .before .before .before .before .ty .kept, c .before .before .before .before .before .before .before .before .before .before .before .before .before .before .before .before .before .before .before .before .before .before .before .before .before .expect .kept)
+  same-length-5 c =
+      let at-ty = c .before .before .before .before .before .before .before .before .before .before in
+      let at-expect = at-ty .before .before .before .before .before .before .before .before .before .before .before .before .before .before .before in
+      omega (arith, at-ty .ty .kept, at-expect .expect .kept)
 
   pub returns-2 : lts.Need-returns-2 given (typed-at t) typed.Post
-  returns-2 c = typed-type (c .before .before .before .before .before .before .before .before .before .before .before .before .before .before .before .before .before .before .before .before .before .before .before .before .before .before .before .before .before .before .before .before .before .pre .1) (c .before .before .before .before .before .before .before .before .before .before .before .before .before .before .before .before .before .before .before .before .before .before .before .before .before .expect .ensures) (c .before .before .before .before .before .before .before .before .before .before .before .before .before .before .before .before .before .before .before .abandon .ensures) (c .before .before .before .before .before .before .before .before .before .before .before .before .before .before .before .enum-told .given .1) (c .before .before .before .before .before .before .before .before .before .before .ty .ensures) (c .before .before .abandon2 .ensures)
+  returns-2 c =
+      let at-ty = c .before .before .before .before .before .before .before .before .before .before in
+      let at-enum-told = at-ty .before .before .before .before .before in
+      let at-abandon = at-enum-told .before .before .before .before in
+      let at-expect = at-abandon .before .before .before .before .before .before in
+      let start = at-expect .before .before .before .before .before .before .before .before in
+      typed-type (start .pre .1) (at-expect .expect .ensures) (at-abandon .abandon .ensures) (at-enum-told .enum-told .given .1) (at-ty .ty .ensures) (c .before .before .abandon2 .ensures)

@@ -22,7 +22,10 @@ module _ (t : ℕ) where
   head-requires c κs = (c .before .before .before .before .before .pre .1 .asks .held, c .before .before .before .before .before .pre .1 .asks .at)
 
   pub typed-requires : lts.Need-typed-requires given (typed-name-at t) typed-name.Post
-  typed-requires c κs = (omega (arith, c .before .before .before .before .before .before .before .before .before .before .before .pre .0, c .before .before .before .before .before .head .ensures), (asked-seen (c .before .before .before .before .before .before .before .before .before .before .before .pre .1) (c .before .before .before .before .before .head .ensures), omega arith))
+  typed-requires c κs =
+      let at-head = c .before .before .before .before .before in
+      let start = at-head .before .before .before .before .before .before in
+      (omega (arith, start .pre .0, at-head .head .ensures), (asked-seen (start .pre .1) (at-head .head .ensures), omega arith))
 
   pub same-length : lts.Need-same-length given (typed-name-at t) typed-name.Post
   same-length c = omega (arith, c .before .before .before .before .before .before .typed .kept)
@@ -34,13 +37,21 @@ module _ (t : ℕ) where
   same-length-3 c = omega (arith, c .before .before .before .before .before .before .typed .kept)
 
   pub returns : lts.Need-returns given (typed-name-at t) typed-name.Post
-  returns c = identifier-name (c .before .before .before .before .before .before .before .before .before .before .before .before .before .before .before .before .before .before .pre .1) (c .before .before .before .before .before .before .before .before .before .before .before .before .head .ensures) (c .before .before .before .before .before .before .before .before .before .before .if1 .taken) (c .before .before .before .before .before .before .typed .ensures)
+  returns c =
+      let at-typed = c .before .before .before .before .before .before in
+      let at-if1 = at-typed .before .before .before .before in
+      let at-head = at-if1 .before .before in
+      let start = at-head .before .before .before .before .before .before in
+      identifier-name (start .pre .1) (at-head .head .ensures) (at-if1 .if1 .taken) (at-typed .typed .ensures)
 
   pub entry-requires : lts.Need-entry-requires given (typed-name-at t) typed-name.Post
   entry-requires c κs = omega arith
 
   pub raise-requires : lts.Need-raise-requires given (typed-name-at t) typed-name.Post
-  raise-requires c κs = raise-asked (asked-seen (c .before .before .before .before .before .before .before .before .before .before .before .before .before .pre .1) (c .before .before .before .before .before .before .before .head .ensures))
+  raise-requires c κs =
+      let at-head = c .before .before .before .before .before .before .before in
+      let start = at-head .before .before .before .before .before .before in
+      raise-asked (asked-seen (start .pre .1) (at-head .head .ensures))
 
   pub same-length-4 : lts.Need-same-length-4 given (typed-name-at t) typed-name.Post
   same-length-4 c = omega (arith, c .before .before .before .before .raise .kept)
@@ -49,13 +60,23 @@ module _ (t : ℕ) where
   same-length-5 c = omega (arith, c .before .before .before .before .raise .kept)
 
   pub returns-2 : lts.Need-returns-2 given (typed-name-at t) typed-name.Post
-  returns-2 c = identifier-end (c .before .before .before .before .before .before .before .before .before .before .before .before .before .before .before .before .before .before .pre .1) (c .before .before .before .before .before .before .before .before .before .before .before .before .head .ensures) (c .before .before .before .before .before .before .before .before .before .before .if1 .left) (c .before .before .before .before .before .before .before .before .if2 .taken) (c .before .before .before .before .before .entry .ensures) (c .before .before .before .before .raise .ensures)
+  returns-2 c =
+      let at-raise = c .before .before .before .before in
+      let at-entry = at-raise .before in
+      let at-if2 = at-entry .before .before .before in
+      let at-if1 = at-if2 .before .before in
+      let at-head = at-if1 .before .before in
+      let start = at-head .before .before .before .before .before .before in
+      identifier-end (start .pre .1) (at-head .head .ensures) (at-if1 .if1 .left) (at-if2 .if2 .taken) (at-entry .entry .ensures) (at-raise .raise .ensures)
 
   pub entry-requires-2 : lts.Need-entry-requires-2 given (typed-name-at t) typed-name.Post
   entry-requires-2 c κs = omega (arith, c .before .before .before .before .before .before .head .ensures)
 
   pub note-requires : lts.Need-note-requires given (typed-name-at t) typed-name.Post
-  note-requires c κs = raise-asked (asked-seen (c .before .before .before .before .before .before .before .before .before .before .before .before .before .pre .1) (c .before .before .before .before .before .before .before .head .ensures))
+  note-requires c κs =
+      let at-head = c .before .before .before .before .before .before .before in
+      let start = at-head .before .before .before .before .before .before in
+      raise-asked (asked-seen (start .pre .1) (at-head .head .ensures))
 
   pub enum-told : lts.Need-enum-told given (typed-name-at t) typed-name.Post
   enum-told c = search needs
@@ -67,19 +88,48 @@ module _ (t : ℕ) where
   same-length-7 c = omega (arith, c .before .before .before .before .before .note .kept)
 
   pub returns-3 : lts.Need-returns-3 given (typed-name-at t) typed-name.Post
-  returns-3 c = identifier-refused (c .before .before .before .before .before .before .before .before .before .before .before .before .before .before .before .before .before .before .before .pre .1) (c .before .before .before .before .before .before .before .before .before .before .before .before .before .head .ensures) (c .before .before .before .before .before .before .before .before .before .before .before .if1 .left) (c .before .before .before .before .before .before .before .before .before .if2 .left) (c .before .before .before .before .before .before .entry2 .ensures) (c .before .before .before .before .before .note .ensures) (c .match .keys2)
+  returns-3 c =
+      let at-note = c .before .before .before .before .before in
+      let at-entry2 = at-note .before in
+      let at-if2 = at-entry2 .before .before .before in
+      let at-if1 = at-if2 .before .before in
+      let at-head = at-if1 .before .before in
+      let start = at-head .before .before .before .before .before .before in
+      identifier-refused (start .pre .1) (at-head .head .ensures) (at-if1 .if1 .left) (at-if2 .if2 .left) (at-entry2 .entry2 .ensures) (at-note .note .ensures) (c .match .keys2)
 
   pub typed-requires-2 : lts.Need-typed-requires-2 given (typed-name-at t) typed-name.Post
-  typed-requires-2 c κs = (omega (arith, c .before .before .before .before .before .before .before .before .before .before .before .before .before .before .before .before .before .before .before .before .before .before .before .before .pre .0, c .before .before .before .before .before .before .before .before .before .before .before .before .before .before .before .before .before .before .head .ensures, noted-moved (c .before .before .before .before .before .before .before .before .before .before .before .before .before .before .before .before .before .before .before .before .before .before .before .before .pre .1) (c .before .before .before .before .before .before .before .before .before .before .before .before .before .before .before .before .before .before .head .ensures) (c .before .before .before .before .before .before .before .before .before .before .note .ensures)), noted-asked (c .before .before .before .before .before .before .before .before .before .before .before .before .before .before .before .before .before .before .before .before .before .before .before .before .pre .1) (c .before .before .before .before .before .before .before .before .before .before .before .before .before .before .before .before .before .before .head .ensures) (c .before .before .before .before .before .before .before .before .before .before .note .ensures) (omega (arith, c .before .before .before .before .before .before .before .before .before .before .note .kept)) (omega (arith, c .before .before .before .before .before .before .before .before .before .before .note .kept)))
+  typed-requires-2 c κs =
+      let at-note = c .before .before .before .before .before .before .before .before .before .before in
+      let at-head = at-note .before .before .before .before .before .before .before .before in
+      let start = at-head .before .before .before .before .before .before in
+      (omega (arith, start .pre .0, at-head .head .ensures, noted-moved (start .pre .1) (at-head .head .ensures) (at-note .note .ensures)), noted-asked (start .pre .1) (at-head .head .ensures) (at-note .note .ensures) (omega (arith, at-note .note .kept)) (omega (arith, at-note .note .kept)))
 
   pub same-length-8 : lts.Need-same-length-8 given (typed-name-at t) typed-name.Post
-  same-length-8 c = omega (arith, c .before .before .before .before .before .before .typed2 .kept, c .before .before .before .before .before .before .before .before .before .before .before .before .before .before .before .before .before .note .kept)
+  same-length-8 c =
+      let at-typed2 = c .before .before .before .before .before .before in
+      let at-note = at-typed2 .before .before .before .before .before .before .before .before .before .before .before in
+      omega (arith, at-typed2 .typed2 .kept, at-note .note .kept)
 
   pub same-length-9 : lts.Need-same-length-9 given (typed-name-at t) typed-name.Post
-  same-length-9 c = omega (arith, c .before .before .before .before .before .before .typed2 .kept, c .before .before .before .before .before .before .before .before .before .before .before .before .before .before .before .before .before .note .kept)
+  same-length-9 c =
+      let at-typed2 = c .before .before .before .before .before .before in
+      let at-note = at-typed2 .before .before .before .before .before .before .before .before .before .before .before in
+      omega (arith, at-typed2 .typed2 .kept, at-note .note .kept)
 
   pub same-length-10 : lts.Need-same-length-10 given (typed-name-at t) typed-name.Post
-  same-length-10 c = omega (arith, c .before .before .before .before .before .before .typed2 .kept, c .before .before .before .before .before .before .before .before .before .before .before .before .before .before .before .before .before .note .kept)
+  same-length-10 c =
+      let at-typed2 = c .before .before .before .before .before .before in
+      let at-note = at-typed2 .before .before .before .before .before .before .before .before .before .before .before in
+      omega (arith, at-typed2 .typed2 .kept, at-note .note .kept)
 
   pub returns-4 : lts.Need-returns-4 given (typed-name-at t) typed-name.Post
-  returns-4 c = identifier-noted (c .before .before .before .before .before .before .before .before .before .before .before .before .before .before .before .before .before .before .before .before .before .before .before .before .before .before .before .before .before .before .before .pre .1) (c .before .before .before .before .before .before .before .before .before .before .before .before .before .before .before .before .before .before .before .before .before .before .before .before .before .head .ensures) (c .before .before .before .before .before .before .before .before .before .before .before .before .before .before .before .before .before .before .before .before .before .before .before .if1 .left) (c .before .before .before .before .before .before .before .before .before .before .before .before .before .before .before .before .before .before .before .before .before .if2 .left) (c .before .before .before .before .before .before .before .before .before .before .before .before .before .before .before .before .before .before .entry2 .ensures) (c .before .before .before .before .before .before .before .before .before .before .before .before .before .before .before .before .before .note .ensures) (c .before .before .before .before .before .before .before .before .before .before .before .enum-told .given .1) (c .before .before .before .before .before .before .typed2 .ensures)
+  returns-4 c =
+      let at-typed2 = c .before .before .before .before .before .before in
+      let at-enum-told = at-typed2 .before .before .before .before .before in
+      let at-note = at-enum-told .before .before .before .before .before .before in
+      let at-entry2 = at-note .before in
+      let at-if2 = at-entry2 .before .before .before in
+      let at-if1 = at-if2 .before .before in
+      let at-head = at-if1 .before .before in
+      let start = at-head .before .before .before .before .before .before in
+      identifier-noted (start .pre .1) (at-head .head .ensures) (at-if1 .if1 .left) (at-if2 .if2 .left) (at-entry2 .entry2 .ensures) (at-note .note .ensures) (at-enum-told .enum-told .given .1) (at-typed2 .typed2 .ensures)

@@ -27,7 +27,9 @@ module _ (t : ℕ) where
   returns c = deep Unary (c .before .before .before .before .before .before .before .pre .1 .asks) (c .before .if1 .taken) (c .refuse .ensures)
 
   pub head-requires : lts.Need-head-requires given (unary-at t) unary.Post
-  head-requires c κs = (c .before .before .before .before .before .before .pre .1 .asks .held, c .before .before .before .before .before .before .pre .1 .asks .at)
+  head-requires c κs =
+      let start = c .before .before .before .before .before .before in
+      (start .pre .1 .asks .held, start .pre .1 .asks .at)
 
   pub prefix-requires : lts.Need-prefix-requires given (unary-at t) unary.Post
   prefix-requires c κs = search needs
@@ -36,7 +38,9 @@ module _ (t : ℕ) where
   sub-call c = omega arith
 
   pub call-requires : lts.Need-call-requires given (unary-at t) unary.Post
-  call-requires c κs = (omega (arith, c .before .before .before .before .before .before .before .before .before .before .before .before .pre .0), c .before .before .before .before .before .before .before .before .before .before .before .before .pre .1)
+  call-requires c κs =
+      let start = c .before .before .before .before .before .before .before .before .before .before .before .before in
+      (omega (arith, start .pre .0), start .pre .1)
 
   pub same-length : lts.Need-same-length given (unary-at t) unary.Post
   same-length c = omega (arith, c .before .before .before .before .before .before .call .kept)
@@ -48,25 +52,54 @@ module _ (t : ℕ) where
   same-length-3 c = omega (arith, c .before .before .before .before .before .before .call .kept)
 
   pub returns-2 : lts.Need-returns-2 given (unary-at t) unary.Post
-  returns-2 c = unary-none (c .before .before .before .before .before .before .before .before .before .before .before .before .before .before .before .before .before .before .before .pre .1) (c .before .before .before .before .before .before .before .before .before .before .before .before .before .if1 .left) (c .before .before .before .before .before .before .before .before .before .before .before .before .head .ensures) (c .before .before .before .before .before .before .before .before .before .before .before .prefix .ensures) (c .before .before .before .before .before .before .before .before .before .before .if2 .taken) (c .before .before .before .before .before .before .call .ensures)
+  returns-2 c =
+      let at-call = c .before .before .before .before .before .before in
+      let at-if2 = at-call .before .before .before .before in
+      let at-prefix = at-if2 .before in
+      let at-head = at-prefix .before in
+      let at-if1 = at-head .before in
+      let start = at-if1 .before .before .before .before .before .before in
+      unary-none (start .pre .1) (at-if1 .if1 .left) (at-head .head .ensures) (at-prefix .prefix .ensures) (at-if2 .if2 .taken) (at-call .call .ensures)
 
   pub sub-unary : lts.Need-sub-unary given (unary-at t) unary.Post
   sub-unary c = omega arith
 
   pub unary-requires : lts.Need-unary-requires given (unary-at t) unary.Post
-  unary-requires c κs = (omega (arith, c .before .before .before .before .before .before .before .before .before .before .before .before .pre .0, c .before .before .before .before .before .before .before .before .before .before .before .before .pre .1 .asks .at, c .before .before .before .before .before .head .ensures, c .before .before .before .before .prefix .ensures, c .before .before .before .if2 .left), asked-seen (c .before .before .before .before .before .before .before .before .before .before .before .before .pre .1) (c .before .before .before .before .before .head .ensures))
+  unary-requires c κs =
+      let at-if2 = c .before .before .before in
+      let at-prefix = at-if2 .before in
+      let at-head = at-prefix .before in
+      let start = at-head .before .before .before .before .before .before .before in
+      (omega (arith, start .pre .0, start .pre .1 .asks .at, at-head .head .ensures, at-prefix .prefix .ensures, at-if2 .if2 .left), asked-seen (start .pre .1) (at-head .head .ensures))
 
   pub finish-requires : lts.Need-finish-requires given (unary-at t) unary.Post
-  finish-requires c κs = star-room (c .before .before .before .before .before .before .before .before .before .before .before .before .before .before .before .before .before .before .before .before .pre .1) (c .before .before .before .before .before .before .before .before .before .before .before .before .before .head .ensures) (c .before .before .before .before .before .before .before .unary .ensures) (omega (arith, c .before .before .before .before .before .before .before .unary .kept))
+  finish-requires c κs =
+      let at-unary = c .before .before .before .before .before .before .before in
+      let at-head = at-unary .before .before .before .before .before .before in
+      let start = at-head .before .before .before .before .before .before .before in
+      star-room (start .pre .1) (at-head .head .ensures) (at-unary .unary .ensures) (omega (arith, at-unary .unary .kept))
 
   pub same-length-4 : lts.Need-same-length-4 given (unary-at t) unary.Post
-  same-length-4 c = omega (arith, c .before .before .finish .kept, c .before .before .before .before .before .before .before .before .before .before .unary .kept)
+  same-length-4 c =
+      let at-unary = c .before .before .before .before .before .before .before .before .before .before in
+      omega (arith, c .before .before .finish .kept, at-unary .unary .kept)
 
   pub same-length-5 : lts.Need-same-length-5 given (unary-at t) unary.Post
-  same-length-5 c = omega (arith, c .before .before .finish .kept, c .before .before .before .before .before .before .before .before .before .before .unary .kept)
+  same-length-5 c =
+      let at-unary = c .before .before .before .before .before .before .before .before .before .before in
+      omega (arith, c .before .before .finish .kept, at-unary .unary .kept)
 
   pub same-length-6 : lts.Need-same-length-6 given (unary-at t) unary.Post
-  same-length-6 c = omega (arith, c .before .before .finish .kept, c .before .before .before .before .before .before .before .before .before .before .unary .kept)
+  same-length-6 c =
+      let at-unary = c .before .before .before .before .before .before .before .before .before .before in
+      omega (arith, c .before .before .finish .kept, at-unary .unary .kept)
 
   pub returns-3 : lts.Need-returns-3 given (unary-at t) unary.Post
-  returns-3 c = unary-prefix (c .before .before .before .before .before .before .before .before .before .before .before .before .before .before .before .before .before .before .before .before .before .before .before .pre .1) (c .before .before .before .before .before .before .before .before .before .before .before .before .before .before .before .before .before .if1 .left) (c .before .before .before .before .before .before .before .before .before .before .before .before .before .before .before .before .head .ensures) (c .before .before .before .before .before .before .before .before .before .before .before .before .before .before .before .prefix .ensures) (c .before .before .before .before .before .before .before .before .before .before .before .before .before .before .if2 .left) (c .before .before .before .before .before .before .before .before .before .before .unary .ensures) (c .before .before .finish .ensures)
+  returns-3 c =
+      let at-unary = c .before .before .before .before .before .before .before .before .before .before in
+      let at-if2 = at-unary .before .before .before .before in
+      let at-prefix = at-if2 .before in
+      let at-head = at-prefix .before in
+      let at-if1 = at-head .before in
+      let start = at-if1 .before .before .before .before .before .before in
+      unary-prefix (start .pre .1) (at-if1 .if1 .left) (at-head .head .ensures) (at-prefix .prefix .ensures) (at-if2 .if2 .left) (at-unary .unary .ensures) (c .before .before .finish .ensures)

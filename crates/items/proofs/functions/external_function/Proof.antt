@@ -9,8 +9,16 @@ external-function-spec =
     (tie.spec
     (λ c κs. (c .before .before .before .before .before .pre .asked .asks .held, (c .before .before .before .before .before .pre) .within))
     (λ c κs. (external-follows (c .before .before .before .before .before .before .before .before .pre), (omega arith, omega arith)))
-    (λ c κs. external-room (c .before .before .before .before .before .before .before .before .before .before .before .before .before .before .pre) (c .before .before .before .before .before .before .before .before .head .ensures) (c .before .before .before .before .before .and-expect .ensures))
+    (λ c κs.
+    let at-and-expect = c .before .before .before .before .before in
+    let at-head = at-and-expect .before .before .before in
+    let start = at-head .before .before .before .before .before .before in
+    external-room (start .pre) (at-head .head .ensures) (at-and-expect .and-expect .ensures))
     (λ c. omega (arith, c .before .before .finish .kept, c .before .before .before .before .before .before .before .before .and-expect .kept))
     (λ c. omega (arith, c .before .before .finish .kept, c .before .before .before .before .before .before .before .before .and-expect .kept))
     (λ c. omega (arith, c .before .before .finish .kept, c .before .before .before .before .before .before .before .before .and-expect .kept))
-    (λ c. λ d. external-on (c .before .before .before .before .before .before .before .before .before .before .before .before .before .before .before .before .before .pre) (c .before .before .before .before .before .before .before .before .before .before .before .head .ensures) (c .before .before .before .before .before .before .before .before .and-expect .ensures) d (c .before .before .finish .ensures)))
+    (λ c.
+    let at-and-expect = c .before .before .before .before .before .before .before .before in
+    let at-head = at-and-expect .before .before .before in
+    let start = at-head .before .before .before .before .before .before in
+    λ d. external-on (start .pre) (at-head .head .ensures) (at-and-expect .and-expect .ensures) d (c .before .before .finish .ensures)))

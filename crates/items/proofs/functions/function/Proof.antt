@@ -16,19 +16,98 @@ function-spec =
     (λ c. omega (arith, c .before .before .before .before .before .expect .kept))
     (λ c. omega (arith, c .before .before .before .before .before .expect .kept))
     (λ c. function-stops (c .before .before .before .before .before .expect .ensures) _ _ (c .match .keys2))
-    (λ c κs. asks-moved (c .before .before .before .before .before .before .before .before .before .before .before .before .before .before .before .before .before .pre .asks) (c .before .before .before .before .before .before .before .before .before .expect .ensures .moved) (omega (arith, c .before .before .before .before .before .before .before .before .before .expect .kept)) (omega (arith, c .before .before .before .before .before .before .before .before .before .expect .kept)))
+    (λ c κs.
+    let at-expect = c .before .before .before .before .before .before .before .before .before in
+    let start = at-expect .before .before .before .before .before .before .before .before in
+    asks-moved (start .pre .asks) (at-expect .expect .ensures .moved) (omega (arith, at-expect .expect .kept)) (omega (arith, at-expect .expect .kept)))
     (λ c. search needs)
-    (λ c. omega (arith, c .before .before .before .before .before .before .before .before .before .before .before .before .before .before .before .expect .kept, c .before .before .before .before .before .expect-identifier .kept))
-    (λ c. omega (arith, c .before .before .before .before .before .before .before .before .before .before .before .before .before .before .before .expect .kept, c .before .before .before .before .before .expect-identifier .kept))
-    (λ c. function-unnamed (c .before .before .before .before .before .before .before .before .before .before .before .before .before .before .before .expect .ensures) (c .before .before .before .before .before .before .before .before .before .enum-told .given .1) (c .before .before .before .before .before .expect-identifier .ensures) _ _ (c .match2 .keys2))
-    (λ c κs. asked-moved (c .before .before .before .before .before .before .before .before .before .before .before .before .before .before .before .before .before .before .before .before .before .before .before .before .before .before .before .before .pre) (moved-trans (c .before .before .before .before .before .before .before .before .before .before .before .before .before .before .before .before .before .before .before .before .expect .ensures .moved) (c .before .before .before .before .before .before .before .before .before .before .expect-identifier .ensures .moved)) refl (omega (arith, c .before .before .before .before .before .before .before .before .before .before .before .before .before .before .before .before .before .before .before .before .expect .kept, c .before .before .before .before .before .before .before .before .before .before .expect-identifier .kept)) (omega (arith, c .before .before .before .before .before .before .before .before .before .before .before .before .before .before .before .before .before .before .before .before .expect .kept, c .before .before .before .before .before .before .before .before .before .before .expect-identifier .kept)))
-    (λ c κs. function-asked (c .before .before .before .before .before .before .before .before .before .before .before .before .before .before .before .before .before .before .before .before .before .before .before .before .before .before .before .before .before .before .before .expect .ensures) (c .before .before .before .before .before .before .before .before .before .before .before .before .before .before .before .before .before .before .before .before .before .before .before .before .before .enum-told .given .1) (c .before .before .before .before .before .before .before .before .before .before .before .before .before .before .before .before .before .before .before .before .before .expect-identifier .ensures) (c .before .before .before .before .before .before .before .before .before .before .before .before .before .before .before .before .before .before .before .before .before .before .before .before .before .before .before .before .before .before .before .before .before .before .before .before .before .before .before .pre) (c .before .before .before .before .before .before .before .before .before .before .before .before .before .before .before .enum-told2 .given .1) (c .before .before .before .before .before .before .before .before .before .before .signature .ensures) (omega (arith, c .before .before .before .before .before .before .before .before .before .before .signature .kept)) (omega (arith, c .before .before .before .before .before .before .before .before .before .before .before .before .before .before .before .before .before .before .before .before .before .before .before .before .before .before .before .before .before .before .before .expect .kept, c .before .before .before .before .before .before .before .before .before .before .before .before .before .before .before .before .before .before .before .before .before .expect-identifier .kept, c .before .before .before .before .before .before .before .before .before .before .signature .kept)) (omega (arith, c .before .before .before .before .before .before .before .before .before .before .before .before .before .before .before .before .before .before .before .before .before .before .before .before .before .before .before .before .before .before .before .expect .kept, c .before .before .before .before .before .before .before .before .before .before .before .before .before .before .before .before .before .before .before .before .before .expect-identifier .kept, c .before .before .before .before .before .before .before .before .before .before .signature .kept)))
-    (λ c. omega (arith, c .before .before .before .before .before .before .before .before .before .before .before .before .before .before .before .before .before .before .before .before .before .before .before .before .before .before .before .before .before .before .before .before .before .before .before .before .before .before .expect .kept, c .before .before .before .before .before .before .before .before .before .before .before .before .before .before .before .before .before .before .before .before .before .before .before .before .before .before .before .before .expect-identifier .kept, c .before .before .before .before .before .before .before .before .before .before .before .before .before .before .before .before .before .signature .kept, c .before .before .before .before .before .before .external-function .kept))
-    (λ c. omega (arith, c .before .before .before .before .before .before .before .before .before .before .before .before .before .before .before .before .before .before .before .before .before .before .before .before .before .before .before .before .before .before .before .before .before .before .before .before .before .before .expect .kept, c .before .before .before .before .before .before .before .before .before .before .before .before .before .before .before .before .before .before .before .before .before .before .before .before .before .before .before .before .expect-identifier .kept, c .before .before .before .before .before .before .before .before .before .before .before .before .before .before .before .before .before .signature .kept, c .before .before .before .before .before .before .external-function .kept))
-    (λ c. omega (arith, c .before .before .before .before .before .before .before .before .before .before .before .before .before .before .before .before .before .before .before .before .before .before .before .before .before .before .before .before .before .before .before .before .before .before .before .before .before .before .expect .kept, c .before .before .before .before .before .before .before .before .before .before .before .before .before .before .before .before .before .before .before .before .before .before .before .before .before .before .before .before .expect-identifier .kept, c .before .before .before .before .before .before .before .before .before .before .before .before .before .before .before .before .before .signature .kept, c .before .before .before .before .before .before .external-function .kept))
-    (λ c. function-reads (c .before .before .before .before .before .before .before .before .before .before .before .before .before .before .before .before .before .before .before .before .before .before .before .before .before .before .before .before .before .before .before .before .before .before .before .before .before .before .expect .ensures) (c .before .before .before .before .before .before .before .before .before .before .before .before .before .before .before .before .before .before .before .before .before .before .before .before .before .before .before .before .before .before .before .before .enum-told .given .1) (c .before .before .before .before .before .before .before .before .before .before .before .before .before .before .before .before .before .before .before .before .before .before .before .before .before .before .before .before .expect-identifier .ensures) (c .before .before .before .before .before .before .before .before .before .before .before .before .before .before .before .before .before .before .before .before .before .before .before .before .before .before .before .before .before .before .before .before .before .before .before .before .before .before .before .before .before .before .before .before .before .before .pre) (c .before .before .before .before .before .before .before .before .before .before .before .before .before .before .before .before .before .before .before .before .before .before .enum-told2 .given .1) (c .before .before .before .before .before .before .before .before .before .before .before .before .before .before .before .before .before .signature .ensures) (ap flag (c .before .before .before .before .before .before .before .before .before .before .if1 .taken)) (c .before .before .before .before .before .before .external-function .ensures _))
-    (λ c κs. function-asked (c .before .before .before .before .before .before .before .before .before .before .before .before .before .before .before .before .before .before .before .before .before .before .before .before .before .before .before .before .before .before .before .expect .ensures) (c .before .before .before .before .before .before .before .before .before .before .before .before .before .before .before .before .before .before .before .before .before .before .before .before .before .enum-told .given .1) (c .before .before .before .before .before .before .before .before .before .before .before .before .before .before .before .before .before .before .before .before .before .expect-identifier .ensures) (c .before .before .before .before .before .before .before .before .before .before .before .before .before .before .before .before .before .before .before .before .before .before .before .before .before .before .before .before .before .before .before .before .before .before .before .before .before .before .before .pre) (c .before .before .before .before .before .before .before .before .before .before .before .before .before .before .before .enum-told2 .given .1) (c .before .before .before .before .before .before .before .before .before .before .signature .ensures) (omega (arith, c .before .before .before .before .before .before .before .before .before .before .signature .kept)) (omega (arith, c .before .before .before .before .before .before .before .before .before .before .before .before .before .before .before .before .before .before .before .before .before .before .before .before .before .before .before .before .before .before .before .expect .kept, c .before .before .before .before .before .before .before .before .before .before .before .before .before .before .before .before .before .before .before .before .before .expect-identifier .kept, c .before .before .before .before .before .before .before .before .before .before .signature .kept)) (omega (arith, c .before .before .before .before .before .before .before .before .before .before .before .before .before .before .before .before .before .before .before .before .before .before .before .before .before .before .before .before .before .before .before .expect .kept, c .before .before .before .before .before .before .before .before .before .before .before .before .before .before .before .before .before .before .before .before .before .expect-identifier .kept, c .before .before .before .before .before .before .before .before .before .before .signature .kept)))
-    (λ c. omega (arith, c .before .before .before .before .before .before .before .before .before .before .before .before .before .before .before .before .before .before .before .before .before .before .before .before .before .before .before .before .before .before .before .before .before .before .before .before .before .before .expect .kept, c .before .before .before .before .before .before .before .before .before .before .before .before .before .before .before .before .before .before .before .before .before .before .before .before .before .before .before .before .expect-identifier .kept, c .before .before .before .before .before .before .before .before .before .before .before .before .before .before .before .before .before .signature .kept, c .before .before .before .before .before .before .whole-function .kept))
-    (λ c. omega (arith, c .before .before .before .before .before .before .before .before .before .before .before .before .before .before .before .before .before .before .before .before .before .before .before .before .before .before .before .before .before .before .before .before .before .before .before .before .before .before .expect .kept, c .before .before .before .before .before .before .before .before .before .before .before .before .before .before .before .before .before .before .before .before .before .before .before .before .before .before .before .before .expect-identifier .kept, c .before .before .before .before .before .before .before .before .before .before .before .before .before .before .before .before .before .signature .kept, c .before .before .before .before .before .before .whole-function .kept))
-    (λ c. omega (arith, c .before .before .before .before .before .before .before .before .before .before .before .before .before .before .before .before .before .before .before .before .before .before .before .before .before .before .before .before .before .before .before .before .before .before .before .before .before .before .expect .kept, c .before .before .before .before .before .before .before .before .before .before .before .before .before .before .before .before .before .before .before .before .before .before .before .before .before .before .before .before .expect-identifier .kept, c .before .before .before .before .before .before .before .before .before .before .before .before .before .before .before .before .before .signature .kept, c .before .before .before .before .before .before .whole-function .kept))
-    (λ c. function-reads (c .before .before .before .before .before .before .before .before .before .before .before .before .before .before .before .before .before .before .before .before .before .before .before .before .before .before .before .before .before .before .before .before .before .before .before .before .before .before .expect .ensures) (c .before .before .before .before .before .before .before .before .before .before .before .before .before .before .before .before .before .before .before .before .before .before .before .before .before .before .before .before .before .before .before .before .enum-told .given .1) (c .before .before .before .before .before .before .before .before .before .before .before .before .before .before .before .before .before .before .before .before .before .before .before .before .before .before .before .before .expect-identifier .ensures) (c .before .before .before .before .before .before .before .before .before .before .before .before .before .before .before .before .before .before .before .before .before .before .before .before .before .before .before .before .before .before .before .before .before .before .before .before .before .before .before .before .before .before .before .before .before .before .pre) (c .before .before .before .before .before .before .before .before .before .before .before .before .before .before .before .before .before .before .before .before .before .before .enum-told2 .given .1) (c .before .before .before .before .before .before .before .before .before .before .before .before .before .before .before .before .before .signature .ensures) (ap flag (c .before .before .before .before .before .before .before .before .before .before .if1 .left)) (c .before .before .before .before .before .before .whole-function .ensures)))
+    (λ c.
+    let at-expect-identifier = c .before .before .before .before .before in
+    let at-expect = at-expect-identifier .before .before .before .before .before .before .before .before .before .before in
+    omega (arith, at-expect .expect .kept, at-expect-identifier .expect-identifier .kept))
+    (λ c.
+    let at-expect-identifier = c .before .before .before .before .before in
+    let at-expect = at-expect-identifier .before .before .before .before .before .before .before .before .before .before in
+    omega (arith, at-expect .expect .kept, at-expect-identifier .expect-identifier .kept))
+    (λ c.
+    let at-expect-identifier = c .before .before .before .before .before in
+    let at-enum-told = at-expect-identifier .before .before .before .before in
+    let at-expect = at-enum-told .before .before .before .before .before .before in
+    function-unnamed (at-expect .expect .ensures) (at-enum-told .enum-told .given .1) (at-expect-identifier .expect-identifier .ensures) _ _ (c .match2 .keys2))
+    (λ c κs.
+    let at-expect-identifier = c .before .before .before .before .before .before .before .before .before .before in
+    let at-expect = at-expect-identifier .before .before .before .before .before .before .before .before .before .before in
+    let start = at-expect .before .before .before .before .before .before .before .before in
+    asked-moved (start .pre) (moved-trans (at-expect .expect .ensures .moved) (at-expect-identifier .expect-identifier .ensures .moved)) refl (omega (arith, at-expect .expect .kept, at-expect-identifier .expect-identifier .kept)) (omega (arith, at-expect .expect .kept, at-expect-identifier .expect-identifier .kept)))
+    (λ c κs.
+    let at-signature = c .before .before .before .before .before .before .before .before .before .before in
+    let at-enum-told2 = at-signature .before .before .before .before .before in
+    let at-expect-identifier = at-enum-told2 .before .before .before .before .before .before in
+    let at-enum-told = at-expect-identifier .before .before .before .before in
+    let at-expect = at-enum-told .before .before .before .before .before .before in
+    let start = at-expect .before .before .before .before .before .before .before .before in
+    function-asked (at-expect .expect .ensures) (at-enum-told .enum-told .given .1) (at-expect-identifier .expect-identifier .ensures) (start .pre) (at-enum-told2 .enum-told2 .given .1) (at-signature .signature .ensures) (omega (arith, at-signature .signature .kept)) (omega (arith, at-expect .expect .kept, at-expect-identifier .expect-identifier .kept, at-signature .signature .kept)) (omega (arith, at-expect .expect .kept, at-expect-identifier .expect-identifier .kept, at-signature .signature .kept)))
+    (λ c.
+    let at-external-function = c .before .before .before .before .before .before in
+    let at-signature = at-external-function .before .before .before .before .before .before .before .before .before .before .before in
+    let at-expect-identifier = at-signature .before .before .before .before .before .before .before .before .before .before .before in
+    let at-expect = at-expect-identifier .before .before .before .before .before .before .before .before .before .before in
+    omega (arith, at-expect .expect .kept, at-expect-identifier .expect-identifier .kept, at-signature .signature .kept, at-external-function .external-function .kept))
+    (λ c.
+    let at-external-function = c .before .before .before .before .before .before in
+    let at-signature = at-external-function .before .before .before .before .before .before .before .before .before .before .before in
+    let at-expect-identifier = at-signature .before .before .before .before .before .before .before .before .before .before .before in
+    let at-expect = at-expect-identifier .before .before .before .before .before .before .before .before .before .before in
+    omega (arith, at-expect .expect .kept, at-expect-identifier .expect-identifier .kept, at-signature .signature .kept, at-external-function .external-function .kept))
+    (λ c.
+    let at-external-function = c .before .before .before .before .before .before in
+    let at-signature = at-external-function .before .before .before .before .before .before .before .before .before .before .before in
+    let at-expect-identifier = at-signature .before .before .before .before .before .before .before .before .before .before .before in
+    let at-expect = at-expect-identifier .before .before .before .before .before .before .before .before .before .before in
+    omega (arith, at-expect .expect .kept, at-expect-identifier .expect-identifier .kept, at-signature .signature .kept, at-external-function .external-function .kept))
+    (λ c.
+    let at-external-function = c .before .before .before .before .before .before in
+    let at-if1 = at-external-function .before .before .before .before in
+    let at-signature = at-if1 .before .before .before .before .before .before .before in
+    let at-enum-told2 = at-signature .before .before .before .before .before in
+    let at-expect-identifier = at-enum-told2 .before .before .before .before .before .before in
+    let at-enum-told = at-expect-identifier .before .before .before .before in
+    let at-expect = at-enum-told .before .before .before .before .before .before in
+    let start = at-expect .before .before .before .before .before .before .before .before in
+    function-reads (at-expect .expect .ensures) (at-enum-told .enum-told .given .1) (at-expect-identifier .expect-identifier .ensures) (start .pre) (at-enum-told2 .enum-told2 .given .1) (at-signature .signature .ensures) (ap flag (at-if1 .if1 .taken)) (at-external-function .external-function .ensures _))
+    (λ c κs.
+    let at-signature = c .before .before .before .before .before .before .before .before .before .before in
+    let at-enum-told2 = at-signature .before .before .before .before .before in
+    let at-expect-identifier = at-enum-told2 .before .before .before .before .before .before in
+    let at-enum-told = at-expect-identifier .before .before .before .before in
+    let at-expect = at-enum-told .before .before .before .before .before .before in
+    let start = at-expect .before .before .before .before .before .before .before .before in
+    function-asked (at-expect .expect .ensures) (at-enum-told .enum-told .given .1) (at-expect-identifier .expect-identifier .ensures) (start .pre) (at-enum-told2 .enum-told2 .given .1) (at-signature .signature .ensures) (omega (arith, at-signature .signature .kept)) (omega (arith, at-expect .expect .kept, at-expect-identifier .expect-identifier .kept, at-signature .signature .kept)) (omega (arith, at-expect .expect .kept, at-expect-identifier .expect-identifier .kept, at-signature .signature .kept)))
+    (λ c.
+    let at-whole-function = c .before .before .before .before .before .before in
+    let at-signature = at-whole-function .before .before .before .before .before .before .before .before .before .before .before in
+    let at-expect-identifier = at-signature .before .before .before .before .before .before .before .before .before .before .before in
+    let at-expect = at-expect-identifier .before .before .before .before .before .before .before .before .before .before in
+    omega (arith, at-expect .expect .kept, at-expect-identifier .expect-identifier .kept, at-signature .signature .kept, at-whole-function .whole-function .kept))
+    (λ c.
+    let at-whole-function = c .before .before .before .before .before .before in
+    let at-signature = at-whole-function .before .before .before .before .before .before .before .before .before .before .before in
+    let at-expect-identifier = at-signature .before .before .before .before .before .before .before .before .before .before .before in
+    let at-expect = at-expect-identifier .before .before .before .before .before .before .before .before .before .before in
+    omega (arith, at-expect .expect .kept, at-expect-identifier .expect-identifier .kept, at-signature .signature .kept, at-whole-function .whole-function .kept))
+    (λ c.
+    let at-whole-function = c .before .before .before .before .before .before in
+    let at-signature = at-whole-function .before .before .before .before .before .before .before .before .before .before .before in
+    let at-expect-identifier = at-signature .before .before .before .before .before .before .before .before .before .before .before in
+    let at-expect = at-expect-identifier .before .before .before .before .before .before .before .before .before .before in
+    omega (arith, at-expect .expect .kept, at-expect-identifier .expect-identifier .kept, at-signature .signature .kept, at-whole-function .whole-function .kept))
+    (λ c.
+    let at-whole-function = c .before .before .before .before .before .before in
+    let at-if1 = at-whole-function .before .before .before .before in
+    let at-signature = at-if1 .before .before .before .before .before .before .before in
+    let at-enum-told2 = at-signature .before .before .before .before .before in
+    let at-expect-identifier = at-enum-told2 .before .before .before .before .before .before in
+    let at-enum-told = at-expect-identifier .before .before .before .before in
+    let at-expect = at-enum-told .before .before .before .before .before .before in
+    let start = at-expect .before .before .before .before .before .before .before .before in
+    function-reads (at-expect .expect .ensures) (at-enum-told .enum-told .given .1) (at-expect-identifier .expect-identifier .ensures) (start .pre) (at-enum-told2 .enum-told2 .given .1) (at-signature .signature .ensures) (ap flag (at-if1 .if1 .left)) (at-whole-function .whole-function .ensures)))

@@ -9,13 +9,24 @@ function-definition-spec =
     tie.close
     (tie.spec
     (λ c κs. (c .before .before .before .before .before .pre .asks .held, (c .before .before .before .before .before .pre) .asks .at))
-    (λ c κs. asked-seen (c .before .before .before .before .before .before .before .before .before .before .before .pre) (c .before .before .before .before .before .head .ensures))
+    (λ c κs.
+    let at-head = c .before .before .before .before .before in
+    let start = at-head .before .before .before .before .before .before in
+    asked-seen (start .pre) (at-head .head .ensures))
     (λ c. omega (arith, c .before .before .before .before .before .before .function .kept))
     (λ c. omega (arith, c .before .before .before .before .before .before .function .kept))
     (λ c. omega (arith, c .before .before .before .before .before .before .function .kept))
-    (λ c. definition-external (c .before .before .before .before .before .before .before .before .before .before .before .before .head .ensures) (c .before .before .before .before .before .before .before .before .before .before .if1 .taken) (c .before .before .before .before .before .before .function .ensures))
+    (λ c.
+    let at-function = c .before .before .before .before .before .before in
+    let at-if1 = at-function .before .before .before .before in
+    let at-head = at-if1 .before .before in
+    definition-external (at-head .head .ensures) (at-if1 .if1 .taken) (at-function .function .ensures))
     (λ c κs. c .before .before .before .before .before .before .before .before .before .before .before .pre)
     (λ c. omega (arith, c .before .before .before .before .before .before .function2 .kept))
     (λ c. omega (arith, c .before .before .before .before .before .before .function2 .kept))
     (λ c. omega (arith, c .before .before .before .before .before .before .function2 .kept))
-    (λ c. definition-whole (c .before .before .before .before .before .before .before .before .before .before .before .before .head .ensures) (c .before .before .before .before .before .before .before .before .before .before .if1 .left) (c .before .before .before .before .before .before .function2 .ensures)))
+    (λ c.
+    let at-function2 = c .before .before .before .before .before .before in
+    let at-if1 = at-function2 .before .before .before .before in
+    let at-head = at-if1 .before .before in
+    definition-whole (at-head .head .ensures) (at-if1 .if1 .left) (at-function2 .function2 .ensures)))

@@ -9,11 +9,22 @@ return-type-spec =
     tie.close
     (tie.spec
     (λ c κs. (c .before .before .before .before .before .pre .asks .held, (c .before .before .before .before .before .pre) .asks .at))
-    (λ c κs. asked-seen (c .before .before .before .before .before .before .before .before .before .before .before .pre) (c .before .before .before .before .before .head .ensures))
+    (λ c κs.
+    let at-head = c .before .before .before .before .before in
+    let start = at-head .before .before .before .before .before .before in
+    asked-seen (start .pre) (at-head .head .ensures))
     (λ c. omega (arith, c .before .before .before .before .before .before .ty .kept))
     (λ c. omega (arith, c .before .before .before .before .before .before .ty .kept))
     (λ c. omega (arith, c .before .before .before .before .before .before .ty .kept))
-    (λ c. type-given (c .before .before .before .before .before .before .before .before .before .before .before .before .head .ensures) (c .before .before .before .before .before .before .before .before .before .before .if1 .taken) (c .before .before .before .before .before .before .ty .ensures))
+    (λ c.
+    let at-ty = c .before .before .before .before .before .before in
+    let at-if1 = at-ty .before .before .before .before in
+    let at-head = at-if1 .before .before in
+    type-given (at-head .head .ensures) (at-if1 .if1 .taken) (at-ty .ty .ensures))
     (λ c κs. record { room = omega (arith, (c .before .before .before .before .before .before .before .before .before .pre) .room); part = omega arith })
     (λ c. omega (arith, c .before .before .finish .kept))
-    (λ c. type-none (c .before .before .before .before .before .before .head .ensures) (c .before .before .before .before .before .before .before .before .before .before .before .before .pre) (c .before .before .before .before .if1 .left) (c .before .before .finish .ensures)))
+    (λ c.
+    let at-if1 = c .before .before .before .before in
+    let at-head = at-if1 .before .before in
+    let start = at-head .before .before .before .before .before .before in
+    type-none (at-head .head .ensures) (start .pre) (at-if1 .if1 .left) (c .before .before .finish .ensures)))

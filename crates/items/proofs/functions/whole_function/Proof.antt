@@ -16,12 +16,50 @@ whole-function-spec =
     (λ c. omega (arith, c .before .before .before .before .before .before .before .body .kept))
     (λ c. omega (arith, c .before .before .before .before .before .before .before .body .kept))
     (λ c. omega (arith, c .before .before .before .before .before .before .before .body .kept))
-    (λ c. whole-refused (c .before .before .before .before .before .before .before .before .before .before .before .before .before .before .before .before .before .before .before .pre) (c .before .before .before .before .before .before .before .before .before .before .before .before .enum-told .given .1) (c .before .before .before .before .before .before .before .body .ensures) (c .match2 .keys2))
-    (λ c κs. omega (arith, whole-order (c .before .before .before .before .before .before .before .before .before .before .before .before .before .before .before .before .before .before .before .before .before .before .pre) (c .before .before .before .before .before .before .before .before .before .before .before .before .before .before .before .enum-told .given .1) (c .before .before .before .before .before .before .before .before .before .before .body .ensures) (omega (arith, c .before .before .before .before .before .before .before .before .before .before .body .kept))))
-    (λ c κs. room-at (c .before .before .before .before .before .before .before .before .before .before .before .before .before .before .before .before .before .before .before .before .before .before .before .before .before .before .pre .asked) (c .before .before .before .before .before .before .before .before .before .before .before .before .before .before .body .ensures .moved) (omega (arith, c .before .before .before .before .before .before .before .before .before .before .before .before .before .before .body .kept)))
-    (λ c κs. (c .before .before .before .before .before .before .before .before .before .before .before .before .before .before .before .before .before .before .before .before .before .before .before .before .before .before .before .before .before .pre .asked .asks .held, (c .before .before .before .before .before .before .before .before .before .before .before .before .before .before .before .before .before .before .before .before .before .before .before .before .before .before .before .before .before .pre) .within))
-    (λ c κs. whole-room (c .before .before .before .before .before .before .before .before .before .before .before .before .before .before .before .before .before .before .before .before .before .before .before .before .before .before .before .before .before .before .before .pre) (c .before .before .before .before .before .before .before .before .before .before .before .before .before .before .before .before .before .before .before .before .before .before .before .before .enum-told .given .1) (c .before .before .before .before .before .before .before .before .before .before .before .before .before .before .before .before .before .before .before .body .ensures) (c .before .before .before .before .finish .ensures) (c .before .head .ensures) (omega (arith, c .before .before .before .before .finish .kept, c .before .before .before .before .before .before .before .before .before .before .before .before .before .before .before .before .before .before .before .body .kept)))
-    (λ c. omega (arith, c .before .before .before .before .before .before .before .before .before .before .before .before .before .before .before .before .before .before .before .before .before .before .body .kept, c .before .before .before .before .before .before .before .before .before .before .before .exchange .kept, c .before .before .before .before .before .before .before .finish .kept, c .before .before .finish2 .kept))
-    (λ c. omega (arith, c .before .before .before .before .before .before .before .before .before .before .before .before .before .before .before .before .before .before .before .before .before .before .body .kept, c .before .before .before .before .before .before .before .before .before .before .before .exchange .kept, c .before .before .before .before .before .before .before .finish .kept, c .before .before .finish2 .kept))
-    (λ c. omega (arith, c .before .before .before .before .before .before .before .before .before .before .before .before .before .before .before .before .before .before .before .before .before .before .body .kept, c .before .before .before .before .before .before .before .before .before .before .before .exchange .kept, c .before .before .before .before .before .before .before .finish .kept, c .before .before .finish2 .kept))
-    (λ c. whole-reads (c .before .before .before .before .before .before .before .before .before .before .before .before .before .before .before .before .before .before .before .before .before .before .before .before .before .before .before .before .before .before .before .before .before .before .pre) (c .before .before .before .before .before .before .before .before .before .before .before .before .before .before .before .before .before .before .before .before .before .before .before .before .before .before .before .enum-told .given .1) (c .before .before .before .before .before .before .before .before .before .before .before .before .before .before .before .before .before .before .before .before .before .before .body .ensures) (c .before .before .before .before .before .before .before .finish .ensures) (c .before .before .before .before .head .ensures) (c .before .before .before .before .before .before .before .before .before .before .before .before .before .before .enum-told2 .given .1) (c .before .before .before .before .before .before .before .before .before .before .before .exchange .ensures) (c .before .before .finish2 .ensures)))
+    (λ c.
+    let at-body = c .before .before .before .before .before .before .before in
+    let at-enum-told = at-body .before .before .before .before .before in
+    let start = at-enum-told .before .before .before .before .before .before .before in
+    whole-refused (start .pre) (at-enum-told .enum-told .given .1) (at-body .body .ensures) (c .match2 .keys2))
+    (λ c κs.
+    let at-body = c .before .before .before .before .before .before .before .before .before .before in
+    let at-enum-told = at-body .before .before .before .before .before in
+    let start = at-enum-told .before .before .before .before .before .before .before in
+    omega (arith, whole-order (start .pre) (at-enum-told .enum-told .given .1) (at-body .body .ensures) (omega (arith, at-body .body .kept))))
+    (λ c κs.
+    let at-body = c .before .before .before .before .before .before .before .before .before .before .before .before .before .before in
+    let start = at-body .before .before .before .before .before .before .before .before .before .before .before .before in
+    room-at (start .pre .asked) (at-body .body .ensures .moved) (omega (arith, at-body .body .kept)))
+    (λ c κs.
+    let start = c .before .before .before .before .before .before .before .before .before .before .before .before .before .before .before .before .before .before .before .before .before .before .before .before .before .before .before .before .before in
+    (start .pre .asked .asks .held, (start .pre) .within))
+    (λ c κs.
+    let at-finish = c .before .before .before .before in
+    let at-body = at-finish .before .before .before .before .before .before .before .before .before .before .before .before .before .before .before in
+    let at-enum-told = at-body .before .before .before .before .before in
+    let start = at-enum-told .before .before .before .before .before .before .before in
+    whole-room (start .pre) (at-enum-told .enum-told .given .1) (at-body .body .ensures) (at-finish .finish .ensures) (c .before .head .ensures) (omega (arith, at-finish .finish .kept, at-body .body .kept)))
+    (λ c.
+    let at-finish = c .before .before .before .before .before .before .before in
+    let at-exchange = at-finish .before .before .before .before in
+    let at-body = at-exchange .before .before .before .before .before .before .before .before .before .before .before in
+    omega (arith, at-body .body .kept, at-exchange .exchange .kept, at-finish .finish .kept, c .before .before .finish2 .kept))
+    (λ c.
+    let at-finish = c .before .before .before .before .before .before .before in
+    let at-exchange = at-finish .before .before .before .before in
+    let at-body = at-exchange .before .before .before .before .before .before .before .before .before .before .before in
+    omega (arith, at-body .body .kept, at-exchange .exchange .kept, at-finish .finish .kept, c .before .before .finish2 .kept))
+    (λ c.
+    let at-finish = c .before .before .before .before .before .before .before in
+    let at-exchange = at-finish .before .before .before .before in
+    let at-body = at-exchange .before .before .before .before .before .before .before .before .before .before .before in
+    omega (arith, at-body .body .kept, at-exchange .exchange .kept, at-finish .finish .kept, c .before .before .finish2 .kept))
+    (λ c.
+    let at-head = c .before .before .before .before in
+    let at-finish = at-head .before .before .before in
+    let at-exchange = at-finish .before .before .before .before in
+    let at-enum-told2 = at-exchange .before .before .before in
+    let at-body = at-enum-told2 .before .before .before .before .before .before .before .before in
+    let at-enum-told = at-body .before .before .before .before .before in
+    let start = at-enum-told .before .before .before .before .before .before .before in
+    whole-reads (start .pre) (at-enum-told .enum-told .given .1) (at-body .body .ensures) (at-finish .finish .ensures) (at-head .head .ensures) (at-enum-told2 .enum-told2 .given .1) (at-exchange .exchange .ensures) (c .before .before .finish2 .ensures)))

@@ -22,8 +22,16 @@ modifiers-spec =
     (λ c. ((c .before .before .pre .1, (omega arith, omega arith)), λ m g. g))
     (λ c κs. (c .before .before .before .pre .0, c .loop .inv .0 .0))
     (λ c. let v = c .before .before .head .ensures in omega (arith, v .on, v .end, c .if1 .taken))
-    (λ c. ((c .before .before .head .ensures .end, (omega arith, c .before .before .before .loop .inv .0 .1 .1)), λ m g. c .before .before .before .loop .inv .1 m (modifiers-distinct (c .before .before .head .ensures) (c .if1 .taken) g)))
+    (λ c.
+    let at-loop = c .before .before .before in
+    ((c .before .before .head .ensures .end, (omega arith, at-loop .loop .inv .0 .1 .1)), λ m g. at-loop .loop .inv .1 m (modifiers-distinct (c .before .before .head .ensures) (c .if1 .taken) g)))
     (λ c. let v = c .before .before .before .before .head .ensures in omega (arith, v .on, v .end, c .if2 .taken))
-    (λ c. ((c .before .before .before .before .head .ensures .end, (c .before .before .before .before .before .loop .inv .0 .1 .0, omega arith)), λ m g. c .before .before .before .before .before .loop .inv .1 m (modifiers-internal (c .before .before .before .before .head .ensures) (c .before .before .if1 .left) (c .if2 .taken) g)))
+    (λ c.
+    let at-head = c .before .before .before .before in
+    let at-loop = at-head .before in
+    ((at-head .head .ensures .end, (at-loop .loop .inv .0 .1 .0, omega arith)), λ m g. at-loop .loop .inv .1 m (modifiers-internal (at-head .head .ensures) (c .before .before .if1 .left) (c .if2 .taken) g)))
     (λ c. omega (arith, c .before .before .before .before .before .loop .inv .0))
-    (λ c. c .before .before .before .before .before .loop .inv .1 _ (modifiers-none (c .before .before .before .before .head .ensures) (c .before .before .before .before .before .loop .inv .0 .0) (c .before .before .if1 .left) (c .if2 .left))))
+    (λ c.
+    let at-head = c .before .before .before .before in
+    let at-loop = at-head .before in
+    at-loop .loop .inv .1 _ (modifiers-none (at-head .head .ensures) (at-loop .loop .inv .0 .0) (c .before .before .if1 .left) (c .if2 .left))))

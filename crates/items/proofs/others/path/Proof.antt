@@ -12,15 +12,40 @@ path-spec =
     (tie.spec
     (λ c κs. (c .before .before .before .before .before .pre .asks .held, c .before .before .before .before .before .pre .asks .at))
     (λ c κs. search needs)
-    (λ c. λ d. path-end d _ _ (c .before .before .before .before .before .before .before .before .before .pre) (c .before .before .before .head .ensures) (c .before .if1 .taken) (c .refuse .ensures))
-    (λ c κs. omega (arith, c .before .before .before .before .before .before .head .ensures .lines, c .before .before .before .before .before .before .head .ensures .columns))
+    (λ c.
+    let at-head = c .before .before .before in
+    let start = at-head .before .before .before .before .before .before in
+    λ d. path-end d _ _ (start .pre) (at-head .head .ensures) (c .before .if1 .taken) (c .refuse .ensures))
+    (λ c κs.
+    let at-head = c .before .before .before .before .before .before in
+    omega (arith, at-head .head .ensures .lines, at-head .head .ensures .columns))
     (λ c κs. raise-asked (c .before .before .before .before .before .before .before .before .before .before .before .before .before .pre))
     (λ c. omega (arith, c .before .before .before .before .raise .kept))
     (λ c. omega (arith, c .before .before .before .before .raise .kept))
-    (λ c. λ d. path-other d _ _ (c .before .before .before .before .before .before .before .before .before .before .before .before .before .before .before .before .before .before .pre) (c .before .before .before .before .before .before .before .before .before .before .before .before .head .ensures) (c .before .before .before .before .before .before .before .before .before .before .if1 .left) (c .before .before .before .before .before .before .before .before .if2 .taken) (c .before .before .before .before .before .entry .ensures) (c .before .before .before .before .raise .ensures))
-    (λ c κs. (asks-fore (c .before .before .before .before .before .before .before .before .before .before .before .before .pre .asks) (c .before .before .before .before .before .before .head .ensures), (omega arith, omega arith)))
-    (λ c κs. path-room (c .before .before .before .before .before .before .before .before .before .before .before .before .before .before .before .before .before .before .pre) (c .before .before .before .before .before .before .before .before .before .before .before .before .head .ensures) (c .before .before .before .before .before .before .before .before .if2 .left) (c .before .before .before .before .before .expect .ensures))
+    (λ c.
+    let at-raise = c .before .before .before .before in
+    let at-entry = at-raise .before in
+    let at-if2 = at-entry .before .before .before in
+    let at-if1 = at-if2 .before .before in
+    let at-head = at-if1 .before .before in
+    let start = at-head .before .before .before .before .before .before in
+    λ d. path-other d _ _ (start .pre) (at-head .head .ensures) (at-if1 .if1 .left) (at-if2 .if2 .taken) (at-entry .entry .ensures) (at-raise .raise .ensures))
+    (λ c κs.
+    let at-head = c .before .before .before .before .before .before in
+    let start = at-head .before .before .before .before .before .before in
+    (asks-fore (start .pre .asks) (at-head .head .ensures), (omega arith, omega arith)))
+    (λ c κs.
+    let at-expect = c .before .before .before .before .before in
+    let at-if2 = at-expect .before .before .before in
+    let at-head = at-if2 .before .before .before .before in
+    let start = at-head .before .before .before .before .before .before in
+    path-room (start .pre) (at-head .head .ensures) (at-if2 .if2 .left) (at-expect .expect .ensures))
     (λ c. omega (arith, c .before .before .finish .kept, c .before .before .before .before .before .before .before .before .expect .kept))
     (λ c. omega (arith, c .before .before .finish .kept, c .before .before .before .before .before .before .before .before .expect .kept))
     (λ c. omega (arith, c .before .before .finish .kept, c .before .before .before .before .before .before .before .before .expect .kept))
-    (λ c. λ d. path-done d _ _ (c .before .before .before .before .before .before .before .before .before .before .before .before .before .before .before .before .before .before .before .before .before .pre) (c .before .before .before .before .before .before .before .before .before .before .before .before .before .before .before .head .ensures) (c .before .before .before .before .before .before .before .before .before .before .before .if2 .left) (c .before .before .before .before .before .before .before .before .expect .ensures) (c .before .before .finish .ensures)))
+    (λ c.
+    let at-expect = c .before .before .before .before .before .before .before .before in
+    let at-if2 = at-expect .before .before .before in
+    let at-head = at-if2 .before .before .before .before in
+    let start = at-head .before .before .before .before .before .before in
+    λ d. path-done d _ _ (start .pre) (at-head .head .ensures) (at-if2 .if2 .left) (at-expect .expect .ensures) (c .before .before .finish .ensures)))

@@ -15,9 +15,29 @@ top-level-var-declaration-spec =
     (λ c. search needs)
     (λ c. omega (arith, c .before .before .before .before .before .expect .kept))
     (λ c. omega (arith, c .before .before .before .before .before .expect .kept))
-    (λ c. var-stops (c .before .before .before .before .before .before .before .before .head .ensures) (c .before .before .before .before .before .expect .ensures) (c .match .keys2))
-    (λ c κs. asked-moved (c .before .before .before .before .before .before .before .before .before .before .before .before .before .before .before .before .before .before .before .pre) (c .before .before .before .before .before .before .before .before .before .before .expect .ensures .moved) refl (omega (arith, c .before .before .before .before .before .before .before .before .before .before .expect .kept)) (omega (arith, c .before .before .before .before .before .before .before .before .before .before .expect .kept)))
-    (λ c. omega (arith, c .before .before .before .before .before .before .declaration .kept, c .before .before .before .before .before .before .before .before .before .before .before .before .before .before .before .before .before .expect .kept))
-    (λ c. omega (arith, c .before .before .before .before .before .before .declaration .kept, c .before .before .before .before .before .before .before .before .before .before .before .before .before .before .before .before .before .expect .kept))
-    (λ c. omega (arith, c .before .before .before .before .before .before .declaration .kept, c .before .before .before .before .before .before .before .before .before .before .before .before .before .before .before .before .before .expect .kept))
-    (λ c. var-on (c .before .before .before .before .before .before .before .before .before .before .before .before .before .before .before .before .before .before .before .before .head .ensures) (c .before .before .before .before .before .before .before .before .before .before .before .before .before .before .before .before .before .expect .ensures) (c .before .before .before .before .before .before .before .before .before .before .before .enum-told .given .1) (c .before .before .before .before .before .before .declaration .ensures)))
+    (λ c.
+    let at-expect = c .before .before .before .before .before in
+    let at-head = at-expect .before .before .before in
+    var-stops (at-head .head .ensures) (at-expect .expect .ensures) (c .match .keys2))
+    (λ c κs.
+    let at-expect = c .before .before .before .before .before .before .before .before .before .before in
+    let start = at-expect .before .before .before .before .before .before .before .before .before in
+    asked-moved (start .pre) (at-expect .expect .ensures .moved) refl (omega (arith, at-expect .expect .kept)) (omega (arith, at-expect .expect .kept)))
+    (λ c.
+    let at-declaration = c .before .before .before .before .before .before in
+    let at-expect = at-declaration .before .before .before .before .before .before .before .before .before .before .before in
+    omega (arith, at-declaration .declaration .kept, at-expect .expect .kept))
+    (λ c.
+    let at-declaration = c .before .before .before .before .before .before in
+    let at-expect = at-declaration .before .before .before .before .before .before .before .before .before .before .before in
+    omega (arith, at-declaration .declaration .kept, at-expect .expect .kept))
+    (λ c.
+    let at-declaration = c .before .before .before .before .before .before in
+    let at-expect = at-declaration .before .before .before .before .before .before .before .before .before .before .before in
+    omega (arith, at-declaration .declaration .kept, at-expect .expect .kept))
+    (λ c.
+    let at-declaration = c .before .before .before .before .before .before in
+    let at-enum-told = at-declaration .before .before .before .before .before in
+    let at-expect = at-enum-told .before .before .before .before .before .before in
+    let at-head = at-expect .before .before .before in
+    var-on (at-head .head .ensures) (at-expect .expect .ensures) (at-enum-told .enum-told .given .1) (at-declaration .declaration .ensures)))

@@ -15,9 +15,29 @@ use-path-spec =
     (λ c. search needs)
     (λ c. omega (arith, c .before .before .before .before .before .expect .kept))
     (λ c. omega (arith, c .before .before .before .before .before .expect .kept))
-    (λ c. λ d. use-stops (c .before .before .before .before .before .before .before .before .head .ensures) (c .before .before .before .before .before .expect .ensures) (c .match .keys2))
-    (λ c κs. asked-moved (c .before .before .before .before .before .before .before .before .before .before .before .before .before .before .before .before .before .before .before .pre) (c .before .before .before .before .before .before .before .before .before .before .expect .ensures .moved) refl (omega (arith, c .before .before .before .before .before .before .before .before .before .before .expect .kept)) (omega (arith, c .before .before .before .before .before .before .before .before .before .before .expect .kept)))
-    (λ c. omega (arith, c .before .before .before .before .before .before .path .kept, c .before .before .before .before .before .before .before .before .before .before .before .before .before .before .before .before .before .expect .kept))
-    (λ c. omega (arith, c .before .before .before .before .before .before .path .kept, c .before .before .before .before .before .before .before .before .before .before .before .before .before .before .before .before .before .expect .kept))
-    (λ c. omega (arith, c .before .before .before .before .before .before .path .kept, c .before .before .before .before .before .before .before .before .before .before .before .before .before .before .before .before .before .expect .kept))
-    (λ c. λ d. use-on (c .before .before .before .before .before .before .before .before .before .before .before .before .before .before .before .before .before .before .before .before .head .ensures) (c .before .before .before .before .before .before .before .before .before .before .before .before .before .before .before .before .before .expect .ensures) (c .before .before .before .before .before .before .before .before .before .before .before .enum-told .given .1) (c .before .before .before .before .before .before .path .ensures d)))
+    (λ c.
+    let at-expect = c .before .before .before .before .before in
+    let at-head = at-expect .before .before .before in
+    λ d. use-stops (at-head .head .ensures) (at-expect .expect .ensures) (c .match .keys2))
+    (λ c κs.
+    let at-expect = c .before .before .before .before .before .before .before .before .before .before in
+    let start = at-expect .before .before .before .before .before .before .before .before .before in
+    asked-moved (start .pre) (at-expect .expect .ensures .moved) refl (omega (arith, at-expect .expect .kept)) (omega (arith, at-expect .expect .kept)))
+    (λ c.
+    let at-path = c .before .before .before .before .before .before in
+    let at-expect = at-path .before .before .before .before .before .before .before .before .before .before .before in
+    omega (arith, at-path .path .kept, at-expect .expect .kept))
+    (λ c.
+    let at-path = c .before .before .before .before .before .before in
+    let at-expect = at-path .before .before .before .before .before .before .before .before .before .before .before in
+    omega (arith, at-path .path .kept, at-expect .expect .kept))
+    (λ c.
+    let at-path = c .before .before .before .before .before .before in
+    let at-expect = at-path .before .before .before .before .before .before .before .before .before .before .before in
+    omega (arith, at-path .path .kept, at-expect .expect .kept))
+    (λ c.
+    let at-path = c .before .before .before .before .before .before in
+    let at-enum-told = at-path .before .before .before .before .before in
+    let at-expect = at-enum-told .before .before .before .before .before .before in
+    let at-head = at-expect .before .before .before in
+    λ d. use-on (at-head .head .ensures) (at-expect .expect .ensures) (at-enum-told .enum-told .given .1) (at-path .path .ensures d)))

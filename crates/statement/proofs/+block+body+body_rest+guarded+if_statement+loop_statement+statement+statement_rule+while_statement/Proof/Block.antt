@@ -15,22 +15,37 @@ module _ (t : ℕ) where
   given = (head-reads.Asked, head-reads.Learnt, body-below t, body.Post, finish-reads.Asked, finish-reads.Learnt)
 
   pub head-requires : lts.Need-head-requires given (block-at t) block.Post
-  head-requires c κs = (c .before .before .before .before .before .pre .1 .asked .asks .held, c .before .before .before .before .before .pre .1 .asked .asks .at)
+  head-requires c κs =
+      let start = c .before .before .before .before .before in
+      (start .pre .1 .asked .asks .held, start .pre .1 .asked .asks .at)
 
   pub body-requires : lts.Need-body-requires given (block-at t) block.Post
-  body-requires c κs = (omega (arith, c .before .before .before .before .before .before .before .before .before .pre .0), c .before .before .before .before .before .before .before .before .before .pre .1 .asked)
+  body-requires c κs =
+      let start = c .before .before .before .before .before .before .before .before .before in
+      (omega (arith, start .pre .0), start .pre .1 .asked)
 
   pub finish-requires : lts.Need-finish-requires given (block-at t) block.Post
-  finish-requires c κs = room-at (c .before .before .before .before .before .before .before .before .before .before .before .before .before .before .before .before .before .pre .1 .asked) (c .before .before .before .before .before .before .before .body .ensures .moved) (omega (arith, c .before .before .before .before .before .before .before .body .kept))
+  finish-requires c κs =
+      let at-body = c .before .before .before .before .before .before .before in
+      let start = at-body .before .before .before .before .before .before .before .before .before .before in
+      room-at (start .pre .1 .asked) (at-body .body .ensures .moved) (omega (arith, at-body .body .kept))
 
   pub same-length : lts.Need-same-length given (block-at t) block.Post
   same-length c = omega (arith, c .before .before .finish .kept, c .before .before .before .before .before .before .before .before .before .before .body .kept)
 
   pub same-length-2 : lts.Need-same-length-2 given (block-at t) block.Post
-  same-length-2 c = omega (arith, c .before .before .finish .kept, c .before .before .before .before .before .before .before .before .before .before .body .kept)
+  same-length-2 c =
+      let at-body = c .before .before .before .before .before .before .before .before .before .before in
+      omega (arith, c .before .before .finish .kept, at-body .body .kept)
 
   pub same-length-3 : lts.Need-same-length-3 given (block-at t) block.Post
-  same-length-3 c = omega (arith, c .before .before .finish .kept, c .before .before .before .before .before .before .before .before .before .before .body .kept)
+  same-length-3 c =
+      let at-body = c .before .before .before .before .before .before .before .before .before .before in
+      omega (arith, c .before .before .finish .kept, at-body .body .kept)
 
   pub returns : lts.Need-returns given (block-at t) block.Post
-  returns c = block-reads (c .before .before .before .before .before .before .before .before .before .before .before .before .before .before .head .ensures) (c .before .before .before .before .before .before .before .before .before .before .before .before .before .before .before .before .before .before .before .before .pre .1) (c .before .before .before .before .before .before .before .before .before .before .body .ensures) (c .before .before .finish .ensures)
+  returns c =
+      let at-body = c .before .before .before .before .before .before .before .before .before .before in
+      let at-head = at-body .before .before .before .before in
+      let start = at-head .before .before .before .before .before .before in
+      block-reads (at-head .head .ensures) (start .pre .1) (at-body .body .ensures) (c .before .before .finish .ensures)

@@ -23,7 +23,11 @@ module _ (t : ℕ) where
   enum-told c = search needs
 
   pub body-rest-requires : lts.Need-body-rest-requires given (body-at t) body.Post
-  body-rest-requires c κs = (omega (arith, c .before .before .before .before .before .before .before .before .before .before .before .before .before .before .before .before .before .before .pre .0, c .before .before .before .before .before .before .before .before .before .before .expect .ensures .moved .end, passed (c .before .before .before .before .before .before .before .before .before .before .expect .ensures) (c .before .before .before .enum-told .given .1)), asked-moved (c .before .before .before .before .before .before .before .before .before .before .before .before .before .before .before .before .before .before .pre .1) (c .before .before .before .before .before .before .before .before .before .before .expect .ensures .moved) refl (omega (arith, c .before .before .before .before .before .before .before .before .before .before .expect .kept)) (omega (arith, c .before .before .before .before .before .before .before .before .before .before .expect .kept)))
+  body-rest-requires c κs =
+      let at-enum-told = c .before .before .before in
+      let at-expect = at-enum-told .before .before .before .before .before .before .before in
+      let start = at-expect .before .before .before .before .before .before .before .before in
+      (omega (arith, start .pre .0, at-expect .expect .ensures .moved .end, passed (at-expect .expect .ensures) (at-enum-told .enum-told .given .1)), asked-moved (start .pre .1) (at-expect .expect .ensures .moved) refl (omega (arith, at-expect .expect .kept)) (omega (arith, at-expect .expect .kept)))
 
   pub enum-told-2 : lts.Need-enum-told-2 given (body-at t) body.Post
   enum-told-2 c = search needs
@@ -32,16 +36,30 @@ module _ (t : ℕ) where
   enum-told-3 c = search needs
 
   pub same-length : lts.Need-same-length given (body-at t) body.Post
-  same-length c = omega (arith, c .before .before .before .before .before .before .body-rest .kept, c .before .before .before .before .before .before .before .before .before .before .before .before .before .before .before .before .before .expect .kept)
+  same-length c =
+      let at-body-rest = c .before .before .before .before .before .before in
+      let at-expect = at-body-rest .before .before .before .before .before .before .before .before .before .before .before in
+      omega (arith, at-body-rest .body-rest .kept, at-expect .expect .kept)
 
   pub same-length-2 : lts.Need-same-length-2 given (body-at t) body.Post
-  same-length-2 c = omega (arith, c .before .before .before .before .before .before .body-rest .kept, c .before .before .before .before .before .before .before .before .before .before .before .before .before .before .before .before .before .expect .kept)
+  same-length-2 c =
+      let at-body-rest = c .before .before .before .before .before .before in
+      let at-expect = at-body-rest .before .before .before .before .before .before .before .before .before .before .before in
+      omega (arith, at-body-rest .body-rest .kept, at-expect .expect .kept)
 
   pub same-length-3 : lts.Need-same-length-3 given (body-at t) body.Post
-  same-length-3 c = omega (arith, c .before .before .before .before .before .before .body-rest .kept, c .before .before .before .before .before .before .before .before .before .before .before .before .before .before .before .before .before .expect .kept)
+  same-length-3 c =
+      let at-body-rest = c .before .before .before .before .before .before in
+      let at-expect = at-body-rest .before .before .before .before .before .before .before .before .before .before .before in
+      omega (arith, at-body-rest .body-rest .kept, at-expect .expect .kept)
 
   pub returns : lts.Need-returns given (body-at t) body.Post
-  returns c = body-on (c .before .before .before .before .before .before .before .before .before .before .before .before .before .before .before .before .before .before .before .before .before .before .before .before .before .pre .1) (c .before .before .before .before .before .before .before .before .before .before .before .before .before .before .before .before .before .expect .ensures) (c .before .before .before .before .before .before .before .before .before .before .enum-told .given .1) (c .before .before .before .before .before .before .body-rest .ensures)
+  returns c =
+      let at-body-rest = c .before .before .before .before .before .before in
+      let at-enum-told = at-body-rest .before .before .before .before in
+      let at-expect = at-enum-told .before .before .before .before .before .before .before in
+      let start = at-expect .before .before .before .before .before .before .before .before in
+      body-on (start .pre .1) (at-expect .expect .ensures) (at-enum-told .enum-told .given .1) (at-body-rest .body-rest .ensures)
 
   pub same-length-4 : lts.Need-same-length-4 given (body-at t) body.Post
   same-length-4 c = omega (arith, c .before .before .before .before .before .before .before .expect .kept)
@@ -50,7 +68,10 @@ module _ (t : ℕ) where
   same-length-5 c = omega (arith, c .before .before .before .before .before .before .before .expect .kept)
 
   pub returns-2 : lts.Need-returns-2 given (body-at t) body.Post
-  returns-2 c = body-none (c .before .before .before .before .before .before .before .before .before .before .before .before .before .before .before .pre .1) (c .before .before .before .before .before .before .before .expect .ensures) (c .enum-told2 .given .1)
+  returns-2 c =
+      let at-expect = c .before .before .before .before .before .before .before in
+      let start = at-expect .before .before .before .before .before .before .before .before in
+      body-none (start .pre .1) (at-expect .expect .ensures) (c .enum-told2 .given .1)
 
   pub same-length-6 : lts.Need-same-length-6 given (body-at t) body.Post
   same-length-6 c = omega (arith, c .before .before .before .before .before .before .before .expect .kept)
@@ -59,4 +80,7 @@ module _ (t : ℕ) where
   same-length-7 c = omega (arith, c .before .before .before .before .before .before .before .expect .kept)
 
   pub returns-3 : lts.Need-returns-3 given (body-at t) body.Post
-  returns-3 c = body-refused (c .before .before .before .before .before .before .before .before .before .before .before .before .before .before .before .pre .1) (c .before .before .before .before .before .before .before .expect .ensures) (c .before .match .keys3)
+  returns-3 c =
+      let at-expect = c .before .before .before .before .before .before .before in
+      let start = at-expect .before .before .before .before .before .before .before .before in
+      body-refused (start .pre .1) (at-expect .expect .ensures) (c .before .match .keys3)

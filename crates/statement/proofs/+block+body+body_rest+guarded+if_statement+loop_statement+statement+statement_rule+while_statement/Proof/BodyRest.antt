@@ -43,7 +43,9 @@ module _ (t : ℕ) where
   same-length-3 c = omega (arith, c .before .before .before .loop .inv .1)
 
   pub returns : lts.Need-returns given (body-rest-at t) body-rest.Post Inv-loop μ-loop
-  returns c = c .before .before .before .loop .inv .1 .rest (rest-closed (c .before .before .before .loop .inv .0) (c .before .before .head .ensures) (c .if1 .taken))
+  returns c =
+      let at-loop = c .before .before .before in
+      at-loop .loop .inv .1 .rest (rest-closed (at-loop .loop .inv .0) (c .before .before .head .ensures) (c .if1 .taken))
 
   pub entry-requires : lts.Need-entry-requires given (body-rest-at t) body-rest.Post Inv-loop μ-loop
   entry-requires c κs = omega arith
@@ -52,40 +54,86 @@ module _ (t : ℕ) where
   note-requires c κs = raise-asked (c .before .before .before .before .before .before .before .before .loop .inv .0 .0)
 
   pub same-length-4 : lts.Need-same-length-4 given (body-rest-at t) body-rest.Post Inv-loop μ-loop
-  same-length-4 c = omega (arith, c .before .before .before .before .before .before .before .before .before .before .before .before .before .before .loop .inv .1)
+  same-length-4 c =
+      let at-loop = c .before .before .before .before .before .before .before .before .before .before .before .before .before .before in
+      omega (arith, at-loop .loop .inv .1)
 
   pub same-length-5 : lts.Need-same-length-5 given (body-rest-at t) body-rest.Post Inv-loop μ-loop
-  same-length-5 c = omega (arith, c .before .before .before .before .before .before .before .before .before .before .before .before .before .before .loop .inv .1, c .before .before .before .before .before .note .kept)
+  same-length-5 c =
+      let at-note = c .before .before .before .before .before in
+      let at-loop = at-note .before .before .before .before .before .before .before .before .before in
+      omega (arith, at-loop .loop .inv .1, at-note .note .kept)
 
   pub same-length-6 : lts.Need-same-length-6 given (body-rest-at t) body-rest.Post Inv-loop μ-loop
-  same-length-6 c = omega (arith, c .before .before .before .before .before .before .before .before .before .before .before .before .before .before .loop .inv .1, c .before .before .before .before .before .note .kept)
+  same-length-6 c =
+      let at-note = c .before .before .before .before .before in
+      let at-loop = at-note .before .before .before .before .before .before .before .before .before in
+      omega (arith, at-loop .loop .inv .1, at-note .note .kept)
 
   pub returns-2 : lts.Need-returns-2 given (body-rest-at t) body-rest.Post Inv-loop μ-loop
-  returns-2 c = c .before .before .before .before .before .before .before .before .before .before .before .before .before .before .loop .inv .1 .rest (rest-end (c .before .before .before .before .before .before .before .before .before .before .before .before .before .before .loop .inv .0) (c .before .before .before .before .before .before .before .before .before .before .before .before .before .head .ensures) (c .before .before .before .before .before .before .before .before .before .before .before .if1 .left) (c .before .before .before .before .before .before .before .before .before .if2 .taken) (c .before .before .before .before .before .before .entry .ensures) (c .before .before .before .before .before .note .ensures))
+  returns-2 c =
+      let at-note = c .before .before .before .before .before in
+      let at-entry = at-note .before in
+      let at-if2 = at-entry .before .before .before in
+      let at-if1 = at-if2 .before .before in
+      let at-head = at-if1 .before .before in
+      let at-loop = at-head .before in
+      at-loop .loop .inv .1 .rest (rest-end (at-loop .loop .inv .0) (at-head .head .ensures) (at-if1 .if1 .left) (at-if2 .if2 .taken) (at-entry .entry .ensures) (at-note .note .ensures))
 
   pub statement-requires : lts.Need-statement-requires given (body-rest-at t) body-rest.Post Inv-loop μ-loop
-  statement-requires c κs = (omega (arith, c .before .before .before .before .before .before .before .before .before .before .before .before .before .before .pre .0, c .before .before .before .before .before .before .before .before .loop .inv .1 .on), c .before .before .before .before .before .before .before .before .loop .inv .0 .0)
+  statement-requires c κs =
+      let at-loop = c .before .before .before .before .before .before .before .before in
+      let start = at-loop .before .before .before .before .before .before in
+      (omega (arith, start .pre .0, at-loop .loop .inv .1 .on), at-loop .loop .inv .0 .0)
 
   pub enum-told : lts.Need-enum-told given (body-rest-at t) body-rest.Post Inv-loop μ-loop
   enum-told c = search needs
 
   pub same-length-7 : lts.Need-same-length-7 given (body-rest-at t) body-rest.Post Inv-loop μ-loop
-  same-length-7 c = omega (arith, c .before .before .before .before .before .before .before .before .before .before .before .before .before .before .before .before .before .before .loop .inv .1, c .before .before .before .before .before .before .before .before .before .statement .kept)
+  same-length-7 c =
+      let at-statement = c .before .before .before .before .before .before .before .before .before in
+      let at-loop = at-statement .before .before .before .before .before .before .before .before .before in
+      omega (arith, at-loop .loop .inv .1, at-statement .statement .kept)
 
   pub same-length-8 : lts.Need-same-length-8 given (body-rest-at t) body-rest.Post Inv-loop μ-loop
-  same-length-8 c = omega (arith, c .before .before .before .before .before .before .before .before .before .before .before .before .before .before .before .before .before .before .loop .inv .1, c .before .before .before .before .before .before .before .before .before .statement .kept)
+  same-length-8 c =
+      let at-statement = c .before .before .before .before .before .before .before .before .before in
+      let at-loop = at-statement .before .before .before .before .before .before .before .before .before in
+      omega (arith, at-loop .loop .inv .1, at-statement .statement .kept)
 
   pub same-length-9 : lts.Need-same-length-9 given (body-rest-at t) body-rest.Post Inv-loop μ-loop
-  same-length-9 c = omega (arith, c .before .before .before .before .before .before .before .before .before .before .before .before .before .before .before .before .before .before .loop .inv .1, c .before .before .before .before .before .before .before .before .before .statement .kept)
+  same-length-9 c =
+      let at-statement = c .before .before .before .before .before .before .before .before .before in
+      let at-loop = at-statement .before .before .before .before .before .before .before .before .before in
+      omega (arith, at-loop .loop .inv .1, at-statement .statement .kept)
 
   pub returns-3 : lts.Need-returns-3 given (body-rest-at t) body-rest.Post Inv-loop μ-loop
-  returns-3 c = c .before .before .before .before .before .before .before .before .before .before .before .before .before .before .before .before .before .before .loop .inv .1 .rest (rest-refused (c .before .before .before .before .before .before .before .before .before .before .before .before .before .before .before .before .before .before .loop .inv .0) (c .before .before .before .before .before .before .before .before .before .before .before .before .before .before .before .before .before .head .ensures) (c .before .before .before .before .before .before .before .before .before .before .before .before .before .before .before .if1 .left) (c .before .before .before .before .before .before .before .before .before .before .before .before .before .if2 .left) (c .before .before .before .before .before .before .before .before .before .statement .ensures) (c .before .match .keys1))
+  returns-3 c =
+      let at-statement = c .before .before .before .before .before .before .before .before .before in
+      let at-if2 = at-statement .before .before .before .before in
+      let at-if1 = at-if2 .before .before in
+      let at-head = at-if1 .before .before in
+      let at-loop = at-head .before in
+      at-loop .loop .inv .1 .rest (rest-refused (at-loop .loop .inv .0) (at-head .head .ensures) (at-if1 .if1 .left) (at-if2 .if2 .left) (at-statement .statement .ensures) (c .before .match .keys1))
 
   pub counted-requires : lts.Need-counted-requires given (body-rest-at t) body-rest.Post Inv-loop μ-loop
-  counted-requires c κs = omega (arith, c .before .before .before .before .before .before .before .before .before .before .before .before .before .before .before .before .before .loop .inv .0 .1, c .before .before .before .before .before .before .before .before .before .before .before .before .before .before .before .before .before .loop .inv .0 .0 .asks .at, c .before .before .before .before .before .before .before .before .before .before .before .before .before .before .before .before .before .loop .inv .0 .0 .asks .held .few)
+  counted-requires c κs =
+      let at-loop = c .before .before .before .before .before .before .before .before .before .before .before .before .before .before .before .before .before in
+      omega (arith, at-loop .loop .inv .0 .1, at-loop .loop .inv .0 .0 .asks .at, at-loop .loop .inv .0 .0 .asks .held .few)
 
   pub loop-less : lts.Need-loop-less given (body-rest-at t) body-rest.Post Inv-loop μ-loop
-  loop-less c = omega (arith, c .before .before .before .before .before .before .before .before .before .before .before .before .before .before .before .before .before .before .loop .inv .0 .0 .asks .at, c .before .before .before .before .before .before .before .before .before .before .before .before .before .before .before .before .before .head .ensures .kind, c .before .before .before .before .before .before .before .before .before .before .before .before .before .if2 .left, c .before .before .before .before .before .before .before .before .before .statement .ensures .on, c .before .before .before .before .before .before .before .before .before .statement .ensures .moved)
+  loop-less c =
+      let at-statement = c .before .before .before .before .before .before .before .before .before in
+      let at-if2 = at-statement .before .before .before .before in
+      let at-head = at-if2 .before .before .before .before in
+      let at-loop = at-head .before in
+      omega (arith, at-loop .loop .inv .0 .0 .asks .at, at-head .head .ensures .kind, at-if2 .if2 .left, at-statement .statement .ensures .on, at-statement .statement .ensures .moved)
 
   pub loop-again : lts.Need-loop-again given (body-rest-at t) body-rest.Post Inv-loop μ-loop
-  loop-again c = (loop-asked (c .before .before .before .before .before .before .before .before .before .before .before .before .before .before .before .before .before .before .loop .inv .0) (c .before .before .before .before .before .before .before .before .before .before .before .before .before .before .before .before .before .head .ensures) (c .before .before .before .before .before .before .before .before .before .before .before .before .before .if2 .left) (c .before .before .before .before .before .before .before .before .before .statement .ensures) (c .counted .ensures) (omega (arith, c .before .before .before .before .before .before .before .before .before .statement .kept)) (omega (arith, c .before .before .before .before .before .before .before .before .before .statement .kept)) (omega (arith, c .before .before .before .before .before .before .before .before .before .statement .kept)), one-turn (c .before .before .before .before .before .before .before .before .before .before .before .before .before .before .before .before .before .before .loop .inv .1) (omega (arith, c .before .before .before .before .before .before .before .before .before .statement .kept)) (omega (arith, c .before .before .before .before .before .before .before .before .before .statement .kept)) (omega (arith, c .before .before .before .before .before .before .before .before .before .statement .kept)) (c .before .before .before .before .before .before .before .before .before .statement .ensures .moved .at) (λ _ _ _ _ g. rest-next (c .before .before .before .before .before .before .before .before .before .before .before .before .before .before .before .before .before .before .loop .inv .0) (c .before .before .before .before .before .before .before .before .before .before .before .before .before .before .before .before .before .head .ensures) (c .before .before .before .before .before .before .before .before .before .before .before .before .before .before .before .if1 .left) (c .before .before .before .before .before .before .before .before .before .before .before .before .before .if2 .left) (c .before .before .before .before .before .before .before .before .before .statement .ensures) (c .before .match .keys2) (c .counted .ensures) g))
+  loop-again c =
+      let at-statement = c .before .before .before .before .before .before .before .before .before in
+      let at-if2 = at-statement .before .before .before .before in
+      let at-if1 = at-if2 .before .before in
+      let at-head = at-if1 .before .before in
+      let at-loop = at-head .before in
+      (loop-asked (at-loop .loop .inv .0) (at-head .head .ensures) (at-if2 .if2 .left) (at-statement .statement .ensures) (c .counted .ensures) (omega (arith, at-statement .statement .kept)) (omega (arith, at-statement .statement .kept)) (omega (arith, at-statement .statement .kept)), one-turn (at-loop .loop .inv .1) (omega (arith, at-statement .statement .kept)) (omega (arith, at-statement .statement .kept)) (omega (arith, at-statement .statement .kept)) (at-statement .statement .ensures .moved .at) (λ _ _ _ _ g. rest-next (at-loop .loop .inv .0) (at-head .head .ensures) (at-if1 .if1 .left) (at-if2 .if2 .left) (at-statement .statement .ensures) (c .before .match .keys2) (c .counted .ensures) g))

@@ -32,22 +32,46 @@ module _ (t : ℕ) where
   same-length-3 c = omega (arith, c .before .before .before .before .before .before .before .expression .kept)
 
   pub returns : lts.Need-returns given (guarded-at t) guarded.Post
-  returns c = guarded-stops (c .before .before .before .before .before .before .before .before .before .before .before .before .before .before .before .before .pre .1) (c .before .before .before .before .before .before .before .expression .ensures) (c .match .keys2)
+  returns c =
+      let at-expression = c .before .before .before .before .before .before .before in
+      let start = at-expression .before .before .before .before .before .before .before .before .before in
+      guarded-stops (start .pre .1) (at-expression .expression .ensures) (c .match .keys2)
 
   pub statement-requires : lts.Need-statement-requires given (guarded-at t) guarded.Post
-  statement-requires c κs = (omega (arith, c .before .before .before .before .before .before .before .before .before .before .before .before .before .before .before .before .before .before .before .before .before .pre .0, c .before .before .before .before .before .before .before .before .before .before .before .before .expression .ensures .moved), asked-moved (c .before .before .before .before .before .before .before .before .before .before .before .before .before .before .before .before .before .before .before .before .before .pre .1) (c .before .before .before .before .before .before .before .before .before .before .before .before .expression .ensures .moved) (omega (arith, c .before .before .before .before .before .before .before .before .before .before .before .before .expression .kept)) (omega (arith, c .before .before .before .before .before .before .before .before .before .before .before .before .expression .kept)) (omega (arith, c .before .before .before .before .before .before .before .before .before .before .before .before .expression .kept)))
+  statement-requires c κs =
+      let at-expression = c .before .before .before .before .before .before .before .before .before .before .before .before in
+      let start = at-expression .before .before .before .before .before .before .before .before .before in
+      (omega (arith, start .pre .0, at-expression .expression .ensures .moved), asked-moved (start .pre .1) (at-expression .expression .ensures .moved) (omega (arith, at-expression .expression .kept)) (omega (arith, at-expression .expression .kept)) (omega (arith, at-expression .expression .kept)))
 
   pub abandon-requires : lts.Need-abandon-requires given (guarded-at t) guarded.Post
-  abandon-requires c κs = later-cuts (c .before .before .before .before .before .before .before .before .before .before .before .before .before .before .before .before .before .before .before .before .before .before .before .before .before .before .before .before .before .pre .1) (c .before .before .before .before .before .before .before .before .before .before .before .before .before .before .before .before .before .before .before .before .expression .ensures .moved) (c .before .before .before .before .before .before .before .statement .ensures .moved) refl refl (omega (arith, c .before .before .before .before .before .before .before .statement .kept, c .before .before .before .before .before .before .before .before .before .before .before .before .before .before .before .before .before .before .before .before .expression .kept))
+  abandon-requires c κs =
+      let at-statement = c .before .before .before .before .before .before .before in
+      let at-expression = at-statement .before .before .before .before .before .before .before .before .before .before .before .before .before in
+      let start = at-expression .before .before .before .before .before .before .before .before .before in
+      later-cuts (start .pre .1) (at-expression .expression .ensures .moved) (at-statement .statement .ensures .moved) refl refl (omega (arith, at-statement .statement .kept, at-expression .expression .kept))
 
   pub same-length-4 : lts.Need-same-length-4 given (guarded-at t) guarded.Post
-  same-length-4 c = omega (arith, c .before .before .abandon .kept, c .before .before .before .before .before .before .before .before .before .before .statement .kept, c .before .before .before .before .before .before .before .before .before .before .before .before .before .before .before .before .before .before .before .before .before .before .before .expression .kept)
+  same-length-4 c =
+      let at-statement = c .before .before .before .before .before .before .before .before .before .before in
+      let at-expression = at-statement .before .before .before .before .before .before .before .before .before .before .before .before .before in
+      omega (arith, c .before .before .abandon .kept, at-statement .statement .kept, at-expression .expression .kept)
 
   pub same-length-5 : lts.Need-same-length-5 given (guarded-at t) guarded.Post
-  same-length-5 c = omega (arith, c .before .before .abandon .kept, c .before .before .before .before .before .before .before .before .before .before .statement .kept, c .before .before .before .before .before .before .before .before .before .before .before .before .before .before .before .before .before .before .before .before .before .before .before .expression .kept)
+  same-length-5 c =
+      let at-statement = c .before .before .before .before .before .before .before .before .before .before in
+      let at-expression = at-statement .before .before .before .before .before .before .before .before .before .before .before .before .before in
+      omega (arith, c .before .before .abandon .kept, at-statement .statement .kept, at-expression .expression .kept)
 
   pub same-length-6 : lts.Need-same-length-6 given (guarded-at t) guarded.Post
-  same-length-6 c = omega (arith, c .before .before .abandon .kept, c .before .before .before .before .before .before .before .before .before .before .statement .kept, c .before .before .before .before .before .before .before .before .before .before .before .before .before .before .before .before .before .before .before .before .before .before .before .expression .kept)
+  same-length-6 c =
+      let at-statement = c .before .before .before .before .before .before .before .before .before .before in
+      let at-expression = at-statement .before .before .before .before .before .before .before .before .before .before .before .before .before in
+      omega (arith, c .before .before .abandon .kept, at-statement .statement .kept, at-expression .expression .kept)
 
   pub returns-2 : lts.Need-returns-2 given (guarded-at t) guarded.Post
-  returns-2 c = guarded-reads (c .before .before .before .before .before .before .before .before .before .before .before .before .before .before .before .before .before .before .before .before .before .before .before .before .before .before .before .before .before .before .before .before .pre .1) (c .before .before .before .before .before .before .before .before .before .before .before .before .before .before .before .before .before .before .before .before .before .before .before .expression .ensures) (c .before .before .before .before .before .before .before .before .before .before .before .before .before .before .before .enum-told .given .1) (c .before .before .before .before .before .before .before .before .before .before .statement .ensures) (omega (arith, c .before .before .before .before .before .before .before .before .before .before .before .before .before .before .before .before .before .before .before .before .before .before .before .expression .kept)) (c .before .before .abandon .ensures)
+  returns-2 c =
+      let at-statement = c .before .before .before .before .before .before .before .before .before .before in
+      let at-enum-told = at-statement .before .before .before .before .before in
+      let at-expression = at-enum-told .before .before .before .before .before .before .before .before in
+      let start = at-expression .before .before .before .before .before .before .before .before .before in
+      guarded-reads (start .pre .1) (at-expression .expression .ensures) (at-enum-told .enum-told .given .1) (at-statement .statement .ensures) (omega (arith, at-expression .expression .kept)) (c .before .before .abandon .ensures)

@@ -16,22 +16,41 @@ module _ (t : ℕ) where
   given = (head-reads.Asked, head-reads.Learnt, statement-below t, statement′.Post, finish-reads.Asked, finish-reads.Learnt)
 
   pub head-requires : lts.Need-head-requires given (loop-statement-at t) loop-statement.Post
-  head-requires c κs = (c .before .before .before .before .before .pre .1 .asked .asks .held, c .before .before .before .before .before .pre .1 .asked .asks .at)
+  head-requires c κs =
+      let start = c .before .before .before .before .before in
+      (start .pre .1 .asked .asks .held, start .pre .1 .asked .asks .at)
 
   pub statement-requires : lts.Need-statement-requires given (loop-statement-at t) loop-statement.Post
-  statement-requires c κs = (omega (arith, c .before .before .before .before .before .before .before .before .before .pre .0, c .before .before .before .before .before .before .before .before .before .pre .1 .kind, c .before .before .before .head .ensures .kind, c .before .before .before .head .ensures .on, c .before .before .before .head .ensures .end), asked-seen (c .before .before .before .before .before .before .before .before .before .pre .1 .asked) (c .before .before .before .head .ensures))
+  statement-requires c κs =
+      let at-head = c .before .before .before in
+      let start = at-head .before .before .before .before .before .before in
+      (omega (arith, start .pre .0, start .pre .1 .kind, at-head .head .ensures .kind, at-head .head .ensures .on, at-head .head .ensures .end), asked-seen (start .pre .1 .asked) (at-head .head .ensures))
 
   pub finish-requires : lts.Need-finish-requires given (loop-statement-at t) loop-statement.Post
-  finish-requires c κs = room-at (c .before .before .before .before .before .before .before .before .before .before .before .before .before .before .before .before .before .pre .1 .asked) (moved-trans (fore-moved (c .before .before .before .before .before .before .before .before .before .before .before .before .before .before .before .before .before .pre .1 .asked .asks) (c .before .before .before .before .before .before .before .before .before .before .before .head .ensures)) (c .before .before .before .before .before .before .before .statement .ensures .moved)) (omega (arith, c .before .before .before .before .before .before .before .statement .kept))
+  finish-requires c κs =
+      let at-statement = c .before .before .before .before .before .before .before in
+      let at-head = at-statement .before .before .before .before in
+      let start = at-head .before .before .before .before .before .before in
+      room-at (start .pre .1 .asked) (moved-trans (fore-moved (start .pre .1 .asked .asks) (at-head .head .ensures)) (at-statement .statement .ensures .moved)) (omega (arith, at-statement .statement .kept))
 
   pub same-length : lts.Need-same-length given (loop-statement-at t) loop-statement.Post
-  same-length c = omega (arith, c .before .before .finish .kept, c .before .before .before .before .before .before .before .before .before .before .statement .kept)
+  same-length c =
+      let at-statement = c .before .before .before .before .before .before .before .before .before .before in
+      omega (arith, c .before .before .finish .kept, at-statement .statement .kept)
 
   pub same-length-2 : lts.Need-same-length-2 given (loop-statement-at t) loop-statement.Post
-  same-length-2 c = omega (arith, c .before .before .finish .kept, c .before .before .before .before .before .before .before .before .before .before .statement .kept)
+  same-length-2 c =
+      let at-statement = c .before .before .before .before .before .before .before .before .before .before in
+      omega (arith, c .before .before .finish .kept, at-statement .statement .kept)
 
   pub same-length-3 : lts.Need-same-length-3 given (loop-statement-at t) loop-statement.Post
-  same-length-3 c = omega (arith, c .before .before .finish .kept, c .before .before .before .before .before .before .before .before .before .before .statement .kept)
+  same-length-3 c =
+      let at-statement = c .before .before .before .before .before .before .before .before .before .before in
+      omega (arith, c .before .before .finish .kept, at-statement .statement .kept)
 
   pub returns : lts.Need-returns given (loop-statement-at t) loop-statement.Post
-  returns c = loop-reads (c .before .before .before .before .before .before .before .before .before .before .before .before .before .before .head .ensures) (c .before .before .before .before .before .before .before .before .before .before .before .before .before .before .before .before .before .before .before .before .pre .1) (c .before .before .before .before .before .before .before .before .before .before .statement .ensures) (c .before .before .finish .ensures)
+  returns c =
+      let at-statement = c .before .before .before .before .before .before .before .before .before .before in
+      let at-head = at-statement .before .before .before .before in
+      let start = at-head .before .before .before .before .before .before in
+      loop-reads (at-head .head .ensures) (start .pre .1) (at-statement .statement .ensures) (c .before .before .finish .ensures)

@@ -24,7 +24,9 @@ module _ (t : ℕ) where
   sub-statement-rule c = omega (arith, c .before .before .before .if1 .left)
 
   pub statement-rule-requires : lts.Need-statement-rule-requires given (statement-at t) statement′.Post
-  statement-rule-requires c κs = (omega (arith, c .before .before .before .before .before .before .before .before .before .pre .0), c .before .before .before .before .before .before .before .before .before .pre .1)
+  statement-rule-requires c κs =
+      let start = c .before .before .before .before .before .before .before .before .before in
+      (omega (arith, start .pre .0), start .pre .1)
 
   pub same-length : lts.Need-same-length given (statement-at t) statement′.Post
   same-length c = omega (arith, c .before .before .before .before .before .before .statement-rule .kept)
@@ -36,4 +38,7 @@ module _ (t : ℕ) where
   same-length-3 c = omega (arith, c .before .before .before .before .before .before .statement-rule .kept)
 
   pub returns-2 : lts.Need-returns-2 given (statement-at t) statement′.Post
-  returns-2 c = down Statement (c .before .before .before .before .before .before .before .before .before .before .if1 .left) (c .before .before .before .before .before .before .statement-rule .ensures)
+  returns-2 c =
+      let at-statement-rule = c .before .before .before .before .before .before in
+      let at-if1 = at-statement-rule .before .before .before .before in
+      down Statement (at-if1 .if1 .left) (at-statement-rule .statement-rule .ensures)

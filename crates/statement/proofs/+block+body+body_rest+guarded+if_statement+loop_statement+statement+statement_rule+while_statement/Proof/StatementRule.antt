@@ -27,7 +27,11 @@ module _ (t : ℕ) where
   head-requires c κs = (c .before .before .before .before .before .pre .1 .asks .held, c .before .before .before .before .before .pre .1 .asks .at)
 
   pub return-statement-requires : lts.Need-return-statement-requires given (statement-rule-at t) statement-rule.Post
-  return-statement-requires c κs = begins (c .before .before .before .before .before .before .before .before .before .before .before .pre .1) (c .before .before .before .before .before .head .ensures) (c .before .before .before .if1 .taken)
+  return-statement-requires c κs =
+      let at-if1 = c .before .before .before in
+      let at-head = at-if1 .before .before in
+      let start = at-head .before .before .before .before .before .before in
+      begins (start .pre .1) (at-head .head .ensures) (at-if1 .if1 .taken)
 
   pub same-length : lts.Need-same-length given (statement-rule-at t) statement-rule.Post
   same-length c = omega (arith, c .before .before .before .before .before .before .return-statement .kept)
@@ -42,7 +46,11 @@ module _ (t : ℕ) where
   returns c = c .before .before .before .before .before .before .return-statement .ensures
 
   pub var-statement-requires : lts.Need-var-statement-requires given (statement-rule-at t) statement-rule.Post
-  var-statement-requires c κs = begins (c .before .before .before .before .before .before .before .before .before .before .before .before .before .pre .1) (c .before .before .before .before .before .before .before .head .ensures) (c .before .before .before .if2 .taken)
+  var-statement-requires c κs =
+      let at-if2 = c .before .before .before in
+      let at-head = at-if2 .before .before .before .before in
+      let start = at-head .before .before .before .before .before .before in
+      begins (start .pre .1) (at-head .head .ensures) (at-if2 .if2 .taken)
 
   pub same-length-4 : lts.Need-same-length-4 given (statement-rule-at t) statement-rule.Post
   same-length-4 c = omega (arith, c .before .before .before .before .before .before .var-statement .kept)
@@ -57,7 +65,11 @@ module _ (t : ℕ) where
   returns-2 c = c .before .before .before .before .before .before .var-statement .ensures
 
   pub block-requires : lts.Need-block-requires given (statement-rule-at t) statement-rule.Post
-  block-requires c κs = (omega (arith, c .before .before .before .before .before .before .before .before .before .before .before .before .before .before .before .pre .0), begins (c .before .before .before .before .before .before .before .before .before .before .before .before .before .before .before .pre .1) (c .before .before .before .before .before .before .before .before .before .head .ensures) (c .before .before .before .if3 .taken))
+  block-requires c κs =
+      let at-if3 = c .before .before .before in
+      let at-head = at-if3 .before .before .before .before .before .before in
+      let start = at-head .before .before .before .before .before .before in
+      (omega (arith, start .pre .0), begins (start .pre .1) (at-head .head .ensures) (at-if3 .if3 .taken))
 
   pub same-length-7 : lts.Need-same-length-7 given (statement-rule-at t) statement-rule.Post
   same-length-7 c = omega (arith, c .before .before .before .before .before .before .block .kept)
@@ -72,7 +84,11 @@ module _ (t : ℕ) where
   returns-3 c = c .before .before .before .before .before .before .block .ensures
 
   pub loop-statement-requires : lts.Need-loop-statement-requires given (statement-rule-at t) statement-rule.Post
-  loop-statement-requires c κs = (omega (arith, c .before .before .before .before .before .before .before .before .before .before .before .before .before .before .before .before .before .pre .0), begins (c .before .before .before .before .before .before .before .before .before .before .before .before .before .before .before .before .before .pre .1) (c .before .before .before .before .before .before .before .before .before .before .before .head .ensures) (c .before .before .before .if4 .taken))
+  loop-statement-requires c κs =
+      let at-if4 = c .before .before .before in
+      let at-head = at-if4 .before .before .before .before .before .before .before .before in
+      let start = at-head .before .before .before .before .before .before in
+      (omega (arith, start .pre .0), begins (start .pre .1) (at-head .head .ensures) (at-if4 .if4 .taken))
 
   pub same-length-10 : lts.Need-same-length-10 given (statement-rule-at t) statement-rule.Post
   same-length-10 c = omega (arith, c .before .before .before .before .before .before .loop-statement .kept)
@@ -87,7 +103,11 @@ module _ (t : ℕ) where
   returns-4 c = c .before .before .before .before .before .before .loop-statement .ensures
 
   pub while-statement-requires : lts.Need-while-statement-requires given (statement-rule-at t) statement-rule.Post
-  while-statement-requires c κs = (omega (arith, c .before .before .before .before .before .before .before .before .before .before .before .before .before .before .before .before .before .before .before .pre .0), begins (c .before .before .before .before .before .before .before .before .before .before .before .before .before .before .before .before .before .before .before .pre .1) (c .before .before .before .before .before .before .before .before .before .before .before .before .before .head .ensures) (c .before .before .before .if5 .taken))
+  while-statement-requires c κs =
+      let at-if5 = c .before .before .before in
+      let at-head = at-if5 .before .before .before .before .before .before .before .before .before .before in
+      let start = at-head .before .before .before .before .before .before in
+      (omega (arith, start .pre .0), begins (start .pre .1) (at-head .head .ensures) (at-if5 .if5 .taken))
 
   pub same-length-13 : lts.Need-same-length-13 given (statement-rule-at t) statement-rule.Post
   same-length-13 c = omega (arith, c .before .before .before .before .before .before .while-statement .kept)
@@ -102,7 +122,11 @@ module _ (t : ℕ) where
   returns-5 c = c .before .before .before .before .before .before .while-statement .ensures
 
   pub break-statement-requires : lts.Need-break-statement-requires given (statement-rule-at t) statement-rule.Post
-  break-statement-requires c κs = begins (c .before .before .before .before .before .before .before .before .before .before .before .before .before .before .before .before .before .before .before .before .before .pre .1) (c .before .before .before .before .before .before .before .before .before .before .before .before .before .before .before .head .ensures) (c .before .before .before .if6 .taken)
+  break-statement-requires c κs =
+      let at-if6 = c .before .before .before in
+      let at-head = at-if6 .before .before .before .before .before .before .before .before .before .before .before .before in
+      let start = at-head .before .before .before .before .before .before in
+      begins (start .pre .1) (at-head .head .ensures) (at-if6 .if6 .taken)
 
   pub same-length-16 : lts.Need-same-length-16 given (statement-rule-at t) statement-rule.Post
   same-length-16 c = omega (arith, c .before .before .before .before .before .before .break-statement .kept)
@@ -117,7 +141,11 @@ module _ (t : ℕ) where
   returns-6 c = c .before .before .before .before .before .before .break-statement .ensures _
 
   pub if-statement-requires : lts.Need-if-statement-requires given (statement-rule-at t) statement-rule.Post
-  if-statement-requires c κs = (omega (arith, c .before .before .before .before .before .before .before .before .before .before .before .before .before .before .before .before .before .before .before .before .before .before .before .pre .0), begins (c .before .before .before .before .before .before .before .before .before .before .before .before .before .before .before .before .before .before .before .before .before .before .before .pre .1) (c .before .before .before .before .before .before .before .before .before .before .before .before .before .before .before .before .before .head .ensures) (c .before .before .before .if7 .taken))
+  if-statement-requires c κs =
+      let at-if7 = c .before .before .before in
+      let at-head = at-if7 .before .before .before .before .before .before .before .before .before .before .before .before .before .before in
+      let start = at-head .before .before .before .before .before .before in
+      (omega (arith, start .pre .0), begins (start .pre .1) (at-head .head .ensures) (at-if7 .if7 .taken))
 
   pub same-length-19 : lts.Need-same-length-19 given (statement-rule-at t) statement-rule.Post
   same-length-19 c = omega (arith, c .before .before .before .before .before .before .if-statement .kept)
@@ -132,7 +160,11 @@ module _ (t : ℕ) where
   returns-7 c = c .before .before .before .before .before .before .if-statement .ensures
 
   pub assembly-statement-requires : lts.Need-assembly-statement-requires given (statement-rule-at t) statement-rule.Post
-  assembly-statement-requires c κs = begins (c .before .before .before .before .before .before .before .before .before .before .before .before .before .before .before .before .before .before .before .before .before .before .before .before .before .pre .1) (c .before .before .before .before .before .before .before .before .before .before .before .before .before .before .before .before .before .before .before .head .ensures) (c .before .before .before .if8 .taken)
+  assembly-statement-requires c κs =
+      let at-if8 = c .before .before .before in
+      let at-head = at-if8 .before .before .before .before .before .before .before .before .before .before .before .before .before .before .before .before in
+      let start = at-head .before .before .before .before .before .before in
+      begins (start .pre .1) (at-head .head .ensures) (at-if8 .if8 .taken)
 
   pub same-length-22 : lts.Need-same-length-22 given (statement-rule-at t) statement-rule.Post
   same-length-22 c = omega (arith, c .before .before .before .before .before .before .assembly-statement .kept)
@@ -150,7 +182,9 @@ module _ (t : ℕ) where
   entry-requires c κs = omega arith
 
   pub raise-requires : lts.Need-raise-requires given (statement-rule-at t) statement-rule.Post
-  raise-requires c κs = raise-asked (c .before .before .before .before .before .before .before .before .before .before .before .before .before .before .before .before .before .before .before .before .before .before .before .before .before .before .before .pre .1)
+  raise-requires c κs =
+      let start = c .before .before .before .before .before .before .before .before .before .before .before .before .before .before .before .before .before .before .before .before .before .before .before .before .before .before .before in
+      raise-asked (start .pre .1)
 
   pub same-length-25 : lts.Need-same-length-25 given (statement-rule-at t) statement-rule.Post
   same-length-25 c = omega (arith, c .before .before .before .before .raise .kept)
@@ -159,10 +193,26 @@ module _ (t : ℕ) where
   same-length-26 c = omega (arith, c .before .before .before .before .raise .kept)
 
   pub returns-9 : lts.Need-returns-9 given (statement-rule-at t) statement-rule.Post
-  returns-9 c = end-reads (c .before .before .before .before .before .before .before .before .before .before .before .before .before .before .before .before .before .before .before .before .before .before .before .before .before .before .head .ensures) (c .before .before .before .before .before .before .before .before .before .before .before .before .before .before .before .before .before .before .before .before .before .before .before .before .if1 .left) (c .before .before .before .before .before .before .before .before .before .before .before .before .before .before .before .before .before .before .before .before .before .before .if2 .left) (c .before .before .before .before .before .before .before .before .before .before .before .before .before .before .before .before .before .before .before .before .if3 .left) (c .before .before .before .before .before .before .before .before .before .before .before .before .before .before .before .before .before .before .if4 .left) (c .before .before .before .before .before .before .before .before .before .before .before .before .before .before .before .before .if5 .left) (c .before .before .before .before .before .before .before .before .before .before .before .before .before .before .if6 .left) (c .before .before .before .before .before .before .before .before .before .before .before .before .if7 .left) (c .before .before .before .before .before .before .before .before .before .before .if8 .left) (c .before .before .before .before .before .before .before .before .before .before .before .before .before .before .before .before .before .before .before .before .before .before .before .before .before .before .before .before .before .before .before .before .pre .1) (c .before .before .before .before .before .before .before .before .if9 .taken) (c .before .before .before .before .before .entry .ensures) (c .before .before .before .before .raise .ensures)
+  returns-9 c =
+      let at-raise = c .before .before .before .before in
+      let at-entry = at-raise .before in
+      let at-if9 = at-entry .before .before .before in
+      let at-if8 = at-if9 .before .before in
+      let at-if7 = at-if8 .before .before in
+      let at-if6 = at-if7 .before .before in
+      let at-if5 = at-if6 .before .before in
+      let at-if4 = at-if5 .before .before in
+      let at-if3 = at-if4 .before .before in
+      let at-if2 = at-if3 .before .before in
+      let at-if1 = at-if2 .before .before in
+      let at-head = at-if1 .before .before in
+      let start = at-head .before .before .before .before .before .before in
+      end-reads (at-head .head .ensures) (at-if1 .if1 .left) (at-if2 .if2 .left) (at-if3 .if3 .left) (at-if4 .if4 .left) (at-if5 .if5 .left) (at-if6 .if6 .left) (at-if7 .if7 .left) (at-if8 .if8 .left) (start .pre .1) (at-if9 .if9 .taken) (at-entry .entry .ensures) (at-raise .raise .ensures)
 
   pub expression-statement-requires : lts.Need-expression-statement-requires given (statement-rule-at t) statement-rule.Post
-  expression-statement-requires c κs = c .before .before .before .before .before .before .before .before .before .before .before .before .before .before .before .before .before .before .before .before .before .before .before .before .before .before .before .pre .1
+  expression-statement-requires c κs =
+      let start = c .before .before .before .before .before .before .before .before .before .before .before .before .before .before .before .before .before .before .before .before .before .before .before .before .before .before .before in
+      start .pre .1
 
   pub same-length-27 : lts.Need-same-length-27 given (statement-rule-at t) statement-rule.Post
   same-length-27 c = omega (arith, c .before .before .before .before .before .before .expression-statement .kept)
@@ -174,4 +224,16 @@ module _ (t : ℕ) where
   same-length-29 c = omega (arith, c .before .before .before .before .before .before .expression-statement .kept)
 
   pub returns-10 : lts.Need-returns-10 given (statement-rule-at t) statement-rule.Post
-  returns-10 c = other-reads (c .before .before .before .before .before .before .before .before .before .before .before .before .before .before .before .before .before .before .before .before .before .before .before .before .before .before .before .before .head .ensures) (c .before .before .before .before .before .before .before .before .before .before .before .before .before .before .before .before .before .before .before .before .before .before .before .before .before .before .if1 .left) (c .before .before .before .before .before .before .before .before .before .before .before .before .before .before .before .before .before .before .before .before .before .before .before .before .if2 .left) (c .before .before .before .before .before .before .before .before .before .before .before .before .before .before .before .before .before .before .before .before .before .before .if3 .left) (c .before .before .before .before .before .before .before .before .before .before .before .before .before .before .before .before .before .before .before .before .if4 .left) (c .before .before .before .before .before .before .before .before .before .before .before .before .before .before .before .before .before .before .if5 .left) (c .before .before .before .before .before .before .before .before .before .before .before .before .before .before .before .before .if6 .left) (c .before .before .before .before .before .before .before .before .before .before .before .before .before .before .if7 .left) (c .before .before .before .before .before .before .before .before .before .before .before .before .if8 .left) (c .before .before .before .before .before .before .before .before .before .before .if9 .left) (c .before .before .before .before .before .before .expression-statement .ensures)
+  returns-10 c =
+      let at-expression-statement = c .before .before .before .before .before .before in
+      let at-if9 = at-expression-statement .before .before .before .before in
+      let at-if8 = at-if9 .before .before in
+      let at-if7 = at-if8 .before .before in
+      let at-if6 = at-if7 .before .before in
+      let at-if5 = at-if6 .before .before in
+      let at-if4 = at-if5 .before .before in
+      let at-if3 = at-if4 .before .before in
+      let at-if2 = at-if3 .before .before in
+      let at-if1 = at-if2 .before .before in
+      let at-head = at-if1 .before .before in
+      other-reads (at-head .head .ensures) (at-if1 .if1 .left) (at-if2 .if2 .left) (at-if3 .if3 .left) (at-if4 .if4 .left) (at-if5 .if5 .left) (at-if6 .if6 .left) (at-if7 .if7 .left) (at-if8 .if8 .left) (at-if9 .if9 .left) (at-expression-statement .expression-statement .ensures)

@@ -9,9 +9,29 @@ declaration-spec =
     tie.close
     (tie.spec
     (λ c κs. c .before .before .before .before .before .before .before .before .pre)
-    (λ c κs. (record { asks = asks-moved (c .before .before .before .before .before .before .before .before .before .before .before .before .before .before .before .before .before .pre .asks) (c .before .before .before .before .before .before .before .before .var-like-declaration .ensures .moved) (omega (arith, c .before .before .before .before .before .before .before .before .var-like-declaration .kept)) (omega (arith, c .before .before .before .before .before .before .before .before .var-like-declaration .kept)); pos = c .before .before .before .before .before .before .before .before .var-like-declaration .ensures .moved .pos; reported = c .before .before .before .before .before .before .before .before .var-like-declaration .ensures .moved .reported }, (omega arith, omega arith)))
-    (λ c κs. declaration-room (c .before .before .before .before .before .before .before .before .before .before .before .before .before .before .before .before .before .before .before .before .before .before .before .pre) (c .before .before .before .before .before .before .before .before .before .before .before .before .before .before .var-like-declaration .ensures) (c .before .before .before .before .before .and-expect .ensures) (omega (arith, c .before .before .before .before .before .before .before .before .before .before .before .before .before .before .var-like-declaration .kept)))
-    (λ c. omega (arith, c .before .before .named .kept, c .before .before .before .before .before .before .before .before .and-expect .kept, c .before .before .before .before .before .before .before .before .before .before .before .before .before .before .before .before .before .var-like-declaration .kept))
-    (λ c. omega (arith, c .before .before .named .kept, c .before .before .before .before .before .before .before .before .and-expect .kept, c .before .before .before .before .before .before .before .before .before .before .before .before .before .before .before .before .before .var-like-declaration .kept))
-    (λ c. omega (arith, c .before .before .named .kept, c .before .before .before .before .before .before .before .before .and-expect .kept, c .before .before .before .before .before .before .before .before .before .before .before .before .before .before .before .before .before .var-like-declaration .kept))
-    (λ c. declaration-reads (c .before .before .before .before .before .before .before .before .before .before .before .before .before .before .before .before .before .before .before .before .before .before .before .before .before .before .pre) (c .before .before .before .before .before .before .before .before .before .before .before .before .before .before .before .before .before .var-like-declaration .ensures) (omega (arith, c .before .before .before .before .before .before .before .before .before .before .before .before .before .before .before .before .before .var-like-declaration .kept)) (omega (arith, c .before .before .before .before .before .before .before .before .before .before .before .before .before .before .before .before .before .var-like-declaration .kept)) (c .before .before .before .before .before .before .before .before .and-expect .ensures) (c .before .before .named .ensures)))
+    (λ c κs.
+    let at-var-like-declaration = c .before .before .before .before .before .before .before .before in
+    let start = at-var-like-declaration .before .before .before .before .before .before .before .before .before in
+    (record { asks = asks-moved (start .pre .asks) (at-var-like-declaration .var-like-declaration .ensures .moved) (omega (arith, at-var-like-declaration .var-like-declaration .kept)) (omega (arith, at-var-like-declaration .var-like-declaration .kept)); pos = at-var-like-declaration .var-like-declaration .ensures .moved .pos; reported = at-var-like-declaration .var-like-declaration .ensures .moved .reported }, (omega arith, omega arith)))
+    (λ c κs.
+    let at-and-expect = c .before .before .before .before .before in
+    let at-var-like-declaration = at-and-expect .before .before .before .before .before .before .before .before .before in
+    let start = at-var-like-declaration .before .before .before .before .before .before .before .before .before in
+    declaration-room (start .pre) (at-var-like-declaration .var-like-declaration .ensures) (at-and-expect .and-expect .ensures) (omega (arith, at-var-like-declaration .var-like-declaration .kept)))
+    (λ c.
+    let at-and-expect = c .before .before .before .before .before .before .before .before in
+    let at-var-like-declaration = at-and-expect .before .before .before .before .before .before .before .before .before in
+    omega (arith, c .before .before .named .kept, at-and-expect .and-expect .kept, at-var-like-declaration .var-like-declaration .kept))
+    (λ c.
+    let at-and-expect = c .before .before .before .before .before .before .before .before in
+    let at-var-like-declaration = at-and-expect .before .before .before .before .before .before .before .before .before in
+    omega (arith, c .before .before .named .kept, at-and-expect .and-expect .kept, at-var-like-declaration .var-like-declaration .kept))
+    (λ c.
+    let at-and-expect = c .before .before .before .before .before .before .before .before in
+    let at-var-like-declaration = at-and-expect .before .before .before .before .before .before .before .before .before in
+    omega (arith, c .before .before .named .kept, at-and-expect .and-expect .kept, at-var-like-declaration .var-like-declaration .kept))
+    (λ c.
+    let at-and-expect = c .before .before .before .before .before .before .before .before in
+    let at-var-like-declaration = at-and-expect .before .before .before .before .before .before .before .before .before in
+    let start = at-var-like-declaration .before .before .before .before .before .before .before .before .before in
+    declaration-reads (start .pre) (at-var-like-declaration .var-like-declaration .ensures) (omega (arith, at-var-like-declaration .var-like-declaration .kept)) (omega (arith, at-var-like-declaration .var-like-declaration .kept)) (at-and-expect .and-expect .ensures) (c .before .before .named .ensures)))

@@ -12,21 +12,87 @@ initial-value-spec =
     (tie.spec
     (λ c. search needs)
     (λ c. value-stops (c .before .before .before .before .before .before .pre) (c .match .keys2))
-    (λ c κs. (c .before .before .before .before .before .before .before .before .pre .asked .asks .held, (c .before .before .before .before .before .before .before .before .pre) .asked .asks .at))
-    (λ c κs. asked-seen (c .before .before .before .before .before .before .before .before .before .before .before .before .before .before .pre .asked) (c .before .before .before .before .before .head .ensures))
-    (λ c κs. join-cuts (c .before .before .before .before .before .before .before .before .before .before .before .before .before .before .before .before .before .before .before .before .before .before .pre) (c .before .before .before .before .before .before .before .before .before .before .before .before .before .head .ensures) (c .before .before .before .before .before .before .before .expression .ensures) (omega (arith, c .before .before .before .before .before .before .before .expression .kept)))
-    (λ c κs. join-room (c .before .before .before .before .before .before .before .before .before .before .before .before .before .before .before .before .before .before .before .before .before .before .before .before .before .before .pre) (c .before .before .before .before .before .before .before .before .before .before .before .before .before .before .before .before .before .head .ensures) (c .before .before .before .before .before .before .before .before .before .before .before .expression .ensures) (c .before .before .before .abandon .ensures) (omega (arith, c .before .before .before .before .before .before .before .before .before .before .before .expression .kept)))
-    (λ c. omega (arith, c .before .before .bare .kept, c .before .before .before .before .before .before .abandon .kept, c .before .before .before .before .before .before .before .before .before .before .before .before .before .before .expression .kept))
-    (λ c. omega (arith, c .before .before .bare .kept, c .before .before .before .before .before .before .abandon .kept, c .before .before .before .before .before .before .before .before .before .before .before .before .before .before .expression .kept))
-    (λ c. omega (arith, c .before .before .bare .kept, c .before .before .before .before .before .before .abandon .kept, c .before .before .before .before .before .before .before .before .before .before .before .before .before .before .expression .kept))
-    (λ c. value-assigned (c .before .before .before .before .before .before .before .before .before .before .before .before .before .before .before .before .before .before .before .before .before .before .before .before .before .before .before .before .before .pre) (c .before .before .before .before .before .before .before .before .before .before .before .before .before .before .before .before .before .before .before .before .before .before .enum-told .given .1) (c .before .before .before .before .before .before .before .before .before .before .before .before .before .before .before .before .before .before .before .before .head .ensures) (c .before .before .before .before .before .before .before .before .before .before .before .before .before .before .before .before .before .before .if1 .taken) (c .before .before .before .before .before .before .before .before .before .before .before .before .before .before .expression .ensures) (c .before .before .before .before .before .before .abandon .ensures) (c .before .before .bare .ensures))
-    (λ c κs. asked-seen (c .before .before .before .before .before .before .before .before .before .before .before .before .before .before .before .before .pre .asked) (c .before .before .before .before .before .before .before .head .ensures))
-    (λ c κs. join-cuts (c .before .before .before .before .before .before .before .before .before .before .before .before .before .before .before .before .before .before .before .before .before .before .before .before .pre) (c .before .before .before .before .before .before .before .before .before .before .before .before .before .before .before .head .ensures) (c .before .before .before .before .before .before .before .compound .ensures) (omega (arith, c .before .before .before .before .before .before .before .compound .kept)))
-    (λ c κs. join-room (c .before .before .before .before .before .before .before .before .before .before .before .before .before .before .before .before .before .before .before .before .before .before .before .before .before .before .before .before .pre) (c .before .before .before .before .before .before .before .before .before .before .before .before .before .before .before .before .before .before .before .head .ensures) (c .before .before .before .before .before .before .before .before .before .before .before .compound .ensures) (c .before .before .before .abandon2 .ensures) (omega (arith, c .before .before .before .before .before .before .before .before .before .before .before .compound .kept)))
-    (λ c. omega (arith, c .before .before .bare2 .kept, c .before .before .before .before .before .before .abandon2 .kept, c .before .before .before .before .before .before .before .before .before .before .before .before .before .before .compound .kept))
-    (λ c. omega (arith, c .before .before .bare2 .kept, c .before .before .before .before .before .before .abandon2 .kept, c .before .before .before .before .before .before .before .before .before .before .before .before .before .before .compound .kept))
-    (λ c. omega (arith, c .before .before .bare2 .kept, c .before .before .before .before .before .before .abandon2 .kept, c .before .before .before .before .before .before .before .before .before .before .before .before .before .before .compound .kept))
-    (λ c. value-compound (c .before .before .before .before .before .before .before .before .before .before .before .before .before .before .before .before .before .before .before .before .before .before .before .before .before .before .before .before .before .before .before .pre) (c .before .before .before .before .before .before .before .before .before .before .before .before .before .before .before .before .before .before .before .before .before .before .before .before .enum-told .given .1) (c .before .before .before .before .before .before .before .before .before .before .before .before .before .before .before .before .before .before .before .before .before .before .head .ensures) (c .before .before .before .before .before .before .before .before .before .before .before .before .before .before .before .before .before .before .if2 .taken) (c .before .before .before .before .before .before .before .before .before .before .before .before .before .before .compound .ensures) (c .before .before .before .before .before .before .abandon2 .ensures) (c .before .before .bare2 .ensures))
-    (λ c κs. record { room = omega (arith, (c .before .before .before .before .before .before .before .before .before .before .before .before .before .before .pre) .asked .room); part = omega arith })
+    (λ c κs.
+    let start = c .before .before .before .before .before .before .before .before in
+    (start .pre .asked .asks .held, (start .pre) .asked .asks .at))
+    (λ c κs.
+    let at-head = c .before .before .before .before .before in
+    let start = at-head .before .before .before .before .before .before .before .before .before in
+    asked-seen (start .pre .asked) (at-head .head .ensures))
+    (λ c κs.
+    let at-expression = c .before .before .before .before .before .before .before in
+    let at-head = at-expression .before .before .before .before .before .before in
+    let start = at-head .before .before .before .before .before .before .before .before .before in
+    join-cuts (start .pre) (at-head .head .ensures) (at-expression .expression .ensures) (omega (arith, at-expression .expression .kept)))
+    (λ c κs.
+    let at-abandon = c .before .before .before in
+    let at-expression = at-abandon .before .before .before .before .before .before .before .before in
+    let at-head = at-expression .before .before .before .before .before .before in
+    let start = at-head .before .before .before .before .before .before .before .before .before in
+    join-room (start .pre) (at-head .head .ensures) (at-expression .expression .ensures) (at-abandon .abandon .ensures) (omega (arith, at-expression .expression .kept)))
+    (λ c.
+    let at-abandon = c .before .before .before .before .before .before in
+    let at-expression = at-abandon .before .before .before .before .before .before .before .before in
+    omega (arith, c .before .before .bare .kept, at-abandon .abandon .kept, at-expression .expression .kept))
+    (λ c.
+    let at-abandon = c .before .before .before .before .before .before in
+    let at-expression = at-abandon .before .before .before .before .before .before .before .before in
+    omega (arith, c .before .before .bare .kept, at-abandon .abandon .kept, at-expression .expression .kept))
+    (λ c.
+    let at-abandon = c .before .before .before .before .before .before in
+    let at-expression = at-abandon .before .before .before .before .before .before .before .before in
+    omega (arith, c .before .before .bare .kept, at-abandon .abandon .kept, at-expression .expression .kept))
+    (λ c.
+    let at-abandon = c .before .before .before .before .before .before in
+    let at-expression = at-abandon .before .before .before .before .before .before .before .before in
+    let at-if1 = at-expression .before .before .before .before in
+    let at-head = at-if1 .before .before in
+    let at-enum-told = at-head .before .before in
+    let start = at-enum-told .before .before .before .before .before .before .before in
+    value-assigned (start .pre) (at-enum-told .enum-told .given .1) (at-head .head .ensures) (at-if1 .if1 .taken) (at-expression .expression .ensures) (at-abandon .abandon .ensures) (c .before .before .bare .ensures))
+    (λ c κs.
+    let at-head = c .before .before .before .before .before .before .before in
+    let start = at-head .before .before .before .before .before .before .before .before .before in
+    asked-seen (start .pre .asked) (at-head .head .ensures))
+    (λ c κs.
+    let at-compound = c .before .before .before .before .before .before .before in
+    let at-head = at-compound .before .before .before .before .before .before .before .before in
+    let start = at-head .before .before .before .before .before .before .before .before .before in
+    join-cuts (start .pre) (at-head .head .ensures) (at-compound .compound .ensures) (omega (arith, at-compound .compound .kept)))
+    (λ c κs.
+    let at-abandon2 = c .before .before .before in
+    let at-compound = at-abandon2 .before .before .before .before .before .before .before .before in
+    let at-head = at-compound .before .before .before .before .before .before .before .before in
+    let start = at-head .before .before .before .before .before .before .before .before .before in
+    join-room (start .pre) (at-head .head .ensures) (at-compound .compound .ensures) (at-abandon2 .abandon2 .ensures) (omega (arith, at-compound .compound .kept)))
+    (λ c.
+    let at-abandon2 = c .before .before .before .before .before .before in
+    let at-compound = at-abandon2 .before .before .before .before .before .before .before .before in
+    omega (arith, c .before .before .bare2 .kept, at-abandon2 .abandon2 .kept, at-compound .compound .kept))
+    (λ c.
+    let at-abandon2 = c .before .before .before .before .before .before in
+    let at-compound = at-abandon2 .before .before .before .before .before .before .before .before in
+    omega (arith, c .before .before .bare2 .kept, at-abandon2 .abandon2 .kept, at-compound .compound .kept))
+    (λ c.
+    let at-abandon2 = c .before .before .before .before .before .before in
+    let at-compound = at-abandon2 .before .before .before .before .before .before .before .before in
+    omega (arith, c .before .before .bare2 .kept, at-abandon2 .abandon2 .kept, at-compound .compound .kept))
+    (λ c.
+    let at-abandon2 = c .before .before .before .before .before .before in
+    let at-compound = at-abandon2 .before .before .before .before .before .before .before .before in
+    let at-if2 = at-compound .before .before .before .before in
+    let at-head = at-if2 .before .before .before .before in
+    let at-enum-told = at-head .before .before in
+    let start = at-enum-told .before .before .before .before .before .before .before in
+    value-compound (start .pre) (at-enum-told .enum-told .given .1) (at-head .head .ensures) (at-if2 .if2 .taken) (at-compound .compound .ensures) (at-abandon2 .abandon2 .ensures) (c .before .before .bare2 .ensures))
+    (λ c κs.
+    let start = c .before .before .before .before .before .before .before .before .before .before .before .before .before .before in
+    record { room = omega (arith, (start .pre) .asked .room); part = omega arith })
     (λ c. omega (arith, c .before .before .bare3 .kept))
-    (λ c. value-none (c .before .before .before .before .before .before .before .before .before .before .before .before .before .before .before .before .before .pre) (c .before .before .before .before .before .before .before .before .before .before .enum-told .given .1) (c .before .before .before .before .before .before .before .before .head .ensures) (c .before .before .before .before .before .before .if1 .left) (c .before .before .before .before .if2 .left) (c .before .before .bare3 .ensures)))
+    (λ c.
+    let at-if2 = c .before .before .before .before in
+    let at-if1 = at-if2 .before .before in
+    let at-head = at-if1 .before .before in
+    let at-enum-told = at-head .before .before in
+    let start = at-enum-told .before .before .before .before .before .before .before in
+    value-none (start .pre) (at-enum-told .enum-told .given .1) (at-head .head .ensures) (at-if1 .if1 .left) (at-if2 .if2 .left) (c .before .before .bare3 .ensures)))

@@ -12,10 +12,25 @@ named-spec =
     (λ c. search needs)
     (λ c. named-stops (c .match .keys2))
     (λ c κs. (c .before .before .before .before .before .pre .held, (c .before .before .before .before .before .pre) .within))
-    (λ c κs. bare-room (c .before .before .before .before .before .before .before .before .before .pre) (c .before .before .before .before .enum-told .given .1) (c .before .before .before .head .ensures))
+    (λ c κs.
+    let at-head = c .before .before .before in
+    let at-enum-told = at-head .before in
+    let start = at-enum-told .before .before .before .before .before in
+    bare-room (start .pre) (at-enum-told .enum-told .given .1) (at-head .head .ensures))
     (λ c. omega (arith, c .before .before .finish .kept))
-    (λ c. named-there (c .before .before .before .before .before .before .before .enum-told .given .1) (c .before .before .before .before .before .before .head .ensures) (c .before .before .before .before .if1 .taken) (c .before .before .finish .ensures))
+    (λ c.
+    let at-if1 = c .before .before .before .before in
+    let at-head = at-if1 .before .before in
+    let at-enum-told = at-head .before in
+    named-there (at-enum-told .enum-told .given .1) (at-head .head .ensures) (at-if1 .if1 .taken) (c .before .before .finish .ensures))
     (λ c. search needs)
-    (λ c κs. unknown-room (c .before .before .before .before .before .before .before .before .before .before .pre) (c .before .before .before .before .before .enum-told .given .1))
+    (λ c κs.
+    let at-enum-told = c .before .before .before .before .before in
+    let start = at-enum-told .before .before .before .before .before in
+    unknown-room (start .pre) (at-enum-told .enum-told .given .1))
     (λ c. omega (arith, c .before .before .finish2 .kept))
-    (λ c. named-none (c .before .before .before .before .before .before .before .before .enum-told .given .1) (c .before .before .before .before .before .before .before .head .ensures) (c .before .before .before .before .before .if1 .left) (c .before .before .finish2 .ensures)))
+    (λ c.
+    let at-if1 = c .before .before .before .before .before in
+    let at-head = at-if1 .before .before in
+    let at-enum-told = at-head .before in
+    named-none (at-enum-told .enum-told .given .1) (at-head .head .ensures) (at-if1 .if1 .left) (c .before .before .finish2 .ensures)))

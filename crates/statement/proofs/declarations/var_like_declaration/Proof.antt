@@ -9,8 +9,24 @@ var-like-declaration-spec =
     tie.close
     (tie.spec
     (λ c κs. c .before .before .before .before .before .before .before .before .pre)
-    (λ c κs. record { asked = asked-moved (c .before .before .before .before .before .before .before .before .before .before .before .before .before .before .before .before .before .before .pre) (c .before .before .before .before .before .before .before .before .before .typed-name .ensures .moved) (omega (arith, c .before .before .before .before .before .before .before .before .before .typed-name .kept)) (omega (arith, c .before .before .before .before .before .before .before .before .before .typed-name .kept)) (omega (arith, c .before .before .before .before .before .before .before .before .before .typed-name .kept)); pos = c .before .before .before .before .before .before .before .before .before .typed-name .ensures .moved .pos; reported = c .before .before .before .before .before .before .before .before .before .typed-name .ensures .moved .reported })
-    (λ c. omega (arith, c .before .before .before .before .before .before .initial-value .kept, c .before .before .before .before .before .before .before .before .before .before .before .before .before .before .before .before .typed-name .kept))
-    (λ c. omega (arith, c .before .before .before .before .before .before .initial-value .kept, c .before .before .before .before .before .before .before .before .before .before .before .before .before .before .before .before .typed-name .kept))
-    (λ c. omega (arith, c .before .before .before .before .before .before .initial-value .kept, c .before .before .before .before .before .before .before .before .before .before .before .before .before .before .before .before .typed-name .kept))
-    (λ c. declared-reads (c .before .before .before .before .before .before .before .before .before .before .before .before .before .before .before .before .before .before .before .before .before .before .before .before .before .pre) (c .before .before .before .before .before .before .before .before .before .before .before .before .before .before .before .before .typed-name .ensures) (c .before .before .before .before .before .before .initial-value .ensures)))
+    (λ c κs.
+    let at-typed-name = c .before .before .before .before .before .before .before .before .before in
+    let start = at-typed-name .before .before .before .before .before .before .before .before .before in
+    record { asked = asked-moved (start .pre) (at-typed-name .typed-name .ensures .moved) (omega (arith, at-typed-name .typed-name .kept)) (omega (arith, at-typed-name .typed-name .kept)) (omega (arith, at-typed-name .typed-name .kept)); pos = at-typed-name .typed-name .ensures .moved .pos; reported = at-typed-name .typed-name .ensures .moved .reported })
+    (λ c.
+    let at-initial-value = c .before .before .before .before .before .before in
+    let at-typed-name = at-initial-value .before .before .before .before .before .before .before .before .before .before in
+    omega (arith, at-initial-value .initial-value .kept, at-typed-name .typed-name .kept))
+    (λ c.
+    let at-initial-value = c .before .before .before .before .before .before in
+    let at-typed-name = at-initial-value .before .before .before .before .before .before .before .before .before .before in
+    omega (arith, at-initial-value .initial-value .kept, at-typed-name .typed-name .kept))
+    (λ c.
+    let at-initial-value = c .before .before .before .before .before .before in
+    let at-typed-name = at-initial-value .before .before .before .before .before .before .before .before .before .before in
+    omega (arith, at-initial-value .initial-value .kept, at-typed-name .typed-name .kept))
+    (λ c.
+    let at-initial-value = c .before .before .before .before .before .before in
+    let at-typed-name = at-initial-value .before .before .before .before .before .before .before .before .before .before in
+    let start = at-typed-name .before .before .before .before .before .before .before .before .before in
+    declared-reads (start .pre) (at-typed-name .typed-name .ensures) (at-initial-value .initial-value .ensures)))

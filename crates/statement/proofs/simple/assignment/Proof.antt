@@ -11,10 +11,43 @@ assignment-spec =
     (tie.spec
     (λ c κs. (c .before .before .before .before .before .pre .0 .asked .asks .held, (c .before .before .before .before .before .pre) .0 .asked .asks .at))
     (λ c κs. asked-seen (c .before .before .before .before .before .before .before .before .before .pre .0 .asked) (c .before .before .before .head .ensures))
-    (λ c κs. assigned-cuts (c .before .before .before .before .before .before .before .before .before .before .before .before .before .before .before .before .before .pre .0 .asked) (c .before .before .before .before .before .before .before .before .before .before .before .before .before .before .before .before .before .pre .1) (c .before .before .before .before .before .before .before .before .before .before .before .head .ensures) (c .before .before .before .before .before .before .before .expression .ensures) (omega (arith, c .before .before .before .before .before .before .before .expression .kept)))
-    (λ c κs. (assigned-asks (c .before .before .before .before .before .before .before .before .before .before .before .before .before .before .before .before .before .before .before .before .before .before .pre .0 .asked) (c .before .before .before .before .before .before .before .before .before .before .before .before .before .before .before .before .before .before .before .before .before .before .pre .1) (c .before .before .before .before .before .before .before .before .before .before .before .before .before .before .before .before .head .ensures) (c .before .before .before .before .before .before .before .before .before .before .before .before .expression .ensures) (c .before .before .before .before .abandon .ensures) (omega (arith, c .before .before .before .before .abandon .kept, c .before .before .before .before .before .before .before .before .before .before .before .before .expression .kept)) (omega (arith, c .before .before .before .before .before .before .before .before .before .before .before .before .expression .kept)), (omega arith, omega arith)))
-    (λ c κs. assigned-room (c .before .before .before .before .before .before .before .before .before .before .before .before .before .before .before .before .before .before .before .before .before .before .before .before .before .before .before .before .pre .0 .asked) (c .before .before .before .before .before .before .before .before .before .before .before .before .before .before .before .before .before .before .before .before .before .before .before .before .before .before .before .before .pre .1) (c .before .before .before .before .before .before .before .before .before .before .before .before .before .before .before .before .before .before .before .before .before .before .head .ensures) (c .before .before .before .before .before .before .before .before .before .before .before .before .before .before .before .before .before .before .expression .ensures) (c .before .before .before .before .before .before .before .before .before .before .abandon .ensures) (c .before .before .before .before .before .and-expect .ensures) (omega (arith, c .before .before .before .before .before .before .before .before .before .before .before .before .before .before .before .before .before .before .expression .kept)))
-    (λ c. omega (arith, c .before .before .finish .kept, c .before .before .before .before .before .before .before .before .and-expect .kept, c .before .before .before .before .before .before .before .before .before .before .before .before .before .abandon .kept, c .before .before .before .before .before .before .before .before .before .before .before .before .before .before .before .before .before .before .before .before .before .expression .kept))
-    (λ c. omega (arith, c .before .before .finish .kept, c .before .before .before .before .before .before .before .before .and-expect .kept, c .before .before .before .before .before .before .before .before .before .before .before .before .before .abandon .kept, c .before .before .before .before .before .before .before .before .before .before .before .before .before .before .before .before .before .before .before .before .before .expression .kept))
-    (λ c. omega (arith, c .before .before .finish .kept, c .before .before .before .before .before .before .before .before .and-expect .kept, c .before .before .before .before .before .before .before .before .before .before .before .before .before .abandon .kept, c .before .before .before .before .before .before .before .before .before .before .before .before .before .before .before .before .before .before .before .before .before .expression .kept))
-    (λ c. assignment-behind (c .before .before .before .before .before .before .before .before .before .before .before .before .before .before .before .before .before .before .before .before .before .before .before .before .before .before .before .before .before .before .before .pre .0 .asked) (c .before .before .before .before .before .before .before .before .before .before .before .before .before .before .before .before .before .before .before .before .before .before .before .before .before .before .before .before .before .before .before .pre .1) (c .before .before .before .before .before .before .before .before .before .before .before .before .before .before .before .before .before .before .before .before .before .before .before .before .before .head .ensures) (sym (c .before .before .before .before .before .before .before .before .before .before .before .before .before .before .before .before .before .before .before .before .before .before .before .before .before .head .ensures .kind) ∙ c .before .before .before .before .before .before .before .before .before .before .before .before .before .before .before .before .before .before .before .before .before .before .before .before .before .before .before .before .before .before .before .pre .0 .kind) (c .before .before .before .before .before .before .before .before .before .before .before .before .before .before .before .before .before .before .before .before .before .expression .ensures) (c .before .before .before .before .before .before .before .before .before .before .before .before .before .abandon .ensures) (omega (arith, c .before .before .before .before .before .before .before .before .before .before .before .before .before .abandon .kept, c .before .before .before .before .before .before .before .before .before .before .before .before .before .before .before .before .before .before .before .before .before .expression .kept)) (omega (arith, c .before .before .before .before .before .before .before .before .before .before .before .before .before .before .before .before .before .before .before .before .before .expression .kept)) (c .before .before .before .before .before .before .before .before .and-expect .ensures) (c .before .before .finish .ensures)))
+    (λ c κs.
+    let at-expression = c .before .before .before .before .before .before .before in
+    let at-head = at-expression .before .before .before .before in
+    let start = at-head .before .before .before .before .before .before in
+    assigned-cuts (start .pre .0 .asked) (start .pre .1) (at-head .head .ensures) (at-expression .expression .ensures) (omega (arith, at-expression .expression .kept)))
+    (λ c κs.
+    let at-abandon = c .before .before .before .before in
+    let at-expression = at-abandon .before .before .before .before .before .before .before .before in
+    let at-head = at-expression .before .before .before .before in
+    let start = at-head .before .before .before .before .before .before in
+    (assigned-asks (start .pre .0 .asked) (start .pre .1) (at-head .head .ensures) (at-expression .expression .ensures) (at-abandon .abandon .ensures) (omega (arith, at-abandon .abandon .kept, at-expression .expression .kept)) (omega (arith, at-expression .expression .kept)), (omega arith, omega arith)))
+    (λ c κs.
+    let at-and-expect = c .before .before .before .before .before in
+    let at-abandon = at-and-expect .before .before .before .before .before in
+    let at-expression = at-abandon .before .before .before .before .before .before .before .before in
+    let at-head = at-expression .before .before .before .before in
+    let start = at-head .before .before .before .before .before .before in
+    assigned-room (start .pre .0 .asked) (start .pre .1) (at-head .head .ensures) (at-expression .expression .ensures) (at-abandon .abandon .ensures) (at-and-expect .and-expect .ensures) (omega (arith, at-expression .expression .kept)))
+    (λ c.
+    let at-and-expect = c .before .before .before .before .before .before .before .before in
+    let at-abandon = at-and-expect .before .before .before .before .before in
+    let at-expression = at-abandon .before .before .before .before .before .before .before .before in
+    omega (arith, c .before .before .finish .kept, at-and-expect .and-expect .kept, at-abandon .abandon .kept, at-expression .expression .kept))
+    (λ c.
+    let at-and-expect = c .before .before .before .before .before .before .before .before in
+    let at-abandon = at-and-expect .before .before .before .before .before in
+    let at-expression = at-abandon .before .before .before .before .before .before .before .before in
+    omega (arith, c .before .before .finish .kept, at-and-expect .and-expect .kept, at-abandon .abandon .kept, at-expression .expression .kept))
+    (λ c.
+    let at-and-expect = c .before .before .before .before .before .before .before .before in
+    let at-abandon = at-and-expect .before .before .before .before .before in
+    let at-expression = at-abandon .before .before .before .before .before .before .before .before in
+    omega (arith, c .before .before .finish .kept, at-and-expect .and-expect .kept, at-abandon .abandon .kept, at-expression .expression .kept))
+    (λ c.
+    let at-and-expect = c .before .before .before .before .before .before .before .before in
+    let at-abandon = at-and-expect .before .before .before .before .before in
+    let at-expression = at-abandon .before .before .before .before .before .before .before .before in
+    let at-head = at-expression .before .before .before .before in
+    let start = at-head .before .before .before .before .before .before in
+    assignment-behind (start .pre .0 .asked) (start .pre .1) (at-head .head .ensures) (sym (at-head .head .ensures .kind) ∙ start .pre .0 .kind) (at-expression .expression .ensures) (at-abandon .abandon .ensures) (omega (arith, at-abandon .abandon .kept, at-expression .expression .kept)) (omega (arith, at-expression .expression .kept)) (at-and-expect .and-expect .ensures) (c .before .before .finish .ensures)))

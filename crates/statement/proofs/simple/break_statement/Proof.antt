@@ -11,9 +11,19 @@ break-statement-spec =
     tie.close
     (tie.spec
     (λ c κs. (c .before .before .before .before .before .pre .asked .asks .held, (c .before .before .before .before .before .pre) .asked .asks .at))
-    (λ c κs. (asks-fore (c .before .before .before .before .before .before .before .before .pre .asked .asks) (c .before .before .head .ensures), (omega arith, omega arith)))
-    (λ c κs. room-at (c .before .before .before .before .before .before .before .before .before .before .before .before .before .before .pre .asked) (moved-trans (fore-moved (c .before .before .before .before .before .before .before .before .before .before .before .before .before .before .pre .asked .asks) (c .before .before .before .before .before .before .before .before .head .ensures)) (c .before .before .before .before .before .expect .ensures .moved)) refl)
+    (λ c κs.
+    let start = c .before .before .before .before .before .before .before .before in
+    (asks-fore (start .pre .asked .asks) (c .before .before .head .ensures), (omega arith, omega arith)))
+    (λ c κs.
+    let at-expect = c .before .before .before .before .before in
+    let at-head = at-expect .before .before .before in
+    let start = at-head .before .before .before .before .before .before in
+    room-at (start .pre .asked) (moved-trans (fore-moved (start .pre .asked .asks) (at-head .head .ensures)) (at-expect .expect .ensures .moved)) refl)
     (λ c. omega (arith, c .before .before .finish .kept, c .before .before .before .before .before .before .before .before .expect .kept))
     (λ c. omega (arith, c .before .before .finish .kept, c .before .before .before .before .before .before .before .before .expect .kept))
     (λ c. omega (arith, c .before .before .finish .kept, c .before .before .before .before .before .before .before .before .expect .kept))
-    (λ c. λ d. break-reads (c .before .before .before .before .before .before .before .before .before .before .before .head .ensures) (c .before .before .before .before .before .before .before .before .before .before .before .before .before .before .before .before .before .pre) (c .before .before .before .before .before .before .before .before .expect .ensures) (c .before .before .finish .ensures)))
+    (λ c.
+    let at-expect = c .before .before .before .before .before .before .before .before in
+    let at-head = at-expect .before .before .before in
+    let start = at-head .before .before .before .before .before .before in
+    λ d. break-reads (at-head .head .ensures) (start .pre) (at-expect .expect .ensures) (c .before .before .finish .ensures)))

@@ -11,10 +11,43 @@ compound-assignment-spec =
     (tie.spec
     (λ c κs. (c .before .before .before .before .before .pre .0 .asked .asks .held, (c .before .before .before .before .before .pre) .0 .asked .asks .at))
     (λ c κs. asked-seen (c .before .before .before .before .before .before .before .before .before .pre .0 .asked) (c .before .before .before .head .ensures))
-    (λ c κs. assigned-cuts (c .before .before .before .before .before .before .before .before .before .before .before .before .before .before .before .before .before .pre .0 .asked) (c .before .before .before .before .before .before .before .before .before .before .before .before .before .before .before .before .before .pre .1) (c .before .before .before .before .before .before .before .before .before .before .before .head .ensures) (c .before .before .before .before .before .before .before .compound .ensures) (omega (arith, c .before .before .before .before .before .before .before .compound .kept)))
-    (λ c κs. (assigned-asks (c .before .before .before .before .before .before .before .before .before .before .before .before .before .before .before .before .before .before .before .before .before .before .pre .0 .asked) (c .before .before .before .before .before .before .before .before .before .before .before .before .before .before .before .before .before .before .before .before .before .before .pre .1) (c .before .before .before .before .before .before .before .before .before .before .before .before .before .before .before .before .head .ensures) (c .before .before .before .before .before .before .before .before .before .before .before .before .compound .ensures) (c .before .before .before .before .abandon .ensures) (omega (arith, c .before .before .before .before .abandon .kept, c .before .before .before .before .before .before .before .before .before .before .before .before .compound .kept)) (omega (arith, c .before .before .before .before .before .before .before .before .before .before .before .before .compound .kept)), (omega arith, omega arith)))
-    (λ c κs. assigned-room (c .before .before .before .before .before .before .before .before .before .before .before .before .before .before .before .before .before .before .before .before .before .before .before .before .before .before .before .before .pre .0 .asked) (c .before .before .before .before .before .before .before .before .before .before .before .before .before .before .before .before .before .before .before .before .before .before .before .before .before .before .before .before .pre .1) (c .before .before .before .before .before .before .before .before .before .before .before .before .before .before .before .before .before .before .before .before .before .before .head .ensures) (c .before .before .before .before .before .before .before .before .before .before .before .before .before .before .before .before .before .before .compound .ensures) (c .before .before .before .before .before .before .before .before .before .before .abandon .ensures) (c .before .before .before .before .before .and-expect .ensures) (omega (arith, c .before .before .before .before .before .before .before .before .before .before .before .before .before .before .before .before .before .before .compound .kept)))
-    (λ c. omega (arith, c .before .before .finish .kept, c .before .before .before .before .before .before .before .before .and-expect .kept, c .before .before .before .before .before .before .before .before .before .before .before .before .before .abandon .kept, c .before .before .before .before .before .before .before .before .before .before .before .before .before .before .before .before .before .before .before .before .before .compound .kept))
-    (λ c. omega (arith, c .before .before .finish .kept, c .before .before .before .before .before .before .before .before .and-expect .kept, c .before .before .before .before .before .before .before .before .before .before .before .before .before .abandon .kept, c .before .before .before .before .before .before .before .before .before .before .before .before .before .before .before .before .before .before .before .before .before .compound .kept))
-    (λ c. omega (arith, c .before .before .finish .kept, c .before .before .before .before .before .before .before .before .and-expect .kept, c .before .before .before .before .before .before .before .before .before .before .before .before .before .abandon .kept, c .before .before .before .before .before .before .before .before .before .before .before .before .before .before .before .before .before .before .before .before .before .compound .kept))
-    (λ c. compound-behind (c .before .before .before .before .before .before .before .before .before .before .before .before .before .before .before .before .before .before .before .before .before .before .before .before .before .before .before .before .before .before .before .pre .0 .asked) (c .before .before .before .before .before .before .before .before .before .before .before .before .before .before .before .before .before .before .before .before .before .before .before .before .before .before .before .before .before .before .before .pre .1) (c .before .before .before .before .before .before .before .before .before .before .before .before .before .before .before .before .before .before .before .before .before .before .before .before .before .head .ensures) (sym (c .before .before .before .before .before .before .before .before .before .before .before .before .before .before .before .before .before .before .before .before .before .before .before .before .before .head .ensures .kind) ∙ c .before .before .before .before .before .before .before .before .before .before .before .before .before .before .before .before .before .before .before .before .before .before .before .before .before .before .before .before .before .before .before .pre .0 .kind) (c .before .before .before .before .before .before .before .before .before .before .before .before .before .before .before .before .before .before .before .before .before .compound .ensures) (c .before .before .before .before .before .before .before .before .before .before .before .before .before .abandon .ensures) (omega (arith, c .before .before .before .before .before .before .before .before .before .before .before .before .before .abandon .kept, c .before .before .before .before .before .before .before .before .before .before .before .before .before .before .before .before .before .before .before .before .before .compound .kept)) (omega (arith, c .before .before .before .before .before .before .before .before .before .before .before .before .before .before .before .before .before .before .before .before .before .compound .kept)) (c .before .before .before .before .before .before .before .before .and-expect .ensures) (c .before .before .finish .ensures)))
+    (λ c κs.
+    let at-compound = c .before .before .before .before .before .before .before in
+    let at-head = at-compound .before .before .before .before in
+    let start = at-head .before .before .before .before .before .before in
+    assigned-cuts (start .pre .0 .asked) (start .pre .1) (at-head .head .ensures) (at-compound .compound .ensures) (omega (arith, at-compound .compound .kept)))
+    (λ c κs.
+    let at-abandon = c .before .before .before .before in
+    let at-compound = at-abandon .before .before .before .before .before .before .before .before in
+    let at-head = at-compound .before .before .before .before in
+    let start = at-head .before .before .before .before .before .before in
+    (assigned-asks (start .pre .0 .asked) (start .pre .1) (at-head .head .ensures) (at-compound .compound .ensures) (at-abandon .abandon .ensures) (omega (arith, at-abandon .abandon .kept, at-compound .compound .kept)) (omega (arith, at-compound .compound .kept)), (omega arith, omega arith)))
+    (λ c κs.
+    let at-and-expect = c .before .before .before .before .before in
+    let at-abandon = at-and-expect .before .before .before .before .before in
+    let at-compound = at-abandon .before .before .before .before .before .before .before .before in
+    let at-head = at-compound .before .before .before .before in
+    let start = at-head .before .before .before .before .before .before in
+    assigned-room (start .pre .0 .asked) (start .pre .1) (at-head .head .ensures) (at-compound .compound .ensures) (at-abandon .abandon .ensures) (at-and-expect .and-expect .ensures) (omega (arith, at-compound .compound .kept)))
+    (λ c.
+    let at-and-expect = c .before .before .before .before .before .before .before .before in
+    let at-abandon = at-and-expect .before .before .before .before .before in
+    let at-compound = at-abandon .before .before .before .before .before .before .before .before in
+    omega (arith, c .before .before .finish .kept, at-and-expect .and-expect .kept, at-abandon .abandon .kept, at-compound .compound .kept))
+    (λ c.
+    let at-and-expect = c .before .before .before .before .before .before .before .before in
+    let at-abandon = at-and-expect .before .before .before .before .before in
+    let at-compound = at-abandon .before .before .before .before .before .before .before .before in
+    omega (arith, c .before .before .finish .kept, at-and-expect .and-expect .kept, at-abandon .abandon .kept, at-compound .compound .kept))
+    (λ c.
+    let at-and-expect = c .before .before .before .before .before .before .before .before in
+    let at-abandon = at-and-expect .before .before .before .before .before in
+    let at-compound = at-abandon .before .before .before .before .before .before .before .before in
+    omega (arith, c .before .before .finish .kept, at-and-expect .and-expect .kept, at-abandon .abandon .kept, at-compound .compound .kept))
+    (λ c.
+    let at-and-expect = c .before .before .before .before .before .before .before .before in
+    let at-abandon = at-and-expect .before .before .before .before .before in
+    let at-compound = at-abandon .before .before .before .before .before .before .before .before in
+    let at-head = at-compound .before .before .before .before in
+    let start = at-head .before .before .before .before .before .before in
+    compound-behind (start .pre .0 .asked) (start .pre .1) (at-head .head .ensures) (sym (at-head .head .ensures .kind) ∙ start .pre .0 .kind) (at-compound .compound .ensures) (at-abandon .abandon .ensures) (omega (arith, at-abandon .abandon .kept, at-compound .compound .kept)) (omega (arith, at-compound .compound .kept)) (at-and-expect .and-expect .ensures) (c .before .before .finish .ensures)))

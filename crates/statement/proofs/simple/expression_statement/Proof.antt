@@ -15,14 +15,49 @@ expression-statement-spec =
     (λ c. omega (arith, c .before .before .before .before .before .before .before .expression .kept))
     (λ c. omega (arith, c .before .before .before .before .before .before .before .expression .kept))
     (λ c. omega (arith, c .before .before .before .before .before .before .before .expression .kept))
-    (λ c. statement-stops (c .before .before .before .before .before .before .before .before .before .before .before .before .before .before .before .before .pre) (c .before .before .before .before .before .before .before .expression .ensures) _ _ (c .match .keys2))
-    (λ c κs. room-at (c .before .before .before .before .before .before .before .before .before .before .before .before .before .before .before .before .before .before .before .before .before .before .pre) (c .before .before .before .before .before .before .before .before .before .before .before .before .before .expression .ensures .moved) (omega (arith, c .before .before .before .before .before .before .before .before .before .before .before .before .before .expression .kept)))
-    (λ c. omega (arith, c .before .before .finish .kept, c .before .before .before .before .before .before .before .before .before .before .before .before .before .before .before .before .expression .kept))
-    (λ c. omega (arith, c .before .before .finish .kept, c .before .before .before .before .before .before .before .before .before .before .before .before .before .before .before .before .expression .kept))
-    (λ c. omega (arith, c .before .before .finish .kept, c .before .before .before .before .before .before .before .before .before .before .before .before .before .before .before .before .expression .kept))
-    (λ c. statement-errors (c .before .before .before .before .before .before .before .before .before .before .before .before .before .before .before .before .before .before .before .before .before .before .before .before .before .pre) (c .before .before .before .before .before .before .before .before .before .before .before .before .before .before .before .before .expression .ensures) _ _ (c .before .before .before .before .before .before .before .before .enum-told .given .1) (omega (arith, c .before .before .before .before .before .before .before .before .before .before .before .before .before .before .before .before .expression .kept)) (omega (arith, c .before .before .before .before .before .before .before .before .before .before .before .before .before .before .before .before .expression .kept)) (c .before .before .before .before .if1 .taken) (c .before .before .finish .ensures))
-    (λ c κs. (asked-moved (c .before .before .before .before .before .before .before .before .before .before .before .before .before .before .before .before .before .before .before .before .before .before .before .before .pre) (c .before .before .before .before .before .before .before .before .before .before .before .before .before .before .before .expression .ensures .moved) (omega (arith, c .before .before .before .before .before .before .before .before .before .before .before .before .before .before .before .expression .kept)) (omega (arith, c .before .before .before .before .before .before .before .before .before .before .before .before .before .before .before .expression .kept)) (omega (arith, c .before .before .before .before .before .before .before .before .before .before .before .before .before .before .before .expression .kept)), c .before .before .before .before .before .before .before .before .before .before .before .before .before .before .before .expression .ensures .moved .pos))
-    (λ c. omega (arith, c .before .before .before .before .before .before .after-expression .kept, c .before .before .before .before .before .before .before .before .before .before .before .before .before .before .before .before .before .before .before .before .before .before .expression .kept))
-    (λ c. omega (arith, c .before .before .before .before .before .before .after-expression .kept, c .before .before .before .before .before .before .before .before .before .before .before .before .before .before .before .before .before .before .before .before .before .before .expression .kept))
-    (λ c. omega (arith, c .before .before .before .before .before .before .after-expression .kept, c .before .before .before .before .before .before .before .before .before .before .before .before .before .before .before .before .before .before .before .before .before .before .expression .kept))
-    (λ c. statement-after (c .before .before .before .before .before .before .before .before .before .before .before .before .before .before .before .before .before .before .before .before .before .before .before .before .before .before .before .before .before .before .before .pre) (c .before .before .before .before .before .before .before .before .before .before .before .before .before .before .before .before .before .before .before .before .before .before .expression .ensures) _ _ (c .before .before .before .before .before .before .before .before .before .before .before .before .before .before .enum-told .given .1) (omega (arith, c .before .before .before .before .before .before .before .before .before .before .before .before .before .before .before .before .before .before .before .before .before .before .expression .kept)) (omega (arith, c .before .before .before .before .before .before .before .before .before .before .before .before .before .before .before .before .before .before .before .before .before .before .expression .kept)) (λ e. omega (arith, e, c .before .before .before .before .before .before .before .before .before .before .if1 .left)) (c .before .before .before .before .before .before .after-expression .ensures)))
+    (λ c.
+    let at-expression = c .before .before .before .before .before .before .before in
+    let start = at-expression .before .before .before .before .before .before .before .before .before in
+    statement-stops (start .pre) (at-expression .expression .ensures) _ _ (c .match .keys2))
+    (λ c κs.
+    let at-expression = c .before .before .before .before .before .before .before .before .before .before .before .before .before in
+    let start = at-expression .before .before .before .before .before .before .before .before .before in
+    room-at (start .pre) (at-expression .expression .ensures .moved) (omega (arith, at-expression .expression .kept)))
+    (λ c.
+    let at-expression = c .before .before .before .before .before .before .before .before .before .before .before .before .before .before .before .before in
+    omega (arith, c .before .before .finish .kept, at-expression .expression .kept))
+    (λ c.
+    let at-expression = c .before .before .before .before .before .before .before .before .before .before .before .before .before .before .before .before in
+    omega (arith, c .before .before .finish .kept, at-expression .expression .kept))
+    (λ c.
+    let at-expression = c .before .before .before .before .before .before .before .before .before .before .before .before .before .before .before .before in
+    omega (arith, c .before .before .finish .kept, at-expression .expression .kept))
+    (λ c.
+    let at-if1 = c .before .before .before .before in
+    let at-enum-told = at-if1 .before .before .before .before in
+    let at-expression = at-enum-told .before .before .before .before .before .before .before .before in
+    let start = at-expression .before .before .before .before .before .before .before .before .before in
+    statement-errors (start .pre) (at-expression .expression .ensures) _ _ (at-enum-told .enum-told .given .1) (omega (arith, at-expression .expression .kept)) (omega (arith, at-expression .expression .kept)) (at-if1 .if1 .taken) (c .before .before .finish .ensures))
+    (λ c κs.
+    let at-expression = c .before .before .before .before .before .before .before .before .before .before .before .before .before .before .before in
+    let start = at-expression .before .before .before .before .before .before .before .before .before in
+    (asked-moved (start .pre) (at-expression .expression .ensures .moved) (omega (arith, at-expression .expression .kept)) (omega (arith, at-expression .expression .kept)) (omega (arith, at-expression .expression .kept)), at-expression .expression .ensures .moved .pos))
+    (λ c.
+    let at-after-expression = c .before .before .before .before .before .before in
+    let at-expression = at-after-expression .before .before .before .before .before .before .before .before .before .before .before .before .before .before .before .before in
+    omega (arith, at-after-expression .after-expression .kept, at-expression .expression .kept))
+    (λ c.
+    let at-after-expression = c .before .before .before .before .before .before in
+    let at-expression = at-after-expression .before .before .before .before .before .before .before .before .before .before .before .before .before .before .before .before in
+    omega (arith, at-after-expression .after-expression .kept, at-expression .expression .kept))
+    (λ c.
+    let at-after-expression = c .before .before .before .before .before .before in
+    let at-expression = at-after-expression .before .before .before .before .before .before .before .before .before .before .before .before .before .before .before .before in
+    omega (arith, at-after-expression .after-expression .kept, at-expression .expression .kept))
+    (λ c.
+    let at-after-expression = c .before .before .before .before .before .before in
+    let at-if1 = at-after-expression .before .before .before .before in
+    let at-enum-told = at-if1 .before .before .before .before in
+    let at-expression = at-enum-told .before .before .before .before .before .before .before .before in
+    let start = at-expression .before .before .before .before .before .before .before .before .before in
+    statement-after (start .pre) (at-expression .expression .ensures) _ _ (at-enum-told .enum-told .given .1) (omega (arith, at-expression .expression .kept)) (omega (arith, at-expression .expression .kept)) (λ e. omega (arith, e, at-if1 .if1 .left)) (at-after-expression .after-expression .ensures)))

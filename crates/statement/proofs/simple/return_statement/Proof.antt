@@ -11,13 +11,48 @@ return-statement-spec =
     (tie.spec
     (λ c κs. (c .before .before .before .before .before .pre .asked .asks .held, (c .before .before .before .before .before .pre) .asked .asks .at))
     (λ c κs. (c .before .before .before .before .before .before .pre .asked .asks .held, c .head .ensures .end))
-    (λ c κs. record { room = omega (arith, (c .before .before .before .before .before .before .before .before .before .before .pre) .asked .room); part = omega arith })
+    (λ c κs.
+    let start = c .before .before .before .before .before .before .before .before .before .before in
+    record { room = omega (arith, (start .pre) .asked .room); part = omega arith })
     (λ c. omega (arith, c .before .before .finish .kept))
-    (λ c. return-none (c .before .before .before .before .before .before .before .head .ensures) (c .before .before .before .before .before .before .before .before .before .before .before .before .before .pre) (c .before .before .before .before .before .before .head2 .ensures) (c .before .before .before .before .if1 .taken) (c .before .before .finish .ensures))
-    (λ c κs. asked-seen (c .before .before .before .before .before .before .before .before .before .before .before .before .pre .asked) (c .before .before .before .before .before .before .head .ensures))
-    (λ c κs. (record { asks = asks-moved (c .before .before .before .before .before .before .before .before .before .before .before .before .before .before .before .before .before .before .before .before .before .pre .asked .asks) (moved-trans (fore-moved (c .before .before .before .before .before .before .before .before .before .before .before .before .before .before .before .before .before .before .before .before .before .pre .asked .asks) (c .before .before .before .before .before .before .before .before .before .before .before .before .before .before .before .head .ensures)) (c .before .before .before .before .before .before .before .before .expression .ensures .moved)) (omega (arith, c .before .before .before .before .before .before .before .before .expression .kept)) (omega (arith, c .before .before .before .before .before .before .before .before .expression .kept)); pos = c .before .before .before .before .before .before .before .before .expression .ensures .moved .pos; reported = c .before .before .before .before .before .before .before .before .expression .ensures .moved .reported }, (omega arith, omega arith)))
-    (λ c κs. room-at (c .before .before .before .before .before .before .before .before .before .before .before .before .before .before .before .before .before .before .before .before .before .before .before .before .before .before .before .pre .asked) (moved-trans (moved-trans (fore-moved (c .before .before .before .before .before .before .before .before .before .before .before .before .before .before .before .before .before .before .before .before .before .before .before .before .before .before .before .pre .asked .asks) (c .before .before .before .before .before .before .before .before .before .before .before .before .before .before .before .before .before .before .before .before .before .head .ensures)) (c .before .before .before .before .before .before .before .before .before .before .before .before .before .before .expression .ensures .moved)) (c .before .before .before .before .before .and-expect .ensures .moved)) (omega (arith, c .before .before .before .before .before .before .before .before .before .before .before .before .before .before .expression .kept)))
-    (λ c. omega (arith, c .before .before .finish2 .kept, c .before .before .before .before .before .before .before .before .and-expect .kept, c .before .before .before .before .before .before .before .before .before .before .before .before .before .before .before .before .before .expression .kept))
-    (λ c. omega (arith, c .before .before .finish2 .kept, c .before .before .before .before .before .before .before .before .and-expect .kept, c .before .before .before .before .before .before .before .before .before .before .before .before .before .before .before .before .before .expression .kept))
-    (λ c. omega (arith, c .before .before .finish2 .kept, c .before .before .before .before .before .before .before .before .and-expect .kept, c .before .before .before .before .before .before .before .before .before .before .before .before .before .before .before .before .before .expression .kept))
-    (λ c. return-value (c .before .before .before .before .before .before .before .before .before .before .before .before .before .before .before .before .before .before .before .before .before .before .before .before .head .ensures) (c .before .before .before .before .before .before .before .before .before .before .before .before .before .before .before .before .before .before .before .before .before .before .before .before .before .before .before .before .before .before .pre) (c .before .before .before .before .before .before .before .before .before .before .before .before .before .before .before .before .before .before .before .before .before .before .before .head2 .ensures) (c .before .before .before .before .before .before .before .before .before .before .before .before .before .before .before .before .before .before .before .before .before .if1 .left) (c .before .before .before .before .before .before .before .before .before .before .before .before .before .before .before .before .before .expression .ensures) (omega (arith, c .before .before .before .before .before .before .before .before .before .before .before .before .before .before .before .before .before .expression .kept)) (omega (arith, c .before .before .before .before .before .before .before .before .before .before .before .before .before .before .before .before .before .expression .kept)) (c .before .before .before .before .before .before .before .before .and-expect .ensures) (c .before .before .finish2 .ensures)))
+    (λ c.
+    let at-if1 = c .before .before .before .before in
+    let at-head2 = at-if1 .before .before in
+    let at-head = at-head2 .before in
+    let start = at-head .before .before .before .before .before .before in
+    return-none (at-head .head .ensures) (start .pre) (at-head2 .head2 .ensures) (at-if1 .if1 .taken) (c .before .before .finish .ensures))
+    (λ c κs.
+    let at-head = c .before .before .before .before .before .before in
+    let start = at-head .before .before .before .before .before .before in
+    asked-seen (start .pre .asked) (at-head .head .ensures))
+    (λ c κs.
+    let at-expression = c .before .before .before .before .before .before .before .before in
+    let at-head = at-expression .before .before .before .before .before .before .before in
+    let start = at-head .before .before .before .before .before .before in
+    (record { asks = asks-moved (start .pre .asked .asks) (moved-trans (fore-moved (start .pre .asked .asks) (at-head .head .ensures)) (at-expression .expression .ensures .moved)) (omega (arith, at-expression .expression .kept)) (omega (arith, at-expression .expression .kept)); pos = at-expression .expression .ensures .moved .pos; reported = at-expression .expression .ensures .moved .reported }, (omega arith, omega arith)))
+    (λ c κs.
+    let at-and-expect = c .before .before .before .before .before in
+    let at-expression = at-and-expect .before .before .before .before .before .before .before .before .before in
+    let at-head = at-expression .before .before .before .before .before .before .before in
+    let start = at-head .before .before .before .before .before .before in
+    room-at (start .pre .asked) (moved-trans (moved-trans (fore-moved (start .pre .asked .asks) (at-head .head .ensures)) (at-expression .expression .ensures .moved)) (at-and-expect .and-expect .ensures .moved)) (omega (arith, at-expression .expression .kept)))
+    (λ c.
+    let at-and-expect = c .before .before .before .before .before .before .before .before in
+    let at-expression = at-and-expect .before .before .before .before .before .before .before .before .before in
+    omega (arith, c .before .before .finish2 .kept, at-and-expect .and-expect .kept, at-expression .expression .kept))
+    (λ c.
+    let at-and-expect = c .before .before .before .before .before .before .before .before in
+    let at-expression = at-and-expect .before .before .before .before .before .before .before .before .before in
+    omega (arith, c .before .before .finish2 .kept, at-and-expect .and-expect .kept, at-expression .expression .kept))
+    (λ c.
+    let at-and-expect = c .before .before .before .before .before .before .before .before in
+    let at-expression = at-and-expect .before .before .before .before .before .before .before .before .before in
+    omega (arith, c .before .before .finish2 .kept, at-and-expect .and-expect .kept, at-expression .expression .kept))
+    (λ c.
+    let at-and-expect = c .before .before .before .before .before .before .before .before in
+    let at-expression = at-and-expect .before .before .before .before .before .before .before .before .before in
+    let at-if1 = at-expression .before .before .before .before in
+    let at-head2 = at-if1 .before .before in
+    let at-head = at-head2 .before in
+    let start = at-head .before .before .before .before .before .before in
+    return-value (at-head .head .ensures) (start .pre) (at-head2 .head2 .ensures) (at-if1 .if1 .left) (at-expression .expression .ensures) (omega (arith, at-expression .expression .kept)) (omega (arith, at-expression .expression .kept)) (at-and-expect .and-expect .ensures) (c .before .before .finish2 .ensures)))
