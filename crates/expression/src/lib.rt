@@ -30,18 +30,20 @@ use leaves::opener;
 use leaves::operator;
 use leaves::prefix;
 use node::Numbers;
-use node::Record;
 use node::write_bare;
+use steps::Front;
 use steps::and_expect;
 use steps::expect;
 use steps::expect_identifier;
 use steps::finish;
+use steps::finish_text;
 use steps::head;
 ghost use Prim.Native.Nat.{_+_, _<_, _≤_};
 ghost use Rattle.definition.specs.Parser as P;
-ghost use Rattle.steps.specs.Shows.{Asked, Reads, GoesOn, Goes, node};
 ghost use Rattle.leaves.specs.Leaves.{listed-of, level-of};
-ghost use Rattle.grammar.specs.Post.{place-at, NameRoom, BareNamed, ReadsTyped, TypedOn, ReadsList, operators-on};
+ghost use Rattle.grammar.specs.Post.{place-of, operators-on};
+ghost use Rattle.steps.specs.Contract.{Asked, GoesOn, Parses, ParsesOn};
+ghost use Rattle.grammar.specs.Contract.{NameRoom, BareNamed, ReadsTyped, TypedOn, ReadsList};
 
 // parse_expression, one of the four functions whose open calls are counted.
 pub fn expression(
@@ -54,8 +56,8 @@ pub fn expression(
     st: State,
     left: usize,
 ) -> Answer
-    requires { ⌜ Asked (now tokens) (now text) n (now file) (now rep) (now full) st ⌝ }
-    ensures { λ r. ⌜ Reads node (now (tokens .entry)) (now (text .entry)) n left P.parse-expression (now (file .entry)) (now (rep .entry)) (now (full .entry)) st (now (file .exit)) (now (rep .exit)) (now (full .exit)) r ⌝ }
+    requires { ⌜ Asked tokens text n file rep full st ⌝ }
+    ensures { λ r. ⌜ Parses P.parse-expression tokens text n file rep full st left r ⌝ }
 {
     if left == 0 {
         return refuse(n, st, refusal::NESTING);
@@ -74,8 +76,8 @@ fn boolean(
     st: State,
     left: usize,
 ) -> Answer
-    requires { ⌜ Asked (now tokens) (now text) n (now file) (now rep) (now full) st ⌝ }
-    ensures { λ r. ⌜ Reads node (now (tokens .entry)) (now (text .entry)) n left P.expression-rule (now (file .entry)) (now (rep .entry)) (now (full .entry)) st (now (file .exit)) (now (rep .exit)) (now (full .exit)) r ⌝ }
+    requires { ⌜ Asked tokens text n file rep full st ⌝ }
+    ensures { λ r. ⌜ Parses P.expression-rule tokens text n file rep full st left r ⌝ }
 {
     let a = comparison(tokens, text, n, file, rep, full, st, left);
     let how = a.how;
@@ -83,35 +85,14 @@ fn boolean(
         return a;
     };
     let s = a.state;
-    let at = s.at;
-    let t = head(tokens, text, n, at);
+    let t = head(tokens, text, n, s.at);
     if t.kind != kind::DOUBLE_AMPERSAND {
         return a;
     }
-    let b = comparison(
-        tokens,
-        text,
-        n,
-        file,
-        rep,
-        full,
-        State { at: t.next, ..s },
-        left,
-    );
-    let c = abandon(rep, b, st.pos, st.reported, s.reported);
-    finish(
-        file,
-        text,
-        c,
-        Record {
-            tag: tag::BOOLEAN_AND,
-            line: t.line,
-            column: t.column,
-            numbers: Numbers::None,
-            start: 0,
-            len: 0,
-        },
-    )
+    let on = State { at: t.next, ..s };
+    let b = comparison(tokens, text, n, file, rep, full, on, left);
+    let c = abandon(rep, b, st, s);
+    finish(file, text, c, t, tag::BOOLEAN_AND, Numbers::None)
 }
 
 // bit_or [(`==` | `<` | `<=` | `>` | `>=`) bit_or]
@@ -125,8 +106,8 @@ fn comparison(
     st: State,
     left: usize,
 ) -> Answer
-    requires { ⌜ Asked (now tokens) (now text) n (now file) (now rep) (now full) st ⌝ }
-    ensures { λ r. ⌜ Reads node (now (tokens .entry)) (now (text .entry)) n left P.parse-comparison (now (file .entry)) (now (rep .entry)) (now (full .entry)) st (now (file .exit)) (now (rep .exit)) (now (full .exit)) r ⌝ }
+    requires { ⌜ Asked tokens text n file rep full st ⌝ }
+    ensures { λ r. ⌜ Parses P.parse-comparison tokens text n file rep full st left r ⌝ }
 {
     let a = bit_or(tokens, text, n, file, rep, full, st, left);
     let how = a.how;
@@ -134,36 +115,16 @@ fn comparison(
         return a;
     };
     let s = a.state;
-    let at = s.at;
-    let t = head(tokens, text, n, at);
+    let t = head(tokens, text, n, s.at);
     let op = comparison_operator(t.kind);
     if op == 0 {
         return a;
     }
-    let b = bit_or(
-        tokens,
-        text,
-        n,
-        file,
-        rep,
-        full,
-        State { at: t.next, ..s },
-        left,
-    );
-    let c = abandon(rep, b, st.pos, st.reported, s.reported);
-    finish(
-        file,
-        text,
-        c,
-        Record {
-            tag: tag::COMPARISON_BIN_OP,
-            line: t.line,
-            column: t.column,
-            numbers: Numbers::Byte(op - 1),
-            start: 0,
-            len: 0,
-        },
-    )
+    let on = State { at: t.next, ..s };
+    let b = bit_or(tokens, text, n, file, rep, full, on, left);
+    let c = abandon(rep, b, st, s);
+    let numbers = Numbers::Byte(op - 1);
+    finish(file, text, c, t, tag::COMPARISON_BIN_OP, numbers)
 }
 
 // parse_bitwise_or: bit_xor {`|` bit_xor}. All levels begin with the operand that is read here: where no operator of theirs
@@ -178,8 +139,8 @@ fn bit_or(
     st: State,
     left: usize,
 ) -> Answer
-    requires { ⌜ Asked (now tokens) (now text) n (now file) (now rep) (now full) st ⌝ }
-    ensures { λ r. ⌜ Reads node (now (tokens .entry)) (now (text .entry)) n left P.parse-bitwise-or (now (file .entry)) (now (rep .entry)) (now (full .entry)) st (now (file .exit)) (now (rep .exit)) (now (full .exit)) r ⌝ }
+    requires { ⌜ Asked tokens text n file rep full st ⌝ }
+    ensures { λ r. ⌜ Parses P.parse-bitwise-or tokens text n file rep full st left r ⌝ }
 {
     let mut a = cast(tokens, text, n, file, rep, full, st, left);
     let how = a.how;
@@ -187,27 +148,14 @@ fn bit_or(
         return a;
     };
     let s = a.state;
-    let at = s.at;
-    let t = head(tokens, text, n, at);
+    let t = head(tokens, text, n, s.at);
     if !arithmetic(t.kind) {
         return a;
     }
     let mut k = 0;
     while k < LEVELS {
         let level = level_at(k);
-        a = operators(
-            tokens,
-            text,
-            n,
-            file,
-            rep,
-            full,
-            level,
-            a,
-            st.pos,
-            st.reported,
-            left,
-        );
+        a = operators(tokens, text, n, file, rep, full, level, a, st, left);
         k += 1;
     }
     a
@@ -224,23 +172,12 @@ fn bit_xor(
     st: State,
     left: usize,
 ) -> Answer
-    requires { ⌜ Asked (now tokens) (now text) n (now file) (now rep) (now full) st ⌝ }
-    ensures { λ r. ⌜ Reads node (now (tokens .entry)) (now (text .entry)) n left P.parse-bitwise-xor (now (file .entry)) (now (rep .entry)) (now (full .entry)) st (now (file .exit)) (now (rep .exit)) (now (full .exit)) r ⌝ }
+    requires { ⌜ Asked tokens text n file rep full st ⌝ }
+    ensures { λ r. ⌜ Parses P.parse-bitwise-xor tokens text n file rep full st left r ⌝ }
 {
     let a = bit_and(tokens, text, n, file, rep, full, st, left);
-    operators(
-        tokens,
-        text,
-        n,
-        file,
-        rep,
-        full,
-        Level::BitwiseXor,
-        a,
-        st.pos,
-        st.reported,
-        left,
-    )
+    let level = Level::BitwiseXor;
+    operators(tokens, text, n, file, rep, full, level, a, st, left)
 }
 
 // parse_bitwise_and: shift {`&` shift}
@@ -254,23 +191,12 @@ fn bit_and(
     st: State,
     left: usize,
 ) -> Answer
-    requires { ⌜ Asked (now tokens) (now text) n (now file) (now rep) (now full) st ⌝ }
-    ensures { λ r. ⌜ Reads node (now (tokens .entry)) (now (text .entry)) n left P.parse-bitwise-and (now (file .entry)) (now (rep .entry)) (now (full .entry)) st (now (file .exit)) (now (rep .exit)) (now (full .exit)) r ⌝ }
+    requires { ⌜ Asked tokens text n file rep full st ⌝ }
+    ensures { λ r. ⌜ Parses P.parse-bitwise-and tokens text n file rep full st left r ⌝ }
 {
     let a = shift(tokens, text, n, file, rep, full, st, left);
-    operators(
-        tokens,
-        text,
-        n,
-        file,
-        rep,
-        full,
-        Level::BitwiseAnd,
-        a,
-        st.pos,
-        st.reported,
-        left,
-    )
+    let level = Level::BitwiseAnd;
+    operators(tokens, text, n, file, rep, full, level, a, st, left)
 }
 
 // parse_bit_shift: add_sub {(`<<` | `>>`) add_sub}
@@ -284,23 +210,12 @@ fn shift(
     st: State,
     left: usize,
 ) -> Answer
-    requires { ⌜ Asked (now tokens) (now text) n (now file) (now rep) (now full) st ⌝ }
-    ensures { λ r. ⌜ Reads node (now (tokens .entry)) (now (text .entry)) n left P.parse-bit-shift (now (file .entry)) (now (rep .entry)) (now (full .entry)) st (now (file .exit)) (now (rep .exit)) (now (full .exit)) r ⌝ }
+    requires { ⌜ Asked tokens text n file rep full st ⌝ }
+    ensures { λ r. ⌜ Parses P.parse-bit-shift tokens text n file rep full st left r ⌝ }
 {
     let a = add_sub(tokens, text, n, file, rep, full, st, left);
-    operators(
-        tokens,
-        text,
-        n,
-        file,
-        rep,
-        full,
-        Level::BitShift,
-        a,
-        st.pos,
-        st.reported,
-        left,
-    )
+    let level = Level::BitShift;
+    operators(tokens, text, n, file, rep, full, level, a, st, left)
 }
 
 // mul {(`+` | `-`) mul}
@@ -314,23 +229,11 @@ fn add_sub(
     st: State,
     left: usize,
 ) -> Answer
-    requires { ⌜ Asked (now tokens) (now text) n (now file) (now rep) (now full) st ⌝ }
-    ensures { λ r. ⌜ Reads node (now (tokens .entry)) (now (text .entry)) n left P.parse-add-sub (now (file .entry)) (now (rep .entry)) (now (full .entry)) st (now (file .exit)) (now (rep .exit)) (now (full .exit)) r ⌝ }
+    requires { ⌜ Asked tokens text n file rep full st ⌝ }
+    ensures { λ r. ⌜ Parses P.parse-add-sub tokens text n file rep full st left r ⌝ }
 {
     let a = mul(tokens, text, n, file, rep, full, st, left);
-    operators(
-        tokens,
-        text,
-        n,
-        file,
-        rep,
-        full,
-        Level::AddSub,
-        a,
-        st.pos,
-        st.reported,
-        left,
-    )
+    operators(tokens, text, n, file, rep, full, Level::AddSub, a, st, left)
 }
 
 // cast {`*` cast}
@@ -344,23 +247,11 @@ fn mul(
     st: State,
     left: usize,
 ) -> Answer
-    requires { ⌜ Asked (now tokens) (now text) n (now file) (now rep) (now full) st ⌝ }
-    ensures { λ r. ⌜ Reads node (now (tokens .entry)) (now (text .entry)) n left P.parse-mul (now (file .entry)) (now (rep .entry)) (now (full .entry)) st (now (file .exit)) (now (rep .exit)) (now (full .exit)) r ⌝ }
+    requires { ⌜ Asked tokens text n file rep full st ⌝ }
+    ensures { λ r. ⌜ Parses P.parse-mul tokens text n file rep full st left r ⌝ }
 {
     let a = cast(tokens, text, n, file, rep, full, st, left);
-    operators(
-        tokens,
-        text,
-        n,
-        file,
-        rep,
-        full,
-        Level::Mul,
-        a,
-        st.pos,
-        st.reported,
-        left,
-    )
+    operators(tokens, text, n, file, rep, full, Level::Mul, a, st, left)
 }
 
 // The operands of a level.
@@ -375,8 +266,8 @@ fn cascade(
     st: State,
     left: usize,
 ) -> Answer
-    requires { ⌜ Asked (now tokens) (now text) n (now file) (now rep) (now full) st ⌝ }
-    ensures { λ r. ⌜ Reads node (now (tokens .entry)) (now (text .entry)) n left (P.cascade (level-of level)) (now (file .entry)) (now (rep .entry)) (now (full .entry)) st (now (file .exit)) (now (rep .exit)) (now (full .exit)) r ⌝ }
+    requires { ⌜ Asked tokens text n file rep full st ⌝ }
+    ensures { λ r. ⌜ Parses (P.cascade (level-of level)) tokens text n file rep full st left r ⌝ }
 {
     match level {
         Level::BitwiseOr => bit_xor(tokens, text, n, file, rep, full, st, left),
@@ -398,12 +289,11 @@ fn operators(
     full: &mut [usize],
     level: Level,
     first: Answer,
-    i: usize,
-    j: usize,
+    from: State,
     left: usize,
 ) -> Answer
-    requires { ⌜ GoesOn (now tokens) (now text) n (now file) (now rep) (now full) first i j ⌝ }
-    ensures { λ r. ⌜ Goes node node (now (tokens .entry)) (now (text .entry)) n left (operators-on (level-of level)) i j (now (file .entry)) (now (rep .entry)) (now (full .entry)) first (now (file .exit)) (now (rep .exit)) (now (full .exit)) r ⌝ }
+    requires { ⌜ GoesOn tokens text n file rep full first from ⌝ }
+    ensures { λ r. ⌜ ParsesOn (operators-on (level-of level)) tokens text n file rep full first from left r ⌝ }
 {
     let mut a = first;
     loop {
@@ -412,37 +302,16 @@ fn operators(
             return a;
         };
         let s = a.state;
-        let at = s.at;
-        let t = head(tokens, text, n, at);
+        let t = head(tokens, text, n, s.at);
         let op = operator(level, t.kind);
         if op == 0 {
             return a;
         }
-        let b = cascade(
-            tokens,
-            text,
-            n,
-            file,
-            rep,
-            full,
-            level,
-            State { at: t.next, ..s },
-            left,
-        );
-        let c = abandon(rep, b, i, j, s.reported);
-        a = finish(
-            file,
-            text,
-            c,
-            Record {
-                tag: tag::ARITHMETIC_BIN_OP,
-                line: t.line,
-                column: t.column,
-                numbers: Numbers::Byte(op - 1),
-                start: 0,
-                len: 0,
-            },
-        );
+        let on = State { at: t.next, ..s };
+        let b = cascade(tokens, text, n, file, rep, full, level, on, left);
+        let c = abandon(rep, b, from, s);
+        let numbers = Numbers::Byte(op - 1);
+        a = finish(file, text, c, t, tag::ARITHMETIC_BIN_OP, numbers);
     }
 }
 
@@ -457,8 +326,8 @@ fn cast(
     st: State,
     left: usize,
 ) -> Answer
-    requires { ⌜ Asked (now tokens) (now text) n (now file) (now rep) (now full) st ⌝ }
-    ensures { λ r. ⌜ Reads node (now (tokens .entry)) (now (text .entry)) n left P.parse-cast (now (file .entry)) (now (rep .entry)) (now (full .entry)) st (now (file .exit)) (now (rep .exit)) (now (full .exit)) r ⌝ }
+    requires { ⌜ Asked tokens text n file rep full st ⌝ }
+    ensures { λ r. ⌜ Parses P.parse-cast tokens text n file rep full st left r ⌝ }
 {
     let mut a = operand(tokens, text, n, file, rep, full, st, left);
     loop {
@@ -467,35 +336,14 @@ fn cast(
             return a;
         };
         let s = a.state;
-        let at = s.at;
-        let t = head(tokens, text, n, at);
+        let t = head(tokens, text, n, s.at);
         if t.kind != kind::KW_AS {
             return a;
         }
-        let b = ty(
-            tokens,
-            text,
-            n,
-            file,
-            rep,
-            full,
-            State { at: t.next, ..s },
-            left,
-        );
-        let c = abandon(rep, b, st.pos, st.reported, s.reported);
-        a = finish(
-            file,
-            text,
-            c,
-            Record {
-                tag: tag::CAST,
-                line: t.line,
-                column: t.column,
-                numbers: Numbers::None,
-                start: 0,
-                len: 0,
-            },
-        );
+        let on = State { at: t.next, ..s };
+        let b = ty(tokens, text, n, file, rep, full, on, left);
+        let c = abandon(rep, b, st, s);
+        a = finish(file, text, c, t, tag::CAST, Numbers::None);
     }
 }
 
@@ -510,11 +358,10 @@ fn operand(
     st: State,
     left: usize,
 ) -> Answer
-    requires { ⌜ Asked (now tokens) (now text) n (now file) (now rep) (now full) st ⌝ }
-    ensures { λ r. ⌜ Reads node (now (tokens .entry)) (now (text .entry)) n left P.parse-unary (now (file .entry)) (now (rep .entry)) (now (full .entry)) st (now (file .exit)) (now (rep .exit)) (now (full .exit)) r ⌝ }
+    requires { ⌜ Asked tokens text n file rep full st ⌝ }
+    ensures { λ r. ⌜ Parses P.parse-unary tokens text n file rep full st left r ⌝ }
 {
-    let at = st.at;
-    let t = head(tokens, text, n, at);
+    let t = head(tokens, text, n, st.at);
     let u = head(tokens, text, n, t.next);
     if (left == 0) | !name_alone(t.kind, u.kind) {
         return unary(tokens, text, n, file, rep, full, st, left);
@@ -533,41 +380,25 @@ fn unary(
     st: State,
     left: usize,
 ) -> Answer
-    requires { ⌜ Asked (now tokens) (now text) n (now file) (now rep) (now full) st ⌝ }
-    ensures { λ r. ⌜ Reads node (now (tokens .entry)) (now (text .entry)) n left P.parse-unary (now (file .entry)) (now (rep .entry)) (now (full .entry)) st (now (file .exit)) (now (rep .exit)) (now (full .exit)) r ⌝ }
+    requires { ⌜ Asked tokens text n file rep full st ⌝ }
+    ensures { λ r. ⌜ Parses P.parse-unary tokens text n file rep full st left r ⌝ }
 {
     if left == 0 {
         return refuse(n, st, refusal::NESTING);
     }
-    let at = st.at;
-    let t = head(tokens, text, n, at);
+    let t = head(tokens, text, n, st.at);
     let tag = prefix(t.kind);
     if tag == 0 {
         return call(tokens, text, n, file, rep, full, st, left - 1);
     }
-    let a = unary(
-        tokens,
-        text,
-        n,
-        file,
-        rep,
-        full,
-        State { at: t.next, ..st },
-        left - 1,
-    );
-    finish(
-        file,
-        text,
-        a,
-        Record {
-            tag: tag,
-            line: a.line,
-            column: a.column,
-            numbers: Numbers::None,
-            start: 0,
-            len: 0,
-        },
-    )
+    let on = State { at: t.next, ..st };
+    let a = unary(tokens, text, n, file, rep, full, on, left - 1);
+    let place = Front {
+        line: a.line,
+        column: a.column,
+        ..t
+    };
+    finish(file, text, a, place, tag, Numbers::None)
 }
 
 // sizeof [arguments]; what the arguments report is dropped.
@@ -581,8 +412,8 @@ fn call(
     st: State,
     left: usize,
 ) -> Answer
-    requires { ⌜ Asked (now tokens) (now text) n (now file) (now rep) (now full) st ⌝ }
-    ensures { λ r. ⌜ Reads node (now (tokens .entry)) (now (text .entry)) n left P.parse-call (now (file .entry)) (now (rep .entry)) (now (full .entry)) st (now (file .exit)) (now (rep .exit)) (now (full .exit)) r ⌝ }
+    requires { ⌜ Asked tokens text n file rep full st ⌝ }
+    ensures { λ r. ⌜ Parses P.parse-call tokens text n file rep full st left r ⌝ }
 {
     let a = sizeof(tokens, text, n, file, rep, full, st, left);
     let how = a.how;
@@ -590,26 +421,18 @@ fn call(
         return a;
     };
     let s = a.state;
-    let at = s.at;
-    let t = head(tokens, text, n, at);
+    let t = head(tokens, text, n, s.at);
     if t.kind != kind::L_PAREN {
         return a;
     }
     let b = list(tokens, text, n, file, rep, full, Listed::Arguments, s, left);
     let c = silence(b, s.reported);
-    finish(
-        file,
-        text,
-        c,
-        Record {
-            tag: tag::CALL,
-            line: a.line,
-            column: a.column,
-            numbers: Numbers::Two(b.line),
-            start: 0,
-            len: 0,
-        },
-    )
+    let place = Front {
+        line: a.line,
+        column: a.column,
+        ..t
+    };
+    finish(file, text, c, place, tag::CALL, Numbers::Two(b.line))
 }
 
 // `sizeof` `(` type `)` | field_access_or_index
@@ -623,53 +446,23 @@ fn sizeof(
     st: State,
     left: usize,
 ) -> Answer
-    requires { ⌜ Asked (now tokens) (now text) n (now file) (now rep) (now full) st ⌝ }
-    ensures { λ r. ⌜ Reads node (now (tokens .entry)) (now (text .entry)) n left P.parse-sizeof (now (file .entry)) (now (rep .entry)) (now (full .entry)) st (now (file .exit)) (now (rep .exit)) (now (full .exit)) r ⌝ }
+    requires { ⌜ Asked tokens text n file rep full st ⌝ }
+    ensures { λ r. ⌜ Parses P.parse-sizeof tokens text n file rep full st left r ⌝ }
 {
-    let at = st.at;
-    let t = head(tokens, text, n, at);
+    let t = head(tokens, text, n, st.at);
     if t.kind != kind::KW_SIZEOF {
         return access(tokens, text, n, file, rep, full, st, left);
     }
-    let a = expect(
-        tokens,
-        text,
-        n,
-        rep,
-        full,
-        State { at: t.next, ..st },
-        kind::L_PAREN,
-    );
+    let on = State { at: t.next, ..st };
+    let a = expect(tokens, text, n, rep, full, on, kind::L_PAREN);
     let how = a.how;
     let How::Done = how else {
         return a;
     };
     let s = a.state;
     let b = ty(tokens, text, n, file, rep, full, s, left);
-    let c = and_expect(
-        tokens,
-        text,
-        n,
-        rep,
-        full,
-        b,
-        kind::R_PAREN,
-        st.pos,
-        st.reported,
-    );
-    finish(
-        file,
-        text,
-        c,
-        Record {
-            tag: tag::SIZEOF,
-            line: t.line,
-            column: t.column,
-            numbers: Numbers::None,
-            start: 0,
-            len: 0,
-        },
-    )
+    let c = and_expect(tokens, text, n, rep, full, b, kind::R_PAREN, st);
+    finish(file, text, c, t, tag::SIZEOF, Numbers::None)
 }
 
 // parse_field_access_or_index: atom {`.` name | `.*` | `[` expression `]`}
@@ -683,8 +476,8 @@ fn access(
     st: State,
     left: usize,
 ) -> Answer
-    requires { ⌜ Asked (now tokens) (now text) n (now file) (now rep) (now full) st ⌝ }
-    ensures { λ r. ⌜ Reads node (now (tokens .entry)) (now (text .entry)) n left P.parse-field-access-or-index (now (file .entry)) (now (rep .entry)) (now (full .entry)) st (now (file .exit)) (now (rep .exit)) (now (full .exit)) r ⌝ }
+    requires { ⌜ Asked tokens text n file rep full st ⌝ }
+    ensures { λ r. ⌜ Parses P.parse-field-access-or-index tokens text n file rep full st left r ⌝ }
 {
     let mut a = atom(tokens, text, n, file, rep, full, st, left);
     loop {
@@ -693,8 +486,7 @@ fn access(
             return a;
         };
         let s = a.state;
-        let at = s.at;
-        let t = head(tokens, text, n, at);
+        let t = head(tokens, text, n, s.at);
         if t.kind == kind::DOT {
             let u = head(tokens, text, n, t.next);
             let on = State { at: u.next, ..s };
@@ -702,13 +494,8 @@ fn access(
                 return refuse(n, s, refusal::END_AFTER_WORD);
             }
             if u.kind != kind::IDENTIFIER {
-                let b = note(
-                    n,
-                    rep,
-                    full,
-                    on,
-                    entry(parse_error::IDENTIFIER, u.line, u.column, 0, 0),
-                );
+                let error = entry(parse_error::IDENTIFIER, u.line, u.column, 0, 0);
+                let b = note(n, rep, full, on, error);
                 let h = b.how;
                 let e = b.state;
                 return Answer {
@@ -724,19 +511,7 @@ fn access(
                 line: a.line,
                 column: a.column,
             };
-            a = finish(
-                file,
-                text,
-                c,
-                Record {
-                    tag: tag::FIELD_ACCESS,
-                    line: t.line,
-                    column: t.column,
-                    numbers: Numbers::None,
-                    start: u.start,
-                    len: u.len,
-                },
-            );
+            a = finish_text(file, text, c, t, tag::FIELD_ACCESS, Numbers::None, u);
             continue;
         }
         let on = State { at: t.next, ..s };
@@ -747,50 +522,16 @@ fn access(
                 line: a.line,
                 column: a.column,
             };
-            a = finish(
-                file,
-                text,
-                c,
-                Record {
-                    tag: tag::POINTER_DEREFERENCE,
-                    line: t.line,
-                    column: t.column,
-                    numbers: Numbers::None,
-                    start: 0,
-                    len: 0,
-                },
-            );
+            a = finish(file, text, c, t, tag::POINTER_DEREFERENCE, Numbers::None);
             continue;
         }
         if t.kind != kind::L_BRACKET {
             return a;
         }
         let b = expression(tokens, text, n, file, rep, full, on, left);
-        let c = abandon(rep, b, st.pos, st.reported, s.reported);
-        let d = and_expect(
-            tokens,
-            text,
-            n,
-            rep,
-            full,
-            c,
-            kind::R_BRACKET,
-            st.pos,
-            st.reported,
-        );
-        a = finish(
-            file,
-            text,
-            d,
-            Record {
-                tag: tag::INDEX,
-                line: t.line,
-                column: t.column,
-                numbers: Numbers::None,
-                start: 0,
-                len: 0,
-            },
-        );
+        let c = abandon(rep, b, st, s);
+        let d = and_expect(tokens, text, n, rep, full, c, kind::R_BRACKET, st);
+        a = finish(file, text, d, t, tag::INDEX, Numbers::None);
     }
 }
 
@@ -805,24 +546,15 @@ fn atom(
     st: State,
     left: usize,
 ) -> Answer
-    requires { ⌜ Asked (now tokens) (now text) n (now file) (now rep) (now full) st ⌝ }
-    ensures { λ r. ⌜ Reads node (now (tokens .entry)) (now (text .entry)) n left P.parse-atom (now (file .entry)) (now (rep .entry)) (now (full .entry)) st (now (file .exit)) (now (rep .exit)) (now (full .exit)) r ⌝ }
+    requires { ⌜ Asked tokens text n file rep full st ⌝ }
+    ensures { λ r. ⌜ Parses P.parse-atom tokens text n file rep full st left r ⌝ }
 {
-    let at = st.at;
-    let t = head(tokens, text, n, at);
+    let t = head(tokens, text, n, st.at);
     if t.kind != kind::L_PAREN {
         return literal(tokens, text, n, file, rep, full, st);
     }
-    let a = expression(
-        tokens,
-        text,
-        n,
-        file,
-        rep,
-        full,
-        State { at: t.next, ..st },
-        left,
-    );
+    let on = State { at: t.next, ..st };
+    let a = expression(tokens, text, n, file, rep, full, on, left);
     close(tokens, text, n, rep, full, a)
 }
 
@@ -838,8 +570,8 @@ fn bare_name(
     tag: u8,
     at: usize,
 ) -> Answer
-    requires { ⌜ NameRoom (now tokens) (now text) n (now file) a at ⌝ }
-    ensures { λ r. ⌜ BareNamed (now (tokens .entry)) (now (text .entry)) n (now (file .entry)) a tag at (now (file .exit)) r ⌝ }
+    requires { ⌜ NameRoom tokens text n file a at ⌝ }
+    ensures { λ r. ⌜ BareNamed tokens text n file a tag at r ⌝ }
 {
     let how = a.how;
     let How::Done = how else {
@@ -878,14 +610,13 @@ pub fn ty(
     st: State,
     left: usize,
 ) -> Answer
-    requires { ⌜ Asked (now tokens) (now text) n (now file) (now rep) (now full) st ⌝ }
-    ensures { λ r. ⌜ Reads node (now (tokens .entry)) (now (text .entry)) n left P.parse-type (now (file .entry)) (now (rep .entry)) (now (full .entry)) st (now (file .exit)) (now (rep .exit)) (now (full .exit)) r ⌝ }
+    requires { ⌜ Asked tokens text n file rep full st ⌝ }
+    ensures { λ r. ⌜ Parses P.parse-type tokens text n file rep full st left r ⌝ }
 {
     if left == 0 {
         return refuse(n, st, refusal::NESTING);
     }
-    let at = st.at;
-    let t = head(tokens, text, n, at);
+    let t = head(tokens, text, n, st.at);
     let on = State { at: t.next, ..st };
     if t.kind == kind::IDENTIFIER {
         let a = Answer {
@@ -894,93 +625,27 @@ pub fn ty(
             line: t.line,
             column: t.column,
         };
-        return finish(
-            file,
-            text,
-            a,
-            Record {
-                tag: tag::NAME,
-                line: t.line,
-                column: t.column,
-                numbers: Numbers::None,
-                start: t.start,
-                len: t.len,
-            },
-        );
+        return finish_text(file, text, a, t, tag::NAME, Numbers::None, t);
     }
     if t.kind == kind::STAR {
         let a = ty(tokens, text, n, file, rep, full, on, left - 1);
-        return finish(
-            file,
-            text,
-            a,
-            Record {
-                tag: tag::POINTER,
-                line: t.line,
-                column: t.column,
-                numbers: Numbers::None,
-                start: 0,
-                len: 0,
-            },
-        );
+        return finish(file, text, a, t, tag::POINTER, Numbers::None);
     }
     if t.kind == kind::L_BRACKET {
-        return array(
-            tokens,
-            text,
-            n,
-            file,
-            rep,
-            full,
-            t.line,
-            t.column,
-            on,
-            left - 1,
-        );
+        return array(tokens, text, n, file, rep, full, t, on, left - 1);
     }
     if t.kind == kind::KW_STRUCT {
-        let a = list(
-            tokens,
-            text,
-            n,
-            file,
-            rep,
-            full,
-            Listed::StructFields,
-            on,
-            left - 1,
-        );
+        let what = Listed::StructFields;
+        let a = list(tokens, text, n, file, rep, full, what, on, left - 1);
         let b = silence(a, st.reported);
-        return finish(
-            file,
-            text,
-            b,
-            Record {
-                tag: tag::STRUCT,
-                line: t.line,
-                column: t.column,
-                numbers: Numbers::Two(a.line),
-                start: 0,
-                len: 0,
-            },
-        );
+        return finish(file, text, b, t, tag::STRUCT, Numbers::Two(a.line));
     }
     if t.kind == kind::END {
-        return raise(
-            n,
-            rep,
-            full,
-            on,
-            entry(parse_error::TYPE_AT_END, 0, 0, 0, 0),
-        );
+        let error = entry(parse_error::TYPE_AT_END, 0, 0, 0, 0);
+        return raise(n, rep, full, on, error);
     }
-    raise(
-        n,
-        rep,
-        full,
-        on,
-        entry(parse_error::TYPE, t.line, t.column, 0, t.kind),
-    )
+    let error = entry(parse_error::TYPE, t.line, t.column, 0, t.kind);
+    raise(n, rep, full, on, error)
 }
 
 // Behind `[`: the size, `]`, the type.
@@ -991,35 +656,29 @@ fn array(
     file: &mut [u8],
     rep: &mut [usize],
     full: &mut [usize],
-    line: usize,
-    column: usize,
+    lead: Front,
     st: State,
     left: usize,
 ) -> Answer
-    requires { ⌜ Asked (now tokens) (now text) n (now file) (now rep) (now full) st × ((line < 65536) × (column < 65536)) ⌝ }
-    ensures { λ r. ⌜ Reads node (now (tokens .entry)) (now (text .entry)) n left (P.parse-array-type (place-at line column)) (now (file .entry)) (now (rep .entry)) (now (full .entry)) st (now (file .exit)) (now (rep .exit)) (now (full .exit)) r ⌝ }
+    requires { ⌜ Asked tokens text n file rep full st × ((lead .line < 65536) × (lead .column < 65536)) ⌝ }
+    ensures { λ r. ⌜ Parses (P.parse-array-type (place-of lead)) tokens text n file rep full st left r ⌝ }
 {
-    let at = st.at;
-    let t = head(tokens, text, n, at);
+    let t = head(tokens, text, n, st.at);
     let on = State { at: t.next, ..st };
     if t.kind != kind::INTEGER {
-        return raise(
-            n,
-            rep,
-            full,
-            on,
-            entry(parse_error::ARRAY_SIZE, line, column, 0, 0),
-        );
+        let error = entry(parse_error::ARRAY_SIZE, lead.line, lead.column, 0, 0);
+        return raise(n, rep, full, on, error);
     }
     let size = array_size(text, t.start, t.len, t.base);
     if !size.fits {
-        return raise(
-            n,
-            rep,
-            full,
-            on,
-            entry(parse_error::ARRAY_SIZE_POSITIVE, line, column, 0, 0),
+        let error = entry(
+            parse_error::ARRAY_SIZE_POSITIVE,
+            lead.line,
+            lead.column,
+            0,
+            0,
         );
+        return raise(n, rep, full, on, error);
     }
     let a = expect(tokens, text, n, rep, full, on, kind::R_BRACKET);
     let how = a.how;
@@ -1028,19 +687,8 @@ fn array(
     };
     let s = a.state;
     let b = ty(tokens, text, n, file, rep, full, s, left);
-    finish(
-        file,
-        text,
-        b,
-        Record {
-            tag: tag::ARRAY,
-            line: line,
-            column: column,
-            numbers: Numbers::Eight(size.number),
-            start: 0,
-            len: 0,
-        },
-    )
+    let numbers = Numbers::Eight(size.number);
+    finish(file, text, b, lead, tag::ARRAY, numbers)
 }
 
 // A typed identifier, behind its name, whose construct reports from `j` on.
@@ -1055,18 +703,19 @@ fn typed(
     st: State,
     left: usize,
 ) -> Answer
-    requires { ⌜ Asked (now tokens) (now text) n (now file) (now rep) (now full) st × (j ≤ st .reported) ⌝ }
-    ensures { λ r. ⌜ TypedOn (now (tokens .entry)) (now (text .entry)) n left j (now (file .entry)) (now (rep .entry)) (now (full .entry)) st (now (file .exit)) (now (rep .exit)) (now (full .exit)) r ⌝ }
+    requires { ⌜ Asked tokens text n file rep full st × (j ≤ st .reported) ⌝ }
+    ensures { λ r. ⌜ TypedOn tokens text n file rep full j st left r ⌝ }
 {
     let a = expect(tokens, text, n, rep, full, st, kind::COLON);
-    let b = abandon(rep, a, st.pos, j, st.reported);
+    let from = State { reported: j, ..st };
+    let b = abandon(rep, a, from, st);
     let how = b.how;
     let How::Done = how else {
         return b;
     };
     let s = b.state;
     let c = ty(tokens, text, n, file, rep, full, s, left);
-    abandon(rep, c, st.pos, j, s.reported)
+    abandon(rep, c, from, s)
 }
 
 // parse_typed_identifier: name `:` type. The name is that of the first token.
@@ -1080,31 +729,20 @@ pub fn typed_name(
     st: State,
     left: usize,
 ) -> Answer
-    requires { ⌜ Asked (now tokens) (now text) n (now file) (now rep) (now full) st ⌝ }
-    ensures { λ r. ⌜ ReadsTyped (now (tokens .entry)) (now (text .entry)) n left (now (file .entry)) (now (rep .entry)) (now (full .entry)) st (now (file .exit)) (now (rep .exit)) (now (full .exit)) r ⌝ }
+    requires { ⌜ Asked tokens text n file rep full st ⌝ }
+    ensures { λ r. ⌜ ReadsTyped tokens text n file rep full st left r ⌝ }
 {
-    let at = st.at;
-    let t = head(tokens, text, n, at);
+    let t = head(tokens, text, n, st.at);
     let on = State { at: t.next, ..st };
     if t.kind == kind::IDENTIFIER {
         return typed(tokens, text, n, file, rep, full, st.reported, on, left);
     }
     if t.kind == kind::END {
-        return raise(
-            n,
-            rep,
-            full,
-            on,
-            entry(parse_error::END_OF_FILE, 0, 0, 0, 0),
-        );
+        let error = entry(parse_error::END_OF_FILE, 0, 0, 0, 0);
+        return raise(n, rep, full, on, error);
     }
-    let b = note(
-        n,
-        rep,
-        full,
-        on,
-        entry(parse_error::IDENTIFIER, t.line, t.column, 0, 0),
-    );
+    let error = entry(parse_error::IDENTIFIER, t.line, t.column, 0, 0);
+    let b = note(n, rep, full, on, error);
     let how = b.how;
     let How::Done = how else {
         return b;
@@ -1126,8 +764,8 @@ fn named(
     st: State,
     left: usize,
 ) -> Answer
-    requires { ⌜ Asked (now tokens) (now text) n (now file) (now rep) (now full) st ⌝ }
-    ensures { λ r. ⌜ Reads node (now (tokens .entry)) (now (text .entry)) n left P.parse-named-type (now (file .entry)) (now (rep .entry)) (now (full .entry)) st (now (file .exit)) (now (rep .exit)) (now (full .exit)) r ⌝ }
+    requires { ⌜ Asked tokens text n file rep full st ⌝ }
+    ensures { λ r. ⌜ Parses P.parse-named-type tokens text n file rep full st left r ⌝ }
 {
     let a = typed_name(tokens, text, n, file, rep, full, st, left);
     bare_name(tokens, text, n, file, a, tag::NAMED_TYPE, st.at)
@@ -1144,42 +782,24 @@ fn field(
     st: State,
     left: usize,
 ) -> Answer
-    requires { ⌜ Asked (now tokens) (now text) n (now file) (now rep) (now full) st ⌝ }
-    ensures { λ r. ⌜ Reads node (now (tokens .entry)) (now (text .entry)) n left P.parse-compound-struct-field (now (file .entry)) (now (rep .entry)) (now (full .entry)) st (now (file .exit)) (now (rep .exit)) (now (full .exit)) r ⌝ }
+    requires { ⌜ Asked tokens text n file rep full st ⌝ }
+    ensures { λ r. ⌜ Parses P.parse-compound-struct-field tokens text n file rep full st left r ⌝ }
 {
-    let at = st.at;
-    let t = head(tokens, text, n, at);
+    let t = head(tokens, text, n, st.at);
     let a = expect_identifier(tokens, text, n, rep, full, st);
-    let b = and_expect(
-        tokens,
-        text,
-        n,
-        rep,
-        full,
-        a,
-        kind::EQUALS,
-        st.pos,
-        st.reported,
-    );
+    let b = and_expect(tokens, text, n, rep, full, a, kind::EQUALS, st);
     let how = b.how;
     let How::Done = how else {
         return b;
     };
     let s = b.state;
     let c = expression(tokens, text, n, file, rep, full, s, left);
-    finish(
-        file,
-        text,
-        c,
-        Record {
-            tag: tag::COMPOUND_FIELD,
-            line: b.line,
-            column: b.column,
-            numbers: Numbers::None,
-            start: t.start,
-            len: t.len,
-        },
-    )
+    let place = Front {
+        line: b.line,
+        column: b.column,
+        ..t
+    };
+    finish_text(file, text, c, place, tag::COMPOUND_FIELD, Numbers::None, t)
 }
 
 // An item of a list.
@@ -1194,8 +814,8 @@ fn item(
     st: State,
     left: usize,
 ) -> Answer
-    requires { ⌜ Asked (now tokens) (now text) n (now file) (now rep) (now full) st ⌝ }
-    ensures { λ r. ⌜ Reads node (now (tokens .entry)) (now (text .entry)) n left (P.item (listed-of what)) (now (file .entry)) (now (rep .entry)) (now (full .entry)) st (now (file .exit)) (now (rep .exit)) (now (full .exit)) r ⌝ }
+    requires { ⌜ Asked tokens text n file rep full st ⌝ }
+    ensures { λ r. ⌜ Parses (P.item (listed-of what)) tokens text n file rep full st left r ⌝ }
 {
     match what {
         Listed::Parameters => named(tokens, text, n, file, rep, full, st, left),
@@ -1218,8 +838,8 @@ pub fn list(
     st: State,
     left: usize,
 ) -> Answer
-    requires { ⌜ Asked (now tokens) (now text) n (now file) (now rep) (now full) st ⌝ }
-    ensures { λ r. ⌜ ReadsList (now (tokens .entry)) (now (text .entry)) n left (listed-of what) (now (file .entry)) (now (rep .entry)) (now (full .entry)) st (now (file .exit)) (now (rep .exit)) (now (full .exit)) r ⌝ }
+    requires { ⌜ Asked tokens text n file rep full st ⌝ }
+    ensures { λ r. ⌜ ReadsList (listed-of what) tokens text n file rep full st left r ⌝ }
 {
     let open = opener(what);
     let a = expect(tokens, text, n, rep, full, st, open);
@@ -1231,10 +851,10 @@ pub fn list(
     let mut count = 0;
     let mut s = a.state;
     loop {
-        let at = s.at;
-        let t = head(tokens, text, n, at);
+        let t = head(tokens, text, n, s.at);
         if t.kind == kind::END {
-            let b = note(n, rep, full, s, entry(parse_error::LIST_AT_END, 0, 0, 0, 0));
+            let error = entry(parse_error::LIST_AT_END, 0, 0, 0, 0);
+            let b = note(n, rep, full, s, error);
             let h = b.how;
             let e = b.state;
             return Answer {

@@ -29,13 +29,13 @@ use Rattle.fallible.specs.Answers.{refused-at, raised, Raised, silent}
 use Rattle.fallible.proofs.Grown.{errs-length}
 use Rattle.steps.specs.declared.Front.{Front}
 use Rattle.steps.specs.Tokens.{rest, spend, budget, Held, Seen}
-use Rattle.steps.specs.Shows.{st-of, Asked, Moved, View, Good, ShowsOf, Shows, node, items, Reads, Expects, Finished}
+use Rattle.steps.specs.Shows.{st-of, Asked, Moved, View, Good, ShowsOf, Shows, node, items, Reads, Expects, Finished, texted, untexted}
 use Rattle.steps.proofs.Tokens.{rest-cons, rest-nil, alive, yes, no, fore, adv}
 use Rattle.steps.proofs.Moves.{fore-moved, asked-seen, asked-moved}
 use Rattle.steps.proofs.Answers.{Stopped, say, good-of, stops, follows, errs-take, wrapped, finishes, raise-same}
 use Rattle.steps.proofs.Constructs.{deep, down, seam}
 use Rattle.leaves.specs.declared.Size.{Size}
-use Rattle.leaves.specs.Leaves.{there, texted, untexted, unfit, Valued}
+use Rattle.leaves.specs.Leaves.{there, unfit, Valued}
 use Rattle.leaves.proofs.Errors.{raise-reads}
 use Rattle.leaves.proofs.Atoms.{leaf-reads}
 use Rattle.grammar.specs.Post.{place-at, as-answer, ReadsList}
@@ -131,7 +131,7 @@ module _ {w x : List ℕ} {n d : ℕ} {o r f : List ℕ} {s : State} (q : Asked 
   type-deep z e = deep Type' (q .asks) z e
 
   module _ {t : Front} (nz : d ≡ 0 → ⊥) (v : Seen w x n (s .at) t) where
-    pub type-name : {o′ : List ℕ} {y : Answer} → t .kind ≡ 1 → Finished x o (there s t) (texted t 16 None) o′ y → Reads node w x n d P.parse-type o r f s o′ r f y
+    pub type-name : {o′ : List ℕ} {y : Answer} → t .kind ≡ 1 → Finished x o (there s t) (texted t 16 None t) o′ y → Reads node w x n d P.parse-type o r f s o′ r f y
     unfolding go run P.type-rule
     type-name z u = down Type' nz (leaf-reads (q .asks) v [] (head (rest w x n (s .at)) .text) u (omega arith) (rw (v .place, v .text)) (d - 1) (λ rd. rw (run, yes v z)))
 

@@ -22,12 +22,16 @@ use Rattle.fallible.specs.declared.How.{How}
 use Rattle.fallible.specs.declared.How.the-variants.{Done, Fatal, Refused}
 use Rattle.fallible.specs.declared.Answer.{Answer}
 use Rattle.fallible.specs.Lists.{errs}
+use Rattle.steps.specs.declared.Front.{Front}
 use Rattle.steps.specs.Tokens.{rest, budget, Held}
 use Rattle.leaves.specs.Leaves.{level-at}
 use Rattle.steps.specs.Shows.{st-of, Moved, Shows, done-of, typed, items}
 
 abbrev pub place-at : ℕ → ℕ → Place
 place-at line column = record { line = line; column = column }
+
+abbrev pub place-of : Front → Place
+place-of t = place-at (t .line) (t .column)
 
 -- ---- the loops, behind an operand
 

@@ -19,11 +19,11 @@ use Rattle.fallible.specs.Answers.{raised, Raised}
 use Rattle.node.specs.declared.Numbers.the-variants.{None}
 use Rattle.steps.specs.declared.Front.{Front}
 use Rattle.steps.specs.Tokens.{rest, Seen}
-use Rattle.steps.specs.Shows.{st-of, Asked, Reads, node, Finished}
+use Rattle.steps.specs.Shows.{st-of, Asked, Reads, node, Finished, texted}
 use Rattle.steps.proofs.Tokens.{yes, no, fore, adv}
 use Rattle.steps.proofs.Moves.{stays}
 use Rattle.steps.proofs.Answers.{say, raise-same}
-use Rattle.leaves.specs.Leaves.{there, texted, Counted}
+use Rattle.leaves.specs.Leaves.{there, Counted}
 use Rattle.leaves.proofs.Errors.{raise-reads}
 use Rattle.leaves.proofs.Atoms.{leaf-reads, Ended, Alive}
 use Rattle.grammar.specs.Post.{as-answer, LoopOn}
@@ -62,7 +62,7 @@ module _ {w x : List ℕ} {n d : ℕ} {o r f : List ℕ} {s : State} {t : Front}
         item-variable h B = record { moved = B .moved; on = B .on; is = λ rd. say (rw (run, either u 4 19 mf, any u 15 20 21 ma, no u m18, yes u h)) (B .is rd) }
 
         module _ (m5 : t .kind ≡ 5 → ⊥) (q : Asked w x n o r f s) where
-          pub item-assembly : {o1 : List ℕ} {y : Answer} → t .kind ≡ 54 → Finished x o (there s t) (texted t 0x54 None) o1 y → Reads node w x n d P.parse-top-level-item o r f s o1 r f y
+          pub item-assembly : {o1 : List ℕ} {y : Answer} → t .kind ≡ 54 → Finished x o (there s t) (texted t 0x54 None t) o1 y → Reads node w x n d P.parse-top-level-item o r f s o1 r f y
           unfolding go run P.parse-top-level-item
           item-assembly h F = leaf-reads (q .asks) u [] (head (rest w x n (s .at)) .text) F (omega (arith, h)) (rw (u .place, u .text)) d (λ rd. rw (run, either u 4 19 mf, any u 15 20 21 ma, no u m18, no u m5, yes u h))
 

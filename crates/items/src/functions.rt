@@ -10,18 +10,20 @@ use fallible::abandon;
 use fallible::exchange;
 use leaves::Listed;
 use node::Numbers;
-use node::Record;
 use statement::body;
+use steps::Front;
 use steps::and_expect;
 use steps::expect;
 use steps::expect_identifier;
 use steps::finish;
+use steps::finish_text;
 use steps::head;
 ghost use Prim.Native.Nat.{ℕ};
 ghost use Rattle.definition.specs.Parser as P;
-ghost use Rattle.steps.specs.Shows.{Asked, Reads, node};
-ghost use Rattle.grammar.specs.Post.{place-at};
-ghost use Rattle.items.specs.Items.{flag, ReadsType, ReadsSignature, FunctionAsked, FunctionOn};
+ghost use Rattle.grammar.specs.Post.{place-of};
+ghost use Rattle.items.specs.Items.{flag};
+ghost use Rattle.steps.specs.Contract.{Asked, Parses};
+ghost use Rattle.items.specs.Contract.{ReadsType, ReadsSignature, FunctionAsked, FunctionOn};
 
 // [`->` type]; void where none is given, at the function's place.
 fn return_type(
@@ -31,47 +33,25 @@ fn return_type(
     file: &mut [u8],
     rep: &mut [usize],
     full: &mut [usize],
-    line: usize,
-    column: usize,
+    lead: Front,
     st: State,
     left: usize,
 ) -> Answer
-    requires { ⌜ Asked (now tokens) (now text) n (now file) (now rep) (now full) st ⌝ }
-    ensures { λ r. ⌜ ReadsType (now (tokens .entry)) (now (text .entry)) n left (place-at line column) (now (file .entry)) (now (rep .entry)) (now (full .entry)) st (now (file .exit)) (now (rep .exit)) (now (full .exit)) r ⌝ }
+    requires { ⌜ Asked tokens text n file rep full st ⌝ }
+    ensures { λ r. ⌜ ReadsType (place-of lead) tokens text n file rep full st left r ⌝ }
 {
-    let at = st.at;
-    let t = head(tokens, text, n, at);
+    let t = head(tokens, text, n, st.at);
     if t.kind == kind::R_ARROW {
-        return ty(
-            tokens,
-            text,
-            n,
-            file,
-            rep,
-            full,
-            State { at: t.next, ..st },
-            left,
-        );
+        let on = State { at: t.next, ..st };
+        return ty(tokens, text, n, file, rep, full, on, left);
     }
     let a = Answer {
         how: How::Done,
         state: st,
-        line,
-        column,
+        line: lead.line,
+        column: lead.column,
     };
-    finish(
-        file,
-        text,
-        a,
-        Record {
-            tag: tag::VOID,
-            line: line,
-            column: column,
-            numbers: Numbers::None,
-            start: 0,
-            len: 0,
-        },
-    )
+    finish(file, text, a, lead, tag::VOID, Numbers::None)
 }
 
 // parameters return_type. The answer's `line` is the count of parameters; the errors of the type are reported before theirs, and a fatal type drops theirs.
@@ -82,32 +62,22 @@ fn signature(
     file: &mut [u8],
     rep: &mut [usize],
     full: &mut [usize],
-    line: usize,
-    column: usize,
+    lead: Front,
     st: State,
     left: usize,
 ) -> Answer
-    requires { ⌜ Asked (now tokens) (now text) n (now file) (now rep) (now full) st ⌝ }
-    ensures { λ r. ⌜ ReadsSignature (now (tokens .entry)) (now (text .entry)) n left (place-at line column) (now (file .entry)) (now (rep .entry)) (now (full .entry)) st (now (file .exit)) (now (rep .exit)) (now (full .exit)) r ⌝ }
+    requires { ⌜ Asked tokens text n file rep full st ⌝ }
+    ensures { λ r. ⌜ ReadsSignature (place-of lead) tokens text n file rep full st left r ⌝ }
 {
-    let a = list(
-        tokens,
-        text,
-        n,
-        file,
-        rep,
-        full,
-        Listed::Parameters,
-        st,
-        left,
-    );
+    let what = Listed::Parameters;
+    let a = list(tokens, text, n, file, rep, full, what, st, left);
     let how = a.how;
     let How::Done = how else {
         return a;
     };
     let s = a.state;
-    let b = return_type(tokens, text, n, file, rep, full, line, column, s, left);
-    let c = abandon(rep, b, st.pos, st.reported, s.reported);
+    let b = return_type(tokens, text, n, file, rep, full, lead, s, left);
+    let c = abandon(rep, b, st, s);
     let h = c.how;
     let How::Done = h else {
         return c;
@@ -122,7 +92,7 @@ fn signature(
     }
 }
 
-// Behind the signature of an external function that began at `i` and `j`: `;`. The name is that of the token at `name`.
+// Behind the signature of an external function that began in the state `from`: `;`. The name is that of the token at `name`.
 fn external_function(
     tokens: &[u32],
     text: &[u8],
@@ -130,31 +100,18 @@ fn external_function(
     file: &mut [u8],
     rep: &mut [usize],
     full: &mut [usize],
-    line: usize,
-    column: usize,
+    lead: Front,
     name: usize,
     a: Answer,
-    i: usize,
-    j: usize,
+    from: State,
 ) -> Answer
-    requires { ⌜ FunctionAsked (now tokens) (now text) n (now file) (now rep) (now full) name a i j ⌝ }
-    ensures { λ r. ⌜ ((d : ℕ) → FunctionOn (now (tokens .entry)) (now (text .entry)) n d 1 (place-at line column) name i j (now (file .entry)) (now (rep .entry)) (now (full .entry)) a (now (file .exit)) (now (rep .exit)) (now (full .exit)) r) ⌝ }
+    requires { ⌜ FunctionAsked tokens text n file rep full name a from ⌝ }
+    ensures { λ r. ⌜ ((d : ℕ) → FunctionOn 1 (place-of lead) tokens text n file rep full name a from d r) ⌝ }
 {
     let t = head(tokens, text, n, name);
-    let b = and_expect(tokens, text, n, rep, full, a, kind::SEMICOLON, i, j);
-    finish(
-        file,
-        text,
-        b,
-        Record {
-            tag: tag::FUNCTION_DEFINITION,
-            line: line,
-            column: column,
-            numbers: Numbers::ByteTwo(1, a.line),
-            start: t.start,
-            len: t.len,
-        },
-    )
+    let b = and_expect(tokens, text, n, rep, full, a, kind::SEMICOLON, from);
+    let numbers = Numbers::ByteTwo(1, a.line);
+    finish_text(file, text, b, lead, tag::FUNCTION_DEFINITION, numbers, t)
 }
 
 // A function's body and its record. The body's errors are reported before those of the signature.
@@ -165,16 +122,14 @@ fn whole_function(
     file: &mut [u8],
     rep: &mut [usize],
     full: &mut [usize],
-    line: usize,
-    column: usize,
+    lead: Front,
     name: usize,
     a: Answer,
-    i: usize,
-    j: usize,
+    from: State,
     left: usize,
 ) -> Answer
-    requires { ⌜ FunctionAsked (now tokens) (now text) n (now file) (now rep) (now full) name a i j ⌝ }
-    ensures { λ r. ⌜ FunctionOn (now (tokens .entry)) (now (text .entry)) n left 0 (place-at line column) name i j (now (file .entry)) (now (rep .entry)) (now (full .entry)) a (now (file .exit)) (now (rep .exit)) (now (full .exit)) r ⌝ }
+    requires { ⌜ FunctionAsked tokens text n file rep full name a from ⌝ }
+    ensures { λ r. ⌜ FunctionOn 0 (place-of lead) tokens text n file rep full name a from left r ⌝ }
 {
     let how = a.how;
     let How::Done = how else {
@@ -187,34 +142,11 @@ fn whole_function(
         return b;
     };
     let e = b.state;
-    exchange(rep, j, s.reported, e.reported);
-    let c = finish(
-        file,
-        text,
-        b,
-        Record {
-            tag: tag::BLOCK,
-            line: line,
-            column: column,
-            numbers: Numbers::Two(b.line),
-            start: 0,
-            len: 0,
-        },
-    );
+    exchange(rep, from.reported, s.reported, e.reported);
+    let c = finish(file, text, b, lead, tag::BLOCK, Numbers::Two(b.line));
     let t = head(tokens, text, n, name);
-    finish(
-        file,
-        text,
-        c,
-        Record {
-            tag: tag::FUNCTION_DEFINITION,
-            line: line,
-            column: column,
-            numbers: Numbers::ByteTwo(0, a.line),
-            start: t.start,
-            len: t.len,
-        },
-    )
+    let numbers = Numbers::ByteTwo(0, a.line);
+    finish_text(file, text, c, lead, tag::FUNCTION_DEFINITION, numbers, t)
 }
 
 // `fn` name signature (`;` | body), the first where the function is external.
@@ -226,13 +158,12 @@ fn function(
     rep: &mut [usize],
     full: &mut [usize],
     external: bool,
-    line: usize,
-    column: usize,
+    lead: Front,
     st: State,
     left: usize,
 ) -> Answer
-    requires { ⌜ Asked (now tokens) (now text) n (now file) (now rep) (now full) st ⌝ }
-    ensures { λ r. ⌜ Reads node (now (tokens .entry)) (now (text .entry)) n left (P.function (place-at line column) (flag external)) (now (file .entry)) (now (rep .entry)) (now (full .entry)) st (now (file .exit)) (now (rep .exit)) (now (full .exit)) r ⌝ }
+    requires { ⌜ Asked tokens text n file rep full st ⌝ }
+    ensures { λ r. ⌜ Parses (P.function (place-of lead) (flag external)) tokens text n file rep full st left r ⌝ }
 {
     let a = expect(tokens, text, n, rep, full, st, kind::KW_FN);
     let how = a.how;
@@ -246,38 +177,11 @@ fn function(
         return b;
     };
     let e = b.state;
-    let c = signature(tokens, text, n, file, rep, full, line, column, e, left);
+    let c = signature(tokens, text, n, file, rep, full, lead, e, left);
     if external {
-        return external_function(
-            tokens,
-            text,
-            n,
-            file,
-            rep,
-            full,
-            line,
-            column,
-            s.at,
-            c,
-            st.pos,
-            st.reported,
-        );
+        return external_function(tokens, text, n, file, rep, full, lead, s.at, c, st);
     }
-    whole_function(
-        tokens,
-        text,
-        n,
-        file,
-        rep,
-        full,
-        line,
-        column,
-        s.at,
-        c,
-        st.pos,
-        st.reported,
-        left,
-    )
+    whole_function(tokens, text, n, file, rep, full, lead, s.at, c, st, left)
 }
 
 // parse_function_definition: [`extern`] function
@@ -291,37 +195,13 @@ pub fn function_definition(
     st: State,
     left: usize,
 ) -> Answer
-    requires { ⌜ Asked (now tokens) (now text) n (now file) (now rep) (now full) st ⌝ }
-    ensures { λ r. ⌜ Reads node (now (tokens .entry)) (now (text .entry)) n left P.parse-function-definition (now (file .entry)) (now (rep .entry)) (now (full .entry)) st (now (file .exit)) (now (rep .exit)) (now (full .exit)) r ⌝ }
+    requires { ⌜ Asked tokens text n file rep full st ⌝ }
+    ensures { λ r. ⌜ Parses P.parse-function-definition tokens text n file rep full st left r ⌝ }
 {
-    let at = st.at;
-    let t = head(tokens, text, n, at);
+    let t = head(tokens, text, n, st.at);
     if t.kind == kind::KW_EXTERN {
-        return function(
-            tokens,
-            text,
-            n,
-            file,
-            rep,
-            full,
-            true,
-            t.line,
-            t.column,
-            State { at: t.next, ..st },
-            left,
-        );
+        let on = State { at: t.next, ..st };
+        return function(tokens, text, n, file, rep, full, true, t, on, left);
     }
-    function(
-        tokens,
-        text,
-        n,
-        file,
-        rep,
-        full,
-        false,
-        t.line,
-        t.column,
-        st,
-        left,
-    )
+    function(tokens, text, n, file, rep, full, false, t, st, left)
 }

@@ -13,15 +13,14 @@ use fallible::raise;
 use functions::function_definition;
 use leaves::counted;
 use node::Numbers;
-use node::Record;
 use others::top_level_var_declaration;
 use others::type_alias;
 use others::use_path;
-use steps::finish;
+use steps::finish_text;
 use steps::head;
 ghost use Rattle.definition.specs.Parser as P;
-ghost use Rattle.steps.specs.Shows.{Asked, Reads, node};
-ghost use Rattle.items.specs.Items.{ReadsModule};
+ghost use Rattle.steps.specs.Contract.{Asked, Parses};
+ghost use Rattle.items.specs.Contract.{ReadsModule};
 
 // parse_top_level_item
 fn top_level_item(
@@ -34,11 +33,10 @@ fn top_level_item(
     st: State,
     left: usize,
 ) -> Answer
-    requires { ⌜ Asked (now tokens) (now text) n (now file) (now rep) (now full) st ⌝ }
-    ensures { λ r. ⌜ Reads node (now (tokens .entry)) (now (text .entry)) n left P.parse-top-level-item (now (file .entry)) (now (rep .entry)) (now (full .entry)) st (now (file .exit)) (now (rep .exit)) (now (full .exit)) r ⌝ }
+    requires { ⌜ Asked tokens text n file rep full st ⌝ }
+    ensures { λ r. ⌜ Parses P.parse-top-level-item tokens text n file rep full st left r ⌝ }
 {
-    let at = st.at;
-    let t = head(tokens, text, n, at);
+    let t = head(tokens, text, n, st.at);
     if (t.kind == kind::KW_FN) | (t.kind == kind::KW_EXTERN) {
         return function_definition(tokens, text, n, file, rep, full, st, left);
     }
@@ -59,27 +57,10 @@ fn top_level_item(
             line: t.line,
             column: t.column,
         };
-        return finish(
-            file,
-            text,
-            a,
-            Record {
-                tag: tag::TOP_LEVEL_ASSEMBLY,
-                line: t.line,
-                column: t.column,
-                numbers: Numbers::None,
-                start: t.start,
-                len: t.len,
-            },
-        );
+        return finish_text(file, text, a, t, tag::TOP_LEVEL_ASSEMBLY, Numbers::None, t);
     }
-    raise(
-        n,
-        rep,
-        full,
-        on,
-        entry(parse_error::TOP_LEVEL, t.line, t.column, 0, t.kind),
-    )
+    let error = entry(parse_error::TOP_LEVEL, t.line, t.column, 0, t.kind);
+    raise(n, rep, full, on, error)
 }
 
 // ---- the module
@@ -94,8 +75,8 @@ pub fn module(
     full: &mut [usize],
     left: usize,
 ) -> Answer
-    requires { ⌜ Asked (now tokens) (now text) n (now file) (now rep) (now full) (record { at = 0; pos = 0; reported = 0; full = 0 }) ⌝ }
-    ensures { λ r. ⌜ ReadsModule (now (tokens .entry)) (now (text .entry)) n left (now (file .exit)) (now (rep .exit)) (now (full .exit)) r ⌝ }
+    requires { ⌜ Asked tokens text n file rep full (record { at = 0; pos = 0; reported = 0; full = 0 }) ⌝ }
+    ensures { λ r. ⌜ ReadsModule tokens text n file rep full left r ⌝ }
 {
     let mut count = 0;
     let mut st = State {
@@ -105,8 +86,7 @@ pub fn module(
         full: 0,
     };
     loop {
-        let at = st.at;
-        let t = head(tokens, text, n, at);
+        let t = head(tokens, text, n, st.at);
         if t.kind == kind::END {
             return Answer {
                 how: How::Done,

@@ -11,19 +11,19 @@ use fallible::entry;
 use fallible::raise;
 use fallible::refuse;
 use node::Numbers;
-use node::Record;
 use statement::declarations::declaration;
+use steps::Front;
 use steps::and_expect;
 use steps::expect;
-use steps::finish;
+use steps::finish_text;
 use steps::head;
 ghost use Prim.Native.Nat.{ℕ, _+_, _-_, _≤_};
 ghost use Rattle.definition.specs.Parser as P;
 ghost use Rattle.steps.specs.Tokens.{Held};
-ghost use Rattle.steps.specs.Shows.{Asked, Reads, node};
-ghost use Rattle.grammar.specs.Post.{place-at};
+ghost use Rattle.grammar.specs.Post.{place-of};
 ghost use Rattle.items.specs.Items.{Modified};
 ghost use Rattle.items.specs.Rules.{alias-rule, path-rule};
+ghost use Rattle.steps.specs.Contract.{Asked, Parses};
 
 // The words before `type`, 1 for `distinct` and 2 for `internal`, and the place behind them.
 struct AliasWords {
@@ -67,28 +67,21 @@ fn alias(
     rep: &mut [usize],
     full: &mut [usize],
     words: u8,
-    line: usize,
-    column: usize,
+    lead: Front,
     st: State,
     left: usize,
 ) -> Answer
-    requires { ⌜ Asked (now tokens) (now text) n (now file) (now rep) (now full) st ⌝ }
-    ensures { λ r. ⌜ Reads node (now (tokens .entry)) (now (text .entry)) n left (alias-rule words (place-at line column)) (now (file .entry)) (now (rep .entry)) (now (full .entry)) st (now (file .exit)) (now (rep .exit)) (now (full .exit)) r ⌝ }
+    requires { ⌜ Asked tokens text n file rep full st ⌝ }
+    ensures { λ r. ⌜ Parses (alias-rule words (place-of lead)) tokens text n file rep full st left r ⌝ }
 {
-    let at = st.at;
-    let t = head(tokens, text, n, at);
+    let t = head(tokens, text, n, st.at);
     let on = State { at: t.next, ..st };
     if t.kind == kind::END {
         return refuse(n, st, refusal::END_AFTER_WORD);
     }
     if t.kind != kind::IDENTIFIER {
-        return raise(
-            n,
-            rep,
-            full,
-            on,
-            entry(parse_error::NAME_AFTER_TYPE, t.line, t.column, 0, 0),
-        );
+        let error = entry(parse_error::NAME_AFTER_TYPE, t.line, t.column, 0, 0);
+        return raise(n, rep, full, on, error);
     }
     let a = expect(tokens, text, n, rep, full, on, kind::EQUALS);
     let how = a.how;
@@ -97,30 +90,9 @@ fn alias(
     };
     let s = a.state;
     let b = ty(tokens, text, n, file, rep, full, s, left);
-    let c = and_expect(
-        tokens,
-        text,
-        n,
-        rep,
-        full,
-        b,
-        kind::SEMICOLON,
-        st.pos,
-        st.reported,
-    );
-    finish(
-        file,
-        text,
-        c,
-        Record {
-            tag: tag::TYPE_ALIAS,
-            line: line,
-            column: column,
-            numbers: Numbers::Byte(words),
-            start: t.start,
-            len: t.len,
-        },
-    )
+    let c = and_expect(tokens, text, n, rep, full, b, kind::SEMICOLON, st);
+    let numbers = Numbers::Byte(words);
+    finish_text(file, text, c, lead, tag::TYPE_ALIAS, numbers, t)
 }
 
 // parse_type_alias: modifiers `type` alias
@@ -134,39 +106,20 @@ pub fn type_alias(
     st: State,
     left: usize,
 ) -> Answer
-    requires { ⌜ Asked (now tokens) (now text) n (now file) (now rep) (now full) st ⌝ }
-    ensures { λ r. ⌜ Reads node (now (tokens .entry)) (now (text .entry)) n left P.parse-type-alias (now (file .entry)) (now (rep .entry)) (now (full .entry)) st (now (file .exit)) (now (rep .exit)) (now (full .exit)) r ⌝ }
+    requires { ⌜ Asked tokens text n file rep full st ⌝ }
+    ensures { λ r. ⌜ Parses P.parse-type-alias tokens text n file rep full st left r ⌝ }
 {
     let at = st.at;
     let t = head(tokens, text, n, at);
     let m = modifiers(tokens, text, n, at);
-    let a = expect(
-        tokens,
-        text,
-        n,
-        rep,
-        full,
-        State { at: m.next, ..st },
-        kind::KW_TYPE,
-    );
+    let on = State { at: m.next, ..st };
+    let a = expect(tokens, text, n, rep, full, on, kind::KW_TYPE);
     let how = a.how;
     let How::Done = how else {
         return a;
     };
     let s = a.state;
-    alias(
-        tokens,
-        text,
-        n,
-        file,
-        rep,
-        full,
-        m.words,
-        t.line,
-        t.column,
-        s,
-        left,
-    )
+    alias(tokens, text, n, file, rep, full, m.words, t, s, left)
 }
 
 // Behind `use`: string `;`. The end instead of the string is refused.
@@ -177,42 +130,23 @@ fn path(
     file: &mut [u8],
     rep: &mut [usize],
     full: &mut [usize],
-    line: usize,
-    column: usize,
+    lead: Front,
     st: State,
 ) -> Answer
-    requires { ⌜ Asked (now tokens) (now text) n (now file) (now rep) (now full) st ⌝ }
-    ensures { λ r. ⌜ ((d : ℕ) → Reads node (now (tokens .entry)) (now (text .entry)) n d (path-rule (place-at line column)) (now (file .entry)) (now (rep .entry)) (now (full .entry)) st (now (file .exit)) (now (rep .exit)) (now (full .exit)) r) ⌝ }
+    requires { ⌜ Asked tokens text n file rep full st ⌝ }
+    ensures { λ r. ⌜ ((d : ℕ) → Parses (path-rule (place-of lead)) tokens text n file rep full st d r) ⌝ }
 {
-    let at = st.at;
-    let t = head(tokens, text, n, at);
+    let t = head(tokens, text, n, st.at);
     let on = State { at: t.next, ..st };
     if t.kind == kind::END {
         return refuse(n, st, refusal::END_AFTER_WORD);
     }
     if t.kind != kind::STRING {
-        return raise(
-            n,
-            rep,
-            full,
-            on,
-            entry(parse_error::PATH_AFTER_USE, t.line, t.column, 0, 0),
-        );
+        let error = entry(parse_error::PATH_AFTER_USE, t.line, t.column, 0, 0);
+        return raise(n, rep, full, on, error);
     }
     let a = expect(tokens, text, n, rep, full, on, kind::SEMICOLON);
-    finish(
-        file,
-        text,
-        a,
-        Record {
-            tag: tag::USE,
-            line: line,
-            column: column,
-            numbers: Numbers::None,
-            start: t.start,
-            len: t.len,
-        },
-    )
+    finish_text(file, text, a, lead, tag::USE, Numbers::None, t)
 }
 
 // parse_use: `use` path
@@ -225,18 +159,17 @@ pub fn use_path(
     full: &mut [usize],
     st: State,
 ) -> Answer
-    requires { ⌜ Asked (now tokens) (now text) n (now file) (now rep) (now full) st ⌝ }
-    ensures { λ r. ⌜ ((d : ℕ) → Reads node (now (tokens .entry)) (now (text .entry)) n d P.parse-use (now (file .entry)) (now (rep .entry)) (now (full .entry)) st (now (file .exit)) (now (rep .exit)) (now (full .exit)) r) ⌝ }
+    requires { ⌜ Asked tokens text n file rep full st ⌝ }
+    ensures { λ r. ⌜ ((d : ℕ) → Parses P.parse-use tokens text n file rep full st d r) ⌝ }
 {
-    let at = st.at;
-    let t = head(tokens, text, n, at);
+    let t = head(tokens, text, n, st.at);
     let a = expect(tokens, text, n, rep, full, st, kind::KW_USE);
     let how = a.how;
     let How::Done = how else {
         return a;
     };
     let s = a.state;
-    path(tokens, text, n, file, rep, full, t.line, t.column, s)
+    path(tokens, text, n, file, rep, full, t, s)
 }
 
 // parse_top_level_var_declaration: `var` declaration
@@ -250,28 +183,16 @@ pub fn top_level_var_declaration(
     st: State,
     left: usize,
 ) -> Answer
-    requires { ⌜ Asked (now tokens) (now text) n (now file) (now rep) (now full) st ⌝ }
-    ensures { λ r. ⌜ Reads node (now (tokens .entry)) (now (text .entry)) n left P.parse-top-level-var-declaration (now (file .entry)) (now (rep .entry)) (now (full .entry)) st (now (file .exit)) (now (rep .exit)) (now (full .exit)) r ⌝ }
+    requires { ⌜ Asked tokens text n file rep full st ⌝ }
+    ensures { λ r. ⌜ Parses P.parse-top-level-var-declaration tokens text n file rep full st left r ⌝ }
 {
-    let at = st.at;
-    let t = head(tokens, text, n, at);
+    let t = head(tokens, text, n, st.at);
     let a = expect(tokens, text, n, rep, full, st, kind::KW_VAR);
     let how = a.how;
     let How::Done = how else {
         return a;
     };
     let s = a.state;
-    declaration(
-        tokens,
-        text,
-        n,
-        file,
-        rep,
-        full,
-        tag::TOP_LEVEL_VARIABLE,
-        t.line,
-        t.column,
-        s,
-        left,
-    )
+    let tag = tag::TOP_LEVEL_VARIABLE;
+    declaration(tokens, text, n, file, rep, full, tag, t, s, left)
 }

@@ -26,11 +26,11 @@ use Rattle.fallible.specs.Answers.{raised, Raised}
 use Rattle.fallible.proofs.How.{the-type}
 use Rattle.steps.specs.declared.Front.{Front}
 use Rattle.steps.specs.Tokens.{rest, budget, Seen}
-use Rattle.steps.specs.Shows.{st-of, Asks, node, token, Reads, Expects, Finished}
+use Rattle.steps.specs.Shows.{st-of, Asks, node, token, Reads, Expects, Finished, texted, untexted}
 use Rattle.steps.proofs.Tokens.{yes, no, fore, adv}
 use Rattle.steps.proofs.Moves.{stays}
 use Rattle.steps.proofs.Answers.{say, finishes, raise-same}
-use Rattle.leaves.specs.Leaves.{there, texted, untexted, identifier, Literal, ClosingOf, ClosedOf, Closed}
+use Rattle.leaves.specs.Leaves.{there, identifier, Literal, ClosingOf, ClosedOf, Closed}
 use Rattle.leaves.proofs.Errors.{raise-reads}
 
 -- ---- a token alone is a node: the record z is written behind it
@@ -55,7 +55,7 @@ abbrev pub Atom : List ℕ → List ℕ → ℕ → List ℕ → List ℕ → Li
 Atom w x n o r f s o′ r′ f′ y = (d : ℕ) → Reads node w x n d P.parse-atom o r f s o′ r′ f′ y
 
 module _ {w x : List ℕ} {n : ℕ} {o r f : List ℕ} {s : State} {t : Front} (q : Literal w x n o r f s) (v : Seen w x n (s .at) t) where
-  pub integer-reads : {o′ : List ℕ} {y : Answer} → t .kind ≡ 2 → Finished x o (there s t) (texted t 33 (Byte (t .base % 256))) o′ y → Atom w x n o r f s o′ r f y
+  pub integer-reads : {o′ : List ℕ} {y : Answer} → t .kind ≡ 2 → Finished x o (there s t) (texted t 33 (Byte (t .base % 256)) t) o′ y → Atom w x n o r f s o′ r f y
   unfolding go run P.parse-atom
   integer-reads z u d = let b : t .base % 256 ≡ t .base = omega (arith, v .bases) in leaf-reads (q .asked .asks) v (byte (head (rest w x n (s .at)) .base) ∷ []) (head (rest w x n (s .at)) .text) u (omega arith) (rw (v .place, v .text, v .base, b)) d (λ rd. rw (run, yes v z))
 
@@ -65,7 +65,7 @@ module _ {w x : List ℕ} {n : ℕ} {o r f : List ℕ} {s : State} {t : Front} (
     name-reads z u d = leaf-reads (q .asked .asks) v [] (head (rest w x n (s .at)) .text) u (omega arith) (rw (v .place, v .text)) d (λ rd. rw (run, no v m2, yes v z))
 
     module _ (m1 : t .kind ≡ 1 → ⊥) where
-      pub string-reads : {o′ : List ℕ} {y : Answer} → t .kind ≡ 3 → Finished x o (there s t) (texted t 35 None) o′ y → Atom w x n o r f s o′ r f y
+      pub string-reads : {o′ : List ℕ} {y : Answer} → t .kind ≡ 3 → Finished x o (there s t) (texted t 35 None t) o′ y → Atom w x n o r f s o′ r f y
       unfolding go run P.parse-atom
       string-reads z u d = leaf-reads (q .asked .asks) v [] (head (rest w x n (s .at)) .text) u (omega arith) (rw (v .place, v .text)) d (λ rd. rw (run, no v m2, no v m1, yes v z))
 

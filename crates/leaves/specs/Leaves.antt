@@ -12,7 +12,6 @@ use Rattle.definition.specs.Act.{Items, Node, Act, done, loop, ListOf, Consumed
 use Rattle.definition.specs.Kind as K
 use Rattle.definition.specs.Parser as P
 use Rattle.definition.specs.Go.{go}
-use Rattle.node.specs.declared.Numbers.{Numbers}
 use Rattle.node.specs.declared.Numbers.the-variants.{None}
 use Rattle.node.specs.declared.Record.{Record}
 use Rattle.fallible.specs.declared.State.{State}
@@ -22,7 +21,7 @@ use Rattle.fallible.specs.declared.Answer.{Answer}
 use Rattle.fallible.specs.Lists.{errs}
 use Rattle.steps.specs.declared.Front.{Front}
 use Rattle.steps.specs.Tokens.{rest}
-use Rattle.steps.specs.Shows.{st-of, Asked, Moved, Expects}
+use Rattle.steps.specs.Shows.{st-of, Asked, Moved, Expects, texted}
 use Rattle.leaves.specs.declared.Listed.{Listed}
 use Rattle.leaves.specs.declared.Listed.the-variants as I
 use Rattle.leaves.specs.declared.Level.{Level}
@@ -115,16 +114,9 @@ pub record Prefix (k r : ℕ) : Type 0 where
 abbrev pub there : State → Front → Answer
 there s t = record { how = Done; state = record { at = t .next; pos = s .pos; reported = s .reported; full = s .full }; line = t .line; column = t .column }
 
--- a record of the token, with its text or with none
-abbrev pub texted : Front → ℕ → Numbers → Record
-texted t tag ns = record { tag = tag; line = t .line; column = t .column; numbers = ns; start = t .start; len = t .len }
-
-abbrev pub untexted : Front → ℕ → Numbers → Record
-untexted t tag ns = record { tag = tag; line = t .line; column = t .column; numbers = ns; start = 0; len = 0 }
-
--- that of a name
+-- the record of a name
 abbrev pub identifier : Front → Record
-identifier t = texted t 0x20 None
+identifier t = texted t 0x20 None t
 
 -- a name, and the next token neither a suffix nor the arguments of a call
 abbrev pub is-name-alone : ℕ → ℕ → Bool

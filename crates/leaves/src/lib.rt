@@ -20,8 +20,10 @@ ghost use lib.ListN.{length, take, drop};
 ghost use Rattle.definition.specs.Parser as P;
 ghost use Rattle.definition.specs.Token.{digit};
 ghost use Rattle.node.specs.Put.{Room};
-ghost use Rattle.steps.specs.Shows.{Asks, Reads, Finished, node};
-ghost use Rattle.leaves.specs.Leaves.{is-arithmetic, listed-of, Counted, Commas, Valued, level-of, level-at, Operator, Prefix, there, identifier, is-name-alone, Literal, Closed};
+ghost use Rattle.steps.specs.Shows.{texted};
+ghost use Rattle.leaves.specs.Leaves.{is-arithmetic, listed-of, Counted, Valued, level-of, level-at, Operator, Prefix, there, identifier, is-name-alone};
+ghost use Rattle.steps.specs.Contract.{Asks, Parses, Finishes};
+ghost use Rattle.leaves.specs.Contract.{Literal, Commas, Closed};
 
 // The lists of parse_bounded_list_of.
 pub enum Listed {
@@ -90,11 +92,10 @@ pub fn comma(
     st: State,
     close: u32,
 ) -> Answer
-    requires { ⌜ Asks (now tokens) (now text) n (now rep) (now full) st ⌝ }
-    ensures { λ r. ⌜ Commas (now (tokens .entry)) (now (text .entry)) n (now (rep .entry)) (now (full .entry)) st close (now (rep .exit)) (now (full .exit)) r ⌝ }
+    requires { ⌜ Asks tokens text n rep full st ⌝ }
+    ensures { λ r. ⌜ Commas close tokens text n rep full st r ⌝ }
 {
-    let at = st.at;
-    let t = head(tokens, text, n, at);
+    let t = head(tokens, text, n, st.at);
     let on = State { at: t.next, ..st };
     if t.kind == kind::COMMA {
         return Answer {
@@ -120,13 +121,8 @@ pub fn comma(
             column: 0,
         };
     }
-    note(
-        n,
-        rep,
-        full,
-        on,
-        entry(parse_error::IN_LIST, t.line, t.column, 0, t.kind),
-    )
+    let error = entry(parse_error::IN_LIST, t.line, t.column, 0, t.kind);
+    note(n, rep, full, on, error)
 }
 
 // The value of a digit.
@@ -282,10 +278,18 @@ pub fn prefix(k: u32) -> u8
 }
 
 // A leaf of the tree: the token's record, the state behind it.
-fn leaf(file: &mut [u8], text: &[u8], st: State, t: Front, v: Record) -> Answer
-    requires { ⌜ Room (now file) (now text) (st .pos) (16 + v .len) (v .start) (v .len) ⌝ }
-    ensures { λ r. ⌜ Finished (now (text .entry)) (now (file .entry)) (there st t) v (now (file .exit)) r ⌝ }
+fn leaf(file: &mut [u8], text: &[u8], st: State, t: Front, tag: u8, numbers: Numbers) -> Answer
+    requires { ⌜ Room (now file) (now text) (st .pos) (16 + t .len) (t .start) (t .len) ⌝ }
+    ensures { λ r. ⌜ Finishes (texted t tag numbers t) file text (there st t) r ⌝ }
 {
+    let v = Record {
+        tag,
+        line: t.line,
+        column: t.column,
+        numbers,
+        start: t.start,
+        len: t.len,
+    };
     let pos = write_record(file, text, st.pos, v);
     Answer {
         how: How::Done,
@@ -294,30 +298,17 @@ fn leaf(file: &mut [u8], text: &[u8], st: State, t: Front, v: Record) -> Answer
             pos,
             ..st
         },
-        line: v.line,
-        column: v.column,
+        line: t.line,
+        column: t.column,
     }
 }
 
 // A name.
 pub fn name(file: &mut [u8], text: &[u8], st: State, t: Front) -> Answer
     requires { ⌜ Room (now file) (now text) (st .pos) (16 + t .len) (t .start) (t .len) ⌝ }
-    ensures { λ r. ⌜ Finished (now (text .entry)) (now (file .entry)) (there st t) (identifier t) (now (file .exit)) r ⌝ }
+    ensures { λ r. ⌜ Finishes (identifier t) file text (there st t) r ⌝ }
 {
-    leaf(
-        file,
-        text,
-        st,
-        t,
-        Record {
-            tag: tag::IDENTIFIER,
-            line: t.line,
-            column: t.column,
-            numbers: Numbers::None,
-            start: t.start,
-            len: t.len,
-        },
-    )
+    leaf(file, text, st, t, tag::IDENTIFIER, Numbers::None)
 }
 
 // Whether a token of the kind `k` is a name, and the next one, of the kind `next`, neither a suffix nor the arguments of a call.
@@ -341,96 +332,38 @@ pub fn literal(
     full: &mut [usize],
     st: State,
 ) -> Answer
-    requires { ⌜ Literal (now tokens) (now text) n (now file) (now rep) (now full) st ⌝ }
-    ensures { λ r. ⌜ ((d : ℕ) → Reads node (now (tokens .entry)) (now (text .entry)) n d P.parse-atom (now (file .entry)) (now (rep .entry)) (now (full .entry)) st (now (file .exit)) (now (rep .exit)) (now (full .exit)) r) ⌝ }
+    requires { ⌜ Literal tokens text n file rep full st ⌝ }
+    ensures { λ r. ⌜ ((d : ℕ) → Parses P.parse-atom tokens text n file rep full st d r) ⌝ }
 {
-    let at = st.at;
-    let t = head(tokens, text, n, at);
+    let t = head(tokens, text, n, st.at);
     if t.kind == kind::INTEGER {
         let base = (t.base % 256) as u8;
-        return leaf(
-            file,
-            text,
-            st,
-            t,
-            Record {
-                tag: tag::INTEGER,
-                line: t.line,
-                column: t.column,
-                numbers: Numbers::Byte(base),
-                start: t.start,
-                len: t.len,
-            },
-        );
+        return leaf(file, text, st, t, tag::INTEGER, Numbers::Byte(base));
     }
     if t.kind == kind::IDENTIFIER {
         return name(file, text, st, t);
     }
     if t.kind == kind::STRING {
-        return leaf(
-            file,
-            text,
-            st,
-            t,
-            Record {
-                tag: tag::STRING,
-                line: t.line,
-                column: t.column,
-                numbers: Numbers::None,
-                start: t.start,
-                len: t.len,
-            },
-        );
+        return leaf(file, text, st, t, tag::STRING, Numbers::None);
     }
+    let bare = Front {
+        start: 0,
+        len: 0,
+        ..t
+    };
     if t.kind == kind::KW_TRUE {
-        return leaf(
-            file,
-            text,
-            st,
-            t,
-            Record {
-                tag: tag::BOOLEAN,
-                line: t.line,
-                column: t.column,
-                numbers: Numbers::Byte(1),
-                start: 0,
-                len: 0,
-            },
-        );
+        return leaf(file, text, st, bare, tag::BOOLEAN, Numbers::Byte(1));
     }
     if t.kind == kind::KW_FALSE {
-        return leaf(
-            file,
-            text,
-            st,
-            t,
-            Record {
-                tag: tag::BOOLEAN,
-                line: t.line,
-                column: t.column,
-                numbers: Numbers::Byte(0),
-                start: 0,
-                len: 0,
-            },
-        );
+        return leaf(file, text, st, bare, tag::BOOLEAN, Numbers::Byte(0));
     }
     let on = State { at: t.next, ..st };
     if t.kind == kind::END {
-        return raise(
-            n,
-            rep,
-            full,
-            on,
-            entry(parse_error::EXPRESSION_AT_END, 0, 0, 0, 0),
-        );
+        let error = entry(parse_error::EXPRESSION_AT_END, 0, 0, 0, 0);
+        return raise(n, rep, full, on, error);
     }
-    raise(
-        n,
-        rep,
-        full,
-        on,
-        entry(parse_error::EXPRESSION, t.line, t.column, 0, t.kind),
-    )
+    let error = entry(parse_error::EXPRESSION, t.line, t.column, 0, t.kind);
+    raise(n, rep, full, on, error)
 }
 
 // The closing parenthesis of a group: the errors of both stay, and the item of the first, also where it is fatal.
@@ -442,8 +375,8 @@ pub fn close(
     full: &mut [usize],
     a: Answer,
 ) -> Answer
-    requires { ⌜ Asks (now tokens) (now text) n (now rep) (now full) (a .state) ⌝ }
-    ensures { λ r. ⌜ Closed (now (tokens .entry)) (now (text .entry)) n (now (rep .entry)) (now (full .entry)) a (now (rep .exit)) (now (full .exit)) r ⌝ }
+    requires { ⌜ Asks tokens text n rep full (a .state) ⌝ }
+    ensures { λ r. ⌜ Closed tokens text n rep full a r ⌝ }
 {
     let how = a.how;
     if let How::Refused(_) = how {

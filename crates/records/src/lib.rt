@@ -73,14 +73,10 @@ pub fn push_token(
     ensures { λ r. ⌜ TokenPushed most (now (tokens .entry)) st (kind ∷ line ∷ column ∷ start ∷ size ∷ base ∷ 0 ∷ 0 ∷ []) (now (tokens .exit)) r ⌝ }
 {
     let k = st.tokens;
-    let cursor = st.cursor;
     if most <= k {
         return State {
-            cursor,
-            tokens: k,
-            errors: st.errors,
-            text: st.text,
             how: refusal::TOKENS,
+            ..st
         };
     }
     put_token(
@@ -93,13 +89,8 @@ pub fn push_token(
         size as u32,
         base,
     );
-    State {
-        cursor,
-        tokens: k + 1,
-        errors: st.errors,
-        text: st.text,
-        how: st.how,
-    }
+    let more = k + 1;
+    State { tokens: more, ..st }
 }
 
 // The same error is pushed `count` times; refused where they are more than 255 with those before.
@@ -114,15 +105,11 @@ pub fn push_errors(
     requires { ⌜ (1024 ≤ length (now errors)) × (st .errors ≤ 255) × (count ≤ 16384) ⌝ }
     ensures { λ r. ⌜ ErrorsPushed (now (errors .entry)) st (replicate count (Z.token-error number (spot line column))) (now (errors .exit)) r ⌝ }
 {
-    let cursor = st.cursor;
     let total = st.errors + count;
     if limit::TOKEN_ERRORS < total {
         return State {
-            cursor,
-            tokens: st.tokens,
-            errors: st.errors,
-            text: st.text,
             how: refusal::TOKEN_ERRORS,
+            ..st
         };
     }
     let mut i = st.errors;
@@ -131,11 +118,8 @@ pub fn push_errors(
         i += 1;
     }
     State {
-        cursor,
-        tokens: st.tokens,
         errors: total,
-        text: st.text,
-        how: st.how,
+        ..st
     }
 }
 

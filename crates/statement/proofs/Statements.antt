@@ -27,13 +27,13 @@ use Rattle.node.specs.Put.{Room}
 use Rattle.node.specs.declared.Numbers.the-variants.{None, Byte, Two}
 use Rattle.steps.specs.declared.Front.{Front}
 use Rattle.steps.specs.Tokens.{rest, budget, Seen}
-use Rattle.steps.specs.Shows.{st-of, Asked, Moved, ShowsOf, Shows, Reads, node, items, token, Expects, Expected, Finished}
+use Rattle.steps.specs.Shows.{st-of, Asked, Moved, ShowsOf, Shows, Reads, node, items, token, Expects, Expected, Finished, texted, untexted}
 use Rattle.steps.proofs.Tokens.{yes, no, fore, adv}
 use Rattle.steps.proofs.Moves.{making-moved, fore-moved, moved-trans, asks-moved, asked-seen, asked-moved}
 use Rattle.steps.proofs.Answers.{Stopped, say, good-of, stops, follows, abandons, wrapped, finishes, raise-shows, raise-same}
 use Rattle.steps.proofs.Constructs.{then-stops}
 use Rattle.steps.proofs.Following.{expects-behind}
-use Rattle.leaves.specs.Leaves.{there, texted, untexted}
+use Rattle.leaves.specs.Leaves.{there}
 use Rattle.leaves.proofs.Atoms.{leaf-reads}
 use Rattle.grammar.specs.Post.{place-at}
 use Rattle.grammar.proofs.Types.{past, through}
@@ -163,7 +163,7 @@ module _ {w x : List ℕ} {n d : ℕ} {o r f : List ℕ} {s : State} {t : Front}
       wraps-token (λ _. here w x n s) (λ _. []) [] (q .asked) u B F (omega (arith, q .kind, u .kind)) (λ i e. rw (u .place)) (past w x n (s .at))
       (λ rd. while-step d (st-of w x n f rd s) (q .kind) ∙ guarded-seam d (λ c b. done (ok (P.binary 0x47 [] (here w x n s) c b))) (wrapped node [] [] 0x47 (λ _. here w x n s) (λ _. []) []) (λ c b S. refl) (advance (λ _. plain) (st-of w x n f rd s)) ∙ ap (λ (S : St). go d (guarded-rule >>? wrapped node [] [] 0x47 (λ _. here w x n s) (λ _. []) []) S) (adv s u (λ _. plain) f rd))
 
-  pub assembly-reads : {o2 : List ℕ} {y : Answer} → Starts K.InlineAssemblyFragment w x n o r f s → Finished x o (there s t) (texted t 0x4A None) o2 y → Reads node w x n d P.statement-rule o r f s o2 r f y
+  pub assembly-reads : {o2 : List ℕ} {y : Answer} → Starts K.InlineAssemblyFragment w x n o r f s → Finished x o (there s t) (texted t 0x4A None t) o2 y → Reads node w x n d P.statement-rule o r f s o2 r f y
   assembly-reads q F = leaf-reads (q .asked .asks) u [] (head (rest w x n (s .at)) .text) F (omega (arith, q .kind, u .kind)) (rw (u .place, u .text)) d (λ rd. assembly-step d (st-of w x n f rd s) (q .kind))
 
   pub break-reads : {r1 f1 o2 : List ℕ} {a y : Answer} → Starts K.KwBreak w x n o r f s → Expects w x n (λ role. P.expect-as role 50) r f (fore s t) r1 f1 a → Finished x o a (untexted t 0x48 None) o2 y → Reads node w x n d P.statement-rule o r f s o2 r1 f1 y

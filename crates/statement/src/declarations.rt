@@ -13,19 +13,21 @@ use fallible::entry;
 use fallible::raise;
 use leaves::Listed;
 use node::Numbers;
-use node::Record;
 use node::write_bare;
+use steps::Front;
 use steps::and_expect;
 use steps::expect;
 use steps::finish;
+use steps::finish_text;
 use steps::head;
 ghost use Rattle.definition.specs.Parser as P;
 ghost use Rattle.node.specs.Put.{Room};
-ghost use Rattle.steps.specs.Shows.{Asked, Reads, GoesOn, node};
 ghost use Rattle.leaves.specs.Leaves.{listed-of};
-ghost use Rattle.grammar.specs.Post.{place-at, NameRoom};
+ghost use Rattle.grammar.specs.Post.{place-of};
 ghost use Rattle.statement.specs.Rules.{values-rule};
-ghost use Rattle.statement.specs.Post.{Starts, Bared, Named, ReadsDeclared, ValueOn};
+ghost use Rattle.steps.specs.Contract.{Asked, GoesOn, Parses};
+ghost use Rattle.grammar.specs.Contract.{NameRoom};
+ghost use Rattle.statement.specs.Contract.{Starts, Bared, ValueOn, ReadsDeclared, Named};
 
 // parse_compound: `#` (array values | struct values)
 pub fn compound(
@@ -38,8 +40,8 @@ pub fn compound(
     st: State,
     left: usize,
 ) -> Answer
-    requires { ⌜ Asked (now tokens) (now text) n (now file) (now rep) (now full) st ⌝ }
-    ensures { λ r. ⌜ Reads node (now (tokens .entry)) (now (text .entry)) n left P.parse-compound (now (file .entry)) (now (rep .entry)) (now (full .entry)) st (now (file .exit)) (now (rep .exit)) (now (full .exit)) r ⌝ }
+    requires { ⌜ Asked tokens text n file rep full st ⌝ }
+    ensures { λ r. ⌜ Parses P.parse-compound tokens text n file rep full st left r ⌝ }
 {
     let a = expect(tokens, text, n, rep, full, st, kind::HASH);
     let how = a.how;
@@ -47,56 +49,23 @@ pub fn compound(
         return a;
     };
     let s = a.state;
-    let at = s.at;
-    let t = head(tokens, text, n, at);
+    let t = head(tokens, text, n, s.at);
     if t.kind == kind::END {
-        return raise(
-            n,
-            rep,
-            full,
-            s,
-            entry(parse_error::COMPOUND_AT_END, 0, 0, 0, 0),
-        );
+        let error = entry(parse_error::COMPOUND_AT_END, 0, 0, 0, 0);
+        return raise(n, rep, full, s, error);
     }
     if t.kind == kind::L_BRACKET {
-        return values(
-            tokens,
-            text,
-            n,
-            file,
-            rep,
-            full,
-            Listed::ArrayValues,
-            tag::COMPOUND_ARRAY,
-            t.line,
-            t.column,
-            s,
-            left,
-        );
+        let what = Listed::ArrayValues;
+        let tag = tag::COMPOUND_ARRAY;
+        return values(tokens, text, n, file, rep, full, what, tag, t, s, left);
     }
     if t.kind == kind::L_BRACE {
-        return values(
-            tokens,
-            text,
-            n,
-            file,
-            rep,
-            full,
-            Listed::StructValues,
-            tag::COMPOUND_STRUCT,
-            t.line,
-            t.column,
-            s,
-            left,
-        );
+        let what = Listed::StructValues;
+        let tag = tag::COMPOUND_STRUCT;
+        return values(tokens, text, n, file, rep, full, what, tag, t, s, left);
     }
-    raise(
-        n,
-        rep,
-        full,
-        s,
-        entry(parse_error::COMPOUND, t.line, t.column, 0, t.kind),
-    )
+    let error = entry(parse_error::COMPOUND, t.line, t.column, 0, t.kind);
+    raise(n, rep, full, s, error)
 }
 
 // The values of a compound that opens with `[` or `{`.
@@ -109,34 +78,21 @@ fn values(
     full: &mut [usize],
     what: Listed,
     tag: u8,
-    line: usize,
-    column: usize,
+    lead: Front,
     st: State,
     left: usize,
 ) -> Answer
-    requires { ⌜ Starts (P.opener (listed-of what)) (now tokens) (now text) n (now file) (now rep) (now full) st ⌝ }
-    ensures { λ r. ⌜ Reads node (now (tokens .entry)) (now (text .entry)) n left (values-rule (listed-of what) tag (place-at line column)) (now (file .entry)) (now (rep .entry)) (now (full .entry)) st (now (file .exit)) (now (rep .exit)) (now (full .exit)) r ⌝ }
+    requires { ⌜ Starts (P.opener (listed-of what)) tokens text n file rep full st ⌝ }
+    ensures { λ r. ⌜ Parses (values-rule (listed-of what) tag (place-of lead)) tokens text n file rep full st left r ⌝ }
 {
     let a = list(tokens, text, n, file, rep, full, what, st, left);
-    finish(
-        file,
-        text,
-        a,
-        Record {
-            tag: tag,
-            line: line,
-            column: column,
-            numbers: Numbers::Two(a.line),
-            start: 0,
-            len: 0,
-        },
-    )
+    finish(file, text, a, lead, tag, Numbers::Two(a.line))
 }
 
 // A record with nothing but its tag behind an answer, if it is there.
 fn bare(file: &mut [u8], text: &[u8], a: Answer, tag: u8) -> Answer
     requires { ⌜ Room (now file) (now text) (a .state .pos) 16 0 0 ⌝ }
-    ensures { λ r. ⌜ Bared (now (file .entry)) a tag (now (file .exit)) r ⌝ }
+    ensures { λ r. ⌜ Bared file a tag r ⌝ }
 {
     let how = a.how;
     let How::Done = how else {
@@ -161,29 +117,27 @@ fn initial_value(
     rep: &mut [usize],
     full: &mut [usize],
     a: Answer,
-    i: usize,
-    j: usize,
+    from: State,
     left: usize,
 ) -> Answer
-    requires { ⌜ GoesOn (now tokens) (now text) n (now file) (now rep) (now full) a i j ⌝ }
-    ensures { λ r. ⌜ ValueOn (now (tokens .entry)) (now (text .entry)) n left i j (now (file .entry)) (now (rep .entry)) (now (full .entry)) a (now (file .exit)) (now (rep .exit)) (now (full .exit)) r ⌝ }
+    requires { ⌜ GoesOn tokens text n file rep full a from ⌝ }
+    ensures { λ r. ⌜ ValueOn tokens text n file rep full a from left r ⌝ }
 {
     let how = a.how;
     let How::Done = how else {
         return a;
     };
     let s = a.state;
-    let at = s.at;
-    let t = head(tokens, text, n, at);
+    let t = head(tokens, text, n, s.at);
     let on = State { at: t.next, ..s };
     if t.kind == kind::EQUALS {
         let b = expression(tokens, text, n, file, rep, full, on, left);
-        let c = abandon(rep, b, i, j, s.reported);
+        let c = abandon(rep, b, from, s);
         return bare(file, text, c, tag::ASSIGNED_VALUE);
     }
     if t.kind == kind::L_ARROW {
         let b = compound(tokens, text, n, file, rep, full, on, left);
-        let c = abandon(rep, b, i, j, s.reported);
+        let c = abandon(rep, b, from, s);
         return bare(file, text, c, tag::COMPOUND_VALUE);
     }
     bare(file, text, a, tag::NO_VALUE)
@@ -200,22 +154,11 @@ fn var_like_declaration(
     st: State,
     left: usize,
 ) -> Answer
-    requires { ⌜ Asked (now tokens) (now text) n (now file) (now rep) (now full) st ⌝ }
-    ensures { λ r. ⌜ ReadsDeclared (now (tokens .entry)) (now (text .entry)) n left (now (file .entry)) (now (rep .entry)) (now (full .entry)) st (now (file .exit)) (now (rep .exit)) (now (full .exit)) r ⌝ }
+    requires { ⌜ Asked tokens text n file rep full st ⌝ }
+    ensures { λ r. ⌜ ReadsDeclared tokens text n file rep full st left r ⌝ }
 {
     let a = typed_name(tokens, text, n, file, rep, full, st, left);
-    initial_value(
-        tokens,
-        text,
-        n,
-        file,
-        rep,
-        full,
-        a,
-        st.pos,
-        st.reported,
-        left,
-    )
+    initial_value(tokens, text, n, file, rep, full, a, st, left)
 }
 
 // A record with a place behind an answer, if it is there; its text is the name at the place `at`, or `<?>` where none stands there.
@@ -226,12 +169,11 @@ fn named(
     file: &mut [u8],
     a: Answer,
     tag: u8,
-    line: usize,
-    column: usize,
+    lead: Front,
     at: usize,
 ) -> Answer
-    requires { ⌜ NameRoom (now tokens) (now text) n (now file) a at ⌝ }
-    ensures { λ r. ⌜ Named (now (tokens .entry)) (now (text .entry)) n (now (file .entry)) a tag line column at (now (file .exit)) r ⌝ }
+    requires { ⌜ NameRoom tokens text n file a at ⌝ }
+    ensures { λ r. ⌜ Named tokens text n file a tag lead at r ⌝ }
 {
     let how = a.how;
     let How::Done = how else {
@@ -239,33 +181,14 @@ fn named(
     };
     let t = head(tokens, text, n, at);
     if t.kind == kind::IDENTIFIER {
-        return finish(
-            file,
-            text,
-            a,
-            Record {
-                tag: tag,
-                line: line,
-                column: column,
-                numbers: Numbers::None,
-                start: t.start,
-                len: t.len,
-            },
-        );
+        return finish_text(file, text, a, lead, tag, Numbers::None, t);
     }
-    finish(
-        file,
-        b"<?>",
-        a,
-        Record {
-            tag: tag,
-            line: line,
-            column: column,
-            numbers: Numbers::None,
-            start: 0,
-            len: 3,
-        },
-    )
+    let none = Front {
+        start: 0,
+        len: 3,
+        ..t
+    };
+    finish_text(file, b"<?>", a, lead, tag, Numbers::None, none)
 }
 
 // A declaration behind `var`: var_like_declaration `;`
@@ -277,25 +200,14 @@ pub fn declaration(
     rep: &mut [usize],
     full: &mut [usize],
     tag: u8,
-    line: usize,
-    column: usize,
+    lead: Front,
     st: State,
     left: usize,
 ) -> Answer
-    requires { ⌜ Asked (now tokens) (now text) n (now file) (now rep) (now full) st ⌝ }
-    ensures { λ r. ⌜ Reads node (now (tokens .entry)) (now (text .entry)) n left (P.declaration tag (place-at line column)) (now (file .entry)) (now (rep .entry)) (now (full .entry)) st (now (file .exit)) (now (rep .exit)) (now (full .exit)) r ⌝ }
+    requires { ⌜ Asked tokens text n file rep full st ⌝ }
+    ensures { λ r. ⌜ Parses (P.declaration tag (place-of lead)) tokens text n file rep full st left r ⌝ }
 {
     let a = var_like_declaration(tokens, text, n, file, rep, full, st, left);
-    let b = and_expect(
-        tokens,
-        text,
-        n,
-        rep,
-        full,
-        a,
-        kind::SEMICOLON,
-        st.pos,
-        st.reported,
-    );
-    named(tokens, text, n, file, b, tag, line, column, st.at)
+    let b = and_expect(tokens, text, n, rep, full, a, kind::SEMICOLON, st);
+    named(tokens, text, n, file, b, tag, lead, st.at)
 }

@@ -17,7 +17,6 @@ use fallible::raise;
 use fallible::refuse;
 use leaves::counted;
 use node::Numbers;
-use node::Record;
 use simple::assembly_statement;
 use simple::break_statement;
 use simple::expression_statement;
@@ -28,10 +27,11 @@ use steps::finish;
 use steps::head;
 ghost use Rattle.definition.specs.Kind as K;
 ghost use Rattle.definition.specs.Parser as P;
-ghost use Rattle.steps.specs.Shows.{Asked, Reads, node};
 ghost use Rattle.statement.specs.Rules.{guarded-rule};
-ghost use Rattle.grammar.specs.Post.{LoopOn};
-ghost use Rattle.statement.specs.Post.{Starts, ReadsBody, statements-on};
+ghost use Rattle.statement.specs.Post.{statements-on};
+ghost use Rattle.steps.specs.Contract.{Asked, Parses};
+ghost use Rattle.grammar.specs.Contract.{LoopOn};
+ghost use Rattle.statement.specs.Contract.{Starts, ReadsBody};
 
 // ---- bodies
 
@@ -46,8 +46,8 @@ pub fn body(
     st: State,
     left: usize,
 ) -> Answer
-    requires { ⌜ Asked (now tokens) (now text) n (now file) (now rep) (now full) st ⌝ }
-    ensures { λ r. ⌜ ReadsBody (now (tokens .entry)) (now (text .entry)) n left (now (file .entry)) (now (rep .entry)) (now (full .entry)) st (now (file .exit)) (now (rep .exit)) (now (full .exit)) r ⌝ }
+    requires { ⌜ Asked tokens text n file rep full st ⌝ }
+    ensures { λ r. ⌜ ReadsBody tokens text n file rep full st left r ⌝ }
 {
     let a = expect(tokens, text, n, rep, full, st, kind::L_BRACE);
     let how = a.how;
@@ -75,14 +75,13 @@ fn body_rest(
     from: State,
     left: usize,
 ) -> Answer
-    requires { ⌜ Asked (now tokens) (now text) n (now file) (now rep) (now full) from ⌝ }
-    ensures { λ r. ⌜ LoopOn statements-on (now (tokens .entry)) (now (text .entry)) n left 0 (now (file .entry)) (now (rep .entry)) (now (full .entry)) from (now (file .exit)) (now (rep .exit)) (now (full .exit)) r ⌝ }
+    requires { ⌜ Asked tokens text n file rep full from ⌝ }
+    ensures { λ r. ⌜ LoopOn statements-on 0 tokens text n file rep full from left r ⌝ }
 {
     let mut count = 0;
     let mut st = from;
     loop {
-        let at = st.at;
-        let t = head(tokens, text, n, at);
+        let t = head(tokens, text, n, st.at);
         if t.kind == kind::R_BRACE {
             return Answer {
                 how: How::Done,
@@ -92,13 +91,8 @@ fn body_rest(
             };
         }
         if t.kind == kind::END {
-            let b = note(
-                n,
-                rep,
-                full,
-                st,
-                entry(parse_error::BODY_AT_END, 0, 0, 0, 0),
-            );
+            let error = entry(parse_error::BODY_AT_END, 0, 0, 0, 0);
+            let b = note(n, rep, full, st, error);
             let how = b.how;
             let s = b.state;
             return Answer {
@@ -132,25 +126,12 @@ fn block(
     st: State,
     left: usize,
 ) -> Answer
-    requires { ⌜ Starts K.LBrace (now tokens) (now text) n (now file) (now rep) (now full) st ⌝ }
-    ensures { λ r. ⌜ Reads node (now (tokens .entry)) (now (text .entry)) n left P.statement-rule (now (file .entry)) (now (rep .entry)) (now (full .entry)) st (now (file .exit)) (now (rep .exit)) (now (full .exit)) r ⌝ }
+    requires { ⌜ Starts K.LBrace tokens text n file rep full st ⌝ }
+    ensures { λ r. ⌜ Parses P.statement-rule tokens text n file rep full st left r ⌝ }
 {
-    let at = st.at;
-    let t = head(tokens, text, n, at);
+    let t = head(tokens, text, n, st.at);
     let a = body(tokens, text, n, file, rep, full, st, left);
-    finish(
-        file,
-        text,
-        a,
-        Record {
-            tag: tag::BLOCK,
-            line: t.line,
-            column: t.column,
-            numbers: Numbers::Two(a.line),
-            start: 0,
-            len: 0,
-        },
-    )
+    finish(file, text, a, t, tag::BLOCK, Numbers::Two(a.line))
 }
 
 // `loop` statement
@@ -164,34 +145,13 @@ fn loop_statement(
     st: State,
     left: usize,
 ) -> Answer
-    requires { ⌜ Starts K.KwLoop (now tokens) (now text) n (now file) (now rep) (now full) st ⌝ }
-    ensures { λ r. ⌜ Reads node (now (tokens .entry)) (now (text .entry)) n left P.statement-rule (now (file .entry)) (now (rep .entry)) (now (full .entry)) st (now (file .exit)) (now (rep .exit)) (now (full .exit)) r ⌝ }
+    requires { ⌜ Starts K.KwLoop tokens text n file rep full st ⌝ }
+    ensures { λ r. ⌜ Parses P.statement-rule tokens text n file rep full st left r ⌝ }
 {
-    let at = st.at;
-    let t = head(tokens, text, n, at);
-    let a = statement(
-        tokens,
-        text,
-        n,
-        file,
-        rep,
-        full,
-        State { at: t.next, ..st },
-        left,
-    );
-    finish(
-        file,
-        text,
-        a,
-        Record {
-            tag: tag::LOOP,
-            line: t.line,
-            column: t.column,
-            numbers: Numbers::None,
-            start: 0,
-            len: 0,
-        },
-    )
+    let t = head(tokens, text, n, st.at);
+    let on = State { at: t.next, ..st };
+    let a = statement(tokens, text, n, file, rep, full, on, left);
+    finish(file, text, a, t, tag::LOOP, Numbers::None)
 }
 
 // A condition and what it guards: expression statement
@@ -205,8 +165,8 @@ fn guarded(
     st: State,
     left: usize,
 ) -> Answer
-    requires { ⌜ Asked (now tokens) (now text) n (now file) (now rep) (now full) st ⌝ }
-    ensures { λ r. ⌜ Reads node (now (tokens .entry)) (now (text .entry)) n left guarded-rule (now (file .entry)) (now (rep .entry)) (now (full .entry)) st (now (file .exit)) (now (rep .exit)) (now (full .exit)) r ⌝ }
+    requires { ⌜ Asked tokens text n file rep full st ⌝ }
+    ensures { λ r. ⌜ Parses guarded-rule tokens text n file rep full st left r ⌝ }
 {
     let a = expression(tokens, text, n, file, rep, full, st, left);
     let how = a.how;
@@ -215,7 +175,7 @@ fn guarded(
     };
     let s = a.state;
     let b = statement(tokens, text, n, file, rep, full, s, left);
-    abandon(rep, b, st.pos, st.reported, s.reported)
+    abandon(rep, b, st, s)
 }
 
 // `while` guarded
@@ -229,34 +189,13 @@ fn while_statement(
     st: State,
     left: usize,
 ) -> Answer
-    requires { ⌜ Starts K.KwWhile (now tokens) (now text) n (now file) (now rep) (now full) st ⌝ }
-    ensures { λ r. ⌜ Reads node (now (tokens .entry)) (now (text .entry)) n left P.statement-rule (now (file .entry)) (now (rep .entry)) (now (full .entry)) st (now (file .exit)) (now (rep .exit)) (now (full .exit)) r ⌝ }
+    requires { ⌜ Starts K.KwWhile tokens text n file rep full st ⌝ }
+    ensures { λ r. ⌜ Parses P.statement-rule tokens text n file rep full st left r ⌝ }
 {
-    let at = st.at;
-    let t = head(tokens, text, n, at);
-    let a = guarded(
-        tokens,
-        text,
-        n,
-        file,
-        rep,
-        full,
-        State { at: t.next, ..st },
-        left,
-    );
-    finish(
-        file,
-        text,
-        a,
-        Record {
-            tag: tag::WHILE,
-            line: t.line,
-            column: t.column,
-            numbers: Numbers::None,
-            start: 0,
-            len: 0,
-        },
-    )
+    let t = head(tokens, text, n, st.at);
+    let on = State { at: t.next, ..st };
+    let a = guarded(tokens, text, n, file, rep, full, on, left);
+    finish(file, text, a, t, tag::WHILE, Numbers::None)
 }
 
 // `if` guarded [`else` statement]
@@ -270,21 +209,12 @@ fn if_statement(
     st: State,
     left: usize,
 ) -> Answer
-    requires { ⌜ Starts K.KwIf (now tokens) (now text) n (now file) (now rep) (now full) st ⌝ }
-    ensures { λ r. ⌜ Reads node (now (tokens .entry)) (now (text .entry)) n left P.statement-rule (now (file .entry)) (now (rep .entry)) (now (full .entry)) st (now (file .exit)) (now (rep .exit)) (now (full .exit)) r ⌝ }
+    requires { ⌜ Starts K.KwIf tokens text n file rep full st ⌝ }
+    ensures { λ r. ⌜ Parses P.statement-rule tokens text n file rep full st left r ⌝ }
 {
-    let at = st.at;
-    let t = head(tokens, text, n, at);
-    let a = guarded(
-        tokens,
-        text,
-        n,
-        file,
-        rep,
-        full,
-        State { at: t.next, ..st },
-        left,
-    );
+    let t = head(tokens, text, n, st.at);
+    let on = State { at: t.next, ..st };
+    let a = guarded(tokens, text, n, file, rep, full, on, left);
     let how = a.how;
     let How::Done = how else {
         return a;
@@ -292,44 +222,12 @@ fn if_statement(
     let s = a.state;
     let u = head(tokens, text, n, s.at);
     if u.kind != kind::KW_ELSE {
-        return finish(
-            file,
-            text,
-            a,
-            Record {
-                tag: tag::IF,
-                line: t.line,
-                column: t.column,
-                numbers: Numbers::Byte(2),
-                start: 0,
-                len: 0,
-            },
-        );
+        return finish(file, text, a, t, tag::IF, Numbers::Byte(2));
     }
-    let b = statement(
-        tokens,
-        text,
-        n,
-        file,
-        rep,
-        full,
-        State { at: u.next, ..s },
-        left,
-    );
-    let c = abandon(rep, b, st.pos, st.reported, s.reported);
-    finish(
-        file,
-        text,
-        c,
-        Record {
-            tag: tag::IF,
-            line: t.line,
-            column: t.column,
-            numbers: Numbers::Byte(3),
-            start: 0,
-            len: 0,
-        },
-    )
+    let on = State { at: u.next, ..s };
+    let b = statement(tokens, text, n, file, rep, full, on, left);
+    let c = abandon(rep, b, st, s);
+    finish(file, text, c, t, tag::IF, Numbers::Byte(3))
 }
 
 // The statement that the next token begins.
@@ -343,11 +241,10 @@ fn statement_rule(
     st: State,
     left: usize,
 ) -> Answer
-    requires { ⌜ Asked (now tokens) (now text) n (now file) (now rep) (now full) st ⌝ }
-    ensures { λ r. ⌜ Reads node (now (tokens .entry)) (now (text .entry)) n left P.statement-rule (now (file .entry)) (now (rep .entry)) (now (full .entry)) st (now (file .exit)) (now (rep .exit)) (now (full .exit)) r ⌝ }
+    requires { ⌜ Asked tokens text n file rep full st ⌝ }
+    ensures { λ r. ⌜ Parses P.statement-rule tokens text n file rep full st left r ⌝ }
 {
-    let at = st.at;
-    let t = head(tokens, text, n, at);
+    let t = head(tokens, text, n, st.at);
     if t.kind == kind::KW_RETURN {
         return return_statement(tokens, text, n, file, rep, full, st, left);
     }
@@ -373,15 +270,10 @@ fn statement_rule(
         return assembly_statement(tokens, text, n, file, rep, full, st);
     }
     if t.kind == kind::END {
-        return raise(
-            n,
-            rep,
-            full,
-            st,
-            entry(parse_error::STATEMENT_AT_END, 0, 0, 0, 0),
-        );
+        let error = entry(parse_error::STATEMENT_AT_END, 0, 0, 0, 0);
+        return raise(n, rep, full, st, error);
     }
-    expression_statement(tokens, text, n, file, rep, full, t.line, t.column, st, left)
+    expression_statement(tokens, text, n, file, rep, full, t, st, left)
 }
 
 // parse_statement, one of the four functions whose open calls are counted.
@@ -395,8 +287,8 @@ pub fn statement(
     st: State,
     left: usize,
 ) -> Answer
-    requires { ⌜ Asked (now tokens) (now text) n (now file) (now rep) (now full) st ⌝ }
-    ensures { λ r. ⌜ Reads node (now (tokens .entry)) (now (text .entry)) n left P.parse-statement (now (file .entry)) (now (rep .entry)) (now (full .entry)) st (now (file .exit)) (now (rep .exit)) (now (full .exit)) r ⌝ }
+    requires { ⌜ Asked tokens text n file rep full st ⌝ }
+    ensures { λ r. ⌜ Parses P.parse-statement tokens text n file rep full st left r ⌝ }
 {
     if left == 0 {
         return refuse(n, st, refusal::NESTING);

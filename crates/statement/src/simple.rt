@@ -9,17 +9,18 @@ use fallible::How;
 use fallible::State;
 use fallible::abandon;
 use node::Numbers;
-use node::Record;
+use steps::Front;
 use steps::and_expect;
 use steps::expect;
 use steps::finish;
+use steps::finish_text;
 use steps::head;
 ghost use Prim.Native.Nat.{ℕ, _≤_};
 ghost use Rattle.definition.specs.Kind as K;
 ghost use Rattle.definition.specs.Parser as P;
-ghost use Rattle.steps.specs.Shows.{Asked, Reads, node};
-ghost use Rattle.grammar.specs.Post.{place-at};
-ghost use Rattle.statement.specs.Post.{Starts, Behind};
+ghost use Rattle.grammar.specs.Post.{place-of};
+ghost use Rattle.steps.specs.Contract.{Asked, Parses};
+ghost use Rattle.statement.specs.Contract.{Starts, Behind};
 
 // `return` [expression] `;`
 pub fn return_statement(
@@ -32,11 +33,10 @@ pub fn return_statement(
     st: State,
     left: usize,
 ) -> Answer
-    requires { ⌜ Starts K.KwReturn (now tokens) (now text) n (now file) (now rep) (now full) st ⌝ }
-    ensures { λ r. ⌜ Reads node (now (tokens .entry)) (now (text .entry)) n left P.statement-rule (now (file .entry)) (now (rep .entry)) (now (full .entry)) st (now (file .exit)) (now (rep .exit)) (now (full .exit)) r ⌝ }
+    requires { ⌜ Starts K.KwReturn tokens text n file rep full st ⌝ }
+    ensures { λ r. ⌜ Parses P.statement-rule tokens text n file rep full st left r ⌝ }
 {
-    let at = st.at;
-    let t = head(tokens, text, n, at);
+    let t = head(tokens, text, n, st.at);
     let u = head(tokens, text, n, t.next);
     if u.kind == kind::SEMICOLON {
         let a = Answer {
@@ -45,54 +45,12 @@ pub fn return_statement(
             line: t.line,
             column: t.column,
         };
-        return finish(
-            file,
-            text,
-            a,
-            Record {
-                tag: tag::RETURN,
-                line: t.line,
-                column: t.column,
-                numbers: Numbers::Byte(0),
-                start: 0,
-                len: 0,
-            },
-        );
+        return finish(file, text, a, t, tag::RETURN, Numbers::Byte(0));
     }
-    let a = expression(
-        tokens,
-        text,
-        n,
-        file,
-        rep,
-        full,
-        State { at: t.next, ..st },
-        left,
-    );
-    let b = and_expect(
-        tokens,
-        text,
-        n,
-        rep,
-        full,
-        a,
-        kind::SEMICOLON,
-        st.pos,
-        st.reported,
-    );
-    finish(
-        file,
-        text,
-        b,
-        Record {
-            tag: tag::RETURN,
-            line: t.line,
-            column: t.column,
-            numbers: Numbers::Byte(1),
-            start: 0,
-            len: 0,
-        },
-    )
+    let on = State { at: t.next, ..st };
+    let a = expression(tokens, text, n, file, rep, full, on, left);
+    let b = and_expect(tokens, text, n, rep, full, a, kind::SEMICOLON, st);
+    finish(file, text, b, t, tag::RETURN, Numbers::Byte(1))
 }
 
 // `var` declaration
@@ -106,24 +64,13 @@ pub fn var_statement(
     st: State,
     left: usize,
 ) -> Answer
-    requires { ⌜ Starts K.KwVar (now tokens) (now text) n (now file) (now rep) (now full) st ⌝ }
-    ensures { λ r. ⌜ Reads node (now (tokens .entry)) (now (text .entry)) n left P.statement-rule (now (file .entry)) (now (rep .entry)) (now (full .entry)) st (now (file .exit)) (now (rep .exit)) (now (full .exit)) r ⌝ }
+    requires { ⌜ Starts K.KwVar tokens text n file rep full st ⌝ }
+    ensures { λ r. ⌜ Parses P.statement-rule tokens text n file rep full st left r ⌝ }
 {
-    let at = st.at;
-    let t = head(tokens, text, n, at);
-    declaration(
-        tokens,
-        text,
-        n,
-        file,
-        rep,
-        full,
-        tag::VARIABLE_DECLARATION,
-        t.line,
-        t.column,
-        State { at: t.next, ..st },
-        left,
-    )
+    let t = head(tokens, text, n, st.at);
+    let on = State { at: t.next, ..st };
+    let tag = tag::VARIABLE_DECLARATION;
+    declaration(tokens, text, n, file, rep, full, tag, t, on, left)
 }
 
 // `break` `;`
@@ -136,33 +83,13 @@ pub fn break_statement(
     full: &mut [usize],
     st: State,
 ) -> Answer
-    requires { ⌜ Starts K.KwBreak (now tokens) (now text) n (now file) (now rep) (now full) st ⌝ }
-    ensures { λ r. ⌜ ((d : ℕ) → Reads node (now (tokens .entry)) (now (text .entry)) n d P.statement-rule (now (file .entry)) (now (rep .entry)) (now (full .entry)) st (now (file .exit)) (now (rep .exit)) (now (full .exit)) r) ⌝ }
+    requires { ⌜ Starts K.KwBreak tokens text n file rep full st ⌝ }
+    ensures { λ r. ⌜ ((d : ℕ) → Parses P.statement-rule tokens text n file rep full st d r) ⌝ }
 {
-    let at = st.at;
-    let t = head(tokens, text, n, at);
-    let a = expect(
-        tokens,
-        text,
-        n,
-        rep,
-        full,
-        State { at: t.next, ..st },
-        kind::SEMICOLON,
-    );
-    finish(
-        file,
-        text,
-        a,
-        Record {
-            tag: tag::BREAK,
-            line: t.line,
-            column: t.column,
-            numbers: Numbers::None,
-            start: 0,
-            len: 0,
-        },
-    )
+    let t = head(tokens, text, n, st.at);
+    let on = State { at: t.next, ..st };
+    let a = expect(tokens, text, n, rep, full, on, kind::SEMICOLON);
+    finish(file, text, a, t, tag::BREAK, Numbers::None)
 }
 
 // A fragment of assembly.
@@ -175,30 +102,17 @@ pub fn assembly_statement(
     full: &mut [usize],
     st: State,
 ) -> Answer
-    requires { ⌜ Starts K.InlineAssemblyFragment (now tokens) (now text) n (now file) (now rep) (now full) st ⌝ }
-    ensures { λ r. ⌜ ((d : ℕ) → Reads node (now (tokens .entry)) (now (text .entry)) n d P.statement-rule (now (file .entry)) (now (rep .entry)) (now (full .entry)) st (now (file .exit)) (now (rep .exit)) (now (full .exit)) r) ⌝ }
+    requires { ⌜ Starts K.InlineAssemblyFragment tokens text n file rep full st ⌝ }
+    ensures { λ r. ⌜ ((d : ℕ) → Parses P.statement-rule tokens text n file rep full st d r) ⌝ }
 {
-    let at = st.at;
-    let t = head(tokens, text, n, at);
+    let t = head(tokens, text, n, st.at);
     let a = Answer {
         how: How::Done,
         state: State { at: t.next, ..st },
         line: t.line,
         column: t.column,
     };
-    finish(
-        file,
-        text,
-        a,
-        Record {
-            tag: tag::INLINE_ASSEMBLY,
-            line: t.line,
-            column: t.column,
-            numbers: Numbers::None,
-            start: t.start,
-            len: t.len,
-        },
-    )
+    finish_text(file, text, a, t, tag::INLINE_ASSEMBLY, Numbers::None, t)
 }
 
 // Behind its target, which was written from `i` on: `=` expression `;`
@@ -209,52 +123,21 @@ fn assignment(
     file: &mut [u8],
     rep: &mut [usize],
     full: &mut [usize],
-    line: usize,
-    column: usize,
+    lead: Front,
     i: usize,
     st: State,
     left: usize,
 ) -> Answer
-    requires { ⌜ Starts K.Equals (now tokens) (now text) n (now file) (now rep) (now full) st × (i ≤ st .pos) ⌝ }
-    ensures { λ r. ⌜ Behind (now (tokens .entry)) (now (text .entry)) n left (P.after-expression (place-at line column)) i (now (file .entry)) (now (rep .entry)) (now (full .entry)) st (now (file .exit)) (now (rep .exit)) (now (full .exit)) r ⌝ }
+    requires { ⌜ Starts K.Equals tokens text n file rep full st × (i ≤ st .pos) ⌝ }
+    ensures { λ r. ⌜ Behind (P.after-expression (place-of lead)) tokens text n file rep full i st left r ⌝ }
 {
-    let at = st.at;
-    let t = head(tokens, text, n, at);
-    let a = expression(
-        tokens,
-        text,
-        n,
-        file,
-        rep,
-        full,
-        State { at: t.next, ..st },
-        left,
-    );
-    let b = abandon(rep, a, i, st.reported, st.reported);
-    let c = and_expect(
-        tokens,
-        text,
-        n,
-        rep,
-        full,
-        b,
-        kind::SEMICOLON,
-        i,
-        st.reported,
-    );
-    finish(
-        file,
-        text,
-        c,
-        Record {
-            tag: tag::ASSIGNMENT,
-            line: line,
-            column: column,
-            numbers: Numbers::None,
-            start: 0,
-            len: 0,
-        },
-    )
+    let t = head(tokens, text, n, st.at);
+    let on = State { at: t.next, ..st };
+    let a = expression(tokens, text, n, file, rep, full, on, left);
+    let from = State { pos: i, ..st };
+    let b = abandon(rep, a, from, st);
+    let c = and_expect(tokens, text, n, rep, full, b, kind::SEMICOLON, from);
+    finish(file, text, c, lead, tag::ASSIGNMENT, Numbers::None)
 }
 
 // Behind its target, which was written from `i` on: `<-` compound `;`
@@ -265,52 +148,21 @@ fn compound_assignment(
     file: &mut [u8],
     rep: &mut [usize],
     full: &mut [usize],
-    line: usize,
-    column: usize,
+    lead: Front,
     i: usize,
     st: State,
     left: usize,
 ) -> Answer
-    requires { ⌜ Starts K.LArrow (now tokens) (now text) n (now file) (now rep) (now full) st × (i ≤ st .pos) ⌝ }
-    ensures { λ r. ⌜ Behind (now (tokens .entry)) (now (text .entry)) n left (P.after-expression (place-at line column)) i (now (file .entry)) (now (rep .entry)) (now (full .entry)) st (now (file .exit)) (now (rep .exit)) (now (full .exit)) r ⌝ }
+    requires { ⌜ Starts K.LArrow tokens text n file rep full st × (i ≤ st .pos) ⌝ }
+    ensures { λ r. ⌜ Behind (P.after-expression (place-of lead)) tokens text n file rep full i st left r ⌝ }
 {
-    let at = st.at;
-    let t = head(tokens, text, n, at);
-    let a = compound(
-        tokens,
-        text,
-        n,
-        file,
-        rep,
-        full,
-        State { at: t.next, ..st },
-        left,
-    );
-    let b = abandon(rep, a, i, st.reported, st.reported);
-    let c = and_expect(
-        tokens,
-        text,
-        n,
-        rep,
-        full,
-        b,
-        kind::SEMICOLON,
-        i,
-        st.reported,
-    );
-    finish(
-        file,
-        text,
-        c,
-        Record {
-            tag: tag::COMPOUND_ASSIGNMENT,
-            line: line,
-            column: column,
-            numbers: Numbers::None,
-            start: 0,
-            len: 0,
-        },
-    )
+    let t = head(tokens, text, n, st.at);
+    let on = State { at: t.next, ..st };
+    let a = compound(tokens, text, n, file, rep, full, on, left);
+    let from = State { pos: i, ..st };
+    let b = abandon(rep, a, from, st);
+    let c = and_expect(tokens, text, n, rep, full, b, kind::SEMICOLON, from);
+    finish(file, text, c, lead, tag::COMPOUND_ASSIGNMENT, Numbers::None)
 }
 
 // Behind an expression with no errors, which was written from `i` on: assignment | compound_assignment | `;`
@@ -321,53 +173,30 @@ fn after_expression(
     file: &mut [u8],
     rep: &mut [usize],
     full: &mut [usize],
-    line: usize,
-    column: usize,
+    lead: Front,
     i: usize,
     st: State,
     left: usize,
 ) -> Answer
-    requires { ⌜ Asked (now tokens) (now text) n (now file) (now rep) (now full) st × (i ≤ st .pos) ⌝ }
-    ensures { λ r. ⌜ Behind (now (tokens .entry)) (now (text .entry)) n left (P.after-expression (place-at line column)) i (now (file .entry)) (now (rep .entry)) (now (full .entry)) st (now (file .exit)) (now (rep .exit)) (now (full .exit)) r ⌝ }
+    requires { ⌜ Asked tokens text n file rep full st × (i ≤ st .pos) ⌝ }
+    ensures { λ r. ⌜ Behind (P.after-expression (place-of lead)) tokens text n file rep full i st left r ⌝ }
 {
-    let at = st.at;
-    let t = head(tokens, text, n, at);
+    let t = head(tokens, text, n, st.at);
     if t.kind == kind::EQUALS {
-        return assignment(tokens, text, n, file, rep, full, line, column, i, st, left);
+        return assignment(tokens, text, n, file, rep, full, lead, i, st, left);
     }
     if t.kind == kind::L_ARROW {
-        return compound_assignment(tokens, text, n, file, rep, full, line, column, i, st, left);
+        return compound_assignment(tokens, text, n, file, rep, full, lead, i, st, left);
     }
     let a = Answer {
         how: How::Done,
         state: st,
-        line,
-        column,
+        line: lead.line,
+        column: lead.column,
     };
-    let b = and_expect(
-        tokens,
-        text,
-        n,
-        rep,
-        full,
-        a,
-        kind::SEMICOLON,
-        i,
-        st.reported,
-    );
-    finish(
-        file,
-        text,
-        b,
-        Record {
-            tag: tag::EXPRESSION,
-            line: line,
-            column: column,
-            numbers: Numbers::None,
-            start: 0,
-            len: 0,
-        },
-    )
+    let from = State { pos: i, ..st };
+    let b = and_expect(tokens, text, n, rep, full, a, kind::SEMICOLON, from);
+    finish(file, text, b, lead, tag::EXPRESSION, Numbers::None)
 }
 
 // expression after_expression; where the expression has errors the statement ends with it.
@@ -378,13 +207,12 @@ pub fn expression_statement(
     file: &mut [u8],
     rep: &mut [usize],
     full: &mut [usize],
-    line: usize,
-    column: usize,
+    lead: Front,
     st: State,
     left: usize,
 ) -> Answer
-    requires { ⌜ Asked (now tokens) (now text) n (now file) (now rep) (now full) st ⌝ }
-    ensures { λ r. ⌜ Reads node (now (tokens .entry)) (now (text .entry)) n left (P.expression-statement (place-at line column)) (now (file .entry)) (now (rep .entry)) (now (full .entry)) st (now (file .exit)) (now (rep .exit)) (now (full .exit)) r ⌝ }
+    requires { ⌜ Asked tokens text n file rep full st ⌝ }
+    ensures { λ r. ⌜ Parses (P.expression-statement (place-of lead)) tokens text n file rep full st left r ⌝ }
 {
     let a = expression(tokens, text, n, file, rep, full, st, left);
     let how = a.how;
@@ -393,31 +221,7 @@ pub fn expression_statement(
     };
     let s = a.state;
     if st.reported < s.reported {
-        return finish(
-            file,
-            text,
-            a,
-            Record {
-                tag: tag::EXPRESSION,
-                line: line,
-                column: column,
-                numbers: Numbers::None,
-                start: 0,
-                len: 0,
-            },
-        );
+        return finish(file, text, a, lead, tag::EXPRESSION, Numbers::None);
     }
-    after_expression(
-        tokens,
-        text,
-        n,
-        file,
-        rep,
-        full,
-        line,
-        column,
-        st.pos,
-        s,
-        left,
-    )
+    after_expression(tokens, text, n, file, rep, full, lead, st.pos, s, left)
 }

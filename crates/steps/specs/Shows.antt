@@ -10,6 +10,7 @@ use Rattle.definition.specs.Act.{Act, Consumed, Items, Node, Role, St, Res, giv
 use Rattle.definition.specs.Parser as P
 use Rattle.definition.specs.Go.{go}
 use Rattle.node.specs.Put.{Wrote, rec-of, size-of}
+use Rattle.node.specs.declared.Numbers.{Numbers}
 use Rattle.node.specs.declared.Record.{Record}
 use Rattle.fallible.specs.declared.State.{State}
 use Rattle.fallible.specs.declared.How.{How}
@@ -17,6 +18,7 @@ use Rattle.fallible.specs.declared.How.the-variants.{Done, Fatal, Refused}
 use Rattle.fallible.specs.declared.Answer.{Answer}
 use Rattle.fallible.specs.Lists.{errs}
 use Rattle.fallible.specs.Answers.{Abandoned}
+use Rattle.steps.specs.declared.Front.{Front}
 use Rattle.steps.specs.Tokens.{rest, budget, Held}
 
 -- ---- states
@@ -162,6 +164,13 @@ pub record Expected (w x : List ℕ) (n k i j : ℕ) (r f : List ℕ) (a : Answe
   pub is : ExpectedOf (a .how) w x n k i j r f a r′ f′ y
 
 -- ---- a record behind an answer
+
+-- at the place of a token, with the text of one, or with none
+abbrev pub texted : Front → ℕ → Numbers → Front → Record
+texted t tag ns name = record { tag = tag; line = t .line; column = t .column; numbers = ns; start = name .start; len = name .len }
+
+abbrev pub untexted : Front → ℕ → Numbers → Record
+untexted t tag ns = record { tag = tag; line = t .line; column = t .column; numbers = ns; start = 0; len = 0 }
 
 abbrev pub FinishedOf : How → List ℕ → List ℕ → Answer → Record → List ℕ → Answer → Type 0
 FinishedOf Done x o a v o′ y = (y .how ≡ Done) × (Wrote o (a .state .pos) (rec-of x v) (size-of v) o′ (y .state .pos) × ((y .line ≡ v .line) × (y .column ≡ v .column)))

@@ -7,6 +7,7 @@ use fallible::State;
 use fallible::abandon;
 use fallible::entry;
 use fallible::raise;
+use node::Numbers;
 use node::Record;
 use node::write_record;
 ghost use mathlib.Core.Path.{_≡_};
@@ -14,7 +15,8 @@ ghost use Prim.Native.Nat.{_+_, _<_, _≤_};
 ghost use Rattle.definition.specs.Parser as P;
 ghost use Rattle.node.specs.Put.{Room};
 ghost use Rattle.steps.specs.Tokens.{Held, Seen};
-ghost use Rattle.steps.specs.Shows.{Asks, Expects, Follows, Expected, Finished};
+ghost use Rattle.steps.specs.Shows.{texted, untexted};
+ghost use Rattle.steps.specs.Contract.{Asks, Follows, Expects, Expected, Finishes};
 
 // A token as its record has it, and the place behind it. At the end all is 0.
 pub struct Front {
@@ -72,11 +74,10 @@ pub fn expect(
     st: State,
     wanted: u32,
 ) -> Answer
-    requires { ⌜ Asks (now tokens) (now text) n (now rep) (now full) st × ((0 < wanted) × (wanted < 256)) ⌝ }
-    ensures { λ r. ⌜ Expects (now (tokens .entry)) (now (text .entry)) n (λ role. P.expect-as role wanted) (now (rep .entry)) (now (full .entry)) st (now (rep .exit)) (now (full .exit)) r ⌝ }
+    requires { ⌜ Asks tokens text n rep full st × ((0 < wanted) × (wanted < 256)) ⌝ }
+    ensures { λ r. ⌜ Expects (λ role. P.expect-as role wanted) tokens text n rep full st r ⌝ }
 {
-    let at = st.at;
-    let t = head(tokens, text, n, at);
+    let t = head(tokens, text, n, st.at);
     let on = State { at: t.next, ..st };
     if t.kind == wanted {
         return Answer {
@@ -87,21 +88,11 @@ pub fn expect(
         };
     }
     if t.kind == kind::END {
-        return raise(
-            n,
-            rep,
-            full,
-            on,
-            entry(parse_error::EXPECTED_AT_END, 0, 0, wanted, 0),
-        );
+        let error = entry(parse_error::EXPECTED_AT_END, 0, 0, wanted, 0);
+        return raise(n, rep, full, on, error);
     }
-    raise(
-        n,
-        rep,
-        full,
-        on,
-        entry(parse_error::EXPECTED, t.line, t.column, wanted, t.kind),
-    )
+    let error = entry(parse_error::EXPECTED, t.line, t.column, wanted, t.kind);
+    raise(n, rep, full, on, error)
 }
 
 // `expect_identifier`.
@@ -113,11 +104,10 @@ pub fn expect_identifier(
     full: &mut [usize],
     st: State,
 ) -> Answer
-    requires { ⌜ Asks (now tokens) (now text) n (now rep) (now full) st ⌝ }
-    ensures { λ r. ⌜ Expects (now (tokens .entry)) (now (text .entry)) n (λ role. P.expect-identifier) (now (rep .entry)) (now (full .entry)) st (now (rep .exit)) (now (full .exit)) r ⌝ }
+    requires { ⌜ Asks tokens text n rep full st ⌝ }
+    ensures { λ r. ⌜ Expects (λ role. P.expect-identifier) tokens text n rep full st r ⌝ }
 {
-    let at = st.at;
-    let t = head(tokens, text, n, at);
+    let t = head(tokens, text, n, st.at);
     let on = State { at: t.next, ..st };
     if t.kind == kind::IDENTIFIER {
         return Answer {
@@ -128,24 +118,14 @@ pub fn expect_identifier(
         };
     }
     if t.kind == kind::END {
-        return raise(
-            n,
-            rep,
-            full,
-            on,
-            entry(parse_error::END_OF_FILE, 0, 0, 0, 0),
-        );
+        let error = entry(parse_error::END_OF_FILE, 0, 0, 0, 0);
+        return raise(n, rep, full, on, error);
     }
-    raise(
-        n,
-        rep,
-        full,
-        on,
-        entry(parse_error::IDENTIFIER, t.line, t.column, 0, 0),
-    )
+    let error = entry(parse_error::IDENTIFIER, t.line, t.column, 0, 0);
+    raise(n, rep, full, on, error)
 }
 
-// `expect(..)?` behind an answer, in a construct that began at `i` and `j`; the answer's item stays.
+// `expect(..)?` behind an answer, in a construct that began in the state `from`; the answer's item stays.
 pub fn and_expect(
     tokens: &[u32],
     text: &[u8],
@@ -154,11 +134,10 @@ pub fn and_expect(
     full: &mut [usize],
     a: Answer,
     wanted: u32,
-    i: usize,
-    j: usize,
+    from: State,
 ) -> Answer
-    requires { ⌜ Follows (now tokens) (now text) n (now rep) (now full) a i j × ((0 < wanted) × (wanted < 256)) ⌝ }
-    ensures { λ r. ⌜ Expected (now (tokens .entry)) (now (text .entry)) n wanted i j (now (rep .entry)) (now (full .entry)) a (now (rep .exit)) (now (full .exit)) r ⌝ }
+    requires { ⌜ Follows tokens text n rep full a from × ((0 < wanted) × (wanted < 256)) ⌝ }
+    ensures { λ r. ⌜ Expected wanted tokens text n rep full a from r ⌝ }
 {
     let how = a.how;
     let How::Done = how else {
@@ -166,7 +145,7 @@ pub fn and_expect(
     };
     let s = a.state;
     let b = expect(tokens, text, n, rep, full, s, wanted);
-    let c = abandon(rep, b, i, j, s.reported);
+    let c = abandon(rep, b, from, s);
     let h = c.how;
     let e = c.state;
     Answer {
@@ -177,21 +156,57 @@ pub fn and_expect(
     }
 }
 
-// A record behind what an answer has, if it is there.
-pub fn finish(file: &mut [u8], text: &[u8], a: Answer, v: Record) -> Answer
-    requires { ⌜ Room (now file) (now text) (a .state .pos) (16 + v .len) (v .start) (v .len) ⌝ }
-    ensures { λ r. ⌜ Finished (now (text .entry)) (now (file .entry)) a v (now (file .exit)) r ⌝ }
+// A record behind what an answer has, if it is there: at the place of `t`, with the text of `name`.
+pub fn finish_text(
+    file: &mut [u8],
+    text: &[u8],
+    a: Answer,
+    t: Front,
+    tag: u8,
+    numbers: Numbers,
+    name: Front,
+) -> Answer
+    requires { ⌜ Room (now file) (now text) (a .state .pos) (16 + name .len) (name .start) (name .len) ⌝ }
+    ensures { λ r. ⌜ Finishes (texted t tag numbers name) file text a r ⌝ }
 {
     let how = a.how;
     let How::Done = how else {
         return a;
     };
     let s = a.state;
+    let v = Record {
+        tag,
+        line: t.line,
+        column: t.column,
+        numbers,
+        start: name.start,
+        len: name.len,
+    };
     let pos = write_record(file, text, s.pos, v);
     Answer {
         how,
         state: State { pos, ..s },
-        line: v.line,
-        column: v.column,
+        line: t.line,
+        column: t.column,
     }
+}
+
+// The same with no text.
+pub fn finish(
+    file: &mut [u8],
+    text: &[u8],
+    a: Answer,
+    t: Front,
+    tag: u8,
+    numbers: Numbers,
+) -> Answer
+    requires { ⌜ Room (now file) (now text) (a .state .pos) 16 0 0 ⌝ }
+    ensures { λ r. ⌜ Finishes (untexted t tag numbers) file text a r ⌝ }
+{
+    let none = Front {
+        start: 0,
+        len: 0,
+        ..t
+    };
+    finish_text(file, text, a, t, tag, numbers, none)
 }

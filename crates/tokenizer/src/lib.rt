@@ -29,8 +29,9 @@ ghost use Prim.Native.Nat.{_*_, _<_, _≤_};
 ghost use lib.ListN.{length};
 ghost use Rattle.definition.specs.Operations as O;
 ghost use Rattle.source.specs.Place.{Stands, rest, origin};
-ghost use Rattle.turns.specs.Turn.{Ready};
-ghost use Rattle.tokenizer.specs.Run.{Taken, turn-of, Ran, answer, refusal-of};
+ghost use Rattle.turns.specs.Contract.{Ready};
+ghost use Rattle.tokenizer.specs.Run.{Ran, answer, refusal-of};
+ghost use Rattle.tokenizer.specs.Contract.{Taken};
 
 // ---- the loop
 
@@ -43,8 +44,8 @@ fn turn(
     errors: &mut [u32],
     text: &mut [u8],
 ) -> State
-    requires { ⌜ Ready most (now s) (now tokens) (now text) st (st .cursor) × (st .cursor .at < length (now s)) × (1024 ≤ length (now errors)) ⌝ }
-    ensures { λ r. ⌜ Taken most (turn-of (rest (now (s .entry)) (st .cursor))) (now (s .entry)) st (now (tokens .entry)) (now (errors .entry)) (now (text .entry)) r (now (tokens .exit)) (now (errors .exit)) (now (text .exit)) ⌝ }
+    requires { ⌜ Ready most s st (st .cursor) tokens text × (st .cursor .at < length (now s)) × (1024 ≤ length (now errors)) ⌝ }
+    ensures { λ r. ⌜ Taken most s st tokens errors text r ⌝ }
 {
     let from = st.cursor;
     let at = from.at;

@@ -20,40 +20,28 @@ use source::Cursor;
 use source::step;
 ghost use mathlib.Core.Bool.{false};
 ghost use mathlib.Core.Path.{_≡_};
-ghost use mathlib.Core.List.{List, [], _∷_};
-ghost use Prim.Native.Nat.{ℕ, _*_, _-_, _<_, _≤_};
+ghost use mathlib.Core.List.{[], _∷_};
+ghost use Prim.Native.Nat.{_*_, _-_, _<_, _≤_};
 ghost use lib.ListN.{length, replicate};
 ghost use Rattle.definition.specs.Tokenizer as Z;
-ghost use Rattle.source.specs.Place.{rest, placed};
+ghost use Rattle.source.specs.Place.{placed};
 ghost use Rattle.records.specs.Push.{ErrorsPushed, TokenPushed};
-ghost use Rattle.turns.specs.Turn.{at-cursor, at-text, Few, Ready, Turned};
+ghost use Rattle.turns.specs.Turn.{at-cursor, at-text, Few};
+ghost use Rattle.turns.specs.Contract.{Ready, Turned, TurnedClean};
 
 // ---- how a turn ends
 
 pub fn refuse(st: State, how: u32) -> State
     ensures { λ r. ⌜ r .how ≡ how ⌝ }
 {
-    let cursor = st.cursor;
-    State {
-        cursor,
-        tokens: st.tokens,
-        errors: st.errors,
-        text: st.text,
-        how,
-    }
+    State { how, ..st }
 }
 
 // Nothing is pushed.
 pub fn moved(st: State, c: Cursor) -> State
     ensures { λ r. ⌜ r ≡ at-cursor st c ⌝ }
 {
-    State {
-        cursor: c,
-        tokens: st.tokens,
-        errors: st.errors,
-        text: st.text,
-        how: st.how,
-    }
+    State { cursor: c, ..st }
 }
 
 // A token with no text.
@@ -62,13 +50,7 @@ pub fn plain(most: usize, tokens: &mut [u32], st: State, c: Cursor, kind: u32) -
     ensures { λ r. ⌜ TokenPushed most (now (tokens .entry)) (at-cursor st c) (kind ∷ st .cursor .line ∷ st .cursor .column ∷ 0 ∷ 0 ∷ 0 ∷ 0 ∷ 0 ∷ []) (now (tokens .exit)) r ⌝ }
 {
     let from = st.cursor;
-    let on = State {
-        cursor: c,
-        tokens: st.tokens,
-        errors: st.errors,
-        text: st.text,
-        how: st.how,
-    };
+    let on = State { cursor: c, ..st };
     push_token(most, tokens, on, kind, from.line, from.column, 0, 0, 0)
 }
 
@@ -89,10 +71,8 @@ fn with_text(
     let start = st.text;
     let on = State {
         cursor: c,
-        tokens: st.tokens,
-        errors: st.errors,
         text: n,
-        how: st.how,
+        ..st
     };
     push_token(
         most,
@@ -122,10 +102,8 @@ pub fn with_errors(
 {
     let on = State {
         cursor: c,
-        tokens: st.tokens,
-        errors: st.errors,
         text: n,
-        how: st.how,
+        ..st
     };
     push_errors(errors, on, count, number, from.line, from.column)
 }
@@ -142,8 +120,8 @@ pub fn number_turn(
     tokens: &mut [u32],
     text: &mut [u8],
 ) -> State
-    requires { ⌜ Ready most (now s) (now tokens) (now text) st c × (st .text < c .at) ⌝ }
-    ensures { λ r. ⌜ ((E : List ℕ) → Turned most (Z.integer (placed (st .cursor)) 10 (first ∷ []) (Z.digits 10 (rest (now (s .entry)) c))) (now (s .entry)) st c (now (tokens .entry)) E (now (text .entry)) r (now (tokens .exit)) E (now (text .exit))) ⌝ }
+    requires { ⌜ Ready most s st c tokens text × (st .text < c .at) ⌝ }
+    ensures { λ r. ⌜ TurnedClean (λ cs. Z.integer (placed (st .cursor)) 10 (first ∷ []) (Z.digits 10 cs)) most s st c tokens text r ⌝ }
 {
     let from = st.cursor;
     let start = st.text;
@@ -163,8 +141,8 @@ fn based_turn(
     tokens: &mut [u32],
     text: &mut [u8],
 ) -> State
-    requires { ⌜ Ready most (now s) (now tokens) (now text) st c × (st .text < c .at) ⌝ }
-    ensures { λ r. ⌜ ((E : List ℕ) → Turned most (Z.integer (placed (st .cursor)) base [] (Z.digits base (rest (now (s .entry)) c))) (now (s .entry)) st c (now (tokens .entry)) E (now (text .entry)) r (now (tokens .exit)) E (now (text .exit))) ⌝ }
+    requires { ⌜ Ready most s st c tokens text × (st .text < c .at) ⌝ }
+    ensures { λ r. ⌜ TurnedClean (λ cs. Z.integer (placed (st .cursor)) base [] (Z.digits base cs)) most s st c tokens text r ⌝ }
 {
     let from = st.cursor;
     let start = st.text;
@@ -187,8 +165,8 @@ pub fn zero_turn(
     tokens: &mut [u32],
     text: &mut [u8],
 ) -> State
-    requires { ⌜ Ready most (now s) (now tokens) (now text) st c × (st .text < c .at) ⌝ }
-    ensures { λ r. ⌜ ((E : List ℕ) → Turned most (Z.zero-turn (placed (st .cursor)) (rest (now (s .entry)) c)) (now (s .entry)) st c (now (tokens .entry)) E (now (text .entry)) r (now (tokens .exit)) E (now (text .exit))) ⌝ }
+    requires { ⌜ Ready most s st c tokens text × (st .text < c .at) ⌝ }
+    ensures { λ r. ⌜ TurnedClean (Z.zero-turn (placed (st .cursor))) most s st c tokens text r ⌝ }
 {
     let b = look(s, c);
     if b == b'x' {
@@ -211,8 +189,8 @@ pub fn dash_turn(
     tokens: &mut [u32],
     text: &mut [u8],
 ) -> State
-    requires { ⌜ Ready most (now s) (now tokens) (now text) st c × (st .text < c .at) ⌝ }
-    ensures { λ r. ⌜ ((E : List ℕ) → Turned most (Z.dash-turn (placed (st .cursor)) (rest (now (s .entry)) c)) (now (s .entry)) st c (now (tokens .entry)) E (now (text .entry)) r (now (tokens .exit)) E (now (text .exit))) ⌝ }
+    requires { ⌜ Ready most s st c tokens text × (st .text < c .at) ⌝ }
+    ensures { λ r. ⌜ TurnedClean (Z.dash-turn (placed (st .cursor))) most s st c tokens text r ⌝ }
 {
     let at = c.at;
     if s.len() <= at {
@@ -241,8 +219,8 @@ fn asm_turn(
     errors: &mut [u32],
     text: &mut [u8],
 ) -> State
-    requires { ⌜ Ready most (now s) (now tokens) (now text) st c × (1024 ≤ length (now errors)) ⌝ }
-    ensures { λ r. ⌜ Turned most (Z.assembly-turn (placed (st .cursor)) (Z.white (rest (now (s .entry)) c))) (now (s .entry)) st c (now (tokens .entry)) (now (errors .entry)) (now (text .entry)) r (now (tokens .exit)) (now (errors .exit)) (now (text .exit)) ⌝ }
+    requires { ⌜ Ready most s st c tokens text × (1024 ≤ length (now errors)) ⌝ }
+    ensures { λ r. ⌜ Turned (λ cs. Z.assembly-turn (placed (st .cursor)) (Z.white cs)) most s st c tokens errors text r ⌝ }
 {
     let from = st.cursor;
     let w = white(s, c);
@@ -279,8 +257,8 @@ pub fn word_turn(
     errors: &mut [u32],
     text: &mut [u8],
 ) -> State
-    requires { ⌜ Ready most (now s) (now tokens) (now text) st c × (st .text < c .at) × (1024 ≤ length (now errors)) ⌝ }
-    ensures { λ r. ⌜ Turned most (Z.word-turn (placed (st .cursor)) (Z.run-ahead (first ∷ []) (Z.word (rest (now (s .entry)) c)))) (now (s .entry)) st c (now (tokens .entry)) (now (errors .entry)) (now (text .entry)) r (now (tokens .exit)) (now (errors .exit)) (now (text .exit)) ⌝ }
+    requires { ⌜ Ready most s st c tokens text × (st .text < c .at) × (1024 ≤ length (now errors)) ⌝ }
+    ensures { λ r. ⌜ Turned (λ cs. Z.word-turn (placed (st .cursor)) (Z.run-ahead (first ∷ []) (Z.word cs))) most s st c tokens errors text r ⌝ }
 {
     let from = st.cursor;
     let start = st.text;
@@ -313,8 +291,8 @@ pub fn string_turn(
     errors: &mut [u32],
     text: &mut [u8],
 ) -> State
-    requires { ⌜ Ready most (now s) (now tokens) (now text) st c × (1024 ≤ length (now errors)) ⌝ }
-    ensures { λ r. ⌜ Turned most (Z.string-turn (placed (st .cursor)) (Z.quoted false (rest (now (s .entry)) c))) (now (s .entry)) st c (now (tokens .entry)) (now (errors .entry)) (now (text .entry)) r (now (tokens .exit)) (now (errors .exit)) (now (text .exit)) ⌝ }
+    requires { ⌜ Ready most s st c tokens text × (1024 ≤ length (now errors)) ⌝ }
+    ensures { λ r. ⌜ Turned (λ cs. Z.string-turn (placed (st .cursor)) (Z.quoted false cs)) most s st c tokens errors text r ⌝ }
 {
     let from = st.cursor;
     let start = st.text;

@@ -60,7 +60,7 @@ top-level-item-spec =
     let at-head = c .before .before .before .before .before .before .before .before .before .before .before .before .before .before in
     let start = at-head .before .before .before .before .before .before in
     record { room = omega (arith, (start .pre) .room, at-head .head .ensures .pays); part = at-head .head .ensures .part })
-    (λ c. omega (arith, c .before .before .finish .kept))
+    (λ c. omega (arith, c .before .before .finish-text .kept))
     (λ c.
     let at-if5 = c .before .before .before .before in
     let at-if4 = at-if5 .before .before in
@@ -69,9 +69,9 @@ top-level-item-spec =
     let at-if1 = at-if2 .before .before .before .before in
     let at-head = at-if1 .before .before .before in
     let start = at-head .before .before .before .before .before .before in
-    item-assembly (at-head .head .ensures) (at-if1 .if1 .left) (at-if2 .if2 .left) (at-if3 .if3 .left) (at-if4 .if4 .left) (start .pre) (at-if5 .if5 .taken) (c .before .before .finish .ensures))
+    item-assembly (at-head .head .ensures) (at-if1 .if1 .left) (at-if2 .if2 .left) (at-if3 .if3 .left) (at-if4 .if4 .left) (start .pre) (at-if5 .if5 .taken) (c .before .before .finish-text .ensures))
     (λ c κs.
-    let at-head = c .before .before .before .before .before .before .before .before .before .before .before .before .before .before .before in
+    let at-head = c .before .before .before .before .before .before .before .before .before .before .before .before .before in
     omega (arith, at-head .head .ensures))
     (λ c κs.
     let at-head = c .before .before .before .before .before .before .before .before .before .before .before .before .before .before .before .before in
@@ -81,8 +81,8 @@ top-level-item-spec =
     (λ c. omega (arith, c .before .before .before .before .raise .kept))
     (λ c.
     let at-raise = c .before .before .before .before in
-    let at-entry = at-raise .before in
-    let at-if5 = at-entry .before .before .before in
+    let at-entry = at-raise .before .before .before in
+    let at-if5 = at-entry .before in
     let at-if4 = at-if5 .before .before in
     let at-if3 = at-if4 .before .before in
     let at-if2 = at-if3 .before .before in

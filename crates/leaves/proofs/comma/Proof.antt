@@ -24,8 +24,8 @@ comma-spec =
     (λ c. search needs)
     (λ c.
     let at-note = c .before .before .before .before in
-    let at-entry = at-note .before in
-    let at-if3 = at-entry .before .before .before in
+    let at-entry = at-note .before .before .before in
+    let at-if3 = at-entry .before in
     let at-if2 = at-if3 .before .before in
     let at-if1 = at-if2 .before .before in
     let at-head = at-if1 .before .before in

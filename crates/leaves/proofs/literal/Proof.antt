@@ -67,8 +67,8 @@ literal-spec =
     (λ c. search needs)
     (λ c.
     let at-raise = c .before .before .before .before in
-    let at-entry = at-raise .before in
-    let at-if6 = at-entry .before .before .before in
+    let at-entry = at-raise .before .before .before in
+    let at-if6 = at-entry .before in
     let at-if5 = at-if6 .before .before in
     let at-if4 = at-if5 .before .before in
     let at-if3 = at-if4 .before .before in
@@ -85,8 +85,8 @@ literal-spec =
     (λ c. search needs)
     (λ c.
     let at-raise2 = c .before .before .before .before in
-    let at-entry2 = at-raise2 .before in
-    let at-if6 = at-entry2 .before .before .before in
+    let at-entry2 = at-raise2 .before .before .before in
+    let at-if6 = at-entry2 .before in
     let at-if5 = at-if6 .before .before in
     let at-if4 = at-if5 .before .before in
     let at-if3 = at-if4 .before .before in

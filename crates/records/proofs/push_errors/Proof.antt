@@ -8,16 +8,16 @@ use Rattle.records.proofs.push_errors.Statement.{statement}
 use Rattle.records.proofs.push_errors.Tie as tie
 
 abbrev Inv-loop : tie.InvT-loop
-Inv-loop errors₀ st count number line column cursor total i₀ errors i = Pushing errors₀ st count (Z.token-error number (spot line column)) total errors i
+Inv-loop errors₀ st count number line column total i₀ errors i = Pushing errors₀ st count (Z.token-error number (spot line column)) total errors i
 
 abbrev μ-loop : tie.MeasureT-loop
-μ-loop errors₀ st count number line column cursor total i₀ errors i = total - i
+μ-loop errors₀ st count number line column total i₀ errors i = total - i
 
 add-total : tie.Need-add-total Inv-loop μ-loop
 add-total c = search needs
 
 returns : tie.Need-returns Inv-loop μ-loop
-returns c = errors-full _ _ (c .if1 .taken) refl
+returns c = errors-full _ _ (c .before .if1 .taken) refl
 
 loop-holds : tie.Need-loop-holds Inv-loop μ-loop
 loop-holds c = search (pushing, needs)
@@ -41,7 +41,7 @@ loop-again c =
     pushing-more (at-loop .loop .inv) (at-loop-test .loop-test .taken) (c .before .before .put-four .ensures)
 
 same-length : tie.Need-same-length Inv-loop μ-loop
-same-length c = c .before .loop .inv .wrote .size
+same-length c = c .before .before .loop .inv .wrote .size
 
 returns-2 : tie.Need-returns-2 Inv-loop μ-loop
 returns-2 c = search (pushing-end, needs)

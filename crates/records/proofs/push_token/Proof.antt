@@ -5,7 +5,7 @@ use Rattle.records.proofs.push_token.Statement.{statement}
 use Rattle.records.proofs.push_token.Tie as tie
 
 returns : tie.Need-returns
-returns c = token-full (c .if1 .taken) refl
+returns c = token-full (c .before .if1 .taken) refl
 
 mul-put-token : tie.Need-mul-put-token
 mul-put-token c = search needs
@@ -19,8 +19,8 @@ cast-put-token-2 c = search needs
 put-token-requires : tie.Need-put-token-requires
 put-token-requires c κs = search needs
 
-add-t13 : tie.Need-add-t13
-add-t13 c = search needs
+add-more : tie.Need-add-more
+add-more c = search needs
 
 same-length : tie.Need-same-length
 same-length c = search needs
@@ -37,6 +37,6 @@ push-token-spec =
     cast-put-token
     cast-put-token-2
     put-token-requires
-    add-t13
+    add-more
     same-length
     returns-2)

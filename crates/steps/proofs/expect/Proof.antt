@@ -17,8 +17,8 @@ expect-spec =
     (λ c. search needs)
     (λ c.
     let at-raise = c .before .before .before .before in
-    let at-entry = at-raise .before in
-    let at-if2 = at-entry .before .before .before in
+    let at-entry = at-raise .before .before .before in
+    let at-if2 = at-entry .before in
     let at-if1 = at-if2 .before .before in
     let at-head = at-if1 .before .before in
     let start = at-head .before .before .before .before .before in
@@ -29,8 +29,8 @@ expect-spec =
     (λ c. search needs)
     (λ c.
     let at-raise2 = c .before .before .before .before in
-    let at-entry2 = at-raise2 .before in
-    let at-if2 = at-entry2 .before .before .before in
+    let at-entry2 = at-raise2 .before .before .before in
+    let at-if2 = at-entry2 .before in
     let at-if1 = at-if2 .before .before in
     let at-head = at-if1 .before .before in
     let start = at-head .before .before .before .before .before in

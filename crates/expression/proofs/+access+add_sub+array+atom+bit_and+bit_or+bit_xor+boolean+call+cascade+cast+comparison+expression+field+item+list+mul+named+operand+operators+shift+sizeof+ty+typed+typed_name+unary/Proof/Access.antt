@@ -19,6 +19,7 @@ use Rattle.fallible.proofs.note.Reads as note-reads
 use Rattle.fallible.proofs.refuse.Reads as refuse-reads
 use Rattle.steps.proofs.and_expect.Reads as and-expect-reads
 use Rattle.steps.proofs.finish.Reads as finish-reads
+use Rattle.steps.proofs.finish_text.Reads as finish-text-reads
 use Rattle.steps.proofs.head.Reads as head-reads
 use Rattle.expression.proofs.+access+add_sub+array+atom+bit_and+bit_or+bit_xor+boolean+call+cascade+cast+comparison+expression+field+item+list+mul+named+operand+operators+shift+sizeof+ty+typed+typed_name+unary.Proof.Falls.{access-at, atom-below, expression-below}
 
@@ -30,7 +31,7 @@ abbrev pub μ-loop : lts.MeasureT-loop
 
 module _ (t : ℕ) where
   abbrev pub given : lts.Claims
-  given = (atom-below t, atom.Post, head-reads.Asked, head-reads.Learnt, refuse-reads.Asked, refuse-reads.Learnt, entry-reads.Asked, entry-reads.Learnt, note-reads.Asked, note-reads.Learnt, finish-reads.Asked, finish-reads.Learnt, expression-below t, expression.Post, abandon-reads.Asked, abandon-reads.Learnt, and-expect-reads.Asked, and-expect-reads.Learnt)
+  given = (atom-below t, atom.Post, head-reads.Asked, head-reads.Learnt, refuse-reads.Asked, refuse-reads.Learnt, entry-reads.Asked, entry-reads.Learnt, note-reads.Asked, note-reads.Learnt, finish-text-reads.Asked, finish-text-reads.Learnt, finish-reads.Asked, finish-reads.Learnt, expression-below t, expression.Post, abandon-reads.Asked, abandon-reads.Learnt, and-expect-reads.Asked, and-expect-reads.Learnt)
 
   pub atom-requires : lts.Need-atom-requires given (access-at t) access.Post Inv-loop μ-loop
   atom-requires c κs =
@@ -104,7 +105,7 @@ module _ (t : ℕ) where
       then-asked suffixes-on (start .pre .1) (at-atom .atom .ensures) (at-loop .loop .inv .1 .rest (dot-end (at-loop .loop .inv .0) (at-enum-told .enum-told .given .1) (at-head .head .ensures) (at-if1 .if1 .taken) (at-head2 .head2 .ensures) (c .before .if2 .taken) (c .refuse .ensures)))
 
   pub entry-requires : lts.Need-entry-requires given (access-at t) access.Post Inv-loop μ-loop
-  entry-requires c κs = omega (arith, c .before .before .before .before .before .before .head2 .ensures)
+  entry-requires c κs = omega (arith, c .before .before .before .before .head2 .ensures)
 
   pub note-requires : lts.Need-note-requires given (access-at t) access.Post Inv-loop μ-loop
   note-requires c κs =
@@ -135,8 +136,8 @@ module _ (t : ℕ) where
   unfolding P.parse-field-access-or-index
   returns-3 c =
       let at-note = c .before .before .before .before .before in
-      let at-entry = at-note .before in
-      let at-if3 = at-entry .before .before .before in
+      let at-entry = at-note .before .before .before in
+      let at-if3 = at-entry .before in
       let at-if2 = at-if3 .before .before in
       let at-head2 = at-if2 .before .before in
       let at-if1 = at-head2 .before in
@@ -147,8 +148,8 @@ module _ (t : ℕ) where
       let start = at-atom .before .before .before .before .before .before .before .before .before in
       then-asked suffixes-on (start .pre .1) (at-atom .atom .ensures) (at-loop .loop .inv .1 .rest (dot-other (at-loop .loop .inv .0) (at-enum-told .enum-told .given .1) (at-head .head .ensures) (at-if1 .if1 .taken) (at-head2 .head2 .ensures) (at-if2 .if2 .left) (at-if3 .if3 .taken) (at-entry .entry .ensures) (at-note .note .ensures)))
 
-  pub finish-requires : lts.Need-finish-requires given (access-at t) access.Post Inv-loop μ-loop
-  finish-requires c κs =
+  pub finish-text-requires : lts.Need-finish-text-requires given (access-at t) access.Post Inv-loop μ-loop
+  finish-text-requires c κs =
       let at-head2 = c .before .before .before .before .before in
       let at-head = at-head2 .before .before .before in
       let at-loop = at-head .before .before .before .before in
@@ -160,7 +161,7 @@ module _ (t : ℕ) where
       let at-if1 = at-head2 .before in
       let at-head = at-if1 .before .before in
       let at-loop = at-head .before .before .before .before in
-      omega (arith, at-loop .loop .inv .0 .asked .asks .at, at-head .head .ensures, at-if1 .if1 .taken, at-head2 .head2 .ensures, c .before .before .finish .ensures .at)
+      omega (arith, at-loop .loop .inv .0 .asked .asks .at, at-head .head .ensures, at-if1 .if1 .taken, at-head2 .head2 .ensures, c .before .before .finish-text .ensures .at)
 
   pub loop-again : lts.Need-loop-again given (access-at t) access.Post Inv-loop μ-loop
   loop-again c =
@@ -171,10 +172,10 @@ module _ (t : ℕ) where
       let at-head = at-if1 .before .before in
       let at-enum-told = at-head .before .before in
       let at-loop = at-enum-told .before .before in
-      (turn-on (at-loop .loop .inv .0) (dot-moved (at-loop .loop .inv .0) (at-head .head .ensures) (at-head2 .head2 .ensures) (at-if3 .if3 .left) (c .before .before .finish .ensures)) (omega (arith, c .before .before .finish .kept)) refl refl, one-turn (at-loop .loop .inv .1) (omega (arith, c .before .before .finish .kept)) refl refl (omega (arith, at-head .head .ensures .up, at-head2 .head2 .ensures .up, c .before .before .finish .ensures .at)) (λ _ _ _ _ g. dot-name (at-loop .loop .inv .0) (at-enum-told .enum-told .given .1) (at-head .head .ensures) (at-if1 .if1 .taken) (at-head2 .head2 .ensures) (at-if2 .if2 .left) (at-if3 .if3 .left) (c .before .before .finish .ensures) g))
+      (turn-on (at-loop .loop .inv .0) (dot-moved (at-loop .loop .inv .0) (at-head .head .ensures) (at-head2 .head2 .ensures) (at-if3 .if3 .left) (c .before .before .finish-text .ensures)) (omega (arith, c .before .before .finish-text .kept)) refl refl, one-turn (at-loop .loop .inv .1) (omega (arith, c .before .before .finish-text .kept)) refl refl (omega (arith, at-head .head .ensures .up, at-head2 .head2 .ensures .up, c .before .before .finish-text .ensures .at)) (λ _ _ _ _ g. dot-name (at-loop .loop .inv .0) (at-enum-told .enum-told .given .1) (at-head .head .ensures) (at-if1 .if1 .taken) (at-head2 .head2 .ensures) (at-if2 .if2 .left) (at-if3 .if3 .left) (c .before .before .finish-text .ensures) g))
 
-  pub finish-requires-2 : lts.Need-finish-requires-2 given (access-at t) access.Post Inv-loop μ-loop
-  finish-requires-2 c κs =
+  pub finish-requires : lts.Need-finish-requires given (access-at t) access.Post Inv-loop μ-loop
+  finish-requires c κs =
       let at-loop = c .before .before .before .before .before .before .before .before .before in
       record { room = omega (arith, at-loop .loop .inv .0 .asked .room); part = omega arith }
 
@@ -183,7 +184,7 @@ module _ (t : ℕ) where
       let at-if4 = c .before .before .before .before in
       let at-head = at-if4 .before .before .before .before in
       let at-loop = at-head .before .before .before .before in
-      omega (arith, at-loop .loop .inv .0 .asked .asks .at, at-head .head .ensures, at-if4 .if4 .taken, c .before .before .finish2 .ensures .at)
+      omega (arith, at-loop .loop .inv .0 .asked .asks .at, at-head .head .ensures, at-if4 .if4 .taken, c .before .before .finish .ensures .at)
 
   pub loop-again-2 : lts.Need-loop-again-2 given (access-at t) access.Post Inv-loop μ-loop
   loop-again-2 c =
@@ -192,7 +193,7 @@ module _ (t : ℕ) where
       let at-head = at-if1 .before .before in
       let at-enum-told = at-head .before .before in
       let at-loop = at-enum-told .before .before in
-      (turn-on (at-loop .loop .inv .0) (star-moved (at-loop .loop .inv .0) (at-head .head .ensures) (at-if4 .if4 .taken) (c .before .before .finish2 .ensures)) (omega (arith, c .before .before .finish2 .kept)) refl refl, one-turn (at-loop .loop .inv .1) (omega (arith, c .before .before .finish2 .kept)) refl refl (omega (arith, at-head .head .ensures .up, c .before .before .finish2 .ensures .at)) (λ _ _ _ _ g. suffix-star (at-loop .loop .inv .0) (at-enum-told .enum-told .given .1) (at-head .head .ensures) (at-if1 .if1 .left) (at-if4 .if4 .taken) (c .before .before .finish2 .ensures) g))
+      (turn-on (at-loop .loop .inv .0) (star-moved (at-loop .loop .inv .0) (at-head .head .ensures) (at-if4 .if4 .taken) (c .before .before .finish .ensures)) (omega (arith, c .before .before .finish .kept)) refl refl, one-turn (at-loop .loop .inv .1) (omega (arith, c .before .before .finish .kept)) refl refl (omega (arith, at-head .head .ensures .up, c .before .before .finish .ensures .at)) (λ _ _ _ _ g. suffix-star (at-loop .loop .inv .0) (at-enum-told .enum-told .given .1) (at-head .head .ensures) (at-if1 .if1 .left) (at-if4 .if4 .taken) (c .before .before .finish .ensures) g))
 
   pub same-length-10 : lts.Need-same-length-10 given (access-at t) access.Post Inv-loop μ-loop
   same-length-10 c =
@@ -248,8 +249,8 @@ module _ (t : ℕ) where
       let at-loop = at-enum-told .before .before in
       (index-asks (at-loop .loop .inv .0) (at-enum-told .enum-told .given .1) (at-head .head .ensures) (at-expression .expression .ensures) (at-abandon .abandon .ensures) (omega (arith, at-abandon .abandon .kept, at-expression .expression .kept)) (omega (arith, at-expression .expression .kept)), (omega arith, omega arith))
 
-  pub finish-requires-3 : lts.Need-finish-requires-3 given (access-at t) access.Post Inv-loop μ-loop
-  finish-requires-3 c κs =
+  pub finish-requires-2 : lts.Need-finish-requires-2 given (access-at t) access.Post Inv-loop μ-loop
+  finish-requires-2 c κs =
       let at-and-expect = c .before .before .before .before .before in
       let at-abandon = at-and-expect .before .before .before .before .before in
       let at-expression = at-abandon .before .before .before .before .before .before .before .before in
@@ -265,7 +266,7 @@ module _ (t : ℕ) where
       let at-if5 = at-expression .before .before .before .before in
       let at-head = at-if5 .before .before .before .before .before .before in
       let at-loop = at-head .before .before .before .before in
-      omega (arith, at-loop .loop .inv .0 .asked .asks .at, at-head .head .ensures, at-if5 .if5 .left, at-expression .expression .ensures .moved, at-abandon .abandon .ensures .at, at-and-expect .and-expect .ensures .moved, c .before .before .finish3 .ensures .at)
+      omega (arith, at-loop .loop .inv .0 .asked .asks .at, at-head .head .ensures, at-if5 .if5 .left, at-expression .expression .ensures .moved, at-abandon .abandon .ensures .at, at-and-expect .and-expect .ensures .moved, c .before .before .finish2 .ensures .at)
 
   pub loop-again-3 : lts.Need-loop-again-3 given (access-at t) access.Post Inv-loop μ-loop
   loop-again-3 c =
@@ -278,4 +279,4 @@ module _ (t : ℕ) where
       let at-head = at-if1 .before .before in
       let at-enum-told = at-head .before .before in
       let at-loop = at-enum-told .before .before in
-      (turn-on (at-loop .loop .inv .0) (index-moved (at-loop .loop .inv .0) (at-enum-told .enum-told .given .1) (at-head .head .ensures) (at-if5 .if5 .left) (at-expression .expression .ensures) (at-abandon .abandon .ensures) (omega (arith, at-abandon .abandon .kept, at-expression .expression .kept)) (omega (arith, at-expression .expression .kept)) (at-and-expect .and-expect .ensures) (c .before .before .finish3 .ensures)) (omega (arith, c .before .before .finish3 .kept, at-expression .expression .kept)) (omega (arith, at-and-expect .and-expect .kept, at-abandon .abandon .kept, at-expression .expression .kept)) (omega (arith, at-and-expect .and-expect .kept, at-expression .expression .kept)), one-turn (at-loop .loop .inv .1) (omega (arith, c .before .before .finish3 .kept, at-expression .expression .kept)) (omega (arith, at-and-expect .and-expect .kept, at-abandon .abandon .kept, at-expression .expression .kept)) (omega (arith, at-and-expect .and-expect .kept, at-expression .expression .kept)) (omega (arith, at-head .head .ensures .up, at-expression .expression .ensures .moved, at-abandon .abandon .ensures .at, at-and-expect .and-expect .ensures .moved, c .before .before .finish3 .ensures .at)) (λ _ _ _ _ g. suffix-index (at-loop .loop .inv .0) (at-enum-told .enum-told .given .1) (at-head .head .ensures) (at-if5 .if5 .left) (at-expression .expression .ensures) (at-abandon .abandon .ensures) (omega (arith, at-abandon .abandon .kept, at-expression .expression .kept)) (omega (arith, at-expression .expression .kept)) (at-and-expect .and-expect .ensures) (c .before .before .finish3 .ensures) (at-if1 .if1 .left) (at-if4 .if4 .left) g))
+      (turn-on (at-loop .loop .inv .0) (index-moved (at-loop .loop .inv .0) (at-enum-told .enum-told .given .1) (at-head .head .ensures) (at-if5 .if5 .left) (at-expression .expression .ensures) (at-abandon .abandon .ensures) (omega (arith, at-abandon .abandon .kept, at-expression .expression .kept)) (omega (arith, at-expression .expression .kept)) (at-and-expect .and-expect .ensures) (c .before .before .finish2 .ensures)) (omega (arith, c .before .before .finish2 .kept, at-expression .expression .kept)) (omega (arith, at-and-expect .and-expect .kept, at-abandon .abandon .kept, at-expression .expression .kept)) (omega (arith, at-and-expect .and-expect .kept, at-expression .expression .kept)), one-turn (at-loop .loop .inv .1) (omega (arith, c .before .before .finish2 .kept, at-expression .expression .kept)) (omega (arith, at-and-expect .and-expect .kept, at-abandon .abandon .kept, at-expression .expression .kept)) (omega (arith, at-and-expect .and-expect .kept, at-expression .expression .kept)) (omega (arith, at-head .head .ensures .up, at-expression .expression .ensures .moved, at-abandon .abandon .ensures .at, at-and-expect .and-expect .ensures .moved, c .before .before .finish2 .ensures .at)) (λ _ _ _ _ g. suffix-index (at-loop .loop .inv .0) (at-enum-told .enum-told .given .1) (at-head .head .ensures) (at-if5 .if5 .left) (at-expression .expression .ensures) (at-abandon .abandon .ensures) (omega (arith, at-abandon .abandon .kept, at-expression .expression .kept)) (omega (arith, at-expression .expression .kept)) (at-and-expect .and-expect .ensures) (c .before .before .finish2 .ensures) (at-if1 .if1 .left) (at-if4 .if4 .left) g))

@@ -23,7 +23,7 @@ module _ (t : ℕ) where
   head-requires c κs = (c .before .before .before .before .before .pre .1 .0 .asks .held, c .before .before .before .before .before .pre .1 .0 .asks .at)
 
   pub entry-requires : lts.Need-entry-requires given (array-at t) array.Post
-  entry-requires c κs = omega (arith, c .before .before .before .before .before .before .before .before .before .before .pre .1 .1)
+  entry-requires c κs = omega (arith, c .before .before .before .before .before .before .before .before .pre .1 .1)
 
   pub raise-requires : lts.Need-raise-requires given (array-at t) array.Post
   raise-requires c κs =
@@ -40,11 +40,11 @@ module _ (t : ℕ) where
   pub returns : lts.Need-returns given (array-at t) array.Post
   returns c =
       let at-raise = c .before .before .before .before in
-      let at-entry = at-raise .before in
-      let at-if1 = at-entry .before .before .before in
+      let at-entry = at-raise .before .before .before in
+      let at-if1 = at-entry .before in
       let at-head = at-if1 .before .before in
       let start = at-head .before .before .before .before .before .before in
-      array-no-integer (start .args .line) (start .args .column) (start .pre .1) (at-head .head .ensures) (at-if1 .if1 .taken) (at-entry .entry .ensures) (at-raise .raise .ensures)
+      array-no-integer (start .args .lead .line) (start .args .lead .column) (start .pre .1) (at-head .head .ensures) (at-if1 .if1 .taken) (at-entry .entry .ensures) (at-raise .raise .ensures)
 
   pub array-size-requires : lts.Need-array-size-requires given (array-at t) array.Post
   array-size-requires c κs =
@@ -52,7 +52,7 @@ module _ (t : ℕ) where
       size-asked (start .pre .1 .0) (c .before .before .head .ensures) (c .if1 .left)
 
   pub entry-requires-2 : lts.Need-entry-requires-2 given (array-at t) array.Post
-  entry-requires-2 c κs = omega (arith, c .before .before .before .before .before .before .before .before .before .before .before .before .before .pre .1 .1)
+  entry-requires-2 c κs = omega (arith, c .before .before .before .before .before .before .before .before .before .before .before .pre .1 .1)
 
   pub raise-requires-2 : lts.Need-raise-requires-2 given (array-at t) array.Post
   raise-requires-2 c κs =
@@ -69,13 +69,13 @@ module _ (t : ℕ) where
   pub returns-2 : lts.Need-returns-2 given (array-at t) array.Post
   returns-2 c =
       let at-raise2 = c .before .before .before .before in
-      let at-entry2 = at-raise2 .before in
-      let at-if2 = at-entry2 .before .before .before in
+      let at-entry2 = at-raise2 .before .before .before in
+      let at-if2 = at-entry2 .before in
       let at-array-size = at-if2 .before .before in
       let at-if1 = at-array-size .before in
       let at-head = at-if1 .before .before in
       let start = at-head .before .before .before .before .before .before in
-      array-no-size (start .args .line) (start .args .column) (start .pre .1) (at-head .head .ensures) (at-if1 .if1 .left) (at-array-size .array-size .ensures) (at-if2 .if2 .taken) (at-entry2 .entry2 .ensures) (at-raise2 .raise2 .ensures)
+      array-no-size (start .args .lead .line) (start .args .lead .column) (start .pre .1) (at-head .head .ensures) (at-if1 .if1 .left) (at-array-size .array-size .ensures) (at-if2 .if2 .taken) (at-entry2 .entry2 .ensures) (at-raise2 .raise2 .ensures)
 
   pub expect-requires : lts.Need-expect-requires given (array-at t) array.Post
   expect-requires c κs =
@@ -100,7 +100,7 @@ module _ (t : ℕ) where
       let at-if1 = at-array-size .before in
       let at-head = at-if1 .before .before in
       let start = at-head .before .before .before .before .before .before in
-      array-open (start .args .line) (start .args .column) (start .pre .1) (at-head .head .ensures) (at-if1 .if1 .left) (at-array-size .array-size .ensures) (at-if2 .if2 .left) (at-expect .expect .ensures) (c .match .keys2)
+      array-open (start .args .lead .line) (start .args .lead .column) (start .pre .1) (at-head .head .ensures) (at-if1 .if1 .left) (at-array-size .array-size .ensures) (at-if2 .if2 .left) (at-expect .expect .ensures) (c .match .keys2)
 
   pub ty-requires : lts.Need-ty-requires given (array-at t) array.Post
   ty-requires c κs =
@@ -145,4 +145,4 @@ module _ (t : ℕ) where
       let at-if1 = at-array-size .before in
       let at-head = at-if1 .before .before in
       let start = at-head .before .before .before .before .before .before in
-      array-done (start .args .line) (start .args .column) (start .pre .1) (at-head .head .ensures) (at-if1 .if1 .left) (at-array-size .array-size .ensures) (at-if2 .if2 .left) (at-expect .expect .ensures) (at-enum-told .enum-told .given .1) (at-ty .ty .ensures) (c .before .before .finish .ensures)
+      array-done (start .args .lead .line) (start .args .lead .column) (start .pre .1) (at-head .head .ensures) (at-if1 .if1 .left) (at-array-size .array-size .ensures) (at-if2 .if2 .left) (at-expect .expect .ensures) (at-enum-told .enum-told .given .1) (at-ty .ty .ensures) (c .before .before .finish .ensures)

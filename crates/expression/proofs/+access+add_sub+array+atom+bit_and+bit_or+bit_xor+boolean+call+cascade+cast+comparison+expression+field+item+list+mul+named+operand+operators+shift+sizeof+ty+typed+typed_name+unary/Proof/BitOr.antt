@@ -17,10 +17,10 @@ use Rattle.steps.proofs.head.Reads as head-reads
 use Rattle.expression.proofs.+access+add_sub+array+atom+bit_and+bit_or+bit_xor+boolean+call+cascade+cast+comparison+expression+field+item+list+mul+named+operand+operators+shift+sizeof+ty+typed+typed_name+unary.Proof.Falls.{bit-or-at, cast-below, operators-below}
 
 abbrev pub Inv-loop : lts.InvT-loop
-Inv-loop w x n o₀ r₀ f₀ st d a₀ at k₀ o r f a k = Levelled w x n d st o₀ r₀ f₀ a₀ o r f a k
+Inv-loop w x n o₀ r₀ f₀ st d a₀ k₀ o r f a k = Levelled w x n d st o₀ r₀ f₀ a₀ o r f a k
 
 abbrev pub μ-loop : lts.MeasureT-loop
-μ-loop w x n o₀ r₀ f₀ st d a₀ at k₀ o r f a k = 6 - k
+μ-loop w x n o₀ r₀ f₀ st d a₀ k₀ o r f a k = 6 - k
 
 module _ (t : ℕ) where
   abbrev pub given : lts.Claims

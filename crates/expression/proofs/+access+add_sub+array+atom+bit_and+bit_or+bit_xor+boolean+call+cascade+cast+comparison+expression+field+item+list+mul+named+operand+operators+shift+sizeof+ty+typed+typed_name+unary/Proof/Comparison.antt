@@ -84,8 +84,8 @@ module _ (t : ℕ) where
       let start = at-bit-or .before .before .before .before .before .before .before .before .before in
       join-cuts (goes-on (start .pre .1) (at-bit-or .bit-or .ensures) (omega (arith, at-bit-or .bit-or .kept)) (omega (arith, at-bit-or .bit-or .kept)) (omega (arith, at-bit-or .bit-or .kept))) (at-head .head .ensures) (at-bit-or2 .bit-or2 .ensures) (omega (arith, at-bit-or2 .bit-or2 .kept))
 
-  pub sub-t38 : lts.Need-sub-t38 given (comparison-at t) comparison.Post
-  sub-t38 c = omega arith
+  pub sub-t36 : lts.Need-sub-t36 given (comparison-at t) comparison.Post
+  sub-t36 c = omega arith
 
   pub finish-requires : lts.Need-finish-requires given (comparison-at t) comparison.Post
   finish-requires c κs =

@@ -62,7 +62,7 @@ abbrev pub μ-add-sub : Measures 5 add-sub-kinds.ps ℕ
 μ-add-sub κs a = 32 * (a .1 .1 .0 - a .1 .1 .1 .1 .1 .1 .0 .at) + 14
 
 abbrev pub μ-array : Measures 5 array-kinds.ps ℕ
-μ-array κs a = 32 * (a .1 .1 .0 - a .1 .1 .1 .1 .1 .1 .1 .1 .0 .at) + 2
+μ-array κs a = 32 * (a .1 .1 .0 - a .1 .1 .1 .1 .1 .1 .1 .0 .at) + 2
 
 abbrev pub μ-atom : Measures 5 atom-kinds.ps ℕ
 μ-atom κs a = 32 * (a .1 .1 .0 - a .1 .1 .1 .1 .1 .1 .0 .at) + 6

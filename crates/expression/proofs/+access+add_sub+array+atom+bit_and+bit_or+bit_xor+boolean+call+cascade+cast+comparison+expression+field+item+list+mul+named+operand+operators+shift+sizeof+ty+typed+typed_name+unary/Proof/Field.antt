@@ -8,13 +8,13 @@ use Rattle.expression.proofs.expression.Reads as expression
 use Rattle.expression.proofs.field.Reads as field
 use Rattle.steps.proofs.and_expect.Reads as and-expect-reads
 use Rattle.steps.proofs.expect_identifier.Reads as expect-identifier-reads
-use Rattle.steps.proofs.finish.Reads as finish-reads
+use Rattle.steps.proofs.finish_text.Reads as finish-text-reads
 use Rattle.steps.proofs.head.Reads as head-reads
 use Rattle.expression.proofs.+access+add_sub+array+atom+bit_and+bit_or+bit_xor+boolean+call+cascade+cast+comparison+expression+field+item+list+mul+named+operand+operators+shift+sizeof+ty+typed+typed_name+unary.Proof.Falls.{expression-below, field-at}
 
 module _ (t : ℕ) where
   abbrev pub given : lts.Claims
-  given = (head-reads.Asked, head-reads.Learnt, expect-identifier-reads.Asked, expect-identifier-reads.Learnt, and-expect-reads.Asked, and-expect-reads.Learnt, expression-below t, expression.Post, finish-reads.Asked, finish-reads.Learnt)
+  given = (head-reads.Asked, head-reads.Learnt, expect-identifier-reads.Asked, expect-identifier-reads.Learnt, and-expect-reads.Asked, and-expect-reads.Learnt, expression-below t, expression.Post, finish-text-reads.Asked, finish-text-reads.Learnt)
 
   pub head-requires : lts.Need-head-requires given (field-at t) field.Post
   head-requires c κs = (c .before .before .before .before .before .pre .1 .asks .held, c .before .before .before .before .before .pre .1 .asks .at)
@@ -60,8 +60,8 @@ module _ (t : ℕ) where
       let start = at-head .before .before .before .before .before .before in
       (omega (arith, start .pre .0, at-expect-identifier .expect-identifier .ensures .moved, at-and-expect .and-expect .ensures .moved), field-asked (start .pre .1) (at-head .head .ensures) (at-expect-identifier .expect-identifier .ensures) (at-and-expect .and-expect .ensures) (omega (arith, at-expect-identifier .expect-identifier .kept, at-and-expect .and-expect .kept)) (omega (arith, at-expect-identifier .expect-identifier .kept, at-and-expect .and-expect .kept)))
 
-  pub finish-requires : lts.Need-finish-requires given (field-at t) field.Post
-  finish-requires c κs =
+  pub finish-text-requires : lts.Need-finish-text-requires given (field-at t) field.Post
+  finish-text-requires c κs =
       let at-expression = c .before .before .before .before .before .before .before in
       let at-enum-told = at-expression .before .before .before .before .before in
       let at-and-expect = at-enum-told .before .before .before .before .before .before in
@@ -75,7 +75,7 @@ module _ (t : ℕ) where
       let at-expression = c .before .before .before .before .before .before .before .before .before .before in
       let at-and-expect = at-expression .before .before .before .before .before .before .before .before .before .before .before in
       let at-expect-identifier = at-and-expect .before .before .before .before .before .before .before in
-      omega (arith, c .before .before .finish .kept, at-expression .expression .kept, at-and-expect .and-expect .kept, at-expect-identifier .expect-identifier .kept)
+      omega (arith, c .before .before .finish-text .kept, at-expression .expression .kept, at-and-expect .and-expect .kept, at-expect-identifier .expect-identifier .kept)
 
   pub same-length-4 : lts.Need-same-length-4 given (field-at t) field.Post
   same-length-4 c =
@@ -99,4 +99,4 @@ module _ (t : ℕ) where
       let at-expect-identifier = at-and-expect .before .before .before .before .before .before .before in
       let at-head = at-expect-identifier .before .before .before in
       let start = at-head .before .before .before .before .before .before in
-      field-done (start .pre .1) (at-head .head .ensures) (at-expect-identifier .expect-identifier .ensures) (at-and-expect .and-expect .ensures) (at-enum-told .enum-told .given .1) (at-expression .expression .ensures) (c .before .before .finish .ensures)
+      field-done (start .pre .1) (at-head .head .ensures) (at-expect-identifier .expect-identifier .ensures) (at-and-expect .and-expect .ensures) (at-enum-told .enum-told .given .1) (at-expression .expression .ensures) (c .before .before .finish-text .ensures)

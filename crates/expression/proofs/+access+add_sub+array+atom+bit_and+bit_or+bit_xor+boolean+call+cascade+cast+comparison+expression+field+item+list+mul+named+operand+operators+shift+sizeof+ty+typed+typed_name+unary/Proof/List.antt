@@ -95,8 +95,8 @@ module _ (t : ℕ) where
   pub returns-2 : lts.Need-returns-2 given (list-at t) list.Post Inv-loop μ-loop
   returns-2 c =
       let at-note = c .before .before .before .before .before in
-      let at-entry = at-note .before in
-      let at-if1 = at-entry .before .before .before in
+      let at-entry = at-note .before .before .before in
+      let at-if1 = at-entry .before in
       let at-head = at-if1 .before .before in
       let at-loop = at-head .before in
       let at-match = at-loop .before .before .before in

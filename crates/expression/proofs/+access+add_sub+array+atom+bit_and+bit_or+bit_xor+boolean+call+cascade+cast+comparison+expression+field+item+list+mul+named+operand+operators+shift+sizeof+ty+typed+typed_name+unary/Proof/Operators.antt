@@ -18,10 +18,10 @@ use Rattle.steps.proofs.head.Reads as head-reads
 use Rattle.expression.proofs.+access+add_sub+array+atom+bit_and+bit_or+bit_xor+boolean+call+cascade+cast+comparison+expression+field+item+list+mul+named+operand+operators+shift+sizeof+ty+typed+typed_name+unary.Proof.Falls.{cascade-below, operators-at}
 
 abbrev pub Inv-loop : lts.InvT-loop
-Inv-loop w x n o₀ r₀ f₀ l i j d a₀ o r f a = GoesTurned (operators-on (level-of l)) w x n d i j o₀ r₀ f₀ a₀ o r f a
+Inv-loop w x n o₀ r₀ f₀ l st d a₀ o r f a = GoesTurned (operators-on (level-of l)) w x n d (st .pos) (st .reported) o₀ r₀ f₀ a₀ o r f a
 
 abbrev pub μ-loop : lts.MeasureT-loop
-μ-loop w x n o₀ r₀ f₀ l i j d a₀ o r f a = n - a .state .at
+μ-loop w x n o₀ r₀ f₀ l st d a₀ o r f a = n - a .state .at
 
 module _ (t : ℕ) where
   abbrev pub given : lts.Claims
@@ -82,8 +82,8 @@ module _ (t : ℕ) where
       let at-loop = at-head .before .before .before .before in
       join-cuts (at-loop .loop .inv .0) (at-head .head .ensures) (at-cascade .cascade .ensures) (omega (arith, at-cascade .cascade .kept))
 
-  pub sub-t35 : lts.Need-sub-t35 given (operators-at t) operators.Post Inv-loop μ-loop
-  sub-t35 c = omega arith
+  pub sub-t32 : lts.Need-sub-t32 given (operators-at t) operators.Post Inv-loop μ-loop
+  sub-t32 c = omega arith
 
   pub finish-requires : lts.Need-finish-requires given (operators-at t) operators.Post Inv-loop μ-loop
   finish-requires c κs =

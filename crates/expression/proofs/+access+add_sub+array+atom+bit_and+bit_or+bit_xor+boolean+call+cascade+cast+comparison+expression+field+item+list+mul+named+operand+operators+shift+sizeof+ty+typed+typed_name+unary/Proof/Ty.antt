@@ -13,12 +13,13 @@ use Rattle.fallible.proofs.raise.Reads as raise-reads
 use Rattle.fallible.proofs.refuse.Reads as refuse-reads
 use Rattle.fallible.proofs.silence.Reads as silence-reads
 use Rattle.steps.proofs.finish.Reads as finish-reads
+use Rattle.steps.proofs.finish_text.Reads as finish-text-reads
 use Rattle.steps.proofs.head.Reads as head-reads
 use Rattle.expression.proofs.+access+add_sub+array+atom+bit_and+bit_or+bit_xor+boolean+call+cascade+cast+comparison+expression+field+item+list+mul+named+operand+operators+shift+sizeof+ty+typed+typed_name+unary.Proof.Falls.{array-below, list-below, ty-at, ty-below}
 
 module _ (t : ℕ) where
   abbrev pub given : lts.Claims
-  given = (refuse-reads.Asked, refuse-reads.Learnt, head-reads.Asked, head-reads.Learnt, finish-reads.Asked, finish-reads.Learnt, ty-below t, ty.Post, array-below t, array.Post, list-below t, list.Post, silence-reads.Asked, silence-reads.Learnt, entry-reads.Asked, entry-reads.Learnt, raise-reads.Asked, raise-reads.Learnt)
+  given = (refuse-reads.Asked, refuse-reads.Learnt, head-reads.Asked, head-reads.Learnt, finish-text-reads.Asked, finish-text-reads.Learnt, ty-below t, ty.Post, finish-reads.Asked, finish-reads.Learnt, array-below t, array.Post, list-below t, list.Post, silence-reads.Asked, silence-reads.Learnt, entry-reads.Asked, entry-reads.Learnt, raise-reads.Asked, raise-reads.Learnt)
 
   pub refuse-requires : lts.Need-refuse-requires given (ty-at t) ty.Post
   refuse-requires c κs = search needs
@@ -31,14 +32,14 @@ module _ (t : ℕ) where
       let start = c .before .before .before .before .before .before in
       (start .pre .1 .asks .held, start .pre .1 .asks .at)
 
-  pub finish-requires : lts.Need-finish-requires given (ty-at t) ty.Post
-  finish-requires c κs =
+  pub finish-text-requires : lts.Need-finish-text-requires given (ty-at t) ty.Post
+  finish-text-requires c κs =
       let at-head = c .before .before .before in
       let start = at-head .before .before .before .before .before .before .before in
       room-token (start .pre .1) (at-head .head .ensures)
 
   pub same-length : lts.Need-same-length given (ty-at t) ty.Post
-  same-length c = omega (arith, c .before .before .finish .kept)
+  same-length c = omega (arith, c .before .before .finish-text .kept)
 
   pub returns-2 : lts.Need-returns-2 given (ty-at t) ty.Post
   returns-2 c =
@@ -46,7 +47,7 @@ module _ (t : ℕ) where
       let at-head = at-if2 .before .before in
       let at-if1 = at-head .before in
       let start = at-if1 .before .before .before .before .before .before in
-      type-name (start .pre .1) (at-if1 .if1 .left) (at-head .head .ensures) (at-if2 .if2 .taken) (c .before .before .finish .ensures)
+      type-name (start .pre .1) (at-if1 .if1 .left) (at-head .head .ensures) (at-if2 .if2 .taken) (c .before .before .finish-text .ensures)
 
   pub sub-ty : lts.Need-sub-ty given (ty-at t) ty.Post
   sub-ty c = omega arith
@@ -58,8 +59,8 @@ module _ (t : ℕ) where
       let start = at-head .before .before .before .before .before .before .before in
       (omega (arith, start .pre .0, at-head .head .ensures, at-if3 .if3 .taken), asked-seen (start .pre .1) (at-head .head .ensures))
 
-  pub finish-requires-2 : lts.Need-finish-requires-2 given (ty-at t) ty.Post
-  finish-requires-2 c κs =
+  pub finish-requires : lts.Need-finish-requires given (ty-at t) ty.Post
+  finish-requires c κs =
       let at-ty = c .before .before .before .before .before .before .before in
       let at-head = at-ty .before .before .before .before .before .before .before .before in
       let start = at-head .before .before .before .before .before .before .before in
@@ -68,17 +69,17 @@ module _ (t : ℕ) where
   pub same-length-2 : lts.Need-same-length-2 given (ty-at t) ty.Post
   same-length-2 c =
       let at-ty = c .before .before .before .before .before .before .before .before .before .before in
-      omega (arith, c .before .before .finish2 .kept, at-ty .ty .kept)
+      omega (arith, c .before .before .finish .kept, at-ty .ty .kept)
 
   pub same-length-3 : lts.Need-same-length-3 given (ty-at t) ty.Post
   same-length-3 c =
       let at-ty = c .before .before .before .before .before .before .before .before .before .before in
-      omega (arith, c .before .before .finish2 .kept, at-ty .ty .kept)
+      omega (arith, c .before .before .finish .kept, at-ty .ty .kept)
 
   pub same-length-4 : lts.Need-same-length-4 given (ty-at t) ty.Post
   same-length-4 c =
       let at-ty = c .before .before .before .before .before .before .before .before .before .before in
-      omega (arith, c .before .before .finish2 .kept, at-ty .ty .kept)
+      omega (arith, c .before .before .finish .kept, at-ty .ty .kept)
 
   pub returns-3 : lts.Need-returns-3 given (ty-at t) ty.Post
   returns-3 c =
@@ -88,7 +89,7 @@ module _ (t : ℕ) where
       let at-head = at-if2 .before .before in
       let at-if1 = at-head .before in
       let start = at-if1 .before .before .before .before .before .before in
-      type-star (start .pre .1) (at-if1 .if1 .left) (at-head .head .ensures) (at-if2 .if2 .left) (at-if3 .if3 .taken) (at-ty .ty .ensures) (c .before .before .finish2 .ensures)
+      type-star (start .pre .1) (at-if1 .if1 .left) (at-head .head .ensures) (at-if2 .if2 .left) (at-if3 .if3 .taken) (at-ty .ty .ensures) (c .before .before .finish .ensures)
 
   pub sub-array : lts.Need-sub-array given (ty-at t) ty.Post
   sub-array c = omega arith
@@ -133,8 +134,8 @@ module _ (t : ℕ) where
   pub silence-requires : lts.Need-silence-requires given (ty-at t) ty.Post
   silence-requires c κs = search needs
 
-  pub finish-requires-3 : lts.Need-finish-requires-3 given (ty-at t) ty.Post
-  finish-requires-3 c κs =
+  pub finish-requires-2 : lts.Need-finish-requires-2 given (ty-at t) ty.Post
+  finish-requires-2 c κs =
       let at-list = c .before .before .before .before .before .before .before .before in
       let at-head = at-list .before .before .before .before .before .before .before .before .before .before .before .before in
       let start = at-head .before .before .before .before .before .before .before in
@@ -143,17 +144,17 @@ module _ (t : ℕ) where
   pub same-length-8 : lts.Need-same-length-8 given (ty-at t) ty.Post
   same-length-8 c =
       let at-list = c .before .before .before .before .before .before .before .before .before .before .before in
-      omega (arith, c .before .before .finish3 .kept, at-list .list .kept)
+      omega (arith, c .before .before .finish2 .kept, at-list .list .kept)
 
   pub same-length-9 : lts.Need-same-length-9 given (ty-at t) ty.Post
   same-length-9 c =
       let at-list = c .before .before .before .before .before .before .before .before .before .before .before in
-      omega (arith, c .before .before .finish3 .kept, at-list .list .kept)
+      omega (arith, c .before .before .finish2 .kept, at-list .list .kept)
 
   pub same-length-10 : lts.Need-same-length-10 given (ty-at t) ty.Post
   same-length-10 c =
       let at-list = c .before .before .before .before .before .before .before .before .before .before .before in
-      omega (arith, c .before .before .finish3 .kept, at-list .list .kept)
+      omega (arith, c .before .before .finish2 .kept, at-list .list .kept)
 
   pub returns-5 : lts.Need-returns-5 given (ty-at t) ty.Post
   returns-5 c =
@@ -166,7 +167,7 @@ module _ (t : ℕ) where
       let at-head = at-if2 .before .before in
       let at-if1 = at-head .before in
       let start = at-if1 .before .before .before .before .before .before in
-      type-struct (start .pre .1) (at-if1 .if1 .left) (at-head .head .ensures) (at-if2 .if2 .left) (at-if3 .if3 .left) (at-if4 .if4 .left) (at-if5 .if5 .taken) (at-list .list .ensures) (at-silence .silence .ensures) (c .before .before .finish3 .ensures)
+      type-struct (start .pre .1) (at-if1 .if1 .left) (at-head .head .ensures) (at-if2 .if2 .left) (at-if3 .if3 .left) (at-if4 .if4 .left) (at-if5 .if5 .taken) (at-list .list .ensures) (at-silence .silence .ensures) (c .before .before .finish2 .ensures)
 
   pub entry-requires : lts.Need-entry-requires given (ty-at t) ty.Post
   entry-requires c κs = omega arith
@@ -186,8 +187,8 @@ module _ (t : ℕ) where
   pub returns-6 : lts.Need-returns-6 given (ty-at t) ty.Post
   returns-6 c =
       let at-raise = c .before .before .before .before in
-      let at-entry = at-raise .before in
-      let at-if6 = at-entry .before .before .before in
+      let at-entry = at-raise .before .before .before in
+      let at-if6 = at-entry .before in
       let at-if5 = at-if6 .before .before in
       let at-if4 = at-if5 .before .before in
       let at-if3 = at-if4 .before .before in
@@ -198,7 +199,7 @@ module _ (t : ℕ) where
       type-end (start .pre .1) (at-if1 .if1 .left) (at-head .head .ensures) (at-if2 .if2 .left) (at-if3 .if3 .left) (at-if4 .if4 .left) (at-if5 .if5 .left) (at-if6 .if6 .taken) (at-entry .entry .ensures) (at-raise .raise .ensures)
 
   pub entry-requires-2 : lts.Need-entry-requires-2 given (ty-at t) ty.Post
-  entry-requires-2 c κs = omega (arith, c .before .before .before .before .before .before .before .before .before .before .before .before .head .ensures)
+  entry-requires-2 c κs = omega (arith, c .before .before .before .before .before .before .before .before .before .before .head .ensures)
 
   pub raise-requires-2 : lts.Need-raise-requires-2 given (ty-at t) ty.Post
   raise-requires-2 c κs =
@@ -215,8 +216,8 @@ module _ (t : ℕ) where
   pub returns-7 : lts.Need-returns-7 given (ty-at t) ty.Post
   returns-7 c =
       let at-raise2 = c .before .before .before .before in
-      let at-entry2 = at-raise2 .before in
-      let at-if6 = at-entry2 .before .before .before in
+      let at-entry2 = at-raise2 .before .before .before in
+      let at-if6 = at-entry2 .before in
       let at-if5 = at-if6 .before .before in
       let at-if4 = at-if5 .before .before in
       let at-if3 = at-if4 .before .before in

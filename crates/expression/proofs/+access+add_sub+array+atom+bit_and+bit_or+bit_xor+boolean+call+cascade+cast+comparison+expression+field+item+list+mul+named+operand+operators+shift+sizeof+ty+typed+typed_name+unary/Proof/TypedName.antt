@@ -62,15 +62,15 @@ module _ (t : ℕ) where
   pub returns-2 : lts.Need-returns-2 given (typed-name-at t) typed-name.Post
   returns-2 c =
       let at-raise = c .before .before .before .before in
-      let at-entry = at-raise .before in
-      let at-if2 = at-entry .before .before .before in
+      let at-entry = at-raise .before .before .before in
+      let at-if2 = at-entry .before in
       let at-if1 = at-if2 .before .before in
       let at-head = at-if1 .before .before in
       let start = at-head .before .before .before .before .before .before in
       identifier-end (start .pre .1) (at-head .head .ensures) (at-if1 .if1 .left) (at-if2 .if2 .taken) (at-entry .entry .ensures) (at-raise .raise .ensures)
 
   pub entry-requires-2 : lts.Need-entry-requires-2 given (typed-name-at t) typed-name.Post
-  entry-requires-2 c κs = omega (arith, c .before .before .before .before .before .before .head .ensures)
+  entry-requires-2 c κs = omega (arith, c .before .before .before .before .head .ensures)
 
   pub note-requires : lts.Need-note-requires given (typed-name-at t) typed-name.Post
   note-requires c κs =
@@ -90,8 +90,8 @@ module _ (t : ℕ) where
   pub returns-3 : lts.Need-returns-3 given (typed-name-at t) typed-name.Post
   returns-3 c =
       let at-note = c .before .before .before .before .before in
-      let at-entry2 = at-note .before in
-      let at-if2 = at-entry2 .before .before .before in
+      let at-entry2 = at-note .before .before .before in
+      let at-if2 = at-entry2 .before in
       let at-if1 = at-if2 .before .before in
       let at-head = at-if1 .before .before in
       let start = at-head .before .before .before .before .before .before in
@@ -127,8 +127,8 @@ module _ (t : ℕ) where
       let at-typed2 = c .before .before .before .before .before .before in
       let at-enum-told = at-typed2 .before .before .before .before .before in
       let at-note = at-enum-told .before .before .before .before .before .before in
-      let at-entry2 = at-note .before in
-      let at-if2 = at-entry2 .before .before .before in
+      let at-entry2 = at-note .before .before .before in
+      let at-if2 = at-entry2 .before in
       let at-if1 = at-if2 .before .before in
       let at-head = at-if1 .before .before in
       let start = at-head .before .before .before .before .before .before in

@@ -14,11 +14,11 @@ external-function-spec =
     let at-head = at-and-expect .before .before .before in
     let start = at-head .before .before .before .before .before .before in
     external-room (start .pre) (at-head .head .ensures) (at-and-expect .and-expect .ensures))
-    (λ c. omega (arith, c .before .before .finish .kept, c .before .before .before .before .before .before .before .before .and-expect .kept))
-    (λ c. omega (arith, c .before .before .finish .kept, c .before .before .before .before .before .before .before .before .and-expect .kept))
-    (λ c. omega (arith, c .before .before .finish .kept, c .before .before .before .before .before .before .before .before .and-expect .kept))
+    (λ c. omega (arith, c .before .before .finish-text .kept, c .before .before .before .before .before .before .before .before .and-expect .kept))
+    (λ c. omega (arith, c .before .before .finish-text .kept, c .before .before .before .before .before .before .before .before .and-expect .kept))
+    (λ c. omega (arith, c .before .before .finish-text .kept, c .before .before .before .before .before .before .before .before .and-expect .kept))
     (λ c.
     let at-and-expect = c .before .before .before .before .before .before .before .before in
     let at-head = at-and-expect .before .before .before in
     let start = at-head .before .before .before .before .before .before in
-    λ d. external-on (start .pre) (at-head .head .ensures) (at-and-expect .and-expect .ensures) d (c .before .before .finish .ensures)))
+    λ d. external-on (start .pre) (at-head .head .ensures) (at-and-expect .and-expect .ensures) d (c .before .before .finish-text .ensures)))

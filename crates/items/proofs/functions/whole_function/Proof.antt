@@ -43,17 +43,17 @@ whole-function-spec =
     let at-finish = c .before .before .before .before .before .before .before in
     let at-exchange = at-finish .before .before .before .before in
     let at-body = at-exchange .before .before .before .before .before .before .before .before .before .before .before in
-    omega (arith, at-body .body .kept, at-exchange .exchange .kept, at-finish .finish .kept, c .before .before .finish2 .kept))
+    omega (arith, at-body .body .kept, at-exchange .exchange .kept, at-finish .finish .kept, c .before .before .finish-text .kept))
     (λ c.
     let at-finish = c .before .before .before .before .before .before .before in
     let at-exchange = at-finish .before .before .before .before in
     let at-body = at-exchange .before .before .before .before .before .before .before .before .before .before .before in
-    omega (arith, at-body .body .kept, at-exchange .exchange .kept, at-finish .finish .kept, c .before .before .finish2 .kept))
+    omega (arith, at-body .body .kept, at-exchange .exchange .kept, at-finish .finish .kept, c .before .before .finish-text .kept))
     (λ c.
     let at-finish = c .before .before .before .before .before .before .before in
     let at-exchange = at-finish .before .before .before .before in
     let at-body = at-exchange .before .before .before .before .before .before .before .before .before .before .before in
-    omega (arith, at-body .body .kept, at-exchange .exchange .kept, at-finish .finish .kept, c .before .before .finish2 .kept))
+    omega (arith, at-body .body .kept, at-exchange .exchange .kept, at-finish .finish .kept, c .before .before .finish-text .kept))
     (λ c.
     let at-head = c .before .before .before .before in
     let at-finish = at-head .before .before .before in
@@ -62,4 +62,4 @@ whole-function-spec =
     let at-body = at-enum-told2 .before .before .before .before .before .before .before .before in
     let at-enum-told = at-body .before .before .before .before .before in
     let start = at-enum-told .before .before .before .before .before .before .before in
-    whole-reads (start .pre) (at-enum-told .enum-told .given .1) (at-body .body .ensures) (at-finish .finish .ensures) (at-head .head .ensures) (at-enum-told2 .enum-told2 .given .1) (at-exchange .exchange .ensures) (c .before .before .finish2 .ensures)))
+    whole-reads (start .pre) (at-enum-told .enum-told .given .1) (at-body .body .ensures) (at-finish .finish .ensures) (at-head .head .ensures) (at-enum-told2 .enum-told2 .given .1) (at-exchange .exchange .ensures) (c .before .before .finish-text .ensures)))

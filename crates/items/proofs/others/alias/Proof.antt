@@ -18,15 +18,15 @@ alias-spec =
     let start = at-head .before .before .before .before .before .before in
     alias-end _ _ _ _ (start .pre) (at-head .head .ensures) (c .before .if1 .taken) (c .refuse .ensures))
     (λ c κs.
-    let at-head = c .before .before .before .before .before .before in
+    let at-head = c .before .before .before .before in
     omega (arith, at-head .head .ensures .lines, at-head .head .ensures .columns))
     (λ c κs. raise-asked (c .before .before .before .before .before .before .before .before .before .before .before .before .before .pre))
     (λ c. omega (arith, c .before .before .before .before .raise .kept))
     (λ c. omega (arith, c .before .before .before .before .raise .kept))
     (λ c.
     let at-raise = c .before .before .before .before in
-    let at-entry = at-raise .before in
-    let at-if2 = at-entry .before .before .before in
+    let at-entry = at-raise .before .before .before in
+    let at-if2 = at-entry .before in
     let at-if1 = at-if2 .before .before in
     let at-head = at-if1 .before .before in
     let start = at-head .before .before .before .before .before .before in
@@ -66,7 +66,7 @@ alias-spec =
     alias-room (start .pre) (at-head .head .ensures) (at-expect .expect .ensures) (at-ty .ty .ensures) (at-if2 .if2 .left) (at-and-expect .and-expect .ensures) (omega (arith, at-ty .ty .kept)))
     (λ c.
     let at-ty = c .before .before .before .before .before .before .before .before .before .before .before .before .before .before .before .before .before in
-    omega (arith, at-ty .ty .kept, c .before .before .finish .kept))
+    omega (arith, at-ty .ty .kept, c .before .before .finish-text .kept))
     (λ c.
     let at-and-expect = c .before .before .before .before .before .before .before .before in
     let at-ty = at-and-expect .before .before .before .before .before .before .before .before .before in
@@ -85,4 +85,4 @@ alias-spec =
     let at-if2 = at-expect .before .before .before in
     let at-head = at-if2 .before .before .before .before in
     let start = at-head .before .before .before .before .before .before in
-    alias-done _ _ _ _ (start .pre) (at-head .head .ensures) (at-if2 .if2 .left) (at-expect .expect .ensures) (at-enum-told .enum-told .given .1) (at-ty .ty .ensures) (omega (arith, at-ty .ty .kept, at-expect .expect .kept)) (omega (arith, at-ty .ty .kept, at-expect .expect .kept)) (at-and-expect .and-expect .ensures) (c .before .before .finish .ensures)))
+    alias-done _ _ _ _ (start .pre) (at-head .head .ensures) (at-if2 .if2 .left) (at-expect .expect .ensures) (at-enum-told .enum-told .given .1) (at-ty .ty .ensures) (omega (arith, at-ty .ty .kept, at-expect .expect .kept)) (omega (arith, at-ty .ty .kept, at-expect .expect .kept)) (at-and-expect .and-expect .ensures) (c .before .before .finish-text .ensures)))

@@ -17,15 +17,15 @@ path-spec =
     let start = at-head .before .before .before .before .before .before in
     λ d. path-end d _ _ (start .pre) (at-head .head .ensures) (c .before .if1 .taken) (c .refuse .ensures))
     (λ c κs.
-    let at-head = c .before .before .before .before .before .before in
+    let at-head = c .before .before .before .before in
     omega (arith, at-head .head .ensures .lines, at-head .head .ensures .columns))
     (λ c κs. raise-asked (c .before .before .before .before .before .before .before .before .before .before .before .before .before .pre))
     (λ c. omega (arith, c .before .before .before .before .raise .kept))
     (λ c. omega (arith, c .before .before .before .before .raise .kept))
     (λ c.
     let at-raise = c .before .before .before .before in
-    let at-entry = at-raise .before in
-    let at-if2 = at-entry .before .before .before in
+    let at-entry = at-raise .before .before .before in
+    let at-if2 = at-entry .before in
     let at-if1 = at-if2 .before .before in
     let at-head = at-if1 .before .before in
     let start = at-head .before .before .before .before .before .before in
@@ -40,12 +40,12 @@ path-spec =
     let at-head = at-if2 .before .before .before .before in
     let start = at-head .before .before .before .before .before .before in
     path-room (start .pre) (at-head .head .ensures) (at-if2 .if2 .left) (at-expect .expect .ensures))
-    (λ c. omega (arith, c .before .before .finish .kept, c .before .before .before .before .before .before .before .before .expect .kept))
-    (λ c. omega (arith, c .before .before .finish .kept, c .before .before .before .before .before .before .before .before .expect .kept))
-    (λ c. omega (arith, c .before .before .finish .kept, c .before .before .before .before .before .before .before .before .expect .kept))
+    (λ c. omega (arith, c .before .before .finish-text .kept, c .before .before .before .before .before .before .before .before .expect .kept))
+    (λ c. omega (arith, c .before .before .finish-text .kept, c .before .before .before .before .before .before .before .before .expect .kept))
+    (λ c. omega (arith, c .before .before .finish-text .kept, c .before .before .before .before .before .before .before .before .expect .kept))
     (λ c.
     let at-expect = c .before .before .before .before .before .before .before .before in
     let at-if2 = at-expect .before .before .before in
     let at-head = at-if2 .before .before .before .before in
     let start = at-head .before .before .before .before .before .before in
-    λ d. path-done d _ _ (start .pre) (at-head .head .ensures) (at-if2 .if2 .left) (at-expect .expect .ensures) (c .before .before .finish .ensures)))
+    λ d. path-done d _ _ (start .pre) (at-head .head .ensures) (at-if2 .if2 .left) (at-expect .expect .ensures) (c .before .before .finish-text .ensures)))

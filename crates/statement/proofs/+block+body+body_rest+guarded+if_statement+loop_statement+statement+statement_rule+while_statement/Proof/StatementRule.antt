@@ -195,8 +195,8 @@ module _ (t : ℕ) where
   pub returns-9 : lts.Need-returns-9 given (statement-rule-at t) statement-rule.Post
   returns-9 c =
       let at-raise = c .before .before .before .before in
-      let at-entry = at-raise .before in
-      let at-if9 = at-entry .before .before .before in
+      let at-entry = at-raise .before .before .before in
+      let at-if9 = at-entry .before in
       let at-if8 = at-if9 .before .before in
       let at-if7 = at-if8 .before .before in
       let at-if6 = at-if7 .before .before in

@@ -34,8 +34,8 @@ compound-spec =
     omega (arith, at-raise .raise .kept, at-expect .expect .kept))
     (λ c.
     let at-raise = c .before .before .before .before in
-    let at-entry = at-raise .before in
-    let at-if1 = at-entry .before .before .before in
+    let at-entry = at-raise .before .before .before in
+    let at-if1 = at-entry .before in
     let at-head = at-if1 .before .before in
     let at-enum-told = at-head .before .before in
     let at-expect = at-enum-told .before .before .before .before .before .before in
@@ -91,7 +91,7 @@ compound-spec =
     let at-enum-told = at-head .before .before in
     let at-expect = at-enum-told .before .before .before .before .before .before in
     compound-struct (at-expect .expect .ensures) (at-enum-told .enum-told .given .1) (at-head .head .ensures) (at-if3 .if3 .taken) (at-values2 .values2 .ensures))
-    (λ c κs. omega (arith, c .before .before .before .before .before .before .before .before .head .ensures))
+    (λ c κs. omega (arith, c .before .before .before .before .before .before .head .ensures))
     (λ c κs.
     let at-expect = c .before .before .before .before .before .before .before .before .before .before .before .before .before .before .before .before .before in
     let start = at-expect .before .before .before .before .before .before .before .before in
@@ -106,8 +106,8 @@ compound-spec =
     omega (arith, at-raise2 .raise2 .kept, at-expect .expect .kept))
     (λ c.
     let at-raise2 = c .before .before .before .before in
-    let at-entry2 = at-raise2 .before in
-    let at-if3 = at-entry2 .before .before .before in
+    let at-entry2 = at-raise2 .before .before .before in
+    let at-if3 = at-entry2 .before in
     let at-if2 = at-if3 .before .before in
     let at-if1 = at-if2 .before .before in
     let at-head = at-if1 .before .before in
