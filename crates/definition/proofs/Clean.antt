@@ -25,17 +25,25 @@ module _ (c : Goal → St → Res (Ans Node)) (o : (l : Loop) → St → Res (Le
   run-later (done a) s₀ s l = l
   run-later (peek k) s₀ s l = run-later (k (head (s .left))) s₀ s l
   run-later (take r k) s₀ s l = run-later (k (head (s .left))) s₀ (advance r s) (later-trans l (later-advance r s))
-  run-later (make e m) s₀ s l = limit (λ a s′. Later s₀ s′) (ltb (length (s .full)) 255) (run c o m (push e s)) (run-later m s₀ (push e s) (later-trans l (later-push e s)))
+  run-later (make e m) s₀ s l =
+      limit (λ a s′. Later s₀ s′) (ltb (length (s .full)) 255) (run c o m (push e s))
+      (λ _. run-later m s₀ (push e s) (later-trans l (later-push e s)))
   run-later (if_then_else_ true m n) s₀ s l = run-later m s₀ s l
   run-later (if_then_else_ false m n) s₀ s l = run-later n s₀ s l
-  run-later (call g k) s₀ s l = join (λ a s′. Later s s′) (λ a s′. Later s₀ s′) (c g s) (λ a s′. run c o (k a) s′) (c-later g s) (λ a s′ p. run-later (k a) s₀ s′ (later-trans l p))
-  run-later (loop g k) s₀ s l = join (λ a s′. Later s s′) (λ a s′. Later s₀ s′) (o g s) (λ a s′. run c o (k a) s′) (o-later g s) (λ a s′ p. run-later (k a) s₀ s′ (later-trans l p))
+  run-later (call g k) s₀ s l =
+      join (λ a s′. Later s s′) (λ a s′. Later s₀ s′) (c g s) (λ a s′. run c o (k a) s′) (c-later g s)
+      (λ a s′ p. run-later (k a) s₀ s′ (later-trans l p))
+  run-later (loop g k) s₀ s l =
+      join (λ a s′. Later s s′) (λ a s′. Later s₀ s′) (o g s) (λ a s′. run c o (k a) s′) (o-later g s)
+      (λ a s′ p. run-later (k a) s₀ s′ (later-trans l p))
   run-later panic s₀ s l = tt
 
-pub loops-later : (c : Goal → St → Res (Ans Node)) → ((g : Goal) (s : St) → After (λ a s′. Later s s′) (c g s)) → (n : ℕ) (l : Loop) (s : St) → After (λ a s′. Later s s′) (loops c n l s)
+pub loops-later : (c : Goal → St → Res (Ans Node)) → ((g : Goal) (s : St) → After (λ a s′. Later s s′) (c g s))
+    → (n : ℕ) (l : Loop) (s : St) → After (λ a s′. Later s s′) (loops c n l s)
 unfolding loops
 loops-later c c-later zero l s = tt
-loops-later c c-later (suc n) l s = run-later c (λ m t. loops c n m t) c-later (λ m t. loops-later c c-later n m t) (turn l) s s (later-refl s)
+loops-later c c-later (suc n) l s =
+    run-later c (λ m t. loops c n m t) c-later (λ m t. loops-later c c-later n m t) (turn l) s s (later-refl s)
 
 pub parse-later : (n : ℕ) (g : Goal) (s : St) → After (λ a s′. Later s s′) (parse n g s)
 unfolding parse
@@ -45,7 +53,9 @@ parse-later (suc n) g s =
     (λ l t. loops-later (λ h u. parse n h u) (λ h u. parse-later n h u) (suc (suc (length (t .left)))) l t) (rule g) s s (later-refl s)
 
 -- I: what holds of the tokens left, whatever is read
-module _ (G : Goal → St → Ans Node → St → Type 0) (L : (l : Loop) → St → Left l → St → Type 0) (I : List Tok → Type 0) (I-tail : (ts : List Tok) → I ts → I (tail ts)) (I-later : (s s′ : St) → Later s s′ → I (s .left) → I (s′ .left)) where
+module _ (G : Goal → St → Ans Node → St → Type 0) (L : (l : Loop) → St → Left l → St → Type 0)
+    (I : List Tok → Type 0) (I-tail : (ts : List Tok) → I ts → I (tail ts))
+    (I-later : (s s′ : St) → Later s s′ → I (s .left) → I (s′ .left)) where
   abbrev pub Known : St → Type 0
   Known s = I (s .left)
 
@@ -64,11 +74,19 @@ module _ (G : Goal → St → Ans Node → St → Type 0) (L : (l : Loop) → St
       (o-ok : (l : Loop) (s : St) → I (s .left) → After (Kept s (L l s)) (o l s))
       (c-later : (g : Goal) (s : St) → After (λ a s′. Later s s′) (c g s)) (o-later : (l : Loop) (s : St) → After (λ a s′. Later s s′) (o l s)) where
     dirty : {A : Type 0} (Q : A → St → Type 0) (e : Err) (s : St) (r : Res A) → After (λ a s′. Later (push e s) s′) r → After (Kept s Q) r
-    dirty Q e s r h = weaken r (λ a s′ l. (later-trans (later-push e s) l, λ k. absurd (omega (arith, later-full l, length-append (s .full) (e ∷ []))))) h
+    dirty Q e s r h =
+        weaken r (λ a s′ l. (
+          later-trans (later-push e s) l,
+          λ k. absurd (omega (arith, later-full l, length-append (s .full) (e ∷ []))),
+        )) h
 
     -- an answer on the way, and what follows
-    on-the-way : {A : Type 0} (Q : A → St → Type 0) (s s′ : St) (r : Res A) → Later s s′ → (Clean s s′ → After (Kept s′ Q) r) → After (λ a s″. Later s′ s″) r → After (Kept s Q) r
-    on-the-way Q s s′ (gives a s″) l h k = (later-trans l k, λ q. h (omega (arith, later-full l, later-full k)) .1 (omega (arith, later-full l, later-full k)))
+    on-the-way : {A : Type 0} (Q : A → St → Type 0) (s s′ : St) (r : Res A) → Later s s′
+        → (Clean s s′ → After (Kept s′ Q) r) → After (λ a s″. Later s′ s″) r → After (Kept s Q) r
+    on-the-way Q s s′ (gives a s″) l h k = (
+      later-trans l k,
+      λ q. h (omega (arith, later-full l, later-full k)) .1 (omega (arith, later-full l, later-full k)),
+    )
     on-the-way Q s s′ (refused n) l h k = tt
 
     pub clean-sound : {A : Type 0} (Q : A → St → Type 0) (m : Act A) (s : St) → I (s .left) → cwp m Q s → After (Kept s Q) (run c o m s)
@@ -76,10 +94,12 @@ module _ (G : Goal → St → Ans Node → St → Type 0) (L : (l : Loop) → St
     clean-sound Q (done a) s i h = (later-refl s, λ k. h)
     clean-sound Q (peek k) s i h = clean-sound Q (k (head (s .left))) s i h
     clean-sound Q (take r k) s i h =
-        on-the-way Q s (advance r s) (run c o (k (head (s .left))) (advance r s)) (later-advance r s) (λ q. clean-sound Q (k (head (s .left))) (advance r s) (I-tail (s .left) i) (h i))
+        on-the-way Q s (advance r s) (run c o (k (head (s .left))) (advance r s)) (later-advance r s)
+        (λ q. clean-sound Q (k (head (s .left))) (advance r s) (I-tail (s .left) i) (h i))
         (run-later c o c-later o-later (k (head (s .left))) (advance r s) (advance r s) (later-refl (advance r s)))
     clean-sound Q (make e m) s i h =
-        limit (Kept s Q) (ltb (length (s .full)) 255) (run c o m (push e s)) (dirty Q e s (run c o m (push e s)) (run-later c o c-later o-later m (push e s) (push e s) (later-refl (push e s))))
+        limit (Kept s Q) (ltb (length (s .full)) 255) (run c o m (push e s))
+        (λ _. dirty Q e s (run c o m (push e s)) (run-later c o c-later o-later m (push e s) (push e s) (later-refl (push e s))))
     clean-sound Q (if_then_else_ true m n) s i h = clean-sound Q m s i (h .0 refl)
     clean-sound Q (if_then_else_ false m n) s i h = clean-sound Q n s i (h .1 refl)
     clean-sound Q (call g k) s i h =
@@ -92,22 +112,32 @@ module _ (G : Goal → St → Ans Node → St → Type 0) (L : (l : Loop) → St
         (run-later c o c-later o-later (k a) s′ s′ (later-refl s′)))
     clean-sound Q panic s i h = tt
 
-  module _ (rules : (g : Goal) (s : St) → I (s .left) → cwp (rule g) (G g s) s) (turns : (l : Loop) (s : St) → I (s .left) → cwp (turn l) (L l s) s) where
-    pub clean-loops : (c : Goal → St → Res (Ans Node)) → ((g : Goal) (s : St) → I (s .left) → After (Kept s (G g s)) (c g s)) → ((g : Goal) (s : St) → After (λ a s′. Later s s′) (c g s))
+  module _ (rules : (g : Goal) (s : St) → I (s .left) → cwp (rule g) (G g s) s)
+      (turns : (l : Loop) (s : St) → I (s .left) → cwp (turn l) (L l s) s) where
+    pub clean-loops : (c : Goal → St → Res (Ans Node)) → ((g : Goal) (s : St) → I (s .left) → After (Kept s (G g s)) (c g s))
+        → ((g : Goal) (s : St) → After (λ a s′. Later s s′) (c g s))
         → (n : ℕ) (l : Loop) (s : St) → I (s .left) → After (Kept s (L l s)) (loops c n l s)
     unfolding loops
     clean-loops c c-ok c-later zero l s i = tt
     clean-loops c c-ok c-later (suc n) l s i =
-        clean-sound c (λ m t. loops c n m t) c-ok (λ m t j. clean-loops c c-ok c-later n m t j) c-later (λ m t. loops-later c c-later n m t) (L l s) (turn l) s i (turns l s i)
+        clean-sound c (λ m t. loops c n m t) c-ok (λ m t j. clean-loops c c-ok c-later n m t j) c-later
+        (λ m t. loops-later c c-later n m t) (L l s) (turn l) s i (turns l s i)
 
     pub clean-parse : (n : ℕ) (g : Goal) (s : St) → I (s .left) → After (Kept s (G g s)) (parse n g s)
     unfolding parse
     clean-parse zero g s i = tt
     clean-parse (suc n) g s i =
-        clean-sound (λ h t. parse n h t) (λ l t. loops (λ h u. parse n h u) (suc (suc (length (t .left)))) l t) (λ h t j. clean-parse n h t j)
-        (λ l t j. clean-loops (λ h u. parse n h u) (λ h u k. clean-parse n h u k) (λ h u. parse-later n h u) (suc (suc (length (t .left)))) l t j) (λ h t. parse-later n h t)
-        (λ l t. loops-later (λ h u. parse n h u) (λ h u. parse-later n h u) (suc (suc (length (t .left)))) l t) (G g s) (rule g) s i (rules g s i)
+        clean-sound (λ h t. parse n h t) (λ l t. loops (λ h u. parse n h u) (suc (suc (length (t .left)))) l t)
+        (λ h t j. clean-parse n h t j)
+        (λ l t j. clean-loops (λ h u. parse n h u) (λ h u k. clean-parse n h u k) (λ h u. parse-later n h u)
+        (suc (suc (length (t .left)))) l t j) (λ h t. parse-later n h t)
+        (λ l t. loops-later (λ h u. parse n h u) (λ h u. parse-later n h u) (suc (suc (length (t .left)))) l t)
+        (G g s) (rule g) s i (rules g s i)
 
-    pub clean-module : (ts : List Tok) → I ts → After (Kept (record { left = ts; read = []; full = [] }) (L (Module (no-items [])) (record { left = ts; read = []; full = [] }))) (parse-module ts)
+    pub clean-module : (ts : List Tok) → I ts
+        → After (Kept (record { left = ts; read = []; full = [] })
+        (L (Module (no-items [])) (record { left = ts; read = []; full = [] }))) (parse-module ts)
     unfolding parse-module
-    clean-module ts i = clean-loops (λ g s. parse 96 g s) (λ g s j. clean-parse 96 g s j) (λ g s. parse-later 96 g s) (suc (suc (length ts))) (Module (no-items [])) (record { left = ts; read = []; full = [] }) i
+    clean-module ts i =
+        clean-loops (λ g s. parse 96 g s) (λ g s j. clean-parse 96 g s j) (λ g s. parse-later 96 g s)
+        (suc (suc (length ts))) (Module (no-items [])) (record { left = ts; read = []; full = [] }) i

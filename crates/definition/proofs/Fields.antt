@@ -1,4 +1,4 @@
--- The walk over a file's fields: it finds the tree, and counts the entries of the full list. Assumes nothing.
+-- The walk over a file's fields: it finds the tree, and counts its records and the entries of the full list. Assumes nothing.
 use mathlib.Core.Path.{_≡_, refl, sym, ap, _∙_}
 use mathlib.Core.Bool.{true, false}
 use mathlib.Core.List.{List, [], _∷_, _++_, append-nil, append-assoc}
@@ -14,6 +14,7 @@ use Rattle.definition.specs.Fallible.{Err, err-body, err-bytes, errs-byt
 use Rattle.definition.specs.Act.{Items}
 use Rattle.definition.specs.Operations.{file-bytes}
 use Rattle.definition.specs.Demand.{field-size, tree-from, tree, entries-from, full-entries}
+use Rattle.definition.specs.TreeRecords.{tree-records-from, tree-records}
 use Rattle.definition.proofs.Inject.{body}
 use Rattle.definition.proofs.Size.{weight}
 use Rattle.definition.proofs.Room.{nums-length, place-length, errs-length}
@@ -23,13 +24,15 @@ use Rattle.definition.proofs.Room.{nums-length, place-length, errs-leng
 sized : (tag : ℕ) (body rest : List ℕ) → length body < 65536 → length (field tag body) ≡ field-size (field tag body ++ rest)
 sized tag body rest h = omega arith
 
-front : (tag : ℕ) (body rest : List ℕ) → length body < 65536 → take (field-size (field tag body ++ rest)) (field tag body ++ rest) ≡ field tag body
+front : (tag : ℕ) (body rest : List ℕ) → length body < 65536
+    → take (field-size (field tag body ++ rest)) (field tag body ++ rest) ≡ field tag body
 front tag body rest h = take-at (field tag body) rest _ (sized tag body rest h)
 
 behind : (tag : ℕ) (body rest : List ℕ) → length body < 65536 → drop (field-size (field tag body ++ rest)) (field tag body ++ rest) ≡ rest
 behind tag body rest h = drop-at (field tag body) rest _ (sized tag body rest h)
 
-tree-on : (tag n : ℕ) (body rest : List ℕ) → length body < 65536 → eqb tag 0x5F ≡ false → tree-from (suc n) (field tag body ++ rest) ≡ field tag body ++ tree-from n rest
+tree-on : (tag n : ℕ) (body rest : List ℕ) → length body < 65536 → eqb tag 0x5F ≡ false
+    → tree-from (suc n) (field tag body ++ rest) ≡ field tag body ++ tree-from n rest
 unfolding tree-from
 tree-on tag n body rest h e = rw (e, front tag body rest h, behind tag body rest h)
 
@@ -37,12 +40,19 @@ tree-end : (n : ℕ) (body rest : List ℕ) → length body < 65536 → tree-fro
 unfolding tree-from
 tree-end n body rest h = rw (front 0x5F body rest h) (append-nil (field 0x5F body))
 
+records-on : (tag n : ℕ) (body rest : List ℕ) → length body < 65536 → eqb tag 0x5F ≡ false
+    → tree-records-from (suc n) (field tag body ++ rest) ≡ suc (tree-records-from n rest)
+unfolding tree-records-from
+records-on tag n body rest h e = rw (e, behind tag body rest h)
+
 -- a field of another tag, and one of this
-entries-on : (t tag n : ℕ) (body rest : List ℕ) → length body < 65536 → eqb tag t ≡ false → entries-from t (suc n) (field tag body ++ rest) ≡ entries-from t n rest
+entries-on : (t tag n : ℕ) (body rest : List ℕ) → length body < 65536 → eqb tag t ≡ false
+    → entries-from t (suc n) (field tag body ++ rest) ≡ entries-from t n rest
 unfolding entries-from
 entries-on t tag n body rest h e = rw (e, behind tag body rest h) (zero-add _)
 
-entries-more : (t tag n : ℕ) (body rest : List ℕ) → length body < 65536 → eqb tag t ≡ true → entries-from t (suc n) (field tag body ++ rest) ≡ 1 + entries-from t n rest
+entries-more : (t tag n : ℕ) (body rest : List ℕ) → length body < 65536 → eqb tag t ≡ true
+    → entries-from t (suc n) (field tag body ++ rest) ≡ 1 + entries-from t n rest
 unfolding entries-from
 entries-more t tag n body rest h e = rw (e, behind tag body rest h)
 
@@ -55,7 +65,9 @@ body-short : (r : Rec) (rs : List Rec) → weight (r ∷ rs) < 65536 → length 
 unfolding body
 body-short r rs h = simp length-append (omega (arith, place-length (r .place), nums-length (r .numbers)))
 
-tree-recs : (rs : List Rec) (n : ℕ) (last rest : List ℕ) → weight rs < 65536 → length last < 65536 → tree-from (length rs + suc n) (recs-bytes rs ++ (field 0x5F last ++ rest)) ≡ recs-bytes rs ++ field 0x5F last
+tree-recs : (rs : List Rec) (n : ℕ) (last rest : List ℕ) → weight rs < 65536 → length last < 65536
+    → tree-from (length rs + suc n) (recs-bytes rs ++ (field 0x5F last ++ rest))
+    ≡ recs-bytes rs ++ field 0x5F last
 unfolding recs-bytes rec-bytes body
 tree-recs [] n last rest h k = ap (λ (m : ℕ). tree-from m (field 0x5F last ++ rest)) (zero-add (suc n)) ∙ tree-end n last rest k
 tree-recs (r ∷ rs) n last rest h k =
@@ -65,7 +77,19 @@ tree-recs (r ∷ rs) n last rest h k =
     ∙ ap (λ (l : List ℕ). rec-bytes r ++ l) (tree-recs rs n last rest (omega arith) k)
     ∙ sym (append-assoc (rec-bytes r) (recs-bytes rs) (field 0x5F last))
 
-entries-recs : (rs : List Rec) (n : ℕ) (rest : List ℕ) → weight rs < 65536 → entries-from 0x61 (length rs + n) (recs-bytes rs ++ rest) ≡ entries-from 0x61 n rest
+records-recs : (rs : List Rec) (n : ℕ) (last rest : List ℕ) → weight rs < 65536
+    → tree-records-from (length rs + suc n) (recs-bytes rs ++ (field 0x5F last ++ rest)) ≡ suc (length rs)
+unfolding recs-bytes rec-bytes body tree-records-from
+records-recs [] n last rest h = ap (λ (m : ℕ). tree-records-from m (field 0x5F last ++ rest)) (zero-add (suc n))
+records-recs (r ∷ rs) n last rest h =
+    let end : List ℕ = field 0x5F last ++ rest in
+    ap (λ (l : List ℕ). tree-records-from (length (r ∷ rs) + suc n) l) (append-assoc (rec-bytes r) (recs-bytes rs) end)
+    ∙ ap (λ (m : ℕ). tree-records-from m (rec-bytes r ++ (recs-bytes rs ++ end))) (suc-add (length rs) (suc n))
+    ∙ records-on (r .tag) (length rs + suc n) (body r) _ (body-short r rs h) (below (r .tag) 0x5F (omega arith))
+    ∙ ap suc (records-recs rs n last rest (omega arith))
+
+entries-recs : (rs : List Rec) (n : ℕ) (rest : List ℕ) → weight rs < 65536
+    → entries-from 0x61 (length rs + n) (recs-bytes rs ++ rest) ≡ entries-from 0x61 n rest
 unfolding recs-bytes rec-bytes body
 entries-recs [] n rest h = ap (λ (m : ℕ). entries-from 0x61 m rest) (zero-add n)
 entries-recs (r ∷ rs) n rest h =
@@ -75,7 +99,8 @@ entries-recs (r ∷ rs) n rest h =
     ∙ entries-recs rs n rest (omega arith)
 
 -- errors of another list, and those of the full list
-entries-errs : (tag : ℕ) (es : List Err) (n : ℕ) (rest : List ℕ) → eqb tag 0x61 ≡ false → entries-from 0x61 (length es + n) (errs-bytes tag es ++ rest) ≡ entries-from 0x61 n rest
+entries-errs : (tag : ℕ) (es : List Err) (n : ℕ) (rest : List ℕ) → eqb tag 0x61 ≡ false
+    → entries-from 0x61 (length es + n) (errs-bytes tag es ++ rest) ≡ entries-from 0x61 n rest
 unfolding errs-bytes
 entries-errs tag [] n rest e = ap (λ (m : ℕ). entries-from 0x61 m rest) (zero-add n)
 entries-errs tag (x ∷ es) n rest e =
@@ -112,15 +137,25 @@ module _ (es : List Err) (i : Items) (full : List Err) (h : weight (i .recs) < 6
   unfolding file-bytes tail
   flat = simp append-assoc
 
+  -- all fields of the file but the tree's records
+  others : ℕ
+  others = length (recs-bytes (i .recs) ++ (field 0x5F (u16 (i .count)) ++ tail)) - suc (length (i .recs))
+
+  all-fields : length (recs-bytes (i .recs) ++ (field 0x5F (u16 (i .count)) ++ tail)) ≡ length (i .recs) + suc others
+  unfolding tail others
+  all-fields = simp length-append (omega (arith, recs-many (i .recs)))
+
   pub tree-of-file : tree (file-bytes es i full) ≡ recs-bytes (i .recs) ++ field 0x5F (u16 (i .count))
   unfolding tree tail
-  tree-of-file = rw flat (ap (λ (m : ℕ). tree-from m (recs-bytes (i .recs) ++ (field 0x5F (u16 (i .count)) ++ tail))) size ∙ tree-recs (i .recs) n (u16 (i .count)) tail h (omega arith))
-    where
-      n : ℕ
-      n = length (recs-bytes (i .recs) ++ (field 0x5F (u16 (i .count)) ++ tail)) - suc (length (i .recs))
+  tree-of-file =
+      let walk : ℕ → List ℕ = λ m. tree-from m (recs-bytes (i .recs) ++ (field 0x5F (u16 (i .count)) ++ tail)) in
+      rw flat (ap walk all-fields ∙ tree-recs (i .recs) others (u16 (i .count)) tail h (omega arith))
 
-      size : length (recs-bytes (i .recs) ++ (field 0x5F (u16 (i .count)) ++ tail)) ≡ length (i .recs) + suc n
-      size = simp length-append (omega (arith, recs-many (i .recs)))
+  pub records-of-file : tree-records (file-bytes es i full) ≡ suc (length (i .recs))
+  unfolding tree-records tail
+  records-of-file =
+      let walk : ℕ → ℕ = λ m. tree-records-from m (recs-bytes (i .recs) ++ (field 0x5F (u16 (i .count)) ++ tail)) in
+      rw flat (ap walk all-fields ∙ records-recs (i .recs) others (u16 (i .count)) tail h)
 
   pub entries-of-file : full-entries (file-bytes es i full) ≡ length full
   unfolding full-entries tail
@@ -134,7 +169,12 @@ module _ (es : List Err) (i : Items) (full : List Err) (h : weight (i .recs) < 6
       ∙ entries-full full n)
     where
       n : ℕ
-      n = length (recs-bytes (i .recs) ++ (field 0x5F (u16 (i .count)) ++ tail)) - (length (i .recs) + suc (length es + (length (i .errors) + length full)))
+      n =
+          length (recs-bytes (i .recs) ++ (field 0x5F (u16 (i .count)) ++ tail))
+          - (length (i .recs) + suc (length es + (length (i .errors) + length full)))
 
-      size : length (recs-bytes (i .recs) ++ (field 0x5F (u16 (i .count)) ++ tail)) ≡ length (i .recs) + suc (length es + (length (i .errors) + (length full + n)))
-      size = simp length-append (omega (arith, recs-many (i .recs), errs-length 0x62 es, errs-length 0x60 (i .errors), errs-length 0x61 full))
+      size : length (recs-bytes (i .recs) ++ (field 0x5F (u16 (i .count)) ++ tail))
+          ≡ length (i .recs) + suc (length es + (length (i .errors) + (length full + n)))
+      size =
+          simp length-append (omega
+          (arith, recs-many (i .recs), errs-length 0x62 es, errs-length 0x60 (i .errors), errs-length 0x61 full))

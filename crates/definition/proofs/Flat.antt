@@ -17,11 +17,14 @@ use Rattle.definition.proofs.Total.{rank, rank-le, Enough, any, turn-en
 use Rattle.definition.proofs.Bind.{run-bind}
 
 -- what follows an answer needs to agree only on answers that can be
-same-after : {A B : Type 0} (r r′ : Res A) (f g : A → St → Res B) (P : A → St → Type 0) → r ≡ r′ → After P r → ((a : A) (s : St) → P a s → f a s ≡ g a s) → after r f ≡ after r′ g
+same-after : {A B : Type 0} (r r′ : Res A) (f g : A → St → Res B) (P : A → St → Type 0) → r ≡ r′ → After P r
+    → ((a : A) (s : St) → P a s → f a s ≡ g a s) → after r f ≡ after r′ g
 same-after (gives a s) r′ f g P e p h = subst (λ (x : Res _). f a s ≡ after x g) e (h a s p)
 same-after (refused n) r′ f g P e p h = subst (λ (x : Res _). refused n ≡ after x g) e refl
 
-same-cut : {A : Type 0} (b : Bool) (r r′ : Res A) → r ≡ r′ → _≡_ {A = Res A} (elim b as (λ _. Res A) [ true ↦ r | false ↦ refused 12 ]) (elim b as (λ _. Res A) [ true ↦ r′ | false ↦ refused 12 ])
+same-cut : {A : Type 0} (b : Bool) (r r′ : Res A) → r ≡ r′
+    → _≡_ {A = Res A} (elim b as (λ _. Res A) [ true ↦ r | false ↦ refused 12 ])
+    (elim b as (λ _. Res A) [ true ↦ r′ | false ↦ refused 12 ])
 same-cut true r r′ e = e
 same-cut false r r′ e = refl
 
@@ -34,11 +37,18 @@ module _ (n : ℕ) (c : Goal → St → Res (Ans Node)) (o o′ : (l : Loop) →
   run-same (done a) Q s h = refl
   run-same (peek k) Q s h = run-same (k (head (s .left))) Q s h
   run-same (take r k) Q s h = run-same (k (head (s .left))) Q (advance r s) h
-  run-same (make e m) Q s h = same-cut (ltb (length (s .full)) 255) (run c o m (push e s)) (run c o′ m (push e s)) (run-same m Q (push e s) h)
+  run-same (make e m) Q s h =
+      same-cut (ltb (length (s .full)) 255) (run c o m (push e s)) (run c o′ m (push e s))
+      (run-same m Q (push e s) h)
   run-same (if_then_else_ true m m′) Q s h = run-same m Q s (h .0 refl)
   run-same (if_then_else_ false m m′) Q s h = run-same m′ Q s (h .1 refl)
-  run-same (call g k) Q s h = same-after (c g s) (c g s) (λ a s′. run c o (k a) s′) (λ a s′. run c o′ (k a) s′) (λ a s′. Later s s′ × Called s s′) refl (c-after g s) (λ a s′ p. run-same (k a) Q s′ (h a s′ (p .0) (p .1)))
-  run-same (loop g k) Q s h = same-after (o g s) (o′ g s) (λ a s′. run c o (k a) s′) (λ a s′. run c o′ (k a) s′) (λ a s′. Later s s′) (agree g s (h .0)) (o-after g s) (λ a s′ p. run-same (k a) Q s′ (h .1 a s′ p))
+  run-same (call g k) Q s h =
+      same-after (c g s) (c g s) (λ a s′. run c o (k a) s′) (λ a s′. run c o′ (k a) s′)
+      (λ a s′. Later s s′ × Called s s′) refl (c-after g s)
+      (λ a s′ p. run-same (k a) Q s′ (h a s′ (p .0) (p .1)))
+  run-same (loop g k) Q s h =
+      same-after (o g s) (o′ g s) (λ a s′. run c o (k a) s′) (λ a s′. run c o′ (k a) s′) (λ a s′. Later s s′)
+      (agree g s (h .0)) (o-after g s) (λ a s′ p. run-same (k a) Q s′ (h .1 a s′ p))
   run-same panic Q s h = refl
 
 module _ (c : Goal → St → Res (Ans Node)) (c-after : (g : Goal) (s : St) → After (λ a s′. Later s s′ × Called s s′) (c g s)) where
@@ -59,15 +69,26 @@ module _ (c : Goal → St → Res (Ans Node)) (c-after : (g : Goal) (s : St) →
       no (Loop.Suffixes e) h = omega arith
       no (Loop.Modifiers w) h = omega arith
   fuel (suc n) zero l s h d = absurd (omega arith)
-  fuel (suc n) (suc m) l s h d = run-same n c (λ k t. loops c n k t) (λ k t. loops c m k t) c-after (λ k t. all-later n k t) (λ k t q. fuel n m k t q (omega arith)) (turn l) any s (turn-enough n l s h)
+  fuel (suc n) (suc m) l s h d =
+      run-same n c (λ k t. loops c n k t) (λ k t. loops c m k t) c-after (λ k t. all-later n k t)
+      (λ k t q. fuel n m k t q (omega arith)) (turn l) any s (turn-enough n l s h)
 
-  once : (l : Loop) (s : St) → loops c (suc (suc (length (s .left)))) l s ≡ run c (λ k t. loops c (suc (suc (length (t .left)))) k t) (turn l) s
+  once : (l : Loop) (s : St)
+      → loops c (suc (suc (length (s .left)))) l s
+      ≡ run c (λ k t. loops c (suc (suc (length (t .left)))) k t) (turn l) s
   unfolding loops
   once l s =
-      run-same (suc (length (s .left))) c (λ k t. loops c (suc (length (s .left))) k t) (λ k t. loops c (suc (suc (length (t .left)))) k t) c-after (λ k t. all-later (suc (length (s .left))) k t) agree (turn l) any s (turn-enough (suc (length (s .left))) l s (omega (arith, rank-le l)))
+      run-same (suc (length (s .left))) c (λ k t. loops c (suc (length (s .left))) k t)
+      (λ k t. loops c (suc (suc (length (t .left)))) k t) c-after
+      (λ k t. all-later (suc (length (s .left))) k t) agree (turn l) any s
+      (turn-enough (suc (length (s .left))) l s (omega (arith, rank-le l)))
     where
-      agree : (k : Loop) (t : St) → rank k + length (t .left) ≤ suc (length (s .left)) → loops c (suc (length (s .left))) k t ≡ loops c (suc (suc (length (t .left)))) k t
-      agree k t q = fuel (suc (length (s .left))) (suc (suc (length (s .left))) + length (t .left)) k t q (omega arith) ∙ sym (fuel (suc (suc (length (t .left)))) (suc (suc (length (s .left))) + length (t .left)) k t (omega (arith, rank-le k)) (omega arith))
+      agree : (k : Loop) (t : St) → rank k + length (t .left) ≤ suc (length (s .left))
+          → loops c (suc (length (s .left))) k t ≡ loops c (suc (suc (length (t .left)))) k t
+      agree k t q =
+          fuel (suc (length (s .left))) (suc (suc (length (s .left))) + length (t .left)) k t q (omega arith)
+          ∙ sym (fuel (suc (suc (length (t .left)))) (suc (suc (length (s .left))) + length (t .left)) k t
+          (omega (arith, rank-le k)) (omega arith))
 
 nothing : {A : Type 0} (q : Res A) → after q (λ a s. gives a s) ≡ q
 nothing (gives a s) = refl
@@ -92,6 +113,7 @@ unfolding go turns
 go-bind n m f s = run-bind (λ h t. parse n h t) (λ l t. turns n l t) m f s
 
 -- the whole parser is the loop of a module
-pub go-module : (ts : List Tok) → go 96 (loop (Loop.Module (no-items [])) done) (record { left = ts; read = []; full = [] }) ≡ parse-module ts
+pub go-module : (ts : List Tok)
+    → go 96 (loop (Loop.Module (no-items [])) done) (record { left = ts; read = []; full = [] }) ≡ parse-module ts
 unfolding go turns run parse-module
 go-module ts = nothing _

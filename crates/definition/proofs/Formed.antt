@@ -62,7 +62,13 @@ keyword-plain w = search (plain-pick, plain-number) depth 60
 pub plain-textless : (k : ℕ) → Plain k → has-text k ≡ false
 plain-textless k p =
     either-true (eqb k 0) (between 4 53 k) (λ e. rw (eqb-true k 0 e))
-    (λ e. let b = between-bounds 4 53 k e in rw (ne-eqb k 1 (λ z. omega arith), ne-eqb k 2 (λ z. omega arith), ne-eqb k 3 (λ z. omega arith), ne-eqb k 54 (λ z. omega arith)))
+    (λ e. let b = between-bounds 4 53 k e in
+    rw (
+      ne-eqb k 1 (λ z. omega arith),
+      ne-eqb k 2 (λ z. omega arith),
+      ne-eqb k 3 (λ z. omega arith),
+      ne-eqb k 54 (λ z. omega arith),
+    ))
     (p .plain)
 
 pub plain-formed : (k : ℕ) (p : Place) → Plain k → 0 < k → Formed (record { kind = k; place = p; text = []; base = 0 })
@@ -90,17 +96,44 @@ classed-pick c d b x y f m = picked (Classed c d) b x y f m
 
 pub classed : (c d : ℕ) → Classed c d (Z.class c d)
 unfolding Z.class
-classed c d = search (classed-pick, is-foreign, is-white, is-comment, is-pair, is-symbol, is-quote, is-word, is-dash, is-zero, is-digit, is-unknown, ltb-true) depth 30
+classed c d =
+    search (
+      classed-pick,
+      is-foreign,
+      is-white,
+      is-comment,
+      is-pair,
+      is-symbol,
+      is-quote,
+      is-word,
+      is-dash,
+      is-zero,
+      is-digit,
+      is-unknown,
+      ltb-true,
+    ) depth 30
 
 -- ---- texts
 
 -- a name, a string or inline assembly
-pub text-formed : (k : ℕ) (p : Place) (text : List ℕ) → has-text k ≡ true → eqb k 2 ≡ false → 1 ≤ k → k ≤ 54 → Utf8 text → Formed (record { kind = k; place = p; text = text; base = 0 })
-text-formed k p text h e l m u = record { low = l; high = m; base = rw e; textless = λ f. clash (sym h ∙ f); utf8 = utf8-true text u; integer = rw e }
+pub text-formed : (k : ℕ) (p : Place) (text : List ℕ) → has-text k ≡ true → eqb k 2 ≡ false → 1 ≤ k → k ≤ 54 → Utf8 text
+    → Formed (record { kind = k; place = p; text = text; base = 0 })
+text-formed k p text h e l m u =
+    record {
+      low = l;
+      high = m;
+      base = rw e;
+      textless = λ f. clash (sym h ∙ f);
+      utf8 = utf8-true text u;
+      integer = rw e;
+    }
 
 -- a letter, and what a word goes on with, stands between 0 and z
 pub letter-bounds : (c : ℕ) → C.is-letter c ≡ true → (48 ≤ c) × (c < 128)
-letter-bounds c = either-true (between 65 90 c || between 97 122 c) (eqb c 95) (either-true (between 65 90 c) (between 97 122 c) (λ u. omega (arith, between-bounds 65 90 c u)) (λ l. omega (arith, between-bounds 97 122 c l))) (λ u. omega (arith, eqb-true c 95 u))
+letter-bounds c =
+    either-true (between 65 90 c || between 97 122 c) (eqb c 95)
+    (either-true (between 65 90 c) (between 97 122 c) (λ u. omega (arith, between-bounds 65 90 c u))
+    (λ l. omega (arith, between-bounds 97 122 c l))) (λ u. omega (arith, eqb-true c 95 u))
 
 pub word-bounds : (c : ℕ) → C.is-word c ≡ true → (48 ≤ c) × (c < 128)
 word-bounds c = either-true (C.is-letter c) (C.is-digit c) (letter-bounds c) (λ d. omega (arith, between-bounds 48 57 c d))
@@ -118,12 +151,16 @@ digit-bounds base d e = go (eqb base 2) (eqb base 10) e
     go : (x y : Bool) → pick x (C.is-binary d) (pick y (C.is-digit d) (C.is-hexadecimal d)) ≡ true → (48 ≤ d) × (d < 128)
     go true y e = within 48 49 (omega arith) (omega arith) e
     go false true e = decimal e
-    go false false e = either-true _ _ (either-true _ _ decimal (within 65 70 (omega arith) (omega arith))) (within 97 102 (omega arith) (omega arith)) e
+    go false false e =
+        either-true _ _ (either-true _ _ decimal (within 65 70 (omega arith) (omega arith)))
+        (within 97 102 (omega arith) (omega arith)) e
 
 all-digits-utf8 : (base : ℕ) (ds : List ℕ) → all-digits base ds ≡ true → Utf8 ds
 unfolding all-digits
 all-digits-utf8 base [] e = utf8-none
-all-digits-utf8 base (d ∷ ds) e = parts-true (C.is-digit-of base d) (all-digits base ds) e λ p q. utf8-byte d ds (digit-bounds base d p .1) (all-digits-utf8 base ds q)
+all-digits-utf8 base (d ∷ ds) e =
+    parts-true (C.is-digit-of base d) (all-digits base ds) e λ p q. utf8-byte d ds (digit-bounds base d p .1)
+    (all-digits-utf8 base ds q)
 
 -- the text of an Integer: digits of its base, or a dash and digits of base 10
 pub record Numeral (base : ℕ) (ds : List ℕ) : Type 0 where
@@ -134,12 +171,22 @@ some-digits : (ds : List ℕ) → 0 < length ds → (b : Bool) → b ≡ true �
 some-digits ds h b e = both-true (lt-ltb 0 (length ds) h) e
 
 pub dash-numeral : (ds : List ℕ) → all-digits 10 ds ≡ true → 0 < length ds → Numeral 10 (45 ∷ ds)
-dash-numeral ds e h = record { tested = some-digits ds h (all-digits 10 ds) e; utf8 = utf8-byte 45 ds (omega arith) (all-digits-utf8 10 ds e) }
+dash-numeral ds e h =
+    record {
+      tested = some-digits ds h (all-digits 10 ds) e;
+      utf8 = utf8-byte 45 ds (omega arith) (all-digits-utf8 10 ds e);
+    }
 
 pub numeral : (base : ℕ) (ds : List ℕ) → all-digits base ds ≡ true → 0 < length ds → Numeral base ds
 unfolding all-digits
 numeral base [] e h = absurd (omega arith)
-numeral base (d ∷ ds) e h = record { tested = rw (and-false (eqb base 10) (eqb d 45) (ne-eqb d 45 (λ z. parts-true (C.is-digit-of base d) (all-digits base ds) e (λ p q. omega (arith, digit-bounds base d p))))) (some-digits (d ∷ ds) h (all-digits base (d ∷ ds)) e); utf8 = all-digits-utf8 base (d ∷ ds) e }
+numeral base (d ∷ ds) e h =
+    record {
+      tested = rw (and-false (eqb base 10) (eqb d 45)
+          (ne-eqb d 45 (λ z. parts-true (C.is-digit-of base d) (all-digits base ds) e
+          (λ p q. omega (arith, digit-bounds base d p))))) (some-digits (d ∷ ds) h (all-digits base (d ∷ ds)) e);
+      utf8 = all-digits-utf8 base (d ∷ ds) e;
+    }
 
 -- no digits at all are the number 0
 pub or-zero-numeral : (base : ℕ) (ds : List ℕ) → C.is-digit-of base 48 ≡ true → all-digits base ds ≡ true → Numeral base (Z.or-zero ds)
@@ -147,13 +194,24 @@ unfolding all-digits
 or-zero-numeral base [] z e = numeral base (48 ∷ []) (both-true z refl) (omega arith)
 or-zero-numeral base (d ∷ ds) z e = numeral base (d ∷ ds) e (omega arith)
 
-pub integer-formed : (base : ℕ) (p : Place) (ds : List ℕ) → base-fits 2 base ≡ true → Numeral base ds → Formed (record { kind = 2; place = p; text = ds; base = base })
-integer-formed base p ds b n = record { low = omega arith; high = omega arith; base = b; textless = λ f. clash f; utf8 = utf8-true ds (n .utf8); integer = n .tested }
+pub integer-formed : (base : ℕ) (p : Place) (ds : List ℕ) → base-fits 2 base ≡ true → Numeral base ds
+    → Formed (record { kind = 2; place = p; text = ds; base = base })
+integer-formed base p ds b n =
+    record {
+      low = omega arith;
+      high = omega arith;
+      base = b;
+      textless = λ f. clash f;
+      utf8 = utf8-true ds (n .utf8);
+      integer = n .tested;
+    }
 
 pub digits-all : (base : ℕ) (cs : List Ch) → all-digits base (digits base cs .text) ≡ true
 unfolding digits all-digits
 digits-all base [] = refl
-digits-all base (c ∷ cs) = chosen (λ (s : Span). all-digits base (s .text) ≡ true) (C.is-digit-of base (c .byte)) _ _ (λ e. both-true e (digits-all base cs)) (λ _. refl)
+digits-all base (c ∷ cs) =
+    chosen (λ (s : Span). all-digits base (s .text) ≡ true) (C.is-digit-of base (c .byte)) _ _
+    (λ e. both-true e (digits-all base cs)) (λ _. refl)
 
 pub digit-first : (d : ℕ) (ds : List ℕ) → C.is-digit d ≡ true → all-digits 10 ds ≡ true → all-digits 10 (d ∷ ds) ≡ true
 unfolding all-digits

@@ -51,8 +51,14 @@ stays s₀ (peek k) s h = stays s₀ (k (head (s .left))) s h
 stays s₀ (take r k) s h = λ _. stays s₀ (k (head (s .left))) (advance r s) (omega (arith, tail-le (s .left)))
 stays s₀ (make e m) s h = λ _. stays s₀ m (push e s) h
 stays s₀ (if_then_else_ b m n) s h = (λ e. stays s₀ m s h, λ e. stays s₀ n s h)
-stays s₀ (call g k) s h = (λ x s′ l p. stays s₀ (k (ok x)) s′ (omega (arith, later-left l)), λ es s′ l p. stays s₀ (k (fatal es)) s′ (omega (arith, later-left l)))
-stays s₀ (loop g k) s h = to-each g (λ a. (s′ : St) → Later s s′ → L g s a s′ → wp G L R M (k a) (λ a s′. Shorter s₀ s′) s′) (λ a s′ l p. stays s₀ (k a) s′ (omega (arith, later-left l)))
+stays s₀ (call g k) s h = (
+  λ x s′ l p. stays s₀ (k (ok x)) s′ (omega (arith, later-left l)),
+  λ es s′ l p. stays s₀ (k (fatal es)) s′
+      (omega (arith, later-left l)),
+)
+stays s₀ (loop g k) s h =
+    to-each g (λ a. (s′ : St) → Later s s′ → L g s a s′ → wp G L R M (k a) (λ a s′. Shorter s₀ s′) s′)
+    (λ a s′ l p. stays s₀ (k a) s′ (omega (arith, later-left l)))
 stays s₀ panic s h = tt
 
 -- the first thing that an act does, where a token is there, is to read it or to make a call
@@ -76,15 +82,44 @@ reads s (call g k) e r = (λ x s′ l p. stays s (k (ok x)) s′ (p e), λ es s�
 reads s (loop g k) e r = absurd r
 reads s panic e r = tt
 
-given : {A : Type 0} (Q : A → St → Type 0) (m : Act A) (s : St) (b : Bool) → (b ≡ false → wp G L R M m Q s) → wp G L R M m (λ a s′. b ≡ false → Q a s′) s
+given : {A : Type 0} (Q : A → St → Type 0) (m : Act A) (s : St) (b : Bool) → (b ≡ false → wp G L R M m Q s)
+    → wp G L R M m (λ a s′. b ≡ false → Q a s′) s
 given Q m s true h = wp-always G L R M (λ a s′. true ≡ false → Q a s′) m s (λ a s′ e. clash e)
 given Q m s false h = wp-mono G L R M Q (λ a s′. false ≡ false → Q a s′) m s (λ a s′ q e. q) (h refl)
 
 reads-first : (g : Goal) → Reads (rule g)
 unfolding type-rule unary-rule expression-rule statement-rule _>>=_ parse-body expression-statement parse-comparison P.parse-bitwise-or P.parse-bitwise-xor P.parse-bitwise-and P.parse-bit-shift P.parse-add-sub P.parse-mul P.parse-cast prefix parse-call parse-sizeof parse-field-access-or-index parse-atom P.parse-group
-reads-first Statement = λ t e. (λ _. tt, λ _. (λ _. tt, λ _. (λ _. tt, λ _. (λ _. tt, λ _. (λ _. tt, λ _. (λ _. tt, λ _. (λ _. tt, λ _. (λ _. tt, λ _. (λ d. never-both d e, λ _. tt)))))))))
+reads-first Statement =
+    λ t e. (
+      λ _. tt,
+      λ _. (
+        λ _. tt,
+        λ _. (
+          λ _. tt,
+          λ _.
+              (λ _. tt, λ _. (λ _. tt, λ _. (λ _. tt, λ _. (λ _. tt, λ _. (λ _. tt, λ _. (λ d. never-both d e, λ _. tt)))))),
+        ),
+      ),
+    )
 reads-first Expression = tt
-reads-first Unary = λ t e. (λ _. tt, λ _. (λ _. tt, λ _. (λ _. tt, λ _. (λ _. tt, λ _. λ t e. (λ _. tt, λ _. λ t e. (λ _. tt, λ _. (λ _. tt, λ _. (λ _. tt, λ _. (λ _. tt, λ _. (λ _. tt, λ _. (λ _. tt, λ _. tt)))))))))))
+reads-first Unary =
+    λ t e. (
+      λ _. tt,
+      λ _. (
+        λ _. tt,
+        λ _. (
+          λ _. tt,
+          λ _. (
+            λ _. tt,
+            λ _. λ t e. (
+              λ _. tt,
+              λ _. λ t e.
+                  (λ _. tt, λ _. (λ _. tt, λ _. (λ _. tt, λ _. (λ _. tt, λ _. (λ _. tt, λ _. (λ _. tt, λ _. tt)))))),
+            ),
+          ),
+        ),
+      ),
+    )
 reads-first Type' = tt
 
 pub rules : (g : Goal) (s : St) → wp G L R M (rule g) (G g s) s

@@ -6,7 +6,7 @@ use native.Mathlib.Omega.{arith}
 use lib.ListN.{length, length-append}
 use Rattle.definition.specs.Fallible.{Err}
 use Rattle.definition.specs.Token.{Tok, tail}
-use Rattle.definition.specs.Act.{Role, Consumed, St, Res, gives, refused, now-read, advance, push}
+use Rattle.definition.specs.Act.{Role, plain, Consumed, St, Res, gives, refused, now-read, advance, push}
 
 abbrev pub toks : List Consumed → List Tok
 toks cs = map (λ c. c .tok) cs
@@ -26,7 +26,10 @@ later-trans {s} {t} {u} p q = record {
   eaten = p .eaten ++ q .eaten;
   made = p .made ++ q .made;
   read = q .read ∙ ap (λ (x : List Consumed). x ++ q .eaten) (p .read) ∙ append-assoc (s .read) (p .eaten) (q .eaten);
-  left = p .left ∙ ap (λ (x : List Tok). toks (p .eaten) ++ x) (q .left) ∙ sym (append-assoc (toks (p .eaten)) (toks (q .eaten)) (u .left)) ∙ ap (λ (x : List Tok). x ++ u .left) (sym (map-append (λ (c : Consumed). c .tok) (p .eaten) (q .eaten)));
+  left =
+      p .left ∙ ap (λ (x : List Tok). toks (p .eaten) ++ x) (q .left)
+      ∙ sym (append-assoc (toks (p .eaten)) (toks (q .eaten)) (u .left))
+      ∙ ap (λ (x : List Tok). x ++ u .left) (sym (map-append (λ (c : Consumed). c .tok) (p .eaten) (q .eaten)));
   full = q .full ∙ ap (λ (x : List Err). x ++ q .made) (p .full) ∙ append-assoc (s .full) (p .made) (q .made);
 }
 
@@ -35,10 +38,21 @@ one-read r [] = refl
 one-read r (t ∷ ts) = refl
 
 pub later-advance : (r : Tok → Role) (s : St) → Later s (advance r s)
-later-advance r s = record { eaten = now-read r (s .left); made = []; read = refl; left = one-read r (s .left); full = sym (append-nil (s .full)) }
+later-advance r s =
+    record {
+      eaten = now-read r (s .left);
+      made = [];
+      read = refl;
+      left = one-read r (s .left);
+      full = sym (append-nil (s .full));
+    }
 
 pub later-push : (e : Err) (s : St) → Later s (push e s)
 later-push e s = record { eaten = []; made = e ∷ []; read = sym (append-nil (s .read)); left = refl; full = refl }
+
+-- a token is read, with no role of its own
+abbrev pub next-state : St → St
+next-state s = advance (λ _. plain) s
 
 -- the tokens left never grow in number, the errors made never fall
 pub later-left : {s s′ : St} → Later s s′ → length (s′ .left) ≤ length (s .left)

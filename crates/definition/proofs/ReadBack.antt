@@ -40,7 +40,13 @@ token-behind before ws i l = λ x. record {
 }
 
 error-behind : (before ws : List ℕ) (i : ℕ) → length before ≡ 4 * i → error-at (before ++ ws) i ≡ error-at ws 0
-error-behind before ws i l = λ x. record { number = word-behind before ws (4 * i) 0 (omega arith) x; line = word-behind before ws (4 * i + 1) 1 (omega arith) x; column = word-behind before ws (4 * i + 2) 2 (omega arith) x; fourth = word-behind before ws (4 * i + 3) 3 (omega arith) x }
+error-behind before ws i l =
+    λ x. record {
+      number = word-behind before ws (4 * i) 0 (omega arith) x;
+      line = word-behind before ws (4 * i + 1) 1 (omega arith) x;
+      column = word-behind before ws (4 * i + 2) 2 (omega arith) x;
+      fourth = word-behind before ws (4 * i + 3) 3 (omega arith) x;
+    }
 
 -- a list in three parts: the second's front goes to the first
 regroup : (before xs ys rest : List ℕ) → before ++ ((xs ++ ys) ++ rest) ≡ (before ++ xs) ++ (ys ++ rest)
@@ -60,7 +66,17 @@ errors-length (e ∷ es) = omega (arith, errors-length es)
 
 -- the record of a token whose text has n bytes before it
 abbrev words : ℕ → Tok → TokenWords
-words n t = record { kind = t .kind; line = t .place .line; column = t .place .column; start = pick (has-text (t .kind)) n 0; size = length (t .text); base = t .base; seventh = 0; eighth = 0 }
+words n t =
+    record {
+      kind = t .kind;
+      line = t .place .line;
+      column = t .place .column;
+      start = pick (has-text (t .kind)) n 0;
+      size = length (t .text);
+      base = t .base;
+      seventh = 0;
+      eighth = 0;
+    }
 
 line-fits : (p : Place) → Placed 1 p → between 1 16384 (p .line) ≡ true
 line-fits p h = between-true (h .line-low) (omega arith)
@@ -69,7 +85,8 @@ column-fits : (p : Place) → Placed 1 p → between 1 16384 (p .column) ≡ tru
 column-fits p h = between-true (h .column-low) (omega arith)
 
 -- in the text slice, behind n bytes
-module _ (t : Tok) (g : Good t) (text before rest : List ℕ) (n : ℕ) (e : text ≡ before ++ (t .text ++ rest)) (l : length before ≡ n) (m : n + length (t .text) ≤ 16384) where
+module _ (t : Tok) (g : Good t) (text before rest : List ℕ) (n : ℕ) (e : text ≡ before ++ (t .text ++ rest))
+    (l : length before ≡ n) (m : n + length (t .text) ≤ 16384) where
   part-is : part text (words n t) ≡ t .text
   part-is = go (has-text (t .kind)) (g .formed .textless)
     where
@@ -83,14 +100,23 @@ module _ (t : Tok) (g : Good t) (text before rest : List ℕ) (n : ℕ) (e : tex
       long : length text ≡ n + (length (t .text) + length rest)
       long = rw e (simp length-append (omega arith))
 
-      go : (b : Bool) → (b ≡ false → t .text ≡ []) → pick b (leb (pick b n 0 + length (t .text)) 16384 && leb (pick b n 0 + length (t .text)) (length text) && utf8 (part text (words n t))) (eqb (pick b n 0) 0 && eqb (length (t .text)) 0) ≡ true
-      go true f = both-true (both-true (le-leb _ _ m) (le-leb (n + length (t .text)) (length text) (omega (arith, long)))) (rw part-is (g .formed .utf8))
+      go : (b : Bool) → (b ≡ false → t .text ≡ [])
+          → pick b
+          (leb (pick b n 0 + length (t .text)) 16384 && leb (pick b n 0 + length (t .text)) (length text) && utf8
+          (part text (words n t))) (eqb (pick b n 0) 0 && eqb (length (t .text)) 0)
+          ≡ true
+      go true f =
+          both-true
+          (both-true (le-leb _ _ m) (le-leb (n + length (t .text)) (length text) (omega (arith, long))))
+          (rw part-is (g .formed .utf8))
       go false f = rw (f refl)
 
   alone : good-alone text (words n t) ≡ true
   unfolding good-alone
   alone =
-      both-true (both-true (both-true (both-true (both-true (both-true (both-true (between-true (g .formed .low) (g .formed .high)) (line-fits (t .place) (g .placed))) (column-fits (t .place) (g .placed))) (g .formed .base)) refl) refl) fits)
+      both-true (both-true (both-true (both-true (both-true
+      (both-true (both-true (between-true (g .formed .low) (g .formed .high)) (line-fits (t .place) (g .placed)))
+      (column-fits (t .place) (g .placed))) (g .formed .base)) refl) refl) fits)
       (rw part-is (g .formed .integer))
 
   token-is : token-of text (words n t) ≡ t
@@ -113,37 +139,64 @@ text-ends t n e h = go (has-text (t .kind))
 -- ---- all tokens
 
 -- a record that is read and good
-token-step : (ws text : List ℕ) (p : Place) (e i m : ℕ) (w : TokenWords) → words-at ws i ≡ w → good-alone text w ≡ true → good-behind p e w ≡ true → tokens-of ws text p e i (suc m) ≡ token-before (token-of text w) (tokens-of ws text (place-of w) (text-end e w) (suc i) m)
+token-step : (ws text : List ℕ) (p : Place) (e i m : ℕ) (w : TokenWords) → words-at ws i ≡ w → good-alone text w ≡ true
+    → good-behind p e w ≡ true
+    → tokens-of ws text p e i (suc m)
+    ≡ token-before (token-of text w) (tokens-of ws text (place-of w) (text-end e w) (suc i) m)
 unfolding tokens-of
-token-step ws text p e i m w q a b = subst (λ (w : TokenWords). good-alone text w ≡ true → good-behind p e w ≡ true → tokens-of ws text p e i (suc m) ≡ token-before (token-of text w) (tokens-of ws text (place-of w) (text-end e w) (suc i) m)) q (λ a b. rw (tokens-of, both-true a b)) a b
+token-step ws text p e i m w q a b =
+    subst
+    (λ (w : TokenWords). good-alone text w ≡ true → good-behind p e w ≡ true → tokens-of ws text p e i (suc m)
+    ≡ token-before (token-of text w) (tokens-of ws text (place-of w) (text-end e w) (suc i) m)) q
+    (λ a b. rw (tokens-of, both-true a b)) a b
 
 -- The tokens of records from the i-th on, and texts behind n bytes: those that were written. The former token's place is p, its text ends at e.
 module _ (ws text : List ℕ) where
-  tokens-back : (ts : List Tok) (p : Place) (e n i : ℕ) (before rest before′ rest′ : List ℕ) → ws ≡ before ++ (tokens-words n ts ++ rest) → length before ≡ 8 * i → text ≡ before′ ++ (tokens-text ts ++ rest′) → length before′ ≡ n → e ≤ n → n + texts ts ≤ 16384 → Behind p ts → All Good ts
+  tokens-back : (ts : List Tok) (p : Place) (e n i : ℕ) (before rest before′ rest′ : List ℕ)
+      → ws ≡ before ++ (tokens-words n ts ++ rest) → length before ≡ 8 * i
+      → text ≡ before′ ++ (tokens-text ts ++ rest′) → length before′ ≡ n → e ≤ n → n + texts ts ≤ 16384
+      → Behind p ts → All Good ts
       → tokens-of ws text p e i (length ts) ≡ some ts
   unfolding tokens-of tokens-words tokens-text
   tokens-back [] p e n i before rest before′ rest′ w l x k h m b g = refl
   tokens-back (t ∷ ts) p e n i before rest before′ rest′ w l x k h m b g =
-      token-step ws text p e i (length ts) (words n t) (ap (λ (y : List ℕ). words-at y i) w ∙ token-behind before (tokens-words n (t ∷ ts) ++ rest) i l) (alone t (g .0) text before′ (tokens-text ts ++ rest′) n here k (omega arith)) (both-true (b .0) (text-behind t n e h))
+      token-step ws text p e i (length ts) (words n t)
+      (ap (λ (y : List ℕ). words-at y i) w ∙ token-behind before (tokens-words n (t ∷ ts) ++ rest) i l)
+      (alone t (g .0) text before′ (tokens-text ts ++ rest′) n here k (omega arith))
+      (both-true (b .0) (text-behind t n e h))
       ∙ ap₂ token-before (token-is t (g .0) text before′ (tokens-text ts ++ rest′) n here k (omega arith))
-      (tokens-back ts (t .place) (text-end e (words n t)) (n + length (t .text)) (suc i) (before ++ token-words n t) rest (before′ ++ t .text) rest′ (w ∙ regroup before (token-words n t) (tokens-words (n + length (t .text)) ts) rest) (simp length-append (omega arith)) (x ∙ regroup before′ (t .text) (tokens-text ts) rest′) (simp length-append (omega arith)) (text-ends t n e h) (omega arith) (b .1) (g .1))
+      (tokens-back ts (t .place) (text-end e (words n t)) (n + length (t .text)) (suc i)
+      (before ++ token-words n t) rest (before′ ++ t .text) rest′
+      (w ∙ regroup before (token-words n t) (tokens-words (n + length (t .text)) ts) rest)
+      (simp length-append (omega arith)) (x ∙ regroup before′ (t .text) (tokens-text ts) rest′)
+      (simp length-append (omega arith)) (text-ends t n e h) (omega arith) (b .1) (g .1))
     where
       here : text ≡ before′ ++ (t .text ++ (tokens-text ts ++ rest′))
       here = x ∙ ap (λ (y : List ℕ). before′ ++ y) (append-assoc (t .text) (tokens-text ts) rest′)
 
 -- ---- all errors
 
-error-step : (ws : List ℕ) (i m : ℕ) (w : ErrorWords) → error-at ws i ≡ w → good-error w ≡ true → errors-of ws i (suc m) ≡ error-before (error-of w) (errors-of ws (suc i) m)
+error-step : (ws : List ℕ) (i m : ℕ) (w : ErrorWords) → error-at ws i ≡ w → good-error w ≡ true
+    → errors-of ws i (suc m) ≡ error-before (error-of w) (errors-of ws (suc i) m)
 unfolding errors-of
-error-step ws i m w q a = subst (λ (w : ErrorWords). good-error w ≡ true → errors-of ws i (suc m) ≡ error-before (error-of w) (errors-of ws (suc i) m)) q (λ a. rw (errors-of, a)) a
+error-step ws i m w q a =
+    subst (λ (w : ErrorWords). good-error w ≡ true → errors-of ws i (suc m) ≡ error-before (error-of w)
+    (errors-of ws (suc i) m)) q (λ a. rw (errors-of, a)) a
 
-errors-back : (ws : List ℕ) (es : List Err) (i : ℕ) (before rest : List ℕ) → ws ≡ before ++ (errors-words es ++ rest) → length before ≡ 4 * i → All Fault es → errors-of ws i (length es) ≡ some es
+errors-back : (ws : List ℕ) (es : List Err) (i : ℕ) (before rest : List ℕ) → ws ≡ before ++ (errors-words es ++ rest)
+    → length before ≡ 4 * i → All Fault es → errors-of ws i (length es) ≡ some es
 unfolding errors-of errors-words
 errors-back ws [] i before rest w l f = refl
 errors-back ws (e ∷ es) i before rest w l f =
-    error-step ws i (length es) (record { number = e .number; line = e .place .line; column = e .place .column; fourth = 0 }) (ap (λ (y : List ℕ). error-at y i) w ∙ error-behind before (errors-words (e ∷ es) ++ rest) i l)
-    (both-true (both-true (both-true (between-true (f .0 .low) (f .0 .high)) (line-fits (e .place) (f .0 .placed))) (column-fits (e .place) (f .0 .placed))) refl)
-    ∙ ap₂ error-before same (errors-back ws es (suc i) (before ++ words′) rest (w ∙ regroup before words′ (errors-words es) rest) (simp length-append (omega arith)) (f .1))
+    error-step ws i (length es)
+    (record { number = e .number; line = e .place .line; column = e .place .column; fourth = 0 })
+    (ap (λ (y : List ℕ). error-at y i) w ∙ error-behind before (errors-words (e ∷ es) ++ rest) i l)
+    (both-true
+    (both-true (both-true (between-true (f .0 .low) (f .0 .high)) (line-fits (e .place) (f .0 .placed)))
+    (column-fits (e .place) (f .0 .placed))) refl)
+    ∙ ap₂ error-before same
+    (errors-back ws es (suc i) (before ++ words′) rest (w ∙ regroup before words′ (errors-words es) rest)
+    (simp length-append (omega arith)) (f .1))
   where
     words′ : List ℕ
     words′ = e .number ∷ e .place .line ∷ e .place .column ∷ 0 ∷ []
@@ -154,12 +207,18 @@ errors-back ws (e ∷ es) i before rest w l f =
 -- ---- what Tokenise writes, before any words
 
 made-handed : (ts : List Tok) (es : List Err) → Made ts es → (u v w : List ℕ)
-    → handed (tokens-words 0 ts ++ u) (length ts) (errors-words es ++ v) (length es) (tokens-text ts ++ w) ≡ some (record { tokens = ts; errors = es })
+    → handed (tokens-words 0 ts ++ u) (length ts) (errors-words es ++ v) (length es) (tokens-text ts ++ w)
+    ≡ some (record { tokens = ts; errors = es })
 unfolding handed
 made-handed ts es m u v w =
-    ap (λ (x : Bool). elim x as (λ _. Option Handed) [ true ↦ both (tokens-of ws text nowhere 0 0 (length ts)) (errors-of ws′ 0 (length es)) | false ↦ none ])
-    (both-true (both-true (both-true (le-leb (length ts) 2048 (m .tokens)) (le-leb (length es) 255 (m .errors))) (le-leb (8 * length ts) (length ws) (longer (8 * length ts) (tokens-words 0 ts) u (tokens-length 0 ts)))) (le-leb (4 * length es) (length ws′) (longer (4 * length es) (errors-words es) v (errors-length es))))
-    ∙ ap₂ both (tokens-back ws text ts nowhere 0 0 0 [] u [] w refl refl refl refl (omega arith) (omega (arith, m .text)) (m .behind) (m .good)) (errors-back ws′ es 0 [] v refl refl (m .faults))
+    ap (λ (x : Bool). elim x as (λ _. Option Handed)
+    [ true ↦ both (tokens-of ws text nowhere 0 0 (length ts)) (errors-of ws′ 0 (length es)) | false ↦ none ])
+    (both-true (both-true (both-true (le-leb (length ts) 2048 (m .tokens)) (le-leb (length es) 255 (m .errors)))
+    (le-leb (8 * length ts) (length ws) (longer (8 * length ts) (tokens-words 0 ts) u (tokens-length 0 ts))))
+    (le-leb (4 * length es) (length ws′) (longer (4 * length es) (errors-words es) v (errors-length es))))
+    ∙ ap₂ both
+    (tokens-back ws text ts nowhere 0 0 0 [] u [] w refl refl refl refl (omega arith) (omega (arith, m .text))
+    (m .behind) (m .good)) (errors-back ws′ es 0 [] v refl refl (m .faults))
   where
     ws : List ℕ
     ws = tokens-words 0 ts ++ u
@@ -173,6 +232,8 @@ made-handed ts es m u v w =
     longer : (k : ℕ) (xs ys : List ℕ) → length xs ≡ k → k ≤ length (xs ++ ys)
     longer k xs ys e = simp length-append (omega arith)
 
-pub read-back : (bs : List ℕ) (cs : List Ch) (ts : List Tok) (es : List Err) → length bs ≤ 16384 → characters bs ≡ some cs → tokenize cs ≡ Z.tokens ts es → (u v w : List ℕ)
-    → handed (tokens-words 0 ts ++ u) (length ts) (errors-words es ++ v) (length es) (tokens-text ts ++ w) ≡ some (record { tokens = ts; errors = es })
+pub read-back : (bs : List ℕ) (cs : List Ch) (ts : List Tok) (es : List Err) → length bs ≤ 16384 → characters bs ≡ some cs
+    → tokenize cs ≡ Z.tokens ts es → (u v w : List ℕ)
+    → handed (tokens-words 0 ts ++ u) (length ts) (errors-words es ++ v) (length es) (tokens-text ts ++ w)
+    ≡ some (record { tokens = ts; errors = es })
 read-back bs cs ts es h d t u v w = made-handed ts es (subst TokensOf t (script-tokens bs cs h d)) u v w

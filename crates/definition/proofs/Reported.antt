@@ -16,7 +16,9 @@ use Rattle.definition.proofs.Size.{weight, budget, tally, module-size}
 
 -- field by field
 abbrev pub same-error : Err → Err → Bool
-same-error e x = eqb (e .number) (x .number) && (eqb (e .place .line) (x .place .line) && (eqb (e .place .column) (x .place .column) && (eqb (e .expected) (x .expected) && eqb (e .got) (x .got))))
+same-error e x =
+    eqb (e .number) (x .number) && (eqb (e .place .line) (x .place .line)
+    && (eqb (e .place .column) (x .place .column) && (eqb (e .expected) (x .expected) && eqb (e .got) (x .got))))
 
 -- how often the error stands in the list
 abbrev pub times : Err → List Err → ℕ
@@ -24,13 +26,22 @@ times e es = tally (λ x. pick (same-error e x) 1 0) es
 
 -- the test passes for equal errors, and for no others
 pub same-error-equal : (e x : Err) → same-error e x ≡ true → e ≡ x
-same-error-equal e x t = parts-true _ _ t λ n t. parts-true _ _ t λ l t. parts-true _ _ t λ c t. parts-true _ _ t λ k g. equal (eqb-true _ _ n) (eqb-true _ _ l) (eqb-true _ _ c) (eqb-true _ _ k) (eqb-true _ _ g)
+same-error-equal e x t =
+    parts-true _ _ t λ n t. parts-true _ _ t λ l t. parts-true _ _ t λ c t. parts-true _ _ t λ k g. equal
+    (eqb-true _ _ n) (eqb-true _ _ l) (eqb-true _ _ c) (eqb-true _ _ k) (eqb-true _ _ g)
   where
-    equal : e .number ≡ x .number → e .place .line ≡ x .place .line → e .place .column ≡ x .place .column → e .expected ≡ x .expected → e .got ≡ x .got → e ≡ x
+    equal : e .number ≡ x .number → e .place .line ≡ x .place .line → e .place .column ≡ x .place .column
+        → e .expected ≡ x .expected → e .got ≡ x .got → e ≡ x
     equal n l c k g = λ i. record { number = n i; place = record { line = l i; column = c i }; expected = k i; got = g i }
 
 pub same-error-self : (e : Err) → same-error e e ≡ true
-same-error-self e = both-true (eq-eqb (e .number) _ refl) (both-true (eq-eqb (e .place .line) _ refl) (both-true (eq-eqb (e .place .column) _ refl) (both-true (eq-eqb (e .expected) _ refl) (eq-eqb (e .got) _ refl))))
+same-error-self e =
+    both-true (eq-eqb (e .number) _ refl)
+    (both-true (eq-eqb (e .place .line) _ refl) (both-true (eq-eqb (e .place .column) _ refl)
+    (both-true (eq-eqb (e .expected) _ refl) (eq-eqb (e .got) _ refl))))
 
-pub reported-is-made : (e : Err) (ts : List Tok) (i : Items) (s : St) → parse-module ts ≡ gives i s → times e (i .errors) ≤ times e (s .full)
-reported-is-made e ts i s g = subst (After (λ i s′. (weight (i .recs) ≤ budget ts) × (times e (i .errors) ≤ times e (s′ .full)))) g (module-size (λ x. pick (same-error e x) 1 0) ts) .1
+pub reported-is-made : (e : Err) (ts : List Tok) (i : Items) (s : St) → parse-module ts ≡ gives i s
+    → times e (i .errors) ≤ times e (s .full)
+reported-is-made e ts i s g =
+    subst (After (λ i s′. (weight (i .recs) ≤ budget ts) × (times e (i .errors) ≤ times e (s′ .full)))) g
+    (module-size (λ x. pick (same-error e x) 1 0) ts) .1

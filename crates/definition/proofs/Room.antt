@@ -1,23 +1,23 @@
 -- An accepted reading has read every token; and its file has room in 65,536 bytes. Assumes nothing.
 use mathlib.Core.Path.{_≡_, refl, sym, ap, _∙_, subst}
-use mathlib.Core.Bool.{Bool, true, false}
+use mathlib.Core.Bool.{true, false}
 use mathlib.Core.Option.{Option, none, some}
 use mathlib.Core.List.{List, [], _∷_, _++_, append-nil}
 use Prim.Native.Nat.{ℕ, zero, suc, _+_, _*_, _≤_}
 use native.Mathlib.Omega.{arith}
-use lib.Dec.{ltb, T, ltb→lt}
+use lib.Dec.{ltb, ltb→lt}
 use lib.ListN.{length, length-append}
 use Rattle.definition.specs.Kind as K
 use Rattle.definition.specs.Source.{Place}
 use Rattle.definition.specs.Node.{Num, byte, two, eight, Rec, at-place, nums-bytes, rec-bytes, recs-bytes}
 use Rattle.definition.specs.Fallible.{Err, errs-bytes, Ans}
 use Rattle.definition.specs.Token.{Tok, head, _is_}
-use Rattle.definition.specs.Act.{Node, Items, Goal, Loop, Module, Body, ListOf, Operators, Casts, Suffixes, Modifiers, Left, Act, done, peek, take, make, if_then_else_, call, loop, panic, St, Res, gives, refused, advance, push, run}
+use Rattle.definition.specs.Act.{Node, Items, Goal, Loop, Module, Body, ListOf, Operators, Casts, Suffixes, Modifiers, Left, Act, done, peek, take, make, if_then_else_, call, loop, panic, St, Res, gives, advance, push, run}
 use Rattle.definition.specs.Parser as P
 use Rattle.definition.specs.Parser.{rule, turn, loops, parse, parse-module}
 use Rattle.definition.specs.Operations.{whole, file-bytes}
 use Rattle.definition.proofs.Later.{Later, toks, After}
-use Rattle.definition.proofs.Ind.{wp, wp-always, wp-bind, module-ind, join}
+use Rattle.definition.proofs.Ind.{join, limit, wp, wp-always, wp-bind, module-ind}
 use Rattle.definition.proofs.Tests.{is-kind}
 use Rattle.definition.proofs.Size as Z
 use Rattle.definition.proofs.Tokens.{Kinds, texts}
@@ -45,7 +45,11 @@ M e s = Unit {0}
 
 turns : (l : Loop) (s : St) → wp G L R M (turn l) (L l s) s
 unfolding P.module-turn
-turns (Module i) s = (λ e. e, λ _. wp-bind G L R M P.parse-top-level-item _ _ s (wp-always G L R M _ P.parse-top-level-item s (λ a s′ b s″ l q. q)))
+turns (Module i) s = (
+  λ e. e,
+  λ _. wp-bind G L R M P.parse-top-level-item _ _ s
+      (wp-always G L R M _ P.parse-top-level-item s (λ a s′ b s″ l q. q)),
+)
 turns (Body i) s = wp-always G L R M (L (Body i) s) (turn (Body i)) s (λ a s′. tt)
 turns (ListOf k i) s = wp-always G L R M (L (ListOf k i) s) (turn (ListOf k i)) s (λ a s′. tt)
 turns (Operators l e) s = wp-always G L R M (L (Operators l e) s) (turn (Operators l e)) s (λ a s′. tt)
@@ -62,7 +66,9 @@ at-end [] k e = refl
 at-end (t ∷ ts) k e = absurd (omega (arith, is-kind t K.End e, k .0))
 
 pub all-read : (ts : List Tok) → Kinds ts → (i : Items) (s : St) → parse-module ts ≡ gives i s → toks (s .read) ≡ ts
-all-read ts k i s e = go (subst (After (λ i s′. Later s₀ s′ × (head (s′ .left) is K.End ≡ true))) e (module-ind G L R M (λ s. tt) (λ e s. tt) (λ g s. wp-always G L R M (G g s) (rule g) s (λ a s′. tt)) turns ts))
+all-read ts k i s e =
+    go (subst (After (λ i s′. Later s₀ s′ × (head (s′ .left) is K.End ≡ true))) e
+    (module-ind G L R M (λ s. tt) (λ e s. tt) (λ g s. wp-always G L R M (G g s) (rule g) s (λ a s′. tt)) turns ts))
   where
     s₀ : St
     s₀ = record { left = ts; read = []; full = [] }
@@ -75,27 +81,28 @@ all-read ts k i s e = go (subst (After (λ i s′. Later s₀ s′ × (head (s�
 
 -- ---- at most 255 errors
 
-limit : {A : Type 0} (Q : A → St → Type 0) (b : Bool) (r : Res A) → (T b → After Q r) → After Q (elim b as (λ _. Res A) [ true ↦ r | false ↦ refused 12 ])
-limit Q true r h = h tt
-limit Q false r h = tt
-
 abbrev Few : {A : Type 0} → A → St → Type 0
 Few a s = length (s .full) ≤ 255
 
-module _ (c : Goal → St → Res (Ans Node)) (o : (l : Loop) → St → Res (Left l)) (c-few : (g : Goal) (s : St) → length (s .full) ≤ 255 → After Few (c g s)) (o-few : (l : Loop) (s : St) → length (s .full) ≤ 255 → After Few (o l s)) where
+module _ (c : Goal → St → Res (Ans Node)) (o : (l : Loop) → St → Res (Left l))
+    (c-few : (g : Goal) (s : St) → length (s .full) ≤ 255 → After Few (c g s))
+    (o-few : (l : Loop) (s : St) → length (s .full) ≤ 255 → After Few (o l s)) where
   run-few : {A : Type 0} (m : Act A) (s : St) → length (s .full) ≤ 255 → After Few (run c o m s)
   unfolding run
   run-few (done a) s h = h
   run-few (peek k) s h = run-few (k (head (s .left))) s h
   run-few (take r k) s h = run-few (k (head (s .left))) (advance r s) h
-  run-few (make e m) s h = limit Few (ltb (length (s .full)) 255) (run c o m (push e s)) (λ t. run-few m (push e s) (omega (arith, ltb→lt (length (s .full)) 255 t, length-append (s .full) (e ∷ []))))
+  run-few (make e m) s h =
+      limit Few (ltb (length (s .full)) 255) (run c o m (push e s)) (λ t. run-few m (push e s)
+      (omega (arith, ltb→lt (length (s .full)) 255 t, length-append (s .full) (e ∷ []))))
   run-few (if_then_else_ true m n) s h = run-few m s h
   run-few (if_then_else_ false m n) s h = run-few n s h
   run-few (call g k) s h = join Few Few (c g s) (λ a s′. run c o (k a) s′) (c-few g s h) (λ a s′ p. run-few (k a) s′ p)
   run-few (loop g k) s h = join Few Few (o g s) (λ a s′. run c o (k a) s′) (o-few g s h) (λ a s′ p. run-few (k a) s′ p)
   run-few panic s h = tt
 
-loops-few : (c : Goal → St → Res (Ans Node)) → ((g : Goal) (s : St) → length (s .full) ≤ 255 → After Few (c g s)) → (n : ℕ) (l : Loop) (s : St) → length (s .full) ≤ 255 → After Few (loops c n l s)
+loops-few : (c : Goal → St → Res (Ans Node)) → ((g : Goal) (s : St) → length (s .full) ≤ 255 → After Few (c g s))
+    → (n : ℕ) (l : Loop) (s : St) → length (s .full) ≤ 255 → After Few (loops c n l s)
 unfolding loops
 loops-few c f zero l s h = tt
 loops-few c f (suc n) l s h = run-few c (λ m t. loops c n m t) f (λ m t k. loops-few c f n m t k) (turn l) s h
@@ -103,11 +110,17 @@ loops-few c f (suc n) l s h = run-few c (λ m t. loops c n m t) f (λ m t k. loo
 parse-few : (n : ℕ) (g : Goal) (s : St) → length (s .full) ≤ 255 → After Few (parse n g s)
 unfolding parse
 parse-few zero g s h = tt
-parse-few (suc n) g s h = run-few (λ h t. parse n h t) (λ l t. loops (λ h u. parse n h u) (suc (suc (length (t .left)))) l t) (λ g t k. parse-few n g t k) (λ l t k. loops-few (λ h u. parse n h u) (λ h u j. parse-few n h u j) (suc (suc (length (t .left)))) l t k) (rule g) s h
+parse-few (suc n) g s h =
+    run-few (λ h t. parse n h t) (λ l t. loops (λ h u. parse n h u) (suc (suc (length (t .left)))) l t)
+    (λ g t k. parse-few n g t k)
+    (λ l t k. loops-few (λ h u. parse n h u) (λ h u j. parse-few n h u j) (suc (suc (length (t .left)))) l t k)
+    (rule g) s h
 
 module-few : (ts : List Tok) → After Few (parse-module ts)
 unfolding parse-module
-module-few ts = loops-few (λ g s. parse 96 g s) (λ g s h. parse-few 96 g s h) (suc (suc (length ts))) (Module (P.no-items [])) (record { left = ts; read = []; full = [] }) (omega arith)
+module-few ts =
+    loops-few (λ g s. parse 96 g s) (λ g s h. parse-few 96 g s h) (suc (suc (length ts)))
+    (Module (P.no-items [])) (record { left = ts; read = []; full = [] }) (omega arith)
 
 -- ---- lengths
 
@@ -137,20 +150,41 @@ tally-one [] = refl
 tally-one (e ∷ es) = omega (arith, tally-one es)
 
 budget-bound : (ts : List Tok) → Z.budget ts ≤ 16 * length ts + texts ts
+unfolding Z.budget
 budget-bound [] = omega arith
 budget-bound (t ∷ ts) = omega (arith, budget-bound ts)
 
--- the records of a script weigh less than 65,536, and no more errors are reported than made
-pub light : {s o : List ℕ} (a : Accepted s o) → (Z.weight (a .items .recs) ≤ 49152) × (length (a .items .errors) ≤ length (a .last .full)) × (length (a .last .full) ≤ 255)
-light a =
-    let w : (Z.weight (a .items .recs) ≤ Z.budget (a .toks)) × (Z.tally (λ _. 1) (a .items .errors) ≤ Z.tally (λ _. 1) (a .last .full)) = subst (After (λ i s′. (Z.weight (i .recs) ≤ Z.budget (a .toks)) × (Z.tally (λ _. 1) (i .errors) ≤ Z.tally (λ _. 1) (s′ .full)))) (a .parsed) (Z.module-size (λ _. 1) (a .toks)) in
-    let f : length (a .last .full) ≤ 255 = subst (After Few) (a .parsed) (module-few (a .toks)) in
-    (omega (arith, w .0, budget-bound (a .toks), a .made .text, a .made .tokens), omega (arith, w .1, tally-one (a .items .errors), tally-one (a .last .full)), f)
+-- the records weigh less than 65,536, and no more errors are reported than made
+abbrev pub Light : Items → St → Type 0
+Light i s = (Z.weight (i .recs) ≤ 49152) × (length (i .errors) ≤ length (s .full)) × (length (s .full) ≤ 255)
+
+-- of tokens and texts that fit their slices
+pub light-reading : (ts : List Tok) → length ts ≤ 2048 → texts ts ≤ 16384 → (i : Items) (s : St) → parse-module ts ≡ gives i s
+    → Light i s
+light-reading ts n x i s e =
+    let w : Paid i s = subst (After Paid) e (Z.module-size (λ _. 1) ts) in (
+      omega (arith, w .0, budget-bound ts),
+      omega (arith, w .1, tally-one (i .errors), tally-one (s .full)),
+      subst (After Few) e (module-few ts),
+    )
+  where
+    Paid : Items → St → Type 0
+    Paid i s = (Z.weight (i .recs) ≤ Z.budget ts) × (Z.tally (λ _. 1) (i .errors) ≤ Z.tally (λ _. 1) (s .full))
+
+-- and the file has room in 65,536 bytes
+pub file-room : (es : List Err) (i : Items) (s : St) → length es ≤ 255 → Light i s
+    → length (file-bytes es i (s .full)) ≤ 65536
+unfolding file-bytes
+file-room es i s h l =
+    let e = errs-length 0x62 es in
+    let r = errs-length 0x60 (i .errors) in
+    let f = errs-length 0x61 (s .full) in simp length-append (omega (arith, recs-length (i .recs)))
+
+pub light : {s o : List ℕ} (a : Accepted s o) → Light (a .items) (a .last)
+light a = light-reading (a .toks) (a .made .tokens) (a .made .text) (a .items) (a .last) (a .parsed)
 
 -- an accepted script's file has room in 65,536 bytes
 pub room : (s o : List ℕ) → whole s o .number ≡ 0 → whole s o .bytes ≤ 65536
-unfolding file-bytes
 room s o e =
     let a : Accepted s o = accepted s o e in
-    let l : _ = light a in
-    rw (a .bytes) (simp length-append (omega (arith, l .0, l .1, l .2, recs-length (a .items .recs), errs-length 0x62 (a .errors), errs-length 0x60 (a .items .errors), errs-length 0x61 (a .last .full), a .made .errors)))
+    rw (a .bytes) (file-room (a .errors) (a .items) (a .last) (a .made .errors) (light a))

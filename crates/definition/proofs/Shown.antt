@@ -52,7 +52,11 @@ distinct-drop [] ys h = h
 distinct-drop (x ∷ xs) ys h = distinct-drop xs ys (h .1)
 
 pub fresh-later : {p : Place} {s s′ : St} → Later s s′ → Fresh p (s .left) → Fresh p (s′ .left)
-fresh-later {p} {s} {s′} l h = record { apart = apart-drop p (toks (l .eaten)) (s′ .left) (subst (λ (ts : List Tok). Apart p ts) (l .left) (h .apart)) }
+fresh-later {p} {s} {s′} l h =
+    record {
+      apart = apart-drop p (toks (l .eaten)) (s′ .left)
+          (subst (λ (ts : List Tok). Apart p ts) (l .left) (h .apart));
+    }
 
 pub distinct-later : (s s′ : St) → Later s s′ → Distinct (s .left) → Distinct (s′ .left)
 distinct-later s s′ l h = distinct-drop (toks (l .eaten)) (s′ .left) (subst Distinct (l .left) h)
@@ -78,7 +82,9 @@ same-self p = rw (passed (eqb (p .line) (p .line)) (eqb-refl (p .line))) (passed
 pub strip-append : (xs ys : List Consumed) → strip (xs ++ ys) ≡ strip xs ++ strip ys
 unfolding strip
 strip-append [] ys = refl
-strip-append (x ∷ xs) ys = ap (λ (l : List Norm). norm (x .role) (x .tok) ++ l) (strip-append xs ys) ∙ sym (append-assoc (norm (x .role) (x .tok)) (strip xs) (strip ys))
+strip-append (x ∷ xs) ys =
+    ap (λ (l : List Norm). norm (x .role) (x .tok) ++ l) (strip-append xs ys)
+    ∙ sym (append-assoc (norm (x .role) (x .tok)) (strip xs) (strip ys))
 
 -- from s to s′ the tokens ts were read
 pub record Grew (s : St) (ts : List Norm) (s′ : St) : Type 0 where
@@ -96,9 +102,14 @@ pub grew-as : {s u : St} {xs ys : List Norm} → Grew s xs u → xs ≡ ys → G
 grew-as {s} {u} p e = subst (λ (l : List Norm). Grew s l u) e p
 
 -- a token of kind k is read
-pub took : (r : Tok → Role) (k : ℕ) → T (ltb 0 k) → (s : St) → head (s .left) is k ≡ true → Grew s (norm (r (head (tail (s .left)))) (head (s .left))) (advance r s)
+pub took : (r : Tok → Role) (k : ℕ) → T (ltb 0 k) → (s : St) → head (s .left) is k ≡ true
+    → Grew s (norm (r (head (tail (s .left)))) (head (s .left))) (advance r s)
 unfolding strip
-took r k h s i = record { by = strip-append (s .read) (now-read r (s .left)) ∙ ap (λ (l : List Norm). strip (s .read) ++ l) (go (s .left) i) }
+took r k h s i =
+    record {
+      by = strip-append (s .read) (now-read r (s .left))
+          ∙ ap (λ (l : List Norm). strip (s .read) ++ l) (go (s .left) i);
+    }
   where
     go : (ts : List Tok) → head ts is k ≡ true → strip (now-read r ts) ≡ norm (r (head (tail ts))) (head ts)
     go [] i = absurd (not-none k h i)
@@ -115,7 +126,9 @@ and-left false b t = t
 pub symbol-norm : (k : ℕ) → T (is-symbol k) → (t : Tok) → t .kind ≡ k → norm plain t ≡ symbol k ∷ []
 symbol-norm k h t e = rw e (go (ltb 0 k) (is-named k) (eqb k K.Integer) (is-modifier k) h)
   where
-    go : (z a b m : Bool) → T (z && not (a || b || m)) → pick m [] (pick a (named k (t .text)) (pick b (integer (t .base) (t .text)) (symbol k)) ∷ []) ≡ symbol k ∷ []
+    go : (z a b m : Bool) → T (z && not (a || b || m))
+        → pick m [] (pick a (named k (t .text)) (pick b (integer (t .base) (t .text)) (symbol k)) ∷ [])
+        ≡ symbol k ∷ []
     go false a b m h = absurd h
     go true true b m h = absurd h
     go true false true m h = absurd h
@@ -123,11 +136,15 @@ symbol-norm k h t e = rw e (go (ltb 0 k) (is-named k) (eqb k K.Integer) (is-modi
     go true false false false h = refl
 
 pub took-symbol : (k : ℕ) → T (is-symbol k) → (s : St) → head (s .left) is k ≡ true → Grew s (sym1 k) (advance (λ _. plain) s)
-took-symbol k h s i = grew-as (took (λ _. plain) k (and-left (ltb 0 k) _ h) s i) (symbol-norm k h (head (s .left)) (is-kind (head (s .left)) k i))
+took-symbol k h s i =
+    grew-as (took (λ _. plain) k (and-left (ltb 0 k) _ h) s i)
+    (symbol-norm k h (head (s .left)) (is-kind (head (s .left)) k i))
 
 -- `distinct` or `internal`
 pub took-modifier : (k : ℕ) → T (ltb 0 k && is-modifier k) → (s : St) → head (s .left) is k ≡ true → Grew s [] (advance (λ _. plain) s)
-took-modifier k h s i = grew-as (took (λ _. plain) k (and-left (ltb 0 k) _ h) s i) (rw (is-kind (head (s .left)) k i) (go (ltb 0 k) (is-modifier k) _ h))
+took-modifier k h s i =
+    grew-as (took (λ _. plain) k (and-left (ltb 0 k) _ h) s i)
+    (rw (is-kind (head (s .left)) k i) (go (ltb 0 k) (is-modifier k) _ h))
   where
     go : (z m : Bool) (x : List Norm) → T (z && m) → pick m [] x ≡ []
     go true true x h = refl
@@ -137,20 +154,29 @@ took-modifier k h s i = grew-as (took (λ _. plain) k (and-left (ltb 0 k) _ h) s
 abbrev pub is-name : ℕ → Bool
 is-name k = ltb 0 k && (is-named k && not (is-modifier k))
 
-pub took-name : (k : ℕ) → T (is-name k) → (s : St) → head (s .left) is k ≡ true → Grew s (named k (head (s .left) .text) ∷ []) (advance (λ _. plain) s)
-took-name k h s i = grew-as (took (λ _. plain) k (and-left (ltb 0 k) _ h) s i) (rw (is-kind (head (s .left)) k i) (go (ltb 0 k) (is-named k) (is-modifier k) h))
+pub took-name : (k : ℕ) → T (is-name k) → (s : St) → head (s .left) is k ≡ true
+    → Grew s (named k (head (s .left) .text) ∷ []) (advance (λ _. plain) s)
+took-name k h s i =
+    grew-as (took (λ _. plain) k (and-left (ltb 0 k) _ h) s i)
+    (rw (is-kind (head (s .left)) k i) (go (ltb 0 k) (is-named k) (is-modifier k) h))
   where
-    go : (z a m : Bool) → T (z && (a && not m)) → pick m [] (pick a (named k (head (s .left) .text)) (pick (eqb k K.Integer) (integer (head (s .left) .base) (head (s .left) .text)) (symbol k)) ∷ []) ≡ named k (head (s .left) .text) ∷ []
+    go : (z a m : Bool) → T (z && (a && not m))
+        → pick m [] (pick a (named k (head (s .left) .text))
+        (pick (eqb k K.Integer) (integer (head (s .left) .base) (head (s .left) .text)) (symbol k)) ∷ [])
+        ≡ named k (head (s .left) .text) ∷ []
     go true true false h = refl
     go true true true h = absurd h
     go true false m h = absurd h
     go false a m h = absurd h
 
-pub took-integer : (s : St) → head (s .left) is K.Integer ≡ true → Grew s (integer (head (s .left) .base) (head (s .left) .text) ∷ []) (advance (λ _. plain) s)
+pub took-integer : (s : St) → head (s .left) is K.Integer ≡ true
+    → Grew s (integer (head (s .left) .base) (head (s .left) .text) ∷ []) (advance (λ _. plain) s)
 took-integer s i = grew-as (took (λ _. plain) K.Integer tt s i) (rw (is-kind (head (s .left)) K.Integer i) refl)
 
 -- an array's size
-pub took-size : (s : St) → head (s .left) is K.Integer ≡ true → Grew s (sized K.Integer (number (head (s .left) .base) 0 (head (s .left) .text)) ∷ []) (advance (λ _. size) s)
+pub took-size : (s : St) → head (s .left) is K.Integer ≡ true
+    → Grew s (sized K.Integer (number (head (s .left) .base) 0 (head (s .left) .text)) ∷ [])
+    (advance (λ _. size) s)
 took-size s i = grew-as (took (λ _. size) K.Integer tt s i) (rw (is-kind (head (s .left)) K.Integer i) refl)
 
 -- ---- records that show tokens
@@ -166,20 +192,29 @@ pub after0 : (r : Rec) (st : List Entry) → unparse (r ∷ []) st ≡ step r st
 unfolding unparse
 after0 r st = refl
 
-pub after1 : {xs : List Rec} {p : Place} {ts : List Norm} → Shows xs p ts → (r : Rec) (st : List Entry) → unparse (xs ++ (r ∷ [])) st ≡ step r (entry p ts ∷ st)
+pub after1 : {xs : List Rec} {p : Place} {ts : List Norm} → Shows xs p ts → (r : Rec) (st : List Entry)
+    → unparse (xs ++ (r ∷ [])) st ≡ step r (entry p ts ∷ st)
 after1 {xs} h r st = unparse-append xs (r ∷ []) st ∙ after0 r (unparse xs st) ∙ ap (λ (l : List Entry). step r l) (h .on st)
 
-pub shows2 : {xs ys : List Rec} {p q : Place} {ts us : List Norm} → Shows xs p ts → Shows ys q us → (st : List Entry) → unparse (xs ++ ys) st ≡ entry q us ∷ entry p ts ∷ st
-shows2 {xs} {ys} {p} {q} {ts} {us} h k st = unparse-append xs ys st ∙ ap (λ (l : List Entry). unparse ys l) (h .on st) ∙ k .on (entry p ts ∷ st)
+pub shows2 : {xs ys : List Rec} {p q : Place} {ts us : List Norm} → Shows xs p ts → Shows ys q us → (st : List Entry)
+    → unparse (xs ++ ys) st ≡ entry q us ∷ entry p ts ∷ st
+shows2 {xs} {ys} {p} {q} {ts} {us} h k st =
+    unparse-append xs ys st ∙ ap (λ (l : List Entry). unparse ys l) (h .on st) ∙ k .on (entry p ts ∷ st)
 
-pub after2 : {xs ys : List Rec} {p q : Place} {ts us : List Norm} → Shows xs p ts → Shows ys q us → (r : Rec) (st : List Entry) → unparse (xs ++ ys ++ (r ∷ [])) st ≡ step r (entry q us ∷ entry p ts ∷ st)
-after2 {xs} {ys} h k r st = unparse-append (xs ++ ys) (r ∷ []) st ∙ after0 r (unparse (xs ++ ys) st) ∙ ap (λ (l : List Entry). step r l) (shows2 h k st)
+pub after2 : {xs ys : List Rec} {p q : Place} {ts us : List Norm} → Shows xs p ts → Shows ys q us
+    → (r : Rec) (st : List Entry) → unparse (xs ++ ys ++ (r ∷ [])) st ≡ step r (entry q us ∷ entry p ts ∷ st)
+after2 {xs} {ys} h k r st =
+    unparse-append (xs ++ ys) (r ∷ []) st ∙ after0 r (unparse (xs ++ ys) st)
+    ∙ ap (λ (l : List Entry). step r l) (shows2 h k st)
 
-pub after3 : {xs ys zs : List Rec} {p q w : Place} {ts us vs : List Norm} → Shows xs p ts → Shows ys q us → Shows zs w vs → (r : Rec) (st : List Entry)
+pub after3 : {xs ys zs : List Rec} {p q w : Place} {ts us vs : List Norm} → Shows xs p ts → Shows ys q us → Shows zs w vs
+    → (r : Rec) (st : List Entry)
     → unparse (xs ++ ys ++ zs ++ (r ∷ [])) st ≡ step r (entry w vs ∷ entry q us ∷ entry p ts ∷ st)
 after3 {xs} {ys} {zs} {p} {q} {w} {ts} {us} h k j r st =
     unparse-append (xs ++ ys ++ zs) (r ∷ []) st ∙ after0 r (unparse (xs ++ ys ++ zs) st)
-    ∙ ap (λ (l : List Entry). step r l) (unparse-append (xs ++ ys) zs st ∙ ap (λ (l : List Entry). unparse zs l) (shows2 h k st) ∙ j .on (entry q us ∷ entry p ts ∷ st))
+    ∙ ap (λ (l : List Entry). step r l)
+    (unparse-append (xs ++ ys) zs st ∙ ap (λ (l : List Entry). unparse zs l) (shows2 h k st)
+    ∙ j .on (entry q us ∷ entry p ts ∷ st))
 
 -- items: so many entries, with a separator between
 pub record ShowsItems (sep : List Norm) (i : Items) (ts : List Norm) : Type 0 where
@@ -189,7 +224,8 @@ pub items-none : (sep : List Norm) (es : List Err) → ShowsItems sep (P.no-item
 unfolding unparse
 items-none sep es = record { on = λ st. refl }
 
-pub items-more : (sep : List Norm) (i : Items) (x : Fallible Node) {ts us : List Norm} {p : Place} → ShowsItems sep i ts → Shows (x .item .recs) p us → ShowsItems sep (P.integrate i (ok x)) (extend sep (i .count) ts us)
+pub items-more : (sep : List Norm) (i : Items) (x : Fallible Node) {ts us : List Norm} {p : Place} → ShowsItems sep i ts
+    → Shows (x .item .recs) p us → ShowsItems sep (P.integrate i (ok x)) (extend sep (i .count) ts us)
 items-more sep i x {ts} {us} {p} h k = record {
   on = λ st.
       ap (λ (l : List Entry). gather sep (suc (i .count)) l) (unparse-append (i .recs) (x .item .recs) st ∙ k .on (unparse (i .recs) st))
@@ -197,8 +233,13 @@ items-more sep i x {ts} {us} {p} h k = record {
 }
 
 -- with no separator
-pub items-join : (i : Items) (x : Fallible Node) {ts us : List Norm} {p : Place} → ShowsItems [] i ts → Shows (x .item .recs) p us → ShowsItems [] (P.integrate i (ok x)) (ts ++ us)
-items-join i x {ts} {us} h k = record { on = λ st. items-more [] i x h k .on st ∙ ap (λ (l : List Norm). gathered l st) (go (i .count) (ap (λ (g : Gathered). g .toks) (h .on []))) }
+pub items-join : (i : Items) (x : Fallible Node) {ts us : List Norm} {p : Place} → ShowsItems [] i ts
+    → Shows (x .item .recs) p us → ShowsItems [] (P.integrate i (ok x)) (ts ++ us)
+items-join i x {ts} {us} h k =
+    record {
+      on = λ st. items-more [] i x h k .on st ∙ ap (λ (l : List Norm). gathered l st)
+          (go (i .count) (ap (λ (g : Gathered). g .toks) (h .on [])));
+    }
   where
     go : (n : ℕ) → gather [] n (unparse (i .recs) []) .toks ≡ ts → extend [] n ts us ≡ ts ++ us
     go zero e = ap (λ (l : List Norm). l ++ us) e

@@ -9,10 +9,10 @@ use Rattle.definition.specs.Kind as K
 use Rattle.definition.specs.Source.{Place}
 use Rattle.definition.specs.Fallible.{Err, Fallible, Ans}
 use Rattle.definition.specs.Token.{Tok, head, _is_}
-use Rattle.definition.specs.Act.{Node, Items, Goal, Statement, Expression, Unary, Type', Loop, Module, Body, ListOf, Operators, Casts, Suffixes, Modifiers, Listed, Left, Role, plain, Act, done, call, St, advance, _>>=_, _>>?_}
+use Rattle.definition.specs.Act.{Node, Items, Goal, Statement, Expression, Unary, Type', Loop, Module, Body, ListOf, Operators, Casts, Suffixes, Modifiers, Listed, Left, Role, Act, done, call, St, advance, _>>=_, _>>?_}
 use Rattle.definition.specs.Parser as P
 use Rattle.definition.proofs.Strip.{Norm}
-use Rattle.definition.proofs.Later.{Later}
+use Rattle.definition.proofs.Later.{Later, next-state}
 use Rattle.definition.proofs.Ind.{wp, Sure, try-sure}
 use Rattle.definition.proofs.Unparse.{sym1, comma}
 use Rattle.definition.proofs.Shown.{Fresh, Distinct, Grew, _▸_, Shows, ShowsItems}
@@ -36,7 +36,8 @@ pub record Shown (g : Goal) (s : St) (x : Fallible Node) (s′ : St) : Type 0 wh
 pub record Tail (e : Fallible Node) (s : St) (x : Fallible Node) (s′ : St) : Type 0 where
   pub toks : List Norm
   pub grew : Grew s toks s′
-  pub shows : (ts : List Norm) → Fresh (e .item .place) (s .left) → Shows (e .item .recs) (e .item .place) ts → Shows (x .item .recs) (x .item .place) (ts ++ toks)
+  pub shows : (ts : List Norm) → Fresh (e .item .place) (s .left) → Shows (e .item .recs) (e .item .place) ts
+      → Shows (x .item .recs) (x .item .place) (ts ++ toks)
   pub fresh : Fresh (e .item .place) (s .left) → Fresh (x .item .place) (s′ .left)
   pub none : e .errors ≡ [] → x .errors ≡ []
 
@@ -93,17 +94,18 @@ cwp m Q s = wp G L R M m Q s
 
 -- ---- steps
 
-abbrev pub next-state : St → St
-next-state s = advance (λ _. plain) s
-
 -- `expect(..)?`
 pub expects : {B : Type 0} (r : Role) (k : ℕ) (f : Fallible Tok → Act (Ans B)) (Q : Ans B → St → Type 0) (s : St)
-    → (head (s .left) is k ≡ true → Distinct (s .left) → cwp (f (record { item = head (s .left); errors = [] })) Q (advance (λ _. r) s)) → cwp (P.expect-as r k >>? f) Q s
+    → (head (s .left) is k ≡ true → Distinct (s .left)
+    → cwp (f (record { item = head (s .left); errors = [] })) Q (advance (λ _. r) s))
+    → cwp (P.expect-as r k >>? f) Q s
 unfolding _>>=_
 expects r k f Q s h = λ d. (λ i. h i d, λ _. (λ _ m. absurd m, λ _ m. absurd m))
 
 pub identifier : {B : Type 0} (f : Fallible Tok → Act (Ans B)) (Q : Ans B → St → Type 0) (s : St)
-    → (head (s .left) is K.Identifier ≡ true → Distinct (s .left) → cwp (f (record { item = head (s .left); errors = [] })) Q (next-state s)) → cwp (P.expect-identifier >>? f) Q s
+    → (head (s .left) is K.Identifier ≡ true → Distinct (s .left)
+    → cwp (f (record { item = head (s .left); errors = [] })) Q (next-state s))
+    → cwp (P.expect-identifier >>? f) Q s
 unfolding _>>=_
 identifier f Q s h = λ d. (λ i. h i d, λ _. (λ _ m. absurd m, λ _ m. absurd m))
 
@@ -123,4 +125,11 @@ joined p q = rw (p, q)
 
 -- an operand and the loop that goes on with it
 pub goes-on : (s t u : St) (e x : Fallible Node) → Shown Expression s e t → Tail e t x u → Shown Expression s x u
-goes-on s t u e x p q = record { toks = p .toks ++ q .toks; grew = p .grew ▸ q .grew; shows = q .shows (p .toks) (p .extra) (p .shows); none = q .none (p .none); extra = q .fresh (p .extra) }
+goes-on s t u e x p q =
+    record {
+      toks = p .toks ++ q .toks;
+      grew = p .grew ▸ q .grew;
+      shows = q .shows (p .toks) (p .extra) (p .shows);
+      none = q .none (p .none);
+      extra = q .fresh (p .extra);
+    }

@@ -1,24 +1,24 @@
 -- Two facts of every call and loop. The records of a tree take at most 16 bytes for each token, and the tokens' texts. The errors that are reported are among those made, none more often
 -- than it was made: so for the sum over any weights of errors, `f`. Assumes nothing.
 use mathlib.Core.Path.{_≡_, refl}
-use mathlib.Core.Bool.{false}
 use mathlib.Core.Option.{Option, none, some}
 use mathlib.Core.List.{List, [], _∷_, _++_}
-use Prim.Native.Nat.{ℕ, zero, suc, _+_, _*_, _-_, _≤_, _<_, min}
+use Prim.Native.Nat.{ℕ, _+_, _*_, _-_, _≤_, _<_}
 use native.Mathlib.Omega.{arith}
-use lib.Dec.{eqb}
 use lib.ListN.{length}
 use Rattle.definition.specs.Ascii.{ascii}
 use Rattle.definition.specs.Source.{Place}
 use Rattle.definition.specs.Node.{Num, byte, two, eight, Rec}
 use Rattle.definition.specs.Fallible.{Err, Fallible, Ans, ok, fatal}
-use Rattle.definition.specs.Token.{Tok, head, tail, _is_}
-use Rattle.definition.specs.Act.{Node, Items, Goal, Statement, Expression, Unary, Type', Loop, Module, Body, ListOf, Operators, Casts, Suffixes, Modifiers, Listed, Parameters, Arguments, StructFields, ArrayValues, StructValues, Level, BitOr, BitXor, BitAnd, Shift, AddSub, Mul, Left, Words, Act, St, advance, push, plain, next, done, _>>=_, _>>?_}
+use Rattle.definition.specs.Token.{Tok, head, tail}
+use Rattle.definition.specs.Cost.{cost}
+unfoldable pub use Rattle.definition.specs.Cost.{spend as budget}
+use Rattle.definition.specs.Act.{Node, Items, Goal, Statement, Expression, Unary, Type', Loop, Module, Body, ListOf, Operators, Casts, Suffixes, Modifiers, Listed, Parameters, Arguments, StructFields, ArrayValues, StructValues, Level, Left, Words, Act, St, push, next, done, _>>=_, _>>?_}
 use Rattle.definition.specs.Parser as P
 use Rattle.definition.specs.Parser.{rule, turn, statement-rule, expression-rule, unary-rule, type-rule, list-turn, body-turn, module-turn, operators-turn, casts-turn, suffixes-turn, modifiers-turn, Typed, parse, parse-module}
-use Rattle.definition.proofs.Tests.{clash, is-kind}
-use Rattle.definition.proofs.Later.{Later, After, weaken}
-use Rattle.definition.proofs.Ind.{wp, wp-mono, follow, try, parse-ind, module-ind}
+use Rattle.definition.proofs.Tests.{is-kind, not-end}
+use Rattle.definition.proofs.Later.{Later, next-state, After, weaken}
+use Rattle.definition.proofs.Ind.{EachAns, mapping-positive, comparisons-positive, wp, wp-mono, follow, try, via, wp-find, wp-bitwise-or, wp-cascade, parse-ind, module-ind}
 
 abbrev pub place-size : Option Place → ℕ
 place-size none = 0
@@ -43,29 +43,16 @@ weight-append : (xs ys : List Rec) → weight (xs ++ ys) ≡ weight xs + weight 
 weight-append [] ys = omega arith
 weight-append (x ∷ xs) ys = omega (arith, weight-append xs ys)
 
-abbrev pub cost : Tok → ℕ
-cost t = 16 * min (t .kind) 1 + length (t .text)
-
-abbrev pub budget : List Tok → ℕ
-budget [] = 0
-budget (t ∷ ts) = cost t + budget ts
-
 abbrev R : St → Type 0
 R s = cost (head (s .left)) + budget (tail (s .left)) ≡ budget (s .left)
 
 r-ok : (ts : List Tok) → cost (head ts) + budget (tail ts) ≡ budget ts
+unfolding budget
 r-ok [] = refl
 r-ok (t ∷ ts) = refl
 
 abbrev M : Err → St → Type 0
 M e s = Unit {0}
-
-not-end : (t : Tok) → t is 0 ≡ false → 0 < t .kind
-not-end t e = go (t .kind) e
-  where
-    go : (k : ℕ) → eqb k 0 ≡ false → 0 < k
-    go zero e = clash e
-    go (suc k) e = omega arith
 
 module _ (f : Err → ℕ) where
   abbrev pub tally : List Err → ℕ
@@ -80,38 +67,56 @@ module _ (f : Err → ℕ) where
 
   -- k bytes are spared
   abbrev Post : ℕ → St → Ans Node → St → Type 0
-  Post k s (ok x) s′ = (weight (x .item .recs) + k + budget (s′ .left) ≤ budget (s .left)) × (tally (x .errors) + tally (s .full) ≤ tally (s′ .full))
+  Post k s (ok x) s′ =
+      (weight (x .item .recs) + k + budget (s′ .left) ≤ budget (s .left))
+      × (tally (x .errors) + tally (s .full) ≤ tally (s′ .full))
   Post k s (fatal es) s′ = (budget (s′ .left) ≤ budget (s .left)) × (tally es + tally (s .full) ≤ tally (s′ .full))
 
   -- at most k bytes more than the tokens read pay for
   abbrev Over : ℕ → St → Ans Node → St → Type 0
-  Over k s (ok x) s′ = (weight (x .item .recs) + budget (s′ .left) ≤ k + budget (s .left)) × (tally (x .errors) + tally (s .full) ≤ tally (s′ .full))
+  Over k s (ok x) s′ =
+      (weight (x .item .recs) + budget (s′ .left) ≤ k + budget (s .left))
+      × (tally (x .errors) + tally (s .full) ≤ tally (s′ .full))
   Over k s (fatal es) s′ = (budget (s′ .left) ≤ budget (s .left)) × (tally es + tally (s .full) ≤ tally (s′ .full))
 
   -- of a function whose parameters and return type are read, at most k bytes more
   abbrev Built : ℕ → Items → Fallible Node → St → Ans Node → St → Type 0
-  Built k ps r s (ok x) s′ = (weight (x .item .recs) + budget (s′ .left) ≤ k + weight (ps .recs) + weight (r .item .recs) + budget (s .left)) × (tally (x .errors) + tally (s .full) ≤ tally (r .errors) + tally (ps .errors) + tally (s′ .full))
+  Built k ps r s (ok x) s′ =
+      (weight (x .item .recs) + budget (s′ .left) ≤ k + weight (ps .recs) + weight (r .item .recs) + budget
+      (s .left))
+      × (tally (x .errors) + tally (s .full) ≤ tally (r .errors) + tally (ps .errors) + tally (s′ .full))
   Built k ps r s (fatal es) s′ = (budget (s′ .left) ≤ budget (s .left)) × (tally es + tally (s .full) ≤ tally (s′ .full))
 
   abbrev PostTyped : St → Ans Typed → St → Type 0
-  PostTyped s (ok x) s′ = (weight (x .item .type) + length (x .item .name) + 16 + budget (s′ .left) ≤ budget (s .left)) × (tally (x .errors) + tally (s .full) ≤ tally (s′ .full))
+  PostTyped s (ok x) s′ =
+      (weight (x .item .type) + length (x .item .name) + 16 + budget (s′ .left) ≤ budget (s .left))
+      × (tally (x .errors) + tally (s .full) ≤ tally (s′ .full))
   PostTyped s (fatal es) s′ = (budget (s′ .left) ≤ budget (s .left)) × (tally es + tally (s .full) ≤ tally (s′ .full))
 
   abbrev PostTyped′ : St → Ans Typed → St → Type 0
-  PostTyped′ s (ok x) s′ = (weight (x .item .type) + length (x .item .name) + 13 + budget (s′ .left) ≤ budget (s .left)) × (tally (x .errors) + tally (s .full) ≤ tally (s′ .full))
+  PostTyped′ s (ok x) s′ =
+      (weight (x .item .type) + length (x .item .name) + 13 + budget (s′ .left) ≤ budget (s .left))
+      × (tally (x .errors) + tally (s .full) ≤ tally (s′ .full))
   PostTyped′ s (fatal es) s′ = (budget (s′ .left) ≤ budget (s .left)) × (tally es + tally (s .full) ≤ tally (s′ .full))
 
   -- of the name that is read already
   abbrev PostNamed : List ℕ → List Err → St → Ans Typed → St → Type 0
-  PostNamed name es s (ok x) s′ = (weight (x .item .type) + 16 + budget (s′ .left) ≤ budget (s .left)) × (tally (x .errors) + tally (s .full) ≤ tally es + tally (s′ .full)) × (length (x .item .name) ≡ length name)
+  PostNamed name es s (ok x) s′ =
+      (weight (x .item .type) + 16 + budget (s′ .left) ≤ budget (s .left))
+      × (tally (x .errors) + tally (s .full) ≤ tally es + tally (s′ .full))
+      × (length (x .item .name) ≡ length name)
   PostNamed name es s (fatal es′) s′ = (budget (s′ .left) ≤ budget (s .left)) × (tally es′ + tally (s .full) ≤ tally (s′ .full))
 
   abbrev PostItems : Items → St → Items → St → Type 0
-  PostItems i s a s′ = (weight (a .recs) + budget (s′ .left) ≤ weight (i .recs) + budget (s .left)) × (tally (a .errors) + tally (s .full) ≤ tally (i .errors) + tally (s′ .full))
+  PostItems i s a s′ =
+      (weight (a .recs) + budget (s′ .left) ≤ weight (i .recs) + budget (s .left))
+      × (tally (a .errors) + tally (s .full) ≤ tally (i .errors) + tally (s′ .full))
 
   -- a list, or a body, and the token that opens it
   abbrev PostOpened : St → Items → St → Type 0
-  PostOpened s a s′ = (weight (a .recs) + cost (head (s .left)) + budget (s′ .left) ≤ budget (s .left)) × (tally (a .errors) + tally (s .full) ≤ tally (s′ .full))
+  PostOpened s a s′ =
+      (weight (a .recs) + cost (head (s .left)) + budget (s′ .left) ≤ budget (s .left))
+      × (tally (a .errors) + tally (s .full) ≤ tally (s′ .full))
 
   abbrev spare : Goal → ℕ
   spare Statement = 0
@@ -123,7 +128,9 @@ module _ (f : Err → ℕ) where
   G g s a s′ = Post (spare g) s a s′
 
   abbrev From : Fallible Node → St → Ans Node → St → Type 0
-  From e s (ok x) s′ = (weight (x .item .recs) + budget (s′ .left) ≤ weight (e .item .recs) + budget (s .left)) × (tally (x .errors) + tally (s .full) ≤ tally (e .errors) + tally (s′ .full))
+  From e s (ok x) s′ =
+      (weight (x .item .recs) + budget (s′ .left) ≤ weight (e .item .recs) + budget (s .left))
+      × (tally (x .errors) + tally (s .full) ≤ tally (e .errors) + tally (s′ .full))
   From e s (fatal es) s′ = (budget (s′ .left) ≤ budget (s .left)) × (tally es + tally (s .full) ≤ tally (s′ .full))
 
   abbrev L : (l : Loop) → St → Left l → St → Type 0
@@ -138,21 +145,6 @@ module _ (f : Err → ℕ) where
   abbrev wp′ : {A : Type 0} → Act A → (A → St → Type 0) → St → Type 0
   wp′ m Q s = wp G L R M m Q s
 
-  -- a lemma on an act, for another statement
-  via : {A : Type 0} (m : Act (Ans A)) (P Q : Ans A → St → Type 0) (s : St) → wp′ m P s → ((x : Fallible A) (s′ : St) → P (ok x) s′ → Q (ok x) s′) → ((es : List Err) (s′ : St) → P (fatal es) s′ → Q (fatal es) s′) → wp′ m Q s
-  via {A} m P Q s w h e = wp-mono G L R M P Q m s go w
-    where
-      go : (a : Ans A) (s′ : St) → P a s′ → Q a s′
-      go (ok x) s′ p = h x s′ p
-      go (fatal es) s′ p = e es s′ p
-
-  tries : {A B : Type 0} (m : Act (Ans A)) (f : Fallible A → Act (Ans B)) (P : Ans A → St → Type 0) (Q : Ans B → St → Type 0) (s : St)
-      → wp′ m P s → ((x : Fallible A) (s′ : St) → P (ok x) s′ → wp′ (f x) Q s′) → ((es : List Err) (s′ : St) → P (fatal es) s′ → Q (fatal es) s′) → wp′ (m >>? f) Q s
-  tries m f P Q s w h e = try G L R M m f P Q s w h e
-
-  follows : {A B : Type 0} (m : Act A) (f : A → Act B) (P : A → St → Type 0) (Q : B → St → Type 0) (s : St) → wp′ m P s → ((a : A) (s′ : St) → P a s′ → wp′ (f a) Q s′) → wp′ (m >>= f) Q s
-  follows m f P Q s w h = follow G L R M m f P Q s w (λ a s′ l p. h a s′ p)
-
   typed-size : (name : List ℕ) (es : List Err) (s : St) → wp′ (P.typed name es) (λ a s′. PostNamed name es s a s′) s
   unfolding P.typed _>>=_
   typed-size name es s = simp sums (omega (arith, is-kind))
@@ -160,12 +152,19 @@ module _ (f : Err → ℕ) where
   typed-identifier-size : (s : St) → wp′ P.parse-typed-identifier (PostTyped s) s
   unfolding P.parse-typed-identifier ascii
   typed-identifier-size s = λ r. (
-    λ i. named (head (s .left) .text) [] (advance (λ _. plain) s) (omega (arith, is-kind)) (omega arith),
-    λ n. (λ i m. simp sums (omega (arith, is-kind)), λ e m. named (ascii "<?>") _ (push _ (advance (λ _. plain) s)) (omega (arith, is-kind, not-end)) (simp sums (omega arith))),
+    λ i. named (head (s .left) .text) [] (next-state s) (omega (arith, is-kind)) (omega arith),
+    λ n. (
+      λ i m. simp sums (omega (arith, is-kind)),
+      λ e m. named (ascii "<?>") _ (push _ (next-state s))
+          (omega (arith, is-kind, not-end)) (simp sums (omega arith)),
+    ),
   )
     where
-      named : (name : List ℕ) (es : List Err) (t : St) → length name + 0 + budget (t .left) ≤ budget (s .left) → tally es + tally (s .full) ≤ tally (t .full) → wp′ (P.typed name es) (PostTyped s) t
-      named name es t b c = via (P.typed name es) (PostNamed name es t) (PostTyped s) t (typed-size name es t) (omega arith) (omega arith)
+      named : (name : List ℕ) (es : List Err) (t : St) → length name + 0 + budget (t .left) ≤ budget (s .left)
+          → tally es + tally (s .full) ≤ tally (t .full) → wp′ (P.typed name es) (PostTyped s) t
+      named name es t b c =
+          via G L R M (P.typed name es) (PostNamed name es t) (PostTyped s) t (typed-size name es t)
+          (omega arith) (omega arith)
 
   prefix-size : (tag : ℕ) (s : St) → tag ≤ 0x54 → 0 < (head (s .left)) .kind → wp′ (P.prefix tag) (Post 8 s) s
   unfolding P.prefix _>>=_
@@ -201,7 +200,8 @@ module _ (f : Err → ℕ) where
 
   named-type-size : (s : St) → wp′ P.parse-named-type (Post 0 s) s
   unfolding P.parse-named-type
-  named-type-size s = tries _ _ (PostTyped s) _ _ (typed-identifier-size s) (λ x s′ p. simp sums (omega arith)) (omega arith)
+  named-type-size s =
+      try G L R M _ _ (PostTyped s) _ _ (typed-identifier-size s) (simp sums (omega arith)) (omega arith)
 
   struct-field-size : (s : St) → wp′ P.parse-compound-struct-field (Post 0 s) s
   unfolding P.parse-compound-struct-field _>>=_
@@ -209,7 +209,10 @@ module _ (f : Err → ℕ) where
 
   after-item-size : (k : Listed) (i : Items) (s : St) → wp′ (P.after-item k i) (PostItems i s) s
   unfolding P.after-item
-  after-item-size k i s = simp sums (omega (arith, is-kind))
+  after-item-size k i s =
+      let t : Tok = head (s .left) in
+      let es : List Err = P.error 15 (t .place) 0 (t .kind) ∷ [] in
+      omega (arith, is-kind, tally-append (i .errors) es, tally-append (s .full) es)
 
   array-type-size : (p : Place) (s : St) → wp′ (P.parse-array-type p) (Post 0 s) s
   unfolding P.parse-array-type _>>=_
@@ -232,18 +235,25 @@ module _ (f : Err → ℕ) where
   )
     where
       t : St
-      t = advance (λ _. plain) s
+      t = next-state s
 
       array : 16 + budget (t .left) ≤ budget (s .left) → wp′ (P.parse-array-type (head (s .left) .place)) (Post 0 s) t
-      array b = via (P.parse-array-type (head (s .left) .place)) (Post 0 t) (Post 0 s) t (array-type-size (head (s .left) .place) t) (omega arith) (omega arith)
+      array b =
+          let p : Place = head (s .left) .place in
+          via G L R M (P.parse-array-type p) (Post 0 t) (Post 0 s) t (array-type-size p t) (omega arith) (omega arith)
 
-      struct : 16 + budget (t .left) ≤ budget (s .left) → wp′ (P.parse-list StructFields >>= λ i. P.good (P.node (i .recs) 0x14 (head (s .left) .place) (two (i .count) ∷ []) []) []) (Post 0 s) t
-      struct b = follows (P.parse-list StructFields) _ (PostOpened t) _ _ (list-size StructFields t) (λ i s′ p. simp sums (omega arith))
+      made : Items → Act (Ans Node)
+      made i = P.good (P.node (i .recs) 0x14 (head (s .left) .place) (two (i .count) ∷ []) []) []
+
+      struct : 16 + budget (t .left) ≤ budget (s .left) → wp′ (P.parse-list StructFields >>= made) (Post 0 s) t
+      struct b =
+          follow G L R M (P.parse-list StructFields) made (PostOpened t) (Post 0 s) t (list-size StructFields t)
+          (simp sums (omega arith))
 
   suffixes-size : (e : Fallible Node) (s : St) → wp′ (suffixes-turn e) (From e s) s
   unfolding suffixes-turn _>>=_
   suffixes-size e s = (
-    λ i r r′. (λ _. tt, λ _. (λ i′. simp sums (omega (arith, is-kind)), λ _ m. simp sums (omega (arith, is-kind)))),
+    λ i r r′. (λ _. tt, λ _. simp sums (omega (arith, is-kind))),
     λ _. (
       λ i r. simp sums (omega (arith, is-kind)),
       λ _. (λ i r. simp sums (omega (arith, is-kind)), λ _. omega arith),
@@ -252,7 +262,7 @@ module _ (f : Err → ℕ) where
 
   field-access-size : (s : St) → wp′ P.parse-field-access-or-index (Post 8 s) s
   unfolding P.parse-field-access-or-index
-  field-access-size s = tries _ _ (Post 8 s) _ _ (atom-size s) (λ e s′ p. omega arith) (omega arith)
+  field-access-size s = try G L R M _ _ (Post 8 s) _ _ (atom-size s) (λ e s′ p. omega arith) (omega arith)
 
   sizeof-size : (s : St) → wp′ P.parse-sizeof (Post 8 s) s
   unfolding P.parse-sizeof _>>=_
@@ -261,12 +271,26 @@ module _ (f : Err → ℕ) where
   call-size : (s : St) → wp′ P.parse-call (Post 8 s) s
   unfolding P.parse-call
   call-size s =
-      tries _ _ (Post 8 s) _ _ (sizeof-size s)
-      (λ e s′ p. (λ i. follows (P.parse-list Arguments) _ (PostOpened s′) _ _ (list-size Arguments s′) (λ js s″ q. simp sums (omega (arith, is-kind))), λ _. omega arith)) (omega arith)
+      try G L R M _ _ (Post 8 s) _ _ (sizeof-size s)
+      (λ e s′ p. (
+        λ i. follow G L R M _ _ (PostOpened s′) _ _ (list-size Arguments s′)
+            (λ js s″ l q. simp sums (omega (arith, is-kind))),
+        λ _. omega arith,
+      ))
+      (omega arith)
 
   unary-size : (s : St) → wp′ unary-rule (Post 8 s) s
   unfolding unary-rule
-  unary-size s = (λ i. prefix-size 0x27 s (omega arith) (omega (arith, is-kind)), λ _. (λ i. prefix-size 0x28 s (omega arith) (omega (arith, is-kind)), λ _. (λ i. prefix-size 0x2A s (omega arith) (omega (arith, is-kind)), λ _. (λ i. prefix-size 0x2B s (omega arith) (omega (arith, is-kind)), λ _. call-size s))))
+  unary-size s = (
+    λ i. prefix-size 0x27 s (omega arith) (omega (arith, is-kind)),
+    λ _. (
+      λ i. prefix-size 0x28 s (omega arith) (omega (arith, is-kind)),
+      λ _. (
+        λ i. prefix-size 0x2A s (omega arith) (omega (arith, is-kind)),
+        λ _. (λ i. prefix-size 0x2B s (omega arith) (omega (arith, is-kind)), λ _. call-size s),
+      ),
+    ),
+  )
 
   cast-size : (s : St) → wp′ P.parse-cast (Post 8 s) s
   unfolding P.parse-cast _>>=_
@@ -276,74 +300,46 @@ module _ (f : Err → ℕ) where
   unfolding casts-turn _>>=_
   casts-size e s = simp sums (omega (arith, is-kind))
 
-  mul-size : (s : St) → wp′ P.parse-mul (Post 8 s) s
-  unfolding P.parse-mul
-  mul-size s = tries _ _ (Post 8 s) _ _ (cast-size s) (omega arith) (omega arith)
-
-  add-sub-size : (s : St) → wp′ P.parse-add-sub (Post 8 s) s
-  unfolding P.parse-add-sub
-  add-sub-size s = tries _ _ (Post 8 s) _ _ (mul-size s) (omega arith) (omega arith)
-
-  bit-shift-size : (s : St) → wp′ P.parse-bit-shift (Post 8 s) s
-  unfolding P.parse-bit-shift
-  bit-shift-size s = tries _ _ (Post 8 s) _ _ (add-sub-size s) (omega arith) (omega arith)
-
-  bitwise-and-size : (s : St) → wp′ P.parse-bitwise-and (Post 8 s) s
-  unfolding P.parse-bitwise-and
-  bitwise-and-size s = tries _ _ (Post 8 s) _ _ (bit-shift-size s) (omega arith) (omega arith)
-
-  bitwise-xor-size : (s : St) → wp′ P.parse-bitwise-xor (Post 8 s) s
-  unfolding P.parse-bitwise-xor
-  bitwise-xor-size s = tries _ _ (Post 8 s) _ _ (bitwise-and-size s) (omega arith) (omega arith)
+  -- the loop of a level
+  level-size : (s : St) (l : Level) (x : Fallible Node) (s′ : St) → Post 8 s (ok x) s′
+      → EachAns (λ a. (s″ : St) → Later s′ s″ → From x s′ a s″ → Post 8 s a s″)
+  level-size s l x s′ p = omega arith
 
   bitwise-or-size : (s : St) → wp′ P.parse-bitwise-or (Post 8 s) s
-  unfolding P.parse-bitwise-or
-  bitwise-or-size s = tries _ _ (Post 8 s) _ _ (bitwise-xor-size s) (omega arith) (omega arith)
+  bitwise-or-size s = wp-bitwise-or G L R M (Post 8 s) s (level-size s) (cast-size s)
 
   cascade-size : (l : Level) (s : St) → wp′ (P.cascade l) (Post 8 s) s
-  cascade-size BitOr s = bitwise-xor-size s
-  cascade-size BitXor s = bitwise-and-size s
-  cascade-size BitAnd s = bit-shift-size s
-  cascade-size Shift s = add-sub-size s
-  cascade-size AddSub s = mul-size s
-  cascade-size Mul s = cast-size s
-
-  -- one of a list of operators, or none
-  abbrev Positive : List P.Op → Type 0
-  Positive [] = Unit {0}
-  Positive (o ∷ os) = (0 < o .kind) × Positive os
-
-  find-size : {A : Type 0} (os : List P.Op) (y : ℕ → Act A) (n : Act A) (Q : A → St → Type 0) (s : St) (t : Tok) → Positive os → (0 < t .kind → (o : ℕ) → wp′ (y o) Q s) → wp′ n Q s → wp′ (P.find t os y n) Q s
-  find-size [] y n Q s t p h e = e
-  find-size (o ∷ os) y n Q s t p h e = (λ i. h (omega (arith, is-kind)) (o .op), λ _. find-size os y n Q s t (p .1) h e)
-
-  mapping-positive : (l : Level) → Positive (P.mapping l)
-  mapping-positive BitOr = omega arith
-  mapping-positive BitXor = omega arith
-  mapping-positive BitAnd = omega arith
-  mapping-positive Shift = omega arith
-  mapping-positive AddSub = omega arith
-  mapping-positive Mul = omega arith
+  cascade-size l s = wp-cascade G L R M (Post 8 s) s (level-size s) (cast-size s) l
 
   operators-size : (l : Level) (e : Fallible Node) (s : St) → wp′ (operators-turn l e) (From e s) s
   unfolding operators-turn
   operators-size l e s =
-      find-size (P.mapping l) _ _ _ s (head (s .left)) (mapping-positive l)
-      (λ k o r. tries (P.cascade l) _ (Post 8 (advance (λ _. plain) s)) _ _ (cascade-size l (advance (λ _. plain) s)) (simp sums (omega arith)) (omega arith)) (omega arith)
+      wp-find G L R M (P.mapping l) _ _ _ s (head (s .left)) (mapping-positive l)
+      (λ k o r. try G L R M (P.cascade l) _ (Post 8 (next-state s)) _ _ (cascade-size l (next-state s))
+      (simp sums (omega arith)) (omega arith))
+      (omega arith)
 
   comparison-size : (s : St) → wp′ P.parse-comparison (Post 8 s) s
   unfolding P.parse-comparison
   comparison-size s =
-      tries _ _ (Post 8 s) _ _ (bitwise-or-size s)
-      (λ e s′ p. find-size P.comparisons (λ o. next λ op. P.parse-bitwise-or >>? λ r. done (ok (P.binary 0x2E (byte o ∷ []) (op .place) e r))) (done (ok e)) (Post 8 s) s′ (head (s′ .left)) (omega arith)
-      (λ k o r. tries P.parse-bitwise-or _ (Post 8 (advance (λ _. plain) s′)) _ _ (bitwise-or-size (advance (λ _. plain) s′)) (simp sums (omega arith)) (omega arith)) (omega arith))
+      try G L R M _ _ (Post 8 s) _ _ (bitwise-or-size s)
+      (λ e s′ p. wp-find G L R M P.comparisons
+      (λ o. next λ op. P.parse-bitwise-or >>? λ r. done (ok (P.binary 0x2E (byte o ∷ []) (op .place) e r)))
+      (done (ok e)) (Post 8 s) s′ (head (s′ .left)) comparisons-positive
+      (λ k o r. try G L R M P.parse-bitwise-or _ (Post 8 (next-state s′)) _ _ (bitwise-or-size (next-state s′))
+      (simp sums (omega arith)) (omega arith))
+      (omega arith))
       (omega arith)
 
   expression-size : (s : St) → wp′ expression-rule (Post 8 s) s
   unfolding expression-rule
   expression-size s =
-      tries _ _ (Post 8 s) _ _ (comparison-size s)
-      (λ e s′ p. (λ i r. tries P.parse-comparison _ (Post 8 (advance (λ _. plain) s′)) _ _ (comparison-size (advance (λ _. plain) s′)) (simp sums (omega (arith, is-kind))) (omega arith), λ _. omega arith))
+      try G L R M _ _ (Post 8 s) _ _ (comparison-size s)
+      (λ e s′ p. (
+        λ i r. try G L R M P.parse-comparison _ (Post 8 (next-state s′)) _ _ (comparison-size (next-state s′))
+            (simp sums (omega (arith, is-kind))) (omega arith),
+        λ _. omega arith,
+      ))
       (omega arith)
 
   item-size : (k : Listed) (s : St) → wp′ (P.item k) (Post 0 s) s
@@ -355,11 +351,19 @@ module _ (f : Err → ℕ) where
 
   list-turn-size : (k : Listed) (i : Items) (s : St) → wp′ (list-turn k i) (PostItems i s) s
   unfolding list-turn
-  list-turn-size k i s = (λ e m. simp sums (omega arith), λ _. (λ c r. omega arith, λ _. follows (P.item k) _ (Post 0 s) _ _ (item-size k s) go))
+  list-turn-size k i s = (
+    λ e m. simp sums (omega arith),
+    λ _. (λ c r. omega arith, λ _. follow G L R M _ _ (Post 0 s) _ _ (item-size k s) go),
+  )
     where
-      go : (a : Ans Node) (s′ : St) → Post 0 s a s′ → wp′ (P.after-item k (P.integrate i a)) (PostItems i s) s′
-      go (ok x) s′ p = wp-mono G L R M (PostItems (P.integrate i (ok x)) s′) (PostItems i s) (P.after-item k (P.integrate i (ok x))) s′ (simp sums (omega arith)) (after-item-size k (P.integrate i (ok x)) s′)
-      go (fatal es) s′ p = wp-mono G L R M (PostItems (P.integrate i (fatal es)) s′) (PostItems i s) (P.after-item k (P.integrate i (fatal es))) s′ (simp sums (omega arith)) (after-item-size k (P.integrate i (fatal es)) s′)
+      on : (j : Items) (s′ : St) → ((a : Items) (s″ : St) → PostItems j s′ a s″ → PostItems i s a s″)
+          → wp′ (P.after-item k j) (PostItems i s) s′
+      on j s′ h = wp-mono G L R M (PostItems j s′) (PostItems i s) (P.after-item k j) s′ h (after-item-size k j s′)
+
+      go : (a : Ans Node) (s′ : St) → Later s s′ → Post 0 s a s′
+          → wp′ (P.after-item k (P.integrate i a)) (PostItems i s) s′
+      go (ok x) s′ l p = on (P.integrate i (ok x)) s′ (simp sums (omega arith))
+      go (fatal es) s′ l p = on (P.integrate i (fatal es)) s′ (simp sums (omega arith))
 
   compound-size : (s : St) → wp′ P.parse-compound (Post 3 s) s
   unfolding P.parse-compound _>>=_
@@ -367,26 +371,40 @@ module _ (f : Err → ℕ) where
     λ i. (
       λ e m. simp sums (omega arith),
       λ _. (
-        λ b. follows (P.parse-list ArrayValues) _ (PostOpened t) _ _ (list-size ArrayValues t) (λ js s″ q. simp sums (omega (arith, is-kind))),
-        λ _. (λ b. follows (P.parse-list StructValues) _ (PostOpened t) _ _ (list-size StructValues t) (λ js s″ q. simp sums (omega (arith, is-kind))), λ _ m. simp sums (omega arith)),
+        λ b. follow G L R M (P.parse-list ArrayValues) _ (PostOpened t) _ _ (list-size ArrayValues t)
+            (λ js s″ l q. simp sums (omega (arith, is-kind))),
+        λ _. (
+          λ b. follow G L R M (P.parse-list StructValues) _ (PostOpened t) _ _ (list-size StructValues t)
+              (λ js s″ l q. simp sums (omega (arith, is-kind))),
+          λ _ m. simp sums (omega arith),
+        ),
       ),
     ),
     λ _. simp sums (omega arith),
   )
     where
       t : St
-      t = advance (λ _. plain) s
+      t = next-state s
 
   var-like-size : (s : St) → wp′ P.parse-var-like-declaration (PostTyped′ s) s
   unfolding P.parse-var-like-declaration
   var-like-size s =
-      tries _ _ (PostTyped s) _ _ (typed-identifier-size s)
-      (λ x s′ p. (λ i r. unfold _>>=_ in simp sums (omega (arith, is-kind)), λ _. (λ i r. tries P.parse-compound _ (Post 3 (advance (λ _. plain) s′)) _ _ (compound-size (advance (λ _. plain) s′)) (simp sums (omega (arith, is-kind))) (omega (arith, is-kind)), λ _. simp sums (omega arith))))
+      try G L R M _ _ (PostTyped s) _ _ (typed-identifier-size s)
+      (λ x s′ p. (
+        λ i r. unfold _>>=_ in simp sums (omega (arith, is-kind)),
+        λ _. (
+          λ i r. try G L R M P.parse-compound _ (Post 3 (next-state s′)) _ _ (compound-size (next-state s′))
+              (simp sums (omega (arith, is-kind))) (omega (arith, is-kind)),
+          λ _. simp sums (omega arith),
+        ),
+      ))
       (omega arith)
 
   declaration-size : (tag : ℕ) (p : Place) (s : St) → tag ≤ 0x54 → wp′ (P.declaration tag p) (Post 0 s) s
   unfolding P.declaration _>>=_
-  declaration-size tag p s h = tries P.parse-var-like-declaration _ (PostTyped′ s) _ _ (var-like-size s) (simp sums (omega (arith, is-kind))) (omega arith)
+  declaration-size tag p s h =
+      try G L R M P.parse-var-like-declaration _ (PostTyped′ s) _ _ (var-like-size s)
+      (simp sums (omega (arith, is-kind))) (omega arith)
 
   body-size : (s : St) → wp′ P.parse-body (PostOpened s) s
   unfolding P.parse-body _>>=_
@@ -404,26 +422,38 @@ module _ (f : Err → ℕ) where
   unfolding P.parse-if _>>=_
   if-size p s = simp sums (omega (arith, is-kind))
 
-  after-expression-size : (p : Place) (e : Node) (s : St) → wp′ (P.after-expression p e) (λ a s′. Over (7 + weight (e .recs)) s a s′) s
+  after-expression-size : (p : Place) (e : Node) (s : St) → wp′ (P.after-expression p e) (Over (7 + weight (e .recs)) s) s
   unfolding P.after-expression _>>=_
-  after-expression-size p e s =
-      (λ i r. simp sums (omega (arith, is-kind)), λ _. (λ i r. tries P.parse-compound _ (Post 3 (advance (λ _. plain) s)) _ _ (compound-size (advance (λ _. plain) s)) (simp sums (omega (arith, is-kind))) (omega arith), λ _ r. simp sums (omega (arith, is-kind))))
+  after-expression-size p e s = (
+    λ i r. simp sums (omega (arith, is-kind)),
+    λ _. (
+      λ i r. try G L R M P.parse-compound _ (Post 3 (next-state s)) _ _ (compound-size (next-state s))
+          (simp sums (omega (arith, is-kind))) (omega arith),
+      λ _ r. simp sums (omega (arith, is-kind)),
+    ),
+  )
 
   expression-statement-size : (p : Place) (s : St) → wp′ (P.expression-statement p) (Post 0 s) s
   unfolding P.expression-statement _>>=_
   expression-statement-size p s = (
-    λ e s′ l q. (λ z. via (P.after-expression p (e .item)) (λ a s″. Over (7 + weight (e .item .recs)) s′ a s″) (Post 0 s) s′ (after-expression-size p (e .item) s′) (omega arith) (omega arith), λ z. simp sums (omega arith)),
+    λ e s′ l q. (
+      λ z. via G L R M (P.after-expression p (e .item)) (Over (7 + weight (e .item .recs)) s′) (Post 0 s) s′
+          (after-expression-size p (e .item) s′) (omega arith) (omega arith),
+      λ z. simp sums (omega arith),
+    ),
     λ es s′ l q. omega arith,
   )
 
   statement-size : (s : St) → wp′ statement-rule (Post 0 s) s
   unfolding statement-rule _>>=_
   statement-size s = (
-    λ i r. via (P.parse-return _) (Over 8 t) (Post 0 s) t (return-size _ t) (omega (arith, is-kind)) (omega arith),
+    λ i r. via G L R M (P.parse-return _) (Over 8 t) (Post 0 s) t (return-size _ t)
+        (omega (arith, is-kind)) (omega arith),
     λ _. (
-      λ i r. via (P.declaration 0x42 _) (Post 0 t) (Post 0 s) t (declaration-size 0x42 _ t (omega arith)) (omega arith) (omega arith),
+      λ i r. via G L R M (P.declaration 0x42 _) (Post 0 t) (Post 0 s) t (declaration-size 0x42 _ t (omega arith))
+          (omega arith) (omega arith),
       λ _. (
-        λ i. follows P.parse-body _ (PostOpened s) _ _ (body-size s) (simp sums (omega (arith, is-kind))),
+        λ i. follow G L R M P.parse-body _ (PostOpened s) _ _ (body-size s) (simp sums (omega (arith, is-kind))),
         λ _. (
           λ i r. simp sums (omega (arith, is-kind)),
           λ _. (
@@ -431,7 +461,8 @@ module _ (f : Err → ℕ) where
             λ _. (
               λ i r. simp sums (omega (arith, is-kind)),
               λ _. (
-                λ i r. via (P.parse-if _) (Over 8 t) (Post 0 s) t (if-size _ t) (omega (arith, is-kind)) (omega arith),
+                λ i r. via G L R M (P.parse-if _) (Over 8 t) (Post 0 s) t (if-size _ t)
+                    (omega (arith, is-kind)) (omega arith),
                 λ _. (
                   λ i r. omega (arith, is-kind),
                   λ _.
@@ -446,17 +477,21 @@ module _ (f : Err → ℕ) where
   )
     where
       t : St
-      t = advance (λ _. plain) s
+      t = next-state s
 
-  function-body-size : (p : Place) (x : ℕ) (name : Tok) (ps : Items) (r : Fallible Node) (s : St) → wp′ (P.function-body p x name ps r) (Built (19 + length (name .text)) ps r s) s
+  function-body-size : (p : Place) (x : ℕ) (name : Tok) (ps : Items) (r : Fallible Node) (s : St)
+      → wp′ (P.function-body p x name ps r) (Built (19 + length (name .text)) ps r s) s
   unfolding P.function-body _>>=_
-  function-body-size p x name ps r s = (λ e q. simp sums (omega (arith, is-kind)), λ e. follows P.parse-body _ (PostOpened s) _ _ (body-size s) (simp sums (omega arith)))
+  function-body-size p x name ps r s = (
+    λ e q. simp sums (omega (arith, is-kind)),
+    λ e. follow G L R M P.parse-body _ (PostOpened s) _ _ (body-size s) (simp sums (omega arith)),
+  )
 
   function-size : (p : Place) (x : ℕ) (s : St) → wp′ (P.function p x) (Post 0 s) s
   unfolding P.function _>>=_
   function-size p x s r = (
     λ k r₂. (
-      λ n. follows (P.parse-list Parameters) _ (PostOpened u) _ _ (list-size Parameters u) (λ ps v q. (
+      λ n. follow G L R M (P.parse-list Parameters) _ (PostOpened u) _ _ (list-size Parameters u) (λ ps v l q. (
         λ a r₃. (λ ty w l z. built ps ty w (Post 0 s) (omega (arith, is-kind)) (omega arith), λ es w l z. omega (arith, is-kind)),
         λ _. built ps _ v (Post 0 s) (omega (arith, is-kind)) (omega arith),
       )),
@@ -466,46 +501,77 @@ module _ (f : Err → ℕ) where
   )
     where
       t : St
-      t = advance (λ _. plain) s
+      t = next-state s
 
       u : St
-      u = advance (λ _. plain) t
+      u = next-state t
 
-      built : (ps : Items) (ty : Fallible Node) (w : St) (Q : Ans Node → St → Type 0) → ((y : Fallible Node) (s′ : St) → Built (19 + length (head (t .left) .text)) ps ty w (ok y) s′ → Q (ok y) s′)
-          → ((es : List Err) (s′ : St) → Built (19 + length (head (t .left) .text)) ps ty w (fatal es) s′ → Q (fatal es) s′) → wp′ (P.function-body p x (head (t .left)) ps ty) Q w
-      built ps ty w Q h e = via (P.function-body p x (head (t .left)) ps ty) (Built (19 + length (head (t .left) .text)) ps ty w) Q w (function-body-size p x (head (t .left)) ps ty w) h e
+      name : Tok
+      name = head (t .left)
+
+      Is-built : Items → Fallible Node → St → Ans Node → St → Type 0
+      Is-built ps ty w = Built (19 + length (name .text)) ps ty w
+
+      built : (ps : Items) (ty : Fallible Node) (w : St) (Q : Ans Node → St → Type 0)
+          → ((y : Fallible Node) (s′ : St) → Is-built ps ty w (ok y) s′ → Q (ok y) s′)
+          → ((es : List Err) (s′ : St) → Is-built ps ty w (fatal es) s′ → Q (fatal es) s′)
+          → wp′ (P.function-body p x name ps ty) Q w
+      built ps ty w Q h e =
+          via G L R M (P.function-body p x name ps ty) (Is-built ps ty w) Q w (function-body-size p x name ps ty w) h e
 
   function-definition-size : (s : St) → wp′ P.parse-function-definition (Post 0 s) s
   unfolding P.parse-function-definition
-  function-definition-size s = (λ i r. via (P.function _ 1) (Post 0 (advance (λ _. plain) s)) (Post 0 s) _ (function-size _ 1 (advance (λ _. plain) s)) (omega arith) (omega arith), λ _. function-size _ 0 s)
+  function-definition-size s = (
+    λ i r. via G L R M (P.function _ 1) (Post 0 (next-state s)) (Post 0 s) _ (function-size _ 1 (next-state s))
+        (omega arith) (omega arith),
+    λ _. function-size _ 0 s,
+  )
 
   modifiers-size : (w : Words) (s : St) → wp′ (modifiers-turn w) (L (Modifiers w) s) s
   unfolding modifiers-turn
   modifiers-size w s = omega arith
 
   type-alias-size : (s : St) → wp′ P.parse-type-alias (Post 0 s) s
-  unfolding P.parse-type-alias _>>=_
-  type-alias-size s w s′ l p r = (λ i r₂. (λ _. tt, λ _. (λ e m. simp sums (omega arith), λ e. simp sums (omega (arith, is-kind)))), λ _. simp sums (omega arith))
+  unfolding P.parse-type-alias P.alias-rule _>>=_
+  type-alias-size s w s′ l p r = (
+    λ i r₂. (λ _. tt, λ _. (λ e m. simp sums (omega arith), λ e. simp sums (omega (arith, is-kind)))),
+    λ _. simp sums (omega arith),
+  )
 
   use-size : (s : St) → wp′ P.parse-use (Post 0 s) s
-  unfolding P.parse-use _>>=_
+  unfolding P.parse-use P.path-rule _>>=_
   use-size s = simp sums (omega (arith, is-kind))
 
   top-level-var-size : (s : St) → wp′ P.parse-top-level-var-declaration (Post 0 s) s
   unfolding P.parse-top-level-var-declaration _>>=_
-  top-level-var-size s r = (λ i. via (P.declaration 0x53 _) (Post 0 (advance (λ _. plain) s)) (Post 0 s) _ (declaration-size 0x53 _ (advance (λ _. plain) s) (omega arith)) (omega arith) (omega arith), λ _. (λ e m. simp sums (omega arith), λ _ m. simp sums (omega arith)))
+  top-level-var-size s r = (
+    λ i. via G L R M (P.declaration 0x53 _) (Post 0 (next-state s)) (Post 0 s) _
+        (declaration-size 0x53 _ (next-state s) (omega arith)) (omega arith) (omega arith),
+    λ _. (λ e m. simp sums (omega arith), λ _ m. simp sums (omega arith)),
+  )
 
   top-level-item-size : (s : St) → wp′ P.parse-top-level-item (Post 0 s) s
   unfolding P.parse-top-level-item
-  top-level-item-size s = (λ _. function-definition-size s, λ _. (λ _. type-alias-size s, λ _. (λ _. use-size s, λ _. (λ _. top-level-var-size s, λ _. (λ i r. omega (arith, is-kind), λ _ r m. simp sums (omega arith))))))
+  top-level-item-size s = (
+    λ _. function-definition-size s,
+    λ _. (
+      λ _. type-alias-size s,
+      λ _. (
+        λ _. use-size s,
+        λ _. (λ _. top-level-var-size s, λ _. (λ i r. omega (arith, is-kind), λ _ r m. simp sums (omega arith))),
+      ),
+    ),
+  )
 
   module-turn-size : (i : Items) (s : St) → wp′ (module-turn i) (PostItems i s) s
   unfolding module-turn
-  module-turn-size i s = (λ _. omega arith, λ _. follows P.parse-top-level-item _ (Post 0 s) _ _ (top-level-item-size s) go)
+  module-turn-size i s =
+      (λ _. omega arith, λ _. follow G L R M P.parse-top-level-item _ (Post 0 s) _ _ (top-level-item-size s) go)
     where
-      go : (a : Ans Node) (s′ : St) → Post 0 s a s′ → (b : Items) (s″ : St) → Later s′ s″ → PostItems (P.integrate i a) s′ b s″ → PostItems i s b s″
-      go (ok x) s′ p = simp sums (omega arith)
-      go (fatal es) s′ p = simp sums (omega arith)
+      go : (a : Ans Node) (s′ : St) → Later s s′ → Post 0 s a s′ → (b : Items) (s″ : St) → Later s′ s″
+          → PostItems (P.integrate i a) s′ b s″ → PostItems i s b s″
+      go (ok x) s′ l p = simp sums (omega arith)
+      go (fatal es) s′ l p = simp sums (omega arith)
 
   pub rules : (g : Goal) (s : St) → wp′ (rule g) (G g s) s
   rules Statement s = statement-size s

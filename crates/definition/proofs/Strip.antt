@@ -20,7 +20,9 @@ abbrev pub is-named : ℕ → Bool
 is-named k = eqb k K.Identifier || eqb k K.String || eqb k K.InlineAssemblyFragment
 
 abbrev pub spelling : Tok → Norm
-spelling t = pick (is-named (t .kind)) (named (t .kind) (t .text)) (pick (eqb (t .kind) K.Integer) (integer (t .base) (t .text)) (symbol (t .kind)))
+spelling t =
+    pick (is-named (t .kind)) (named (t .kind) (t .text))
+    (pick (eqb (t .kind) K.Integer) (integer (t .base) (t .text)) (symbol (t .kind)))
 
 abbrev pub norm : Role → Tok → List Norm
 norm plain t = pick (is-modifier (t .kind)) [] (spelling t ∷ [])

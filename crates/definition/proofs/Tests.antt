@@ -1,11 +1,14 @@
 -- Tests joined by `&&` and `||`, the bounds of `between`, a token's kind, what holds of an answer that a test chooses, and of all entries of a list. Assumes nothing.
+-- The two modules that are imported first have facts alone: where a definition is misread, they fail before a proof.
+use Rattle.definition.specs.Table.{holds}
+use Rattle.definition.proofs.Readings.{unsorted}
 use mathlib.Core.Path.{_≡_, refl}
 use mathlib.Core.Bool.{Bool, true, false, _&&_, _||_}
 use mathlib.Core.List.{List, [], _∷_, _++_}
-use Prim.Native.Nat.{ℕ, zero, suc, _≤_}
+use Prim.Native.Nat.{ℕ, zero, suc, _≤_, _<_}
 use native.Mathlib.Omega.{arith}
 use borrow.Author.Tests.{leb-true, le-leb, eqb-true}
-use lib.Dec.{leb, T}
+use lib.Dec.{eqb, leb, T}
 use lib.ListN.{replicate}
 use Rattle.definition.specs.Choice.{pick}
 use Rattle.definition.specs.Classes.{between}
@@ -47,6 +50,14 @@ passed true t = refl
 
 pub is-kind : (t : Tok) (k : ℕ) → t is k ≡ true → t .kind ≡ k
 is-kind t k e = eqb-true (t .kind) k e
+
+-- a token that is there
+pub not-end : (t : Tok) → t is 0 ≡ false → 0 < t .kind
+not-end t e = go (t .kind) e
+  where
+    go : (k : ℕ) → eqb k 0 ≡ false → 0 < k
+    go zero e = clash e
+    go (suc k) e = omega arith
 
 pub between-bounds : (lo hi n : ℕ) → between lo hi n ≡ true → (lo ≤ n) × (n ≤ hi)
 between-bounds lo hi n e = parts-true (leb lo n) (leb n hi) e λ p q. (leb-true lo n p, leb-true n hi q)

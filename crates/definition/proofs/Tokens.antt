@@ -23,7 +23,6 @@ use Rattle.definition.proofs.Shown.{Apart, Distinct}
 use Rattle.definition.proofs.Layouts.{AllSmall}
 use Rattle.definition.proofs.Tests.{both-true, chosen, picked, counted, All, all-append, all-replicate, all-map}
 use Rattle.definition.proofs.Characters.{spelling, Whole, Spelt, spelt, Utf8, utf8-none, utf8-char, utf8-byte}
-pub use Rattle.definition.proofs.Formed.{Textless}
 use Rattle.definition.proofs.Formed.{Formed, Plain, plain-formed, pair-plain, symbol-plain, keyword-plain, Classed, is-foreign, is-white, is-comment, is-pair, is-symbol, is-quote, is-word, is-dash, is-zero, is-digit, is-unknown, classed, text-formed, letter-bounds, Numeral, dash-numeral, numeral, or-zero-numeral, integer-formed, digits-all, digit-first}
 
 -- ---- a script's characters
@@ -74,14 +73,24 @@ spelt-chars (c ∷ cs) p bs k h r s =
     let n : length bs ≡ 1 + length (c .more) + length (s .0) = omega (arith, simp length-append at (ap length (s .2))) in
     let r′ : Placed (suc (length (s .0))) p = placed-less (suc (length (s .0))) (length bs) p (omega arith) r in
     let o : Placed 1 p = placed-less 1 (length bs) p (omega arith) r in
-    subst (λ (q : Place). (k < key q) × Placed 1 q × Whole c × Chars (key q) cs) (sym (s .1)) (h, o, s .3, spelt-chars cs (after (c .byte) p) (s .0) (key p) (further (c .byte) p o) (placed-after (c .byte) (length (s .0)) p r′) (s .4))
+    subst (λ (q : Place). (k < key q) × Placed 1 q × Whole c × Chars (key q) cs) (sym (s .1)) (
+      h,
+      o,
+      s .3,
+      spelt-chars cs (after (c .byte) p) (s .0) (key p) (further (c .byte) p o)
+          (placed-after (c .byte) (length (s .0)) p r′) (s .4),
+    )
 
 record Script (cs : List Ch) : Type 0 where
   chars : Chars 0 cs
   size : bytes cs ≤ 16384
 
 script : (bs : List ℕ) (cs : List Ch) → length bs ≤ 16384 → characters bs ≡ some cs → Script cs
-script bs cs h e = record { chars = spelt-chars cs start bs 0 (omega arith) (omega arith) (spelt bs cs e); size = omega (arith, spelt-bytes cs start bs (spelt bs cs e)) }
+script bs cs h e =
+    record {
+      chars = spelt-chars cs start bs 0 (omega arith) (omega arith) (spelt bs cs e);
+      size = omega (arith, spelt-bytes cs start bs (spelt bs cs e));
+    }
 
 -- ---- what each part of the tokenizer leaves
 
@@ -106,16 +115,28 @@ ran-less p = record { keeps = p .keeps; size = omega (arith, p .size); fewer = p
 
 -- what is passed over first counts for no text
 ran-trans : {xs ys zs : List Ch} {m n : ℕ} → Ran xs ys m → Ran ys zs n → Ran xs zs n
-ran-trans p q = record { keeps = λ k h. q .keeps k (p .keeps k h); size = omega (arith, p .size, q .size); fewer = omega (arith, p .fewer, q .fewer) }
+ran-trans p q =
+    record {
+      keeps = λ k h. q .keeps k (p .keeps k h);
+      size = omega (arith, p .size, q .size);
+      fewer = omega (arith, p .fewer, q .fewer);
+    }
 
 -- m bytes of the first character, and n behind it
 ran-char : (c : Ch) (cs rest : List Ch) (n m l : ℕ) → m ≤ 1 + length (c .more) → l ≤ m + n → Ran cs rest n → Ran (c ∷ cs) rest l
-ran-char c cs rest n m l h k p = record { keeps = λ j q. p .keeps j (chars-tail j c cs q); size = omega (arith, p .size); fewer = omega (arith, p .fewer) }
+ran-char c cs rest n m l h k p =
+    record {
+      keeps = λ j q. p .keeps j (chars-tail j c cs q);
+      size = omega (arith, p .size);
+      fewer = omega (arith, p .fewer);
+    }
 
 comment-ran : (cs : List Ch) → Ran cs (comment cs) 0
 unfolding comment
 comment-ran [] = ran-none []
-comment-ran (c ∷ cs) = chosen (λ (rest : List Ch). Ran (c ∷ cs) rest 0) (eqb (c .byte) 10) _ _ (λ _. ran-one c cs) (λ _. ran-char c cs (comment cs) 0 0 0 (omega arith) (omega arith) (comment-ran cs))
+comment-ran (c ∷ cs) =
+    chosen (λ (rest : List Ch). Ran (c ∷ cs) rest 0) (eqb (c .byte) 10) _ _ (λ _. ran-one c cs)
+    (λ _. ran-char c cs (comment cs) 0 0 0 (omega arith) (omega arith) (comment-ran cs))
 
 -- a text of characters that are whole is UTF-8
 record Spans (cs : List Ch) (text : List ℕ) (rest : List Ch) : Type 0 where
@@ -130,21 +151,34 @@ spans-none cs rest r = record { ran = r; utf8 = λ _ _. utf8-none }
 
 -- a character that is passed over, one whose bytes all are text, and one that is a byte of text
 spans-skip : (c : Ch) (cs : List Ch) (text : List ℕ) (rest : List Ch) → Spans cs text rest → Spans (c ∷ cs) text rest
-spans-skip c cs text rest s = record { ran = ran-char c cs rest (length text) 0 (length text) (omega arith) (omega arith) (s .ran); utf8 = λ k h. s .utf8 (key (c .place)) (h .3) }
+spans-skip c cs text rest s =
+    record {
+      ran = ran-char c cs rest (length text) 0 (length text) (omega arith) (omega arith) (s .ran);
+      utf8 = λ k h. s .utf8 (key (c .place)) (h .3);
+    }
 
 spans-char : (c : Ch) (cs : List Ch) (text : List ℕ) (rest : List Ch) → Spans cs text rest → Spans (c ∷ cs) (spelling c ++ text) rest
 spans-char c cs text rest s = record {
-  ran = ran-char c cs rest (length text) (1 + length (c .more)) (length (spelling c ++ text)) (omega arith) (omega (arith, length-append (c .more) text)) (s .ran);
+  ran =
+      ran-char c cs rest (length text) (1 + length (c .more)) (length (spelling c ++ text)) (omega arith)
+      (omega (arith, length-append (c .more) text)) (s .ran);
   utf8 = λ k h. utf8-char c text (h .2) (s .utf8 (key (c .place)) (h .3));
 }
 
-spans-byte : (b : ℕ) (c : Ch) (cs : List Ch) (text : List ℕ) (rest : List Ch) → b < 128 → Spans cs text rest → Spans (c ∷ cs) (b ∷ text) rest
-spans-byte b c cs text rest l s = record { ran = ran-char c cs rest (length text) 1 (length (b ∷ text)) (omega arith) (omega arith) (s .ran); utf8 = λ k h. utf8-byte b text l (s .utf8 (key (c .place)) (h .3)) }
+spans-byte : (b : ℕ) (c : Ch) (cs : List Ch) (text : List ℕ) (rest : List Ch) → b < 128 → Spans cs text rest
+    → Spans (c ∷ cs) (b ∷ text) rest
+spans-byte b c cs text rest l s =
+    record {
+      ran = ran-char c cs rest (length text) 1 (length (b ∷ text)) (omega arith) (omega arith) (s .ran);
+      utf8 = λ k h. utf8-byte b text l (s .utf8 (key (c .place)) (h .3));
+    }
 
 digits-ran : (base : ℕ) (cs : List Ch) → Ran cs (digits base cs .rest) (length (digits base cs .text))
 unfolding digits
 digits-ran base [] = ran-none []
-digits-ran base (c ∷ cs) = chosen (λ (s : Span). Ran (c ∷ cs) (s .rest) (length (s .text))) (C.is-digit-of base (c .byte)) _ _ (λ _. ran-char c cs _ _ 1 _ (omega arith) (omega arith) (digits-ran base cs)) (λ _. ran-none (c ∷ cs))
+digits-ran base (c ∷ cs) =
+    chosen (λ (s : Span). Ran (c ∷ cs) (s .rest) (length (s .text))) (C.is-digit-of base (c .byte)) _ _
+    (λ _. ran-char c cs _ _ 1 _ (omega arith) (omega arith) (digits-ran base cs)) (λ _. ran-none (c ∷ cs))
 
 digits-some : (c : Ch) (cs : List Ch) → C.is-digit (c .byte) ≡ true → 0 < length (digits 10 (c ∷ cs) .text)
 unfolding digits
@@ -153,7 +187,9 @@ digits-some c cs e = rw (digits, e) (omega arith)
 assembly-spans : (cs : List Ch) → SpanOf cs (assembly cs)
 unfolding assembly
 assembly-spans [] = spans-none [] [] (ran-none [])
-assembly-spans (c ∷ cs) = chosen (SpanOf (c ∷ cs)) (eqb (c .byte) 125) _ _ (λ _. spans-none (c ∷ cs) cs (ran-one c cs)) (λ _. spans-char c cs _ _ (assembly-spans cs))
+assembly-spans (c ∷ cs) =
+    chosen (SpanOf (c ∷ cs)) (eqb (c .byte) 125) _ _ (λ _. spans-none (c ∷ cs) cs (ran-one c cs))
+    (λ _. spans-char c cs _ _ (assembly-spans cs))
 
 abbrev QuotedOf : List Ch → Quoted → Type 0
 QuotedOf cs q = Spans cs (q .text) (q .rest)
@@ -170,8 +206,11 @@ quoted-spans false [] = spans-none [] [] (ran-none [])
 quoted-spans true [] = spans-none [] [] (ran-none [])
 quoted-spans false (c ∷ cs) =
     chosen (QuotedOf (c ∷ cs)) (eqb (c .byte) 34) _ _ (λ _. spans-none (c ∷ cs) cs (ran-one c cs))
-    (λ _. chosen (QuotedOf (c ∷ cs)) (eqb (c .byte) 92) _ _ (λ _. spans-skip c cs _ _ (quoted-spans true cs)) (λ _. spans-char c cs _ _ (quoted-spans false cs)))
-quoted-spans true (c ∷ cs) = counted (QuotedOf (c ∷ cs)) (Z.escape (c .byte)) _ _ (spans-skip c cs _ _ (quoted-spans false cs)) (λ e z. spans-byte (suc e) c cs _ _ (omega (arith, escape-low (c .byte))) (quoted-spans false cs))
+    (λ _. chosen (QuotedOf (c ∷ cs)) (eqb (c .byte) 92) _ _ (λ _. spans-skip c cs _ _ (quoted-spans true cs))
+    (λ _. spans-char c cs _ _ (quoted-spans false cs)))
+quoted-spans true (c ∷ cs) =
+    counted (QuotedOf (c ∷ cs)) (Z.escape (c .byte)) _ _ (spans-skip c cs _ _ (quoted-spans false cs))
+    (λ e z. spans-byte (suc e) c cs _ _ (omega (arith, escape-low (c .byte))) (quoted-spans false cs))
 
 abbrev RunOf : List Ch → Run → Type 0
 RunOf cs (ends s) = SpanOf cs s
@@ -195,13 +234,17 @@ unfolding word
 word-spans [] = spans-none [] [] (ran-none [])
 word-spans (c ∷ cs) =
     chosen (RunOf (c ∷ cs)) (ltb 127 (c .byte)) _ _ (λ _. tt)
-    (λ l. chosen (RunOf (c ∷ cs)) (C.is-word (c .byte)) _ _ (λ _. run-byte c cs (word cs) (omega (arith, ltb-false 127 (c .byte) l)) (word-spans cs)) (λ _. spans-none (c ∷ cs) (c ∷ cs) (ran-none (c ∷ cs))))
+    (λ l. chosen (RunOf (c ∷ cs)) (C.is-word (c .byte)) _ _
+    (λ _. run-byte c cs (word cs) (omega (arith, ltb-false 127 (c .byte) l)) (word-spans cs))
+    (λ _. spans-none (c ∷ cs) (c ∷ cs) (ran-none (c ∷ cs))))
 
 white-spans : (cs : List Ch) → RunOf cs (white cs)
 unfolding white
 white-spans [] = spans-none [] [] (ran-none [])
 white-spans (c ∷ cs) =
-    chosen (RunOf (c ∷ cs)) (ltb 127 (c .byte)) _ _ (λ _. tt) (λ _. chosen (RunOf (c ∷ cs)) (C.is-white (c .byte)) _ _ (λ _. run-skip c cs (white cs) (white-spans cs)) (λ _. spans-none (c ∷ cs) (c ∷ cs) (ran-none (c ∷ cs))))
+    chosen (RunOf (c ∷ cs)) (ltb 127 (c .byte)) _ _ (λ _. tt)
+    (λ _. chosen (RunOf (c ∷ cs)) (C.is-white (c .byte)) _ _ (λ _. run-skip c cs (white cs) (white-spans cs))
+    (λ _. spans-none (c ∷ cs) (c ∷ cs) (ran-none (c ∷ cs))))
 
 -- ---- one turn: at most one token, and errors, at the place of its first character
 
@@ -242,30 +285,46 @@ TurnOf c cs (refused n) = T (C.between 4 7 n)
 
 module _ (c : Ch) (cs : List Ch) where
   -- a turn that makes a token, its text of one byte more than are passed at most; one that makes none
-  gives-token : (rest : List Ch) (n : ℕ) (es : List Err) (t : Tok) → Ran cs rest n → t .place ≡ c .place → length (t .text) ≤ 1 + n → Formed t → All (ErrorAt (c .place)) es → Turned c cs rest es (t ∷ [])
-  gives-token rest n es t r e l f a = record { ran = ran-less r; token = record { place = e; size = omega (arith, r .size); formed = f }; errors = a }
+  gives-token : (rest : List Ch) (n : ℕ) (es : List Err) (t : Tok) → Ran cs rest n → t .place ≡ c .place
+      → length (t .text) ≤ 1 + n → Formed t → All (ErrorAt (c .place)) es → Turned c cs rest es (t ∷ [])
+  gives-token rest n es t r e l f a =
+      record {
+        ran = ran-less r;
+        token = record { place = e; size = omega (arith, r .size); formed = f };
+        errors = a;
+      }
 
   gives-none : (rest : List Ch) (n : ℕ) (es : List Err) → Ran cs rest n → All (ErrorAt (c .place)) es → Turned c cs rest es []
   gives-none rest n es r a = record { ran = ran-less r; token = tt; errors = a }
 
-  plain-turned : (rest : List Ch) (n k : ℕ) → Ran cs rest n → Formed (record { kind = k; place = c .place; text = []; base = 0 }) → TurnOf c cs (Z.token rest k (c .place))
+  plain-turned : (rest : List Ch) (n k : ℕ) → Ran cs rest n
+      → Formed (record { kind = k; place = c .place; text = []; base = 0 })
+      → TurnOf c cs (Z.token rest k (c .place))
   plain-turned rest n k r f = gives-token rest n [] _ r refl (omega arith) f tt
 
   string-turned : (k : ℕ) → Chars k cs → (q : Quoted) → QuotedOf cs q → TurnOf c cs (Z.string-turn (c .place) q)
   unfolding Z.string-turn
   string-turned k h q p =
-      chosen (TurnOf c cs) (q .closed) _ _ (λ _. gives-token (q .rest) (length (q .text)) _ _ (p .ran) refl (omega arith) (text-formed K.String (c .place) (q .text) refl refl (omega arith) (omega arith) (p .utf8 k h)) unknown)
-      (λ _. gives-none (q .rest) (length (q .text)) _ (p .ran) (all-append (ErrorAt (c .place)) (replicate (q .unknown) (Z.token-error 1 (c .place))) (Z.token-error 2 (c .place) ∷ []) unknown (error-at 2 (c .place) (omega arith) (omega arith), tt)))
+      chosen (TurnOf c cs) (q .closed) _ _
+      (λ _. gives-token (q .rest) (length (q .text)) _ _ (p .ran) refl (omega arith)
+      (text-formed K.String (c .place) (q .text) refl refl (omega arith) (omega arith) (p .utf8 k h)) unknown)
+      (λ _. gives-none (q .rest) (length (q .text)) _ (p .ran)
+      (all-append (ErrorAt (c .place)) (replicate (q .unknown) (Z.token-error 1 (c .place)))
+      (Z.token-error 2 (c .place) ∷ []) unknown (error-at 2 (c .place) (omega arith) (omega arith), tt)))
     where
       unknown : All (ErrorAt (c .place)) (replicate (q .unknown) (Z.token-error 1 (c .place)))
-      unknown = all-replicate (ErrorAt (c .place)) (q .unknown) (Z.token-error 1 (c .place)) (error-at 1 (c .place) (omega arith) (omega arith))
+      unknown =
+          all-replicate (ErrorAt (c .place)) (q .unknown) (Z.token-error 1 (c .place))
+          (error-at 1 (c .place) (omega arith) (omega arith))
 
   assembly-turned : (k : ℕ) → Chars k cs → (r : Run) → RunOf cs r → TurnOf c cs (Z.assembly-turn (c .place) r)
   unfolding Z.assembly-turn
   assembly-turned k h foreign p = tt
   assembly-turned k h (ends s) p =
       chosen (TurnOf c cs) (eqb (look (s .rest)) 123) _ _
-      (λ _. gives-token (a .rest) (length (a .text)) [] _ (ran-trans behind (b .ran)) refl (omega arith) (text-formed K.InlineAssemblyFragment (c .place) (a .text) refl refl (omega arith) (omega arith) (b .utf8 k (behind .keeps k h))) tt)
+      (λ _. gives-token (a .rest) (length (a .text)) [] _ (ran-trans behind (b .ran)) refl (omega arith)
+      (text-formed K.InlineAssemblyFragment (c .place) (a .text) refl refl (omega arith) (omega arith)
+      (b .utf8 k (behind .keeps k h))) tt)
       (λ _. gives-none (drop-one (s .rest)) 0 _ behind (error-at 3 (c .place) (omega arith) (omega arith), tt))
     where
       a : Span
@@ -277,31 +336,44 @@ module _ (c : Ch) (cs : List Ch) where
       behind : Ran cs (drop-one (s .rest)) 0
       behind = ran-trans (p .ran) (ran-drop (s .rest))
 
-  word-turned : (k : ℕ) → Chars k cs → c .byte < 128 → (r : Run) → RunOf cs r → TurnOf c cs (Z.word-turn (c .place) (Z.run-ahead (c .byte ∷ []) r))
+  word-turned : (k : ℕ) → Chars k cs → c .byte < 128 → (r : Run) → RunOf cs r
+      → TurnOf c cs (Z.word-turn (c .place) (Z.run-ahead (c .byte ∷ []) r))
   unfolding Z.word-turn
   word-turned k h l foreign p = tt
   word-turned k h l (ends s) p =
-      chosen (TurnOf c cs) (Z.same (c .byte ∷ s .text) (ascii "asm")) _ _ (λ _. assembly-turned k h (white (s .rest)) (run-behind cs (s .rest) (length (s .text)) (white (s .rest)) (p .ran) (white-spans (s .rest))))
+      chosen (TurnOf c cs) (Z.same (c .byte ∷ s .text) (ascii "asm")) _ _
+      (λ _. assembly-turned k h (white (s .rest))
+      (run-behind cs (s .rest) (length (s .text)) (white (s .rest)) (p .ran) (white-spans (s .rest))))
       (λ _. counted (TurnOf c cs) (Z.keyword (c .byte ∷ s .text)) _ _ (gives-token (s .rest) (length (s .text)) [] _ (p .ran) refl (omega arith) (text-formed K.Identifier (c .place) (c .byte ∷ s .text) refl refl (omega arith) (omega arith) (utf8-byte (c .byte) (s .text) l (p .utf8 k h))) tt)
-      (λ j e. plain-turned (s .rest) (length (s .text)) (suc j) (p .ran) (plain-formed (suc j) (c .place) (subst Plain e (keyword-plain (c .byte ∷ s .text))) (omega arith))))
+      (λ j e. plain-turned (s .rest) (length (s .text)) (suc j) (p .ran)
+      (plain-formed (suc j) (c .place) (subst Plain e (keyword-plain (c .byte ∷ s .text))) (omega arith))))
 
-  integer-turned : (base : ℕ) (text : List ℕ) (rest : List Ch) (n : ℕ) → base-fits 2 base ≡ true → Ran cs rest n → length text ≤ 1 + n → Numeral base text → TurnOf c cs (Z.token-text rest K.Integer (c .place) text base)
+  integer-turned : (base : ℕ) (text : List ℕ) (rest : List Ch) (n : ℕ) → base-fits 2 base ≡ true → Ran cs rest n
+      → length text ≤ 1 + n → Numeral base text → TurnOf c cs (Z.token-text rest K.Integer (c .place) text base)
   integer-turned base text rest n b r l t = gives-token rest n [] _ r refl l (integer-formed base (c .place) text b t) tt
 
   -- of digits behind a prefix that is no text
-  based-turned : (base : ℕ) (rest : List Ch) → base-fits 2 base ≡ true → C.is-digit-of base 48 ≡ true → Ran cs rest 0 → TurnOf c cs (Z.integer (c .place) base [] (digits base rest))
-  based-turned base rest b z r = integer-turned base _ (digits base rest .rest) _ b (ran-trans r (digits-ran base rest)) (omega (arith, or-zero-length (digits base rest .text))) (or-zero-numeral base (digits base rest .text) z (digits-all base rest))
+  based-turned : (base : ℕ) (rest : List Ch) → base-fits 2 base ≡ true → C.is-digit-of base 48 ≡ true → Ran cs rest 0
+      → TurnOf c cs (Z.integer (c .place) base [] (digits base rest))
+  based-turned base rest b z r =
+      integer-turned base _ (digits base rest .rest) _ b (ran-trans r (digits-ran base rest))
+      (omega (arith, or-zero-length (digits base rest .text)))
+      (or-zero-numeral base (digits base rest .text) z (digits-all base rest))
 
   zero-turned : TurnOf c cs (Z.zero-turn (c .place) cs)
   unfolding Z.zero-turn
   zero-turned =
-      chosen (TurnOf c cs) (eqb (look cs) 120) _ _ (λ _. based-turned 16 (drop-one cs) refl refl (ran-drop cs)) (λ _. chosen (TurnOf c cs) (eqb (look cs) 98) _ _ (λ _. based-turned 2 (drop-one cs) refl refl (ran-drop cs)) (λ _. based-turned 10 cs refl refl (ran-none cs)))
+      chosen (TurnOf c cs) (eqb (look cs) 120) _ _ (λ _. based-turned 16 (drop-one cs) refl refl (ran-drop cs))
+      (λ _. chosen (TurnOf c cs) (eqb (look cs) 98) _ _
+      (λ _. based-turned 2 (drop-one cs) refl refl (ran-drop cs))
+      (λ _. based-turned 10 cs refl refl (ran-none cs)))
 
 dash-turned : (c : Ch) (cs : List Ch) → TurnOf c cs (Z.dash-turn (c .place) cs)
 unfolding Z.dash-turn
 dash-turned c [] = tt
 dash-turned c (d ∷ cs) =
-    chosen (TurnOf c (d ∷ cs)) (eqb (d .byte) 62) _ _ (λ _. plain-turned c (d ∷ cs) cs 0 K.RArrow (ran-one d cs) (plain-formed K.RArrow (c .place) (record { plain = refl }) (omega arith)))
+    chosen (TurnOf c (d ∷ cs)) (eqb (d .byte) 62) _ _ (λ _. plain-turned c (d ∷ cs) cs 0 K.RArrow (ran-one d cs)
+    (plain-formed K.RArrow (c .place) (record { plain = refl }) (omega arith)))
     (λ _. chosen (TurnOf c (d ∷ cs)) (C.is-digit (d .byte)) _ _ (λ e. integer-turned c (d ∷ cs) 10 (45 ∷ digits 10 (d ∷ cs) .text) (digits 10 (d ∷ cs) .rest) _ refl (digits-ran 10 (d ∷ cs)) (omega arith) (dash-numeral (digits 10 (d ∷ cs) .text) (digits-all 10 (d ∷ cs)) (digits-some d cs e)))
     (λ _. plain-turned c (d ∷ cs) cs 0 K.Minus (ran-one d cs) (plain-formed K.Minus (c .place) (record { plain = refl }) (omega arith))))
 
@@ -325,13 +397,20 @@ turned c cs k h = go (Z.class (c .byte) (look cs)) (classed (c .byte) (look cs))
     go x is-foreign = tt
     go x is-white = gives-none c cs cs 0 [] (ran-none cs) tt
     go x is-comment = gives-none c cs (comment (drop-one cs)) 0 [] (ran-trans (ran-drop cs) (comment-ran (drop-one cs))) tt
-    go x (is-pair l) = plain-turned c cs (drop-one cs) 0 (Z.pair (c .byte) (look cs)) (ran-drop cs) (plain-formed (Z.pair (c .byte) (look cs)) (c .place) (pair-plain (c .byte) (look cs)) l)
-    go x (is-symbol l) = plain-turned c cs cs 0 (Z.symbol (c .byte)) (ran-none cs) (plain-formed (Z.symbol (c .byte)) (c .place) (symbol-plain (c .byte)) l)
+    go x (is-pair l) =
+        plain-turned c cs (drop-one cs) 0 (Z.pair (c .byte) (look cs)) (ran-drop cs)
+        (plain-formed (Z.pair (c .byte) (look cs)) (c .place) (pair-plain (c .byte) (look cs)) l)
+    go x (is-symbol l) =
+        plain-turned c cs cs 0 (Z.symbol (c .byte)) (ran-none cs)
+        (plain-formed (Z.symbol (c .byte)) (c .place) (symbol-plain (c .byte)) l)
     go x is-quote = string-turned c cs k h (quoted false cs) (quoted-spans false cs)
     go x (is-word l) = word-turned c cs k h (letter-bounds (c .byte) l .1) (word cs) (word-spans cs)
     go x is-dash = dash-turned c cs
     go x is-zero = zero-turned c cs
-    go x (is-digit e) = integer-turned c cs 10 (c .byte ∷ digits 10 cs .text) (digits 10 cs .rest) (length (digits 10 cs .text)) refl (digits-ran 10 cs) (omega arith) (numeral 10 (c .byte ∷ digits 10 cs .text) (digit-first (c .byte) (digits 10 cs .text) e (digits-all 10 cs)) (omega arith))
+    go x (is-digit e) =
+        integer-turned c cs 10 (c .byte ∷ digits 10 cs .text) (digits 10 cs .rest) (length (digits 10 cs .text))
+        refl (digits-ran 10 cs) (omega arith) (numeral 10 (c .byte ∷ digits 10 cs .text)
+        (digit-first (c .byte) (digits 10 cs .text) e (digits-all 10 cs)) (omega arith))
     go x is-unknown = gives-none c cs cs 0 _ (ran-none cs) (error-at 4 (c .place) (omega arith) (omega arith), tt)
 
 -- ---- all the tokens
@@ -362,10 +441,6 @@ pub record Fault (e : Err) : Type 0 where
 abbrev pub Kinds : List Tok → Type 0
 Kinds ts = All (λ t. 0 < t .kind) ts
 
--- those with no text have none
-abbrev pub AllTextless : List Tok → Type 0
-AllTextless ts = All Textless ts
-
 -- each token comes behind the former, the first behind the place p
 abbrev pub Behind : Place → List Tok → Type 0
 Behind p [] = Unit {0}
@@ -386,11 +461,16 @@ later-place p q a b h = go (ltb (p .line) (q .line)) refl
   where
     go : (x : Bool) → ltb (p .line) (q .line) ≡ x → x || (eqb (p .line) (q .line) && ltb (p .column) (q .column)) ≡ true
     go true e = refl
-    go false e = let l : q .line ≤ p .line = ltb-false _ _ e in both-true (eq-eqb (p .line) (q .line) (omega arith)) (lt-ltb (p .column) (q .column) (omega arith))
+    go false e =
+        let l : q .line ≤ p .line = ltb-false _ _ e in
+        both-true (eq-eqb (p .line) (q .line) (omega arith)) (lt-ltb (p .column) (q .column) (omega arith))
 
 behind : (p : Place) (ts : List Tok) (k : ℕ) → p .column < 65536 → Rising (key p) ts k → All Good ts → Behind p ts
 behind p [] k h r g = tt
-behind p (t ∷ ts) k h r g = (later-place p (t .place) h (omega (arith, g .0 .placed)) (r .0), behind (t .place) ts k (omega (arith, g .0 .placed)) (r .1) (g .1))
+behind p (t ∷ ts) k h r g = (
+  later-place p (t .place) h (omega (arith, g .0 .placed)) (r .0),
+  behind (t .place) ts k (omega (arith, g .0 .placed)) (r .1) (g .1),
+)
 
 differ : (p q : Place) → key p < key q → same-place p q ≡ false
 differ p q h = go (eqb (p .line) (q .line)) (eqb (p .column) (q .column)) (eqb-true (p .line) (q .line)) (eqb-true (p .column) (q .column))
@@ -420,7 +500,6 @@ pub record Made (ts : List Tok) (es : List Err) : Type 0 where
   pub distinct : Distinct ts
   pub small : AllSmall ts
   pub kinds : Kinds ts
-  pub textless : AllTextless ts
   pub text : texts ts ≤ 16384
   pub tokens : length ts ≤ 2048
   pub errors : length es ≤ 255
@@ -446,7 +525,14 @@ module _ (p : Place) (r n : ℕ) where
 
   one-good : (us : List Tok) → Placed 1 p → n ≤ 16384 → OneToken p r n us → All Good us
   one-good [] h m o = tt
-  one-good (t ∷ []) h m o = (record { formed = o .formed; placed = subst (Placed 1) (sym (o .place)) h; short = omega (arith, o .size) }, tt)
+  one-good (t ∷ []) h m o = (
+    record {
+      formed = o .formed;
+      placed = subst (Placed 1) (sym (o .place)) h;
+      short = omega (arith, o .size);
+    },
+    tt,
+  )
   one-good (t ∷ u ∷ us) h m o = absurd o
 
   one-text : (us : List Tok) → r ≤ n → OneToken p r n us → texts us + r ≤ n
@@ -457,14 +543,17 @@ module _ (p : Place) (r n : ℕ) where
   fault : Placed 1 p → (e : Err) → ErrorAt p e → Fault e
   fault h e a = record { low = a .low; high = a .high; placed = subst (Placed 1) (sym (a .place)) h; expected = a .expected; got = a .got }
 
-  have-more : (k : ℕ) (ts us : List Tok) (es fs : List Err) → Have k ts es → k < key p → Placed 1 p → n ≤ 16384 → OneToken p r n us → All (ErrorAt p) fs → Have (key p) (ts ++ us) (es ++ fs)
+  have-more : (k : ℕ) (ts us : List Tok) (es fs : List Err) → Have k ts es → k < key p → Placed 1 p → n ≤ 16384
+      → OneToken p r n us → All (ErrorAt p) fs → Have (key p) (ts ++ us) (es ++ fs)
   have-more k ts us es fs h a b m o e = record {
     rising = rising-append 0 k (key p) ts us (h .rising) (one-rising k us a o);
     good = all-append Good ts us (h .good) (one-good us b m o);
     faults = all-append Fault es fs (h .faults) (all-map (ErrorAt p) Fault (fault b) fs e);
   }
 
-tokens-from : (n : ℕ) (cs : List Ch) (ts : List Tok) (es : List Err) (k : ℕ) → length cs < n → Chars k cs → texts ts + bytes cs ≤ 16384 → Have k ts es → length ts ≤ 2048 → length es ≤ 255 → TokensOf (tokenize-from 2048 n cs ts es)
+tokens-from : (n : ℕ) (cs : List Ch) (ts : List Tok) (es : List Err) (k : ℕ) → length cs < n → Chars k cs
+    → texts ts + bytes cs ≤ 16384 → Have k ts es → length ts ≤ 2048 → length es ≤ 255
+    → TokensOf (tokenize-from 2048 n cs ts es)
 unfolding tokenize-from
 tokens-from zero cs ts es k f c b h m w = absurd (omega arith)
 tokens-from (suc n) [] ts es k f c b h m w = record {
@@ -474,28 +563,44 @@ tokens-from (suc n) [] ts es k f c b h m w = record {
   distinct = distinct ts 0 k (h .rising);
   small = small ts (h .good);
   kinds = all-map Good (λ t. 0 < t .kind) (λ t g. g .formed .low) ts (h .good);
-  textless = all-map Good Textless (λ t g. g .formed .textless) ts (h .good);
   text = omega arith;
   tokens = m;
   errors = w;
 }
 tokens-from (suc n) (x ∷ cs) ts es k f c b h m w =
     go (turn x cs) (turned x cs (key (x .place)) (c .3))
-    (λ cs′ ts′ es′ t z y. tokens-from n cs′ (ts ++ ts′) (es ++ es′) (key (x .place)) (omega (arith, t .ran .fewer)) (t .ran .keeps (key (x .place)) (c .3)) (fits cs′ ts′ es′ t) (more cs′ ts′ es′ t) (rw length-append z) (rw length-append y))
+    (λ cs′ ts′ es′ t z y. tokens-from n cs′ (ts ++ ts′) (es ++ es′) (key (x .place))
+    (omega (arith, t .ran .fewer)) (t .ran .keeps (key (x .place)) (c .3)) (fits cs′ ts′ es′ t)
+    (more cs′ ts′ es′ t) (rw length-append z) (rw length-append y))
   where
     fits : (cs′ : List Ch) (ts′ : List Tok) (es′ : List Err) → Turned x cs cs′ es′ ts′ → texts (ts ++ ts′) + bytes cs′ ≤ 16384
-    fits cs′ ts′ es′ t = omega (arith, texts-append ts ts′, one-text (x .place) (bytes cs′) (bytes (x ∷ cs)) ts′ (omega (arith, t .ran .size)) (t .token))
+    fits cs′ ts′ es′ t =
+        omega (
+          arith,
+          texts-append ts ts′,
+          one-text (x .place) (bytes cs′) (bytes (x ∷ cs)) ts′ (omega (arith, t .ran .size)) (t .token),
+        )
 
     more : (cs′ : List Ch) (ts′ : List Tok) (es′ : List Err) → Turned x cs cs′ es′ ts′ → Have (key (x .place)) (ts ++ ts′) (es ++ es′)
-    more cs′ ts′ es′ t = have-more (x .place) (bytes cs′) (bytes (x ∷ cs)) k ts ts′ es es′ h (c .0) (c .1) (omega arith) (t .token) (t .errors)
+    more cs′ ts′ es′ t =
+        have-more (x .place) (bytes cs′) (bytes (x ∷ cs)) k ts ts′ es es′ h (c .0) (c .1) (omega arith)
+        (t .token) (t .errors)
 
-    go : (t : Turn) → TurnOf x cs t → ((cs′ : List Ch) (ts′ : List Tok) (es′ : List Err) → Turned x cs cs′ es′ ts′ → length ts + length ts′ ≤ 2048 → length es + length es′ ≤ 255 → TokensOf (tokenize-from 2048 n cs′ (ts ++ ts′) (es ++ es′)))
-        → TokensOf (elim t as (λ _. Tokens) [ refused j ↦ Tokens.refused j | goes cs′ es′ ts′ ↦ elim (leb (length es + length es′) 255) as (λ _. Tokens) [ false ↦ Tokens.refused 7 | true ↦ elim (leb (length ts + length ts′) 2048) as (λ _. Tokens) [ false ↦ Tokens.refused 6 | true ↦ tokenize-from 2048 n cs′ (ts ++ ts′) (es ++ es′) ] ] ])
+    go : (t : Turn) → TurnOf x cs t
+        → ((cs′ : List Ch) (ts′ : List Tok) (es′ : List Err) → Turned x cs cs′ es′ ts′
+        → length ts + length ts′ ≤ 2048 → length es + length es′ ≤ 255
+        → TokensOf (tokenize-from 2048 n cs′ (ts ++ ts′) (es ++ es′)))
+        → TokensOf (elim t as (λ _. Tokens)
+        [ refused j ↦ Tokens.refused j | goes cs′ es′ ts′ ↦ elim (leb (length es + length es′) 255) as (λ _. Tokens) [ false ↦ Tokens.refused 7 | true ↦ elim (leb (length ts + length ts′) 2048) as (λ _. Tokens) [ false ↦ Tokens.refused 6 | true ↦ tokenize-from 2048 n cs′ (ts ++ ts′) (es ++ es′) ] ] ])
     go (refused j) p f = p
-    go (goes cs′ es′ ts′) p f = chosen TokensOf (leb (length es + length es′) 255) _ _ (λ y. chosen TokensOf (leb (length ts + length ts′) 2048) _ _ (λ z. f cs′ ts′ es′ p (leb-true _ _ z) (leb-true _ _ y)) (λ _. tt)) (λ _. tt)
+    go (goes cs′ es′ ts′) p f =
+        chosen TokensOf (leb (length es + length es′) 255) _ _
+        (λ y. chosen TokensOf (leb (length ts + length ts′) 2048) _ _
+        (λ z. f cs′ ts′ es′ p (leb-true _ _ z) (leb-true _ _ y)) (λ _. tt)) (λ _. tt)
 
 pub script-tokens : (bs : List ℕ) (cs : List Ch) → length bs ≤ 16384 → characters bs ≡ some cs → TokensOf (tokenize cs)
 unfolding tokenize
 script-tokens bs cs h e =
     let d : Script cs = script bs cs h e in
-    tokens-from (suc (length cs)) cs [] [] 0 (omega arith) (d .chars) (omega (arith, d .size)) (record { rising = omega arith; good = tt; faults = tt }) (omega arith) (omega arith)
+    tokens-from (suc (length cs)) cs [] [] 0 (omega arith) (d .chars) (omega (arith, d .size))
+    (record { rising = omega arith; good = tt; faults = tt }) (omega arith) (omega arith)

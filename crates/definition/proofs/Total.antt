@@ -11,12 +11,12 @@ use Rattle.definition.specs.Kind as K
 use Rattle.definition.specs.Fallible.{Ans, ok, fatal}
 use Rattle.definition.specs.Node.{byte}
 use Rattle.definition.specs.Token.{Tok, head, tail, _is_}
-use Rattle.definition.specs.Act.{Node, Goal, Loop, Module, Body, ListOf, Operators, Casts, Suffixes, Modifiers, Listed, Parameters, Arguments, StructFields, ArrayValues, StructValues, Level, BitOr, BitXor, BitAnd, Shift, AddSub, Mul, Left, Consumed, Act, done, peek, take, make, if_then_else_, call, loop, panic, St, Res, gives, refused, after, plain, advance, push, run, next, _>>=_, _>>?_}
+use Rattle.definition.specs.Act.{Node, Goal, Loop, Module, Body, ListOf, Operators, Casts, Suffixes, Modifiers, Listed, Parameters, Arguments, StructFields, ArrayValues, StructValues, Left, Consumed, Act, done, peek, take, make, if_then_else_, call, loop, panic, St, Res, gives, refused, after, plain, advance, push, run, next, _>>=_, _>>?_}
 use Rattle.definition.specs.Parser as P
 use Rattle.definition.specs.Parser.{rule, turn, loops, parse, parse-module}
 use Rattle.definition.proofs.Tests.{never-both}
 use Rattle.definition.proofs.Later.{Later, toks, later-left, later-refl, later-trans, later-advance, later-push, After, weaken}
-use Rattle.definition.proofs.Ind.{parse-ind}
+use Rattle.definition.proofs.Ind.{Positive, mapping-positive, parse-ind}
 use Rattle.definition.proofs.Clean.{loops-later, parse-later}
 use Rattle.definition.proofs.Grows.{there}
 use Rattle.definition.proofs.Grows as Gr
@@ -40,10 +40,6 @@ rank-le (Casts e) = omega arith
 rank-le (Suffixes e) = omega arith
 rank-le (Modifiers w) = omega arith
 
-abbrev Positive : List P.Op → Type 0
-Positive [] = Unit {0}
-Positive (o ∷ os) = T (ltb 0 (o .kind)) × Positive os
-
 abbrev pub Moves : {A : Type 0} → Res A → Type 0
 Moves (gives a s) = Unit {0}
 Moves (refused n) = T (between 10 12 n)
@@ -65,17 +61,27 @@ module _ (n : ℕ) where
   Enough panic Q s = Unit {0}
 
   -- where two more turns than tokens are left, every loop has its turns
-  pub plenty : {A : Type 0} (m : Act A) (Q : St → Type 0) (s₀ s : St) → Later s₀ s → 2 + length (s .left) ≤ n → ((s′ : St) → length (s′ .left) ≤ length (s .left) → Q s′) → Enough m Q s
+  pub plenty : {A : Type 0} (m : Act A) (Q : St → Type 0) (s₀ s : St) → Later s₀ s → 2 + length (s .left) ≤ n
+      → ((s′ : St) → length (s′ .left) ≤ length (s .left) → Q s′) → Enough m Q s
   plenty (done a) Q s₀ s z h q = q s (omega arith)
   plenty (peek k) Q s₀ s z h q = plenty (k (head (s .left))) Q s₀ s z h q
-  plenty (take r k) Q s₀ s z h q = plenty (k (head (s .left))) Q s₀ (advance r s) (later-trans z (later-advance r s)) (omega (arith, Gr.tail-le (s .left))) (λ s′ d. q s′ (omega (arith, Gr.tail-le (s .left))))
+  plenty (take r k) Q s₀ s z h q =
+      plenty (k (head (s .left))) Q s₀ (advance r s) (later-trans z (later-advance r s))
+      (omega (arith, Gr.tail-le (s .left))) (λ s′ d. q s′ (omega (arith, Gr.tail-le (s .left))))
   plenty (make e m) Q s₀ s z h q = plenty m Q s₀ (push e s) (later-trans z (later-push e s)) h q
   plenty (if_then_else_ b m m′) Q s₀ s z h q = (λ _. plenty m Q s₀ s z h q, λ _. plenty m′ Q s₀ s z h q)
-  plenty (call g k) Q s₀ s z h q = λ a s′ l c. plenty (k a) Q s₀ s′ (later-trans z l) (omega (arith, later-left l)) (λ s″ d. q s″ (omega (arith, later-left l)))
-  plenty (loop g k) Q s₀ s z h q = (omega (arith, rank-le g), λ a s′ l. plenty (k a) Q s₀ s′ (later-trans z l) (omega (arith, later-left l)) (λ s″ d. q s″ (omega (arith, later-left l))))
+  plenty (call g k) Q s₀ s z h q =
+      λ a s′ l c. plenty (k a) Q s₀ s′ (later-trans z l) (omega (arith, later-left l))
+      (λ s″ d. q s″ (omega (arith, later-left l)))
+  plenty (loop g k) Q s₀ s z h q = (
+    omega (arith, rank-le g),
+    λ a s′ l. plenty (k a) Q s₀ s′ (later-trans z l) (omega (arith, later-left l))
+        (λ s″ d. q s″ (omega (arith, later-left l))),
+  )
   plenty panic Q s₀ s z h q = tt
 
-  enough-bind : {A B : Type 0} (m : Act A) (f : A → Act B) (P Q : St → Type 0) (s : St) → Enough m P s → ((a : A) (s′ : St) → P s′ → Enough (f a) Q s′) → Enough (m >>= f) Q s
+  enough-bind : {A B : Type 0} (m : Act A) (f : A → Act B) (P Q : St → Type 0) (s : St) → Enough m P s
+      → ((a : A) (s′ : St) → P s′ → Enough (f a) Q s′) → Enough (m >>= f) Q s
   unfolding _>>=_
   enough-bind (done a) f P Q s h q = q a s h
   enough-bind (peek k) f P Q s h q = enough-bind (k (head (s .left))) f P Q s h q
@@ -103,14 +109,17 @@ module _ (n : ℕ) where
   begins : {A : Type 0} (m : Act A) (s : St) → head (s .left) is K.End ≡ false → First m → 1 + length (s .left) ≤ n → Enough m (Less s) s
   begins (done a) s e r h = absurd r
   begins (peek k) s e r h = begins (k (head (s .left))) s e (r (head (s .left))) h
-  begins (take p k) s e r h = plenty (k (head (s .left))) (Less s) s (advance p s) (later-advance p s) (omega (arith, Gr.tail-lt (s .left) e)) (λ s′ d. omega (arith, Gr.tail-lt (s .left) e))
+  begins (take p k) s e r h =
+      plenty (k (head (s .left))) (Less s) s (advance p s) (later-advance p s)
+      (omega (arith, Gr.tail-lt (s .left) e)) (λ s′ d. omega (arith, Gr.tail-lt (s .left) e))
   begins (make x m) s e r h = absurd r
   begins (if_then_else_ b m m′) s e r h = (λ d. begins m s e (r .0 d) h, λ d. begins m′ s e (r .1 d) h)
   begins (call g k) s e r h = λ a s′ l c. plenty (k a) (Less s) s s′ l (omega (arith, c e)) (λ s″ d. omega (arith, c e))
   begins (loop l k) s e r h = absurd r
   begins panic s e r h = tt
 
-  follows : {A B : Type 0} (r : Res A) (f : A → St → Res B) (P : A → St → Type 0) → After P r → Moves r → ((a : A) (s : St) → P a s → Moves (f a s)) → Moves (after r f)
+  follows : {A B : Type 0} (r : Res A) (f : A → St → Res B) (P : A → St → Type 0) → After P r → Moves r
+      → ((a : A) (s : St) → P a s → Moves (f a s)) → Moves (after r f)
   follows (gives a s) f P p m h = h a s p
   follows (refused k) f P p m h = m
 
@@ -129,8 +138,12 @@ module _ (n : ℕ) where
     run-moves (make e m) Q s h = limited (ltb (length (s .full)) 255) (run c o m (push e s)) (run-moves m Q (push e s) h)
     run-moves (if_then_else_ true m m′) Q s h = run-moves m Q s (h .0 refl)
     run-moves (if_then_else_ false m m′) Q s h = run-moves m′ Q s (h .1 refl)
-    run-moves (call g k) Q s h = follows (c g s) (λ a s′. run c o (k a) s′) (λ a s′. Later s s′ × Called s s′) (c-after g s) (c-moves g s) (λ a s′ p. run-moves (k a) Q s′ (h a s′ (p .0) (p .1)))
-    run-moves (loop g k) Q s h = follows (o g s) (λ a s′. run c o (k a) s′) (λ a s′. Later s s′) (o-after g s) (o-moves g s (h .0)) (λ a s′ p. run-moves (k a) Q s′ (h .1 a s′ p))
+    run-moves (call g k) Q s h =
+        follows (c g s) (λ a s′. run c o (k a) s′) (λ a s′. Later s s′ × Called s s′) (c-after g s)
+        (c-moves g s) (λ a s′ p. run-moves (k a) Q s′ (h a s′ (p .0) (p .1)))
+    run-moves (loop g k) Q s h =
+        follows (o g s) (λ a s′. run c o (k a) s′) (λ a s′. Later s s′) (o-after g s) (o-moves g s (h .0))
+        (λ a s′ p. run-moves (k a) Q s′ (h .1 a s′ p))
     run-moves panic Q s h = tt
 
 -- ---- the turns
@@ -146,17 +159,11 @@ first-item n StructFields = tt
 first-item n ArrayValues = tt
 first-item n StructValues = tt
 
-find-enough : {A : Type 0} (n : ℕ) (os : List P.Op) (y : ℕ → Act A) (m : Act A) (Q : St → Type 0) (s : St) → Positive os → ((o : ℕ) → length (tail (s .left)) < length (s .left) → Enough n (y o) Q s) → Enough n m Q s → Enough n (P.find (head (s .left)) os y m) Q s
+find-enough : {A : Type 0} (n : ℕ) (os : List P.Op) (y : ℕ → Act A) (m : Act A) (Q : St → Type 0) (s : St) → Positive os
+    → ((o : ℕ) → length (tail (s .left)) < length (s .left) → Enough n (y o) Q s) → Enough n m Q s
+    → Enough n (P.find (head (s .left)) os y m) Q s
 find-enough n [] y m Q s p h e = e
 find-enough n (o ∷ os) y m Q s p h e = (λ i. h (o .op) (there (o .kind) (p .0) (s .left) i), λ _. find-enough n os y m Q s (p .1) h e)
-
-mapping-positive : (l : Level) → Positive (P.mapping l)
-mapping-positive BitOr = (tt, tt)
-mapping-positive BitXor = (tt, tt)
-mapping-positive BitAnd = (tt, tt)
-mapping-positive Shift = (tt, (tt, tt))
-mapping-positive AddSub = (tt, (tt, tt))
-mapping-positive Mul = (tt, tt)
 
 -- an item of a module reads a token
 moved : (s s′ : St) → Later s s′ → head (s .left) is K.End ≡ false → head (s′ .left) is K.End ≡ true → length (s′ .left) < length (s .left)
@@ -166,8 +173,9 @@ moved s s′ l e e′ = go (l .eaten) (l .left)
     go [] q = never-both e′ (subst (λ (ts : List Tok). head ts is K.End ≡ false) q e)
     go (c ∷ cs) q = omega (arith, ap length q, length-append (toks cs) (s′ .left))
 
-alias-enough : (n : ℕ) (s : St) → head (s .left) is K.End ≡ false → 1 + length (s .left) ≤ n → Enough n P.parse-type-alias (λ s′. length (s′ .left) < length (s .left)) s
-unfolding P.parse-type-alias _>>=_
+alias-enough : (n : ℕ) (s : St) → head (s .left) is K.End ≡ false → 1 + length (s .left) ≤ n
+    → Enough n P.parse-type-alias (λ s′. length (s′ .left) < length (s .left)) s
+unfolding P.parse-type-alias P.alias-rule _>>=_
 alias-enough n s e h = (
   h,
   λ w t l. (
@@ -176,7 +184,8 @@ alias-enough n s e h = (
       λ _. (
         λ _. omega (arith, there K.KwType tt (t .left) i, later-left l, Gr.tail-le (tail (t .left))),
         λ _. (
-          λ _ a u l₂ c. elim a [ ok ty ↦ (λ _. omega (arith, shorter t i, later-left l, later-left l₂, Gr.tail-le (u .left)), λ _. (λ _. omega (arith, shorter t i, later-left l, later-left l₂, Gr.tail-le (u .left)), λ _. omega (arith, shorter t i, later-left l, later-left l₂, Gr.tail-le (u .left)))) | fatal es ↦ omega (arith, shorter t i, later-left l, later-left l₂) ],
+          λ _ a u l₂ c. elim a
+              [ ok ty ↦ (λ _. omega (arith, shorter t i, later-left l, later-left l₂, Gr.tail-le (u .left)), λ _. (λ _. omega (arith, shorter t i, later-left l, later-left l₂, Gr.tail-le (u .left)), λ _. omega (arith, shorter t i, later-left l, later-left l₂, Gr.tail-le (u .left)))) | fatal es ↦ omega (arith, shorter t i, later-left l, later-left l₂) ],
           λ _.
               (λ _. omega (arith, shorter t i, later-left l), λ _. omega (arith, shorter t i, later-left l)),
         ),
@@ -189,8 +198,9 @@ alias-enough n s e h = (
     shorter : (t : St) → head (t .left) is K.KwType ≡ true → length (tail (tail (tail (t .left)))) < length (t .left)
     shorter t i = omega (arith, there K.KwType tt (t .left) i, Gr.tail-le (tail (t .left)), Gr.tail-le (tail (tail (t .left))))
 
-item-enough : (n : ℕ) (s : St) → head (s .left) is K.End ≡ false → 1 + length (s .left) ≤ n → Enough n P.parse-top-level-item (λ s′. length (s′ .left) < length (s .left)) s
-unfolding P.parse-top-level-item P.parse-function-definition P.function P.parse-use P.parse-top-level-var-declaration _>>=_
+item-enough : (n : ℕ) (s : St) → head (s .left) is K.End ≡ false → 1 + length (s .left) ≤ n
+    → Enough n P.parse-top-level-item (λ s′. length (s′ .left) < length (s .left)) s
+unfolding P.parse-top-level-item P.parse-function-definition P.function P.parse-use P.path-rule P.parse-top-level-var-declaration _>>=_
 item-enough n s e h = (
   λ _. begins n P.parse-function-definition s e (λ t. (λ _. tt, λ _. tt)) h,
   λ _. (
@@ -208,27 +218,60 @@ item-enough n s e h = (
 
 pub turn-enough : (n : ℕ) (l : Loop) (s : St) → rank l + length (s .left) ≤ suc n → Enough n (turn l) any s
 unfolding P.module-turn P.body-turn P.list-turn P.operators-turn P.casts-turn P.suffixes-turn P.modifiers-turn
-turn-enough n (Module i) s h = (λ _. tt, λ e. enough-bind n P.parse-top-level-item _ (λ s′. length (s′ .left) < length (s .left)) any s (item-enough n s e (omega arith)) (λ a s′ d. (omega arith, λ b s″ l. tt)))
+turn-enough n (Module i) s h = (
+  λ _. tt,
+  λ e. enough-bind n P.parse-top-level-item _ (λ s′. length (s′ .left) < length (s .left)) any s
+      (item-enough n s e (omega arith)) (λ a s′ d. (omega arith, λ b s″ l. tt)),
+)
 turn-enough n (Body i) s h = (λ _. tt, λ _. (λ _. tt, λ e a s′ l c. (omega (arith, c e), λ b s″ l₂. tt)))
-turn-enough n (ListOf k i) s h = (λ _. tt, λ e. (λ _. tt, λ _. enough-bind n (P.item k) _ (λ s′. length (s′ .left) < length (s .left)) any s (begins n (P.item k) s e (first-item n k) (omega arith)) (λ a s′ d. plenty n (P.after-item k (P.integrate i a)) any s′ s′ (later-refl s′) (omega arith) (λ s″ d. tt))))
-turn-enough n (Operators l e) s h = find-enough n (P.mapping l) (λ o. next λ op. P.cascade l >>? λ r. loop (Operators l (P.binary 0x2D (byte o ∷ []) (op .place) e r)) done) (done (ok e)) any s (mapping-positive l) (λ o d. plenty n (P.cascade l >>? λ r. loop (Operators l (P.binary 0x2D (byte o ∷ []) (head (s .left) .place) e r)) done) any (advance (λ _. plain) s) (advance (λ _. plain) s) (later-refl (advance (λ _. plain) s)) (omega arith) (λ s″ d. tt)) tt
-turn-enough n (Casts e) s h = (λ i. plenty n (P.parse-type >>? λ ty. loop (Casts (P.binary 0x26 [] (head (s .left) .place) e ty)) done) any (advance (λ _. plain) s) (advance (λ _. plain) s) (later-refl (advance (λ _. plain) s)) (omega (arith, there K.KwAs tt (s .left) i)) (λ s″ d. tt), λ _. tt)
+turn-enough n (ListOf k i) s h = (
+  λ _. tt,
+  λ e. (
+    λ _. tt,
+    λ _. enough-bind n (P.item k) _ (λ s′. length (s′ .left) < length (s .left)) any s
+        (begins n (P.item k) s e (first-item n k) (omega arith))
+        (λ a s′ d. plenty n (P.after-item k (P.integrate i a)) any s′ s′ (later-refl s′) (omega arith) (λ s″ d. tt)),
+  ),
+)
+turn-enough n (Operators l e) s h =
+    find-enough n (P.mapping l)
+    (λ o. next λ op. P.cascade l >>? λ r. loop (Operators l (P.binary 0x2D (byte o ∷ []) (op .place) e r)) done)
+    (done (ok e)) any s (mapping-positive l) (λ o d. plenty n
+    (P.cascade l >>? λ r. loop (Operators l (P.binary 0x2D (byte o ∷ []) (head (s .left) .place) e r)) done) any
+    (advance (λ _. plain) s) (advance (λ _. plain) s) (later-refl (advance (λ _. plain) s)) (omega arith)
+    (λ s″ d. tt)) tt
+turn-enough n (Casts e) s h = (
+  λ i. plenty n (P.parse-type >>? λ ty. loop (Casts (P.binary 0x26 [] (head (s .left) .place) e ty)) done) any
+      (advance (λ _. plain) s) (advance (λ _. plain) s) (later-refl (advance (λ _. plain) s))
+      (omega (arith, there K.KwAs tt (s .left) i)) (λ s″ d. tt),
+  λ _. tt,
+)
 turn-enough n (Suffixes e) s h = (
   λ i. (λ _. tt, λ _. (λ _. (omega (arith, there K.Dot tt (s .left) i, Gr.tail-le (tail (s .left))), λ a s′ l. tt), λ _. tt)),
   λ _. (
     λ i. (omega (arith, there K.DotStar tt (s .left) i), λ a s′ l. tt),
-    λ _.
-        (λ i. plenty n (P.parse-expression >>? λ x. P.expect K.RBracket >>? λ _. loop (Suffixes (P.binary 0x25 [] (head (s .left) .place) e x)) done) any (advance (λ _. plain) s) (advance (λ _. plain) s) (later-refl (advance (λ _. plain) s)) (omega (arith, there K.LBracket tt (s .left) i)) (λ s″ d. tt), λ _. tt),
+    λ _. (
+      λ i. plenty n (P.parse-expression >>? λ x. P.expect K.RBracket >>? λ _. loop
+          (Suffixes (P.binary 0x25 [] (head (s .left) .place) e x)) done) any (advance (λ _. plain) s)
+          (advance (λ _. plain) s) (later-refl (advance (λ _. plain) s))
+          (omega (arith, there K.LBracket tt (s .left) i)) (λ s″ d. tt),
+      λ _. tt,
+    ),
   ),
 )
-turn-enough n (Modifiers w) s h = (λ i. (omega (arith, there K.KwDistinct tt (s .left) i), λ a s′ l. tt), λ _. (λ i. (omega (arith, there K.KwInternal tt (s .left) i), λ a s′ l. tt), λ _. tt))
+turn-enough n (Modifiers w) s h = (
+  λ i. (omega (arith, there K.KwDistinct tt (s .left) i), λ a s′ l. tt),
+  λ _.
+      (λ i. (omega (arith, there K.KwInternal tt (s .left) i), λ a s′ l. tt), λ _. tt),
+)
 
 -- ---- a reading answers, or is refused with 10, 11 or 12
 
 pub parse-after : (n : ℕ) (g : Goal) (s : St) → After (λ a s′. Later s s′ × Called s s′) (parse n g s)
 parse-after n g s = parse-ind Gr.G Gr.L Gr.R Gr.M (λ s. tt) (λ e s. tt) Gr.rules Gr.turns n g s
 
-loops-moves : (c : Goal → St → Res (Ans Node)) → ((g : Goal) (s : St) → After (λ a s′. Later s s′ × Called s s′) (c g s)) → ((g : Goal) (s : St) → Moves (c g s))
+loops-moves : (c : Goal → St → Res (Ans Node)) → ((g : Goal) (s : St) → After (λ a s′. Later s s′ × Called s s′) (c g s))
+    → ((g : Goal) (s : St) → Moves (c g s))
     → (n : ℕ) (l : Loop) (s : St) → rank l + length (s .left) ≤ n → Moves (loops c n l s)
 unfolding loops
 loops-moves c ca cm zero l s h = absurd (none l h)
@@ -242,17 +285,24 @@ loops-moves c ca cm zero l s h = absurd (none l h)
     none (Suffixes e) h = omega arith
     none (Modifiers w) h = omega arith
 loops-moves c ca cm (suc n) l s h =
-    run-moves n c (λ m t. loops c n m t) ca cm (λ m t. loops-later c (λ g s. weaken (c g s) (λ a s′ p. p .0) (ca g s)) n m t) (λ m t. loops-moves c ca cm n m t) (turn l) any s (turn-enough n l s h)
+    run-moves n c (λ m t. loops c n m t) ca cm
+    (λ m t. loops-later c (λ g s. weaken (c g s) (λ a s′ p. p .0) (ca g s)) n m t)
+    (λ m t. loops-moves c ca cm n m t) (turn l) any s (turn-enough n l s h)
 
 parse-moves : (n : ℕ) (g : Goal) (s : St) → Moves (parse n g s)
 unfolding parse
 parse-moves zero g s = tt
 parse-moves (suc n) g s =
-    run-moves (2 + length (s .left)) (λ h t. parse n h t) (λ l t. loops (λ h u. parse n h u) (suc (suc (length (t .left)))) l t) (λ h t. parse-after n h t) (λ h t. parse-moves n h t)
+    run-moves (2 + length (s .left)) (λ h t. parse n h t)
+    (λ l t. loops (λ h u. parse n h u) (suc (suc (length (t .left)))) l t) (λ h t. parse-after n h t)
+    (λ h t. parse-moves n h t)
     (λ l t. loops-later (λ h u. parse n h u) (λ h u. parse-later n h u) (suc (suc (length (t .left)))) l t)
-    (λ l t d. loops-moves (λ h u. parse n h u) (λ h u. parse-after n h u) (λ h u. parse-moves n h u) (suc (suc (length (t .left)))) l t (omega (arith, rank-le l)))
+    (λ l t d. loops-moves (λ h u. parse n h u) (λ h u. parse-after n h u) (λ h u. parse-moves n h u)
+    (suc (suc (length (t .left)))) l t (omega (arith, rank-le l)))
     (rule g) any s (plenty (2 + length (s .left)) (rule g) any s s (later-refl s) (omega arith) (λ s′ d. tt))
 
 pub module-moves : (ts : List Tok) → Moves (parse-module ts)
 unfolding parse-module
-module-moves ts = loops-moves (λ g s. parse 96 g s) (λ g s. parse-after 96 g s) (λ g s. parse-moves 96 g s) (suc (suc (length ts))) (Module (P.no-items [])) (record { left = ts; read = []; full = [] }) (omega arith)
+module-moves ts =
+    loops-moves (λ g s. parse 96 g s) (λ g s. parse-after 96 g s) (λ g s. parse-moves 96 g s)
+    (suc (suc (length ts))) (Module (P.no-items [])) (record { left = ts; read = []; full = [] }) (omega arith)

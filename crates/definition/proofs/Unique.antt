@@ -18,11 +18,11 @@ use Rattle.definition.specs.Act.{Node, Items, Goal, Statement, Expressio
 use Rattle.definition.specs.Parser as P
 use Rattle.definition.proofs.Ind.{follow}
 use Rattle.definition.proofs.Strip.{Norm, symbol, named, strip}
-use Rattle.definition.proofs.Later.{Later, After}
+use Rattle.definition.proofs.Later.{Later, After, next-state}
 use Rattle.definition.proofs.Unparse.{Entry, entry, Gathered, gathered, gather, unparse, unparse-append, step, sym1, comma, on-list, returning}
 use Rattle.definition.proofs.Shown.{Distinct, distinct-tail, distinct-later, Grew, grew-refl, _▸_, grew-as, took-modifier, took-symbol, took-name, Shows, after0, after1, ShowsItems, items-none, items-join}
 use Rattle.definition.proofs.Clean.{Clean, clean-module}
-use Rattle.definition.proofs.ShownAnswers.{Sequel, G, L, cwp, next-state, expects, identifier, calls, joined, R, M}
+use Rattle.definition.proofs.ShownAnswers.{Sequel, G, L, cwp, expects, identifier, calls, joined, R, M}
 use Rattle.definition.proofs.ShownExpressions.{suffixes-shown, List-shown, list-shown, list-turn-shown, after-items, unary-shown, casts-shown, operators-shown, expression-shown, type-shown}
 use Rattle.definition.proofs.ShownStatements.{declaration-shown, items-as, Body-shown, body-shown, body-turn-shown, statement-shown}
 
@@ -42,15 +42,27 @@ module _ (s t : St) (p : Place) (name : Tok) (ps : Items) (r : Fallible Node) (u
   parts : (st : List Entry) → unparse (ps .recs ++ r .item .recs) st ≡ entry q rs ∷ unparse (ps .recs) st
   parts st = unparse-append (ps .recs) (r .item .recs) st ∙ hr .on (unparse (ps .recs) st)
 
-  external-shown : Grew s (sym1 K.KwExtern ++ sym1 K.KwFn ++ (named K.Identifier (name .text) ∷ []) ++ (sym1 K.LParen ++ us ++ sym1 K.RParen) ++ returning rs) t
-      → cwp (P.expect K.Semicolon >>? λ _. P.good (P.node (ps .recs ++ r .item .recs) 0x50 p (byte 1 ∷ two (ps .count) ∷ []) (name .text)) (r .errors ++ ps .errors)) (G Statement s) t
+  external-shown : Grew s (sym1 K.KwExtern ++ sym1 K.KwFn ++ (named K.Identifier (name .text) ∷ [])
+      ++ (sym1 K.LParen ++ us ++ sym1 K.RParen) ++ returning rs) t
+      → cwp (P.expect K.Semicolon >>? λ _. P.good
+      (P.node (ps .recs ++ r .item .recs) 0x50 p (byte 1 ∷ two (ps .count) ∷ []) (name .text))
+      (r .errors ++ ps .errors)) (G Statement s) t
   unfolding step
   external-shown g = expects plain K.Semicolon _ _ _ (λ j d. record {
-    toks = symbol K.KwExtern ∷ symbol K.KwFn ∷ named K.Identifier (name .text) ∷ symbol K.LParen ∷ (us ++ sym1 K.RParen ++ (returning rs ++ sym1 K.Semicolon));
-    grew = grew-as (g ▸ took-symbol K.Semicolon tt t j) (ap {B = List Norm} (λ l. symbol K.KwExtern ∷ symbol K.KwFn ∷ named K.Identifier (name .text) ∷ symbol K.LParen ∷ l) (append-assoc (us ++ sym1 K.RParen) (returning rs) (sym1 K.Semicolon)));
+    toks =
+        symbol K.KwExtern ∷ symbol K.KwFn ∷ named K.Identifier (name .text) ∷ symbol K.LParen
+        ∷ (us ++ sym1 K.RParen ++ (returning rs ++ sym1 K.Semicolon));
+    grew =
+        grew-as (g ▸ took-symbol K.Semicolon tt t j) (ap {B = List Norm}
+        (λ l. symbol K.KwExtern ∷ symbol K.KwFn ∷ named K.Identifier (name .text) ∷ symbol K.LParen ∷ l)
+        (append-assoc (us ++ sym1 K.RParen) (returning rs) (sym1 K.Semicolon)));
     shows = record {
-      on = λ st. unparse-append (ps .recs ++ r .item .recs) (made ∷ []) st ∙ after0 made (unparse (ps .recs ++ r .item .recs) st) ∙ ap (λ (l : List Entry). step made l) (parts st)
-          ∙ ap {B = List Entry} (λ g. entry p (symbol K.KwExtern ∷ symbol K.KwFn ∷ named K.Identifier (name .text) ∷ symbol K.LParen ∷ (g .toks ++ sym1 K.RParen ++ (returning rs ++ sym1 K.Semicolon))) ∷ g .rest) (hp .on st);
+      on =
+          λ st. unparse-append (ps .recs ++ r .item .recs) (made ∷ []) st ∙ after0 made
+          (unparse (ps .recs ++ r .item .recs) st) ∙ ap (λ (l : List Entry). step made l) (parts st)
+          ∙ ap {B = List Entry}
+          (λ g. entry p (symbol K.KwExtern ∷ symbol K.KwFn ∷ named K.Identifier (name .text) ∷ symbol K.LParen
+          ∷ (g .toks ++ sym1 K.RParen ++ (returning rs ++ sym1 K.Semicolon))) ∷ g .rest) (hp .on st);
     };
     none = joined er ep;
     extra = tt;
@@ -59,18 +71,30 @@ module _ (s t : St) (p : Place) (name : Tok) (ps : Items) (r : Fallible Node) (u
       made : Rec
       made = record { tag = 0x50; place = some p; numbers = byte 1 ∷ two (ps .count) ∷ []; text = name .text }
 
-  with-body-shown : Grew s (sym1 K.KwFn ++ (named K.Identifier (name .text) ∷ []) ++ (sym1 K.LParen ++ us ++ sym1 K.RParen) ++ returning rs) t
-      → cwp (P.parse-body >>= λ b. P.good (P.node (ps .recs ++ r .item .recs ++ P.node (b .recs) 0x40 p (two (b .count) ∷ []) [] .recs) 0x50 p (byte 0 ∷ two (ps .count) ∷ []) (name .text)) (b .errors ++ r .errors ++ ps .errors)) (G Statement s) t
+  with-body-shown : Grew s (sym1 K.KwFn ++ (named K.Identifier (name .text) ∷ []) ++ (sym1 K.LParen ++ us ++ sym1 K.RParen)
+      ++ returning rs) t
+      → cwp (P.parse-body >>= λ b. P.good
+      (P.node (ps .recs ++ r .item .recs ++ P.node (b .recs) 0x40 p (two (b .count) ∷ []) [] .recs) 0x50 p
+      (byte 0 ∷ two (ps .count) ∷ []) (name .text)) (b .errors ++ r .errors ++ ps .errors)) (G Statement s) t
   unfolding step
   with-body-shown g = follow G L R M _ _ (Body-shown t) _ _ (body-shown t) (λ b u l z. record {
-    toks = symbol K.KwFn ∷ named K.Identifier (name .text) ∷ symbol K.LParen ∷ (us ++ sym1 K.RParen ++ (returning rs ++ (sym1 K.LBrace ++ z .toks ++ sym1 K.RBrace)));
-    grew = grew-as (g ▸ z .grew) (ap {B = List Norm} (λ l. symbol K.KwFn ∷ named K.Identifier (name .text) ∷ symbol K.LParen ∷ l) (append-assoc (us ++ sym1 K.RParen) (returning rs) (sym1 K.LBrace ++ z .toks ++ sym1 K.RBrace)));
+    toks =
+        symbol K.KwFn ∷ named K.Identifier (name .text) ∷ symbol K.LParen
+        ∷ (us ++ sym1 K.RParen ++ (returning rs ++ (sym1 K.LBrace ++ z .toks ++ sym1 K.RBrace)));
+    grew =
+        grew-as (g ▸ z .grew)
+        (ap {B = List Norm} (λ l. symbol K.KwFn ∷ named K.Identifier (name .text) ∷ symbol K.LParen ∷ l)
+        (append-assoc (us ++ sym1 K.RParen) (returning rs) (sym1 K.LBrace ++ z .toks ++ sym1 K.RBrace)));
     shows = record {
       on = λ st. unparse-append (ps .recs ++ r .item .recs ++ P.node (b .recs) 0x40 p (two (b .count) ∷ []) [] .recs) (made ∷ []) st
           ∙ after0 made (unparse (ps .recs ++ r .item .recs ++ P.node (b .recs) 0x40 p (two (b .count) ∷ []) [] .recs) st)
-          ∙ ap (λ (l : List Entry). step made l) (unparse-append (ps .recs ++ r .item .recs) (P.node (b .recs) 0x40 p (two (b .count) ∷ []) [] .recs) st ∙ ap (λ (l : List Entry). unparse (P.node (b .recs) 0x40 p (two (b .count) ∷ []) [] .recs) l) (parts st)
-          ∙ after-items (z .shows) _ (on-list p (λ ts. sym1 K.LBrace ++ ts ++ sym1 K.RBrace)) (λ st. refl) (entry q rs ∷ unparse (ps .recs) st))
-          ∙ ap {B = List Entry} (λ g. entry p (symbol K.KwFn ∷ named K.Identifier (name .text) ∷ symbol K.LParen ∷ (g .toks ++ sym1 K.RParen ++ (returning rs ++ (sym1 K.LBrace ++ z .toks ++ sym1 K.RBrace)))) ∷ g .rest) (hp .on st);
+          ∙ ap (λ (l : List Entry). step made l)
+          (unparse-append (ps .recs ++ r .item .recs) (P.node (b .recs) 0x40 p (two (b .count) ∷ []) [] .recs) st ∙ ap (λ (l : List Entry). unparse (P.node (b .recs) 0x40 p (two (b .count) ∷ []) [] .recs) l) (parts st)
+          ∙ after-items (z .shows) _ (on-list p (λ ts. sym1 K.LBrace ++ ts ++ sym1 K.RBrace)) (λ st. refl)
+          (entry q rs ∷ unparse (ps .recs) st))
+          ∙ ap {B = List Entry} (λ g. entry p (symbol K.KwFn ∷ named K.Identifier (name .text) ∷ symbol K.LParen
+          ∷ (g .toks ++ sym1 K.RParen ++ (returning rs ++ (sym1 K.LBrace ++ z .toks ++ sym1 K.RBrace))))
+          ∷ g .rest) (hp .on st);
     };
     none = joined (joined (z .none) er) ep;
     extra = tt;
@@ -79,26 +103,45 @@ module _ (s t : St) (p : Place) (name : Tok) (ps : Items) (r : Fallible Node) (u
       made : Rec
       made = record { tag = 0x50; place = some p; numbers = byte 0 ∷ two (ps .count) ∷ []; text = name .text }
 
-  function-body-shown : (x : ℕ) → Grew s (before x ++ sym1 K.KwFn ++ (named K.Identifier (name .text) ∷ []) ++ (sym1 K.LParen ++ us ++ sym1 K.RParen) ++ returning rs) t → cwp (P.function-body p x name ps r) (G Statement s) t
+  function-body-shown : (x : ℕ)
+      → Grew s (before x ++ sym1 K.KwFn ++ (named K.Identifier (name .text) ∷ [])
+      ++ (sym1 K.LParen ++ us ++ sym1 K.RParen) ++ returning rs) t
+      → cwp (P.function-body p x name ps r) (G Statement s) t
   unfolding P.function-body
   function-body-shown x g = (
-    λ e. external-shown (grew-as g (ap (λ (b : Bool). pick b (sym1 K.KwExtern) [] ++ sym1 K.KwFn ++ (named K.Identifier (name .text) ∷ []) ++ (sym1 K.LParen ++ us ++ sym1 K.RParen) ++ returning rs) e)),
-    λ e. with-body-shown (grew-as g (ap (λ (b : Bool). pick b (sym1 K.KwExtern) [] ++ sym1 K.KwFn ++ (named K.Identifier (name .text) ∷ []) ++ (sym1 K.LParen ++ us ++ sym1 K.RParen) ++ returning rs) e)),
+    λ e. external-shown (grew-as g
+        (ap (λ (b : Bool). pick b (sym1 K.KwExtern) [] ++ sym1 K.KwFn ++ (named K.Identifier (name .text) ∷ [])
+        ++ (sym1 K.LParen ++ us ++ sym1 K.RParen) ++ returning rs) e)),
+    λ e. with-body-shown (grew-as g
+        (ap (λ (b : Bool). pick b (sym1 K.KwExtern) [] ++ sym1 K.KwFn ++ (named K.Identifier (name .text) ∷ [])
+        ++ (sym1 K.LParen ++ us ++ sym1 K.RParen) ++ returning rs) e)),
   )
 
 function-shown : (s t : St) (p : Place) (x : ℕ) → Grew s (before x) t → cwp (P.function p x) (G Statement s) t
 unfolding P.function step
-function-shown s t p x g = expects plain K.KwFn _ _ _ (λ i d. identifier _ _ _ (λ j d₂. follow G L R M _ _ (List-shown Parameters (next-state (next-state t))) _ _ (list-shown Parameters (next-state (next-state t))) (λ ps u l q. (
-  λ k d₃. calls Type' _ _ _ (λ ty v l₂ r. function-body-shown s v p (head (tail (t .left))) ps ty (q .toks) (r .toks) (ty .item .place) (q .shows) (r .shows) (q .none) (r .none) x
-      (grew-as (g ▸ took-symbol K.KwFn tt t i ▸ took-name K.Identifier tt (next-state t) j ▸ q .grew ▸ (took-symbol K.RArrow tt u k ▸ r .grew)) (ap (λ (l : List Norm). before x ++ sym1 K.KwFn ++ (named K.Identifier (head (tail (t .left)) .text) ∷ []) ++ (sym1 K.LParen ++ q .toks ++ sym1 K.RParen) ++ l) (arrow (r .toks) (r .extra))))),
-  λ _.
-      function-body-shown s u p (head (tail (t .left))) ps (record { item = P.node [] 0x11 p [] []; errors = [] }) (q .toks) [] p (q .shows) (record { on = λ st. after0 _ st }) (q .none) refl x
-      (grew-as (g ▸ took-symbol K.KwFn tt t i ▸ took-name K.Identifier tt (next-state t) j ▸ q .grew) (sym (append-nil _))),
-))))
+function-shown s t p x g =
+    expects plain K.KwFn _ _ _
+    (λ i d. identifier _ _ _ (λ j d₂. follow G L R M _ _ (List-shown Parameters (next-state (next-state t))) _ _ (list-shown Parameters (next-state (next-state t))) (λ ps u l q. (
+      λ k d₃. calls Type' _ _ _
+          (λ ty v l₂ r. function-body-shown s v p (head (tail (t .left))) ps ty (q .toks) (r .toks) (ty .item .place) (q .shows) (r .shows) (q .none) (r .none) x
+          (grew-as (g ▸ took-symbol K.KwFn tt t i ▸ took-name K.Identifier tt (next-state t) j ▸ q .grew
+          ▸ (took-symbol K.RArrow tt u k ▸ r .grew))
+          (ap (λ (l : List Norm). before x ++ sym1 K.KwFn ++ (named K.Identifier (head (tail (t .left)) .text) ∷ [])
+          ++ (sym1 K.LParen ++ q .toks ++ sym1 K.RParen) ++ l) (arrow (r .toks) (r .extra))))),
+      λ _.
+          function-body-shown s u p (head (tail (t .left))) ps
+          (record { item = P.node [] 0x11 p [] []; errors = [] }) (q .toks) [] p (q .shows)
+          (record { on = λ st. after0 _ st }) (q .none) refl x
+          (grew-as (g ▸ took-symbol K.KwFn tt t i ▸ took-name K.Identifier tt (next-state t) j ▸ q .grew) (sym (append-nil _))),
+    ))))
 
 function-definition-shown : (s : St) → cwp P.parse-function-definition (G Statement s) s
 unfolding P.parse-function-definition
-function-definition-shown s = (λ i d. function-shown s (next-state s) (head (s .left) .place) 1 (took-symbol K.KwExtern tt s i), λ _. function-shown s s (head (s .left) .place) 0 (grew-refl s))
+function-definition-shown s = (
+  λ i d. function-shown s (next-state s) (head (s .left) .place) 1 (took-symbol K.KwExtern tt s i),
+  λ _.
+      function-shown s s (head (s .left) .place) 0 (grew-refl s),
+)
 
 modifiers-shown : (w : Words) (s : St) → cwp (P.modifiers-turn w) (L (Modifiers w) s) s
 unfolding P.modifiers-turn
@@ -106,14 +149,16 @@ modifiers-shown w s =
     (λ i d a t l p. took-modifier K.KwDistinct tt s i ▸ p, λ _. (λ i d a t l p. took-modifier K.KwInternal tt s i ▸ p, λ _. grew-refl s))
 
 type-alias-shown : (s : St) → cwp P.parse-type-alias (G Statement s) s
-unfolding P.parse-type-alias step
+unfolding P.parse-type-alias P.alias-rule step
 type-alias-shown s w t l g = expects plain K.KwType _ _ _ (λ i d d₂. (
   λ _. tt,
   λ _. (
     λ _ m. absurd m,
     λ e. expects plain K.Equals _ _ _ (λ j d₃. calls Type' _ _ _ (λ ty u l₂ p. expects plain K.Semicolon _ _ _ (λ k d₄. record {
       toks = sym1 K.KwType ++ (named K.Identifier _ ∷ []) ++ sym1 K.Equals ++ p .toks ++ sym1 K.Semicolon;
-      grew = g ▸ took-symbol K.KwType tt t i ▸ took-name K.Identifier tt (next-state t) (not-false _ e) ▸ took-symbol K.Equals tt _ j ▸ p .grew ▸ took-symbol K.Semicolon tt u k;
+      grew =
+          g ▸ took-symbol K.KwType tt t i ▸ took-name K.Identifier tt (next-state t) (not-false _ e)
+          ▸ took-symbol K.Equals tt _ j ▸ p .grew ▸ took-symbol K.Semicolon tt u k;
       shows = record { on = λ st. after1 (p .shows) _ st };
       none = p .none;
       extra = tt;
@@ -122,7 +167,7 @@ type-alias-shown s w t l g = expects plain K.KwType _ _ _ (λ i d d₂. (
 ))
 
 use-shown : (s : St) → cwp P.parse-use (G Statement s) s
-unfolding P.parse-use step
+unfolding P.parse-use P.path-rule step
 use-shown s = expects plain K.KwUse _ _ _ (λ i d d₂. (
   λ _. tt,
   λ _. (
@@ -151,8 +196,16 @@ top-level-item-shown s = (
       λ _. use-shown s,
       λ _. (
         λ _. top-level-var-shown s,
-        λ _.
-            (λ i d. record { toks = named K.InlineAssemblyFragment _ ∷ []; grew = took-name K.InlineAssemblyFragment tt s i; shows = record { on = λ st. after0 _ st }; none = refl; extra = tt }, λ _ d m. absurd m),
+        λ _. (
+          λ i d. record {
+            toks = named K.InlineAssemblyFragment _ ∷ [];
+            grew = took-name K.InlineAssemblyFragment tt s i;
+            shows = record { on = λ st. after0 _ st };
+            none = refl;
+            extra = tt;
+          },
+          λ _ d m. absurd m,
+        ),
       ),
     ),
   ),
@@ -160,9 +213,14 @@ top-level-item-shown s = (
 
 module-turn-shown : (i : Items) (s : St) → cwp (P.module-turn i) (Sequel [] i s) s
 unfolding P.module-turn
-module-turn-shown i s = (λ e. record { toks = []; grew = grew-refl s; shows = λ ts h. items-as h (sym (append-nil ts)); none = λ h. h }, λ _. follow G L R M _ _ (G Statement s) _ _ (top-level-item-shown s) go)
+module-turn-shown i s = (
+  λ e.
+      record { toks = []; grew = grew-refl s; shows = λ ts h. items-as h (sym (append-nil ts)); none = λ h. h },
+  λ _. follow G L R M _ _ (G Statement s) _ _ (top-level-item-shown s) go,
+)
   where
-    go : (a : Ans Node) (t : St) → Later s t → G Statement s a t → (b : Items) (u : St) → Later t u → Sequel [] (P.integrate i a) t b u → Sequel [] i s b u
+    go : (a : Ans Node) (t : St) → Later s t → G Statement s a t → (b : Items) (u : St) → Later t u
+        → Sequel [] (P.integrate i a) t b u → Sequel [] i s b u
     go (ok x) t l p b u l₂ q = record {
       toks = p .toks ++ q .toks;
       grew = grew-as (p .grew ▸ q .grew) (sym (append-assoc (p .toks) (q .toks) []));
@@ -189,18 +247,30 @@ turns (Modifiers w) s = modifiers-shown w s
 -- ---- the theorem
 
 -- a clean reading's tree shows all the tokens read
-clean-shows : (ts : List Tok) → Distinct ts → (i : Items) (s : St) → P.parse-module ts ≡ gives i s → s .full ≡ [] → gather [] (i .count) (unparse (i .recs) []) ≡ gathered (strip (s .read)) []
+clean-shows : (ts : List Tok) → Distinct ts → (i : Items) (s : St) → P.parse-module ts ≡ gives i s → s .full ≡ []
+    → gather [] (i .count) (unparse (i .recs) []) ≡ gathered (strip (s .read)) []
 unfolding strip
-clean-shows ts d i s e f = go (subst (λ (r : Res Items). After (λ i s′. Later s₀ s′ × (Clean s₀ s′ → Sequel [] (P.no-items []) s₀ i s′)) r) e (clean-module G L Distinct distinct-tail (λ s s′ l h. distinct-later s s′ l h) (λ g s i. rules g s) (λ l s i. turns l s) ts d))
+clean-shows ts d i s e f =
+    go
+    (subst (λ (r : Res Items). After (λ i s′. Later s₀ s′ × (Clean s₀ s′ → Sequel [] (P.no-items []) s₀ i s′)) r)
+    e (clean-module G L Distinct distinct-tail (λ s s′ l h. distinct-later s s′ l h) (λ g s i. rules g s)
+    (λ l s i. turns l s) ts d))
   where
     s₀ : St
     s₀ = record { left = ts; read = []; full = [] }
 
-    go : Later s₀ s × (Clean s₀ s → Sequel [] (P.no-items []) s₀ i s) → gather [] (i .count) (unparse (i .recs) []) ≡ gathered (strip (s .read)) []
-    go h = let q : Sequel [] (P.no-items []) s₀ i s = h .1 (omega (arith, ap length f)) in q .shows [] (items-none [] []) .on [] ∙ ap (λ (l : List Norm). gathered l []) (sym (append-nil (q .toks)) ∙ sym (q .grew .by))
+    go : Later s₀ s × (Clean s₀ s → Sequel [] (P.no-items []) s₀ i s)
+        → gather [] (i .count) (unparse (i .recs) []) ≡ gathered (strip (s .read)) []
+    go h =
+        let q : Sequel [] (P.no-items []) s₀ i s = h .1 (omega (arith, ap length f)) in
+        q .shows [] (items-none [] []) .on [] ∙ ap (λ (l : List Norm). gathered l [])
+        (sym (append-nil (q .toks)) ∙ sym (q .grew .by))
 
 -- Two clean readings with one tree have the same tokens, stripped
-pub unique : (ts us : List Tok) → Distinct ts → Distinct us → (i j : Items) (s t : St) → P.parse-module ts ≡ gives i s → P.parse-module us ≡ gives j t → s .full ≡ [] → t .full ≡ []
+pub unique : (ts us : List Tok) → Distinct ts → Distinct us → (i j : Items) (s t : St) → P.parse-module ts ≡ gives i s
+    → P.parse-module us ≡ gives j t → s .full ≡ [] → t .full ≡ []
     → i .recs ≡ j .recs → i .count ≡ j .count → strip (s .read) ≡ strip (t .read)
 unique ts us d d′ i j s t e e′ f f′ r c =
-    ap (λ (g : Gathered). g .toks) (sym (clean-shows ts d i s e f) ∙ ap (λ (l : List Rec). gather [] (i .count) (unparse l [])) r ∙ ap (λ (n : ℕ). gather [] n (unparse (j .recs) [])) c ∙ clean-shows us d′ j t e′ f′)
+    ap (λ (g : Gathered). g .toks)
+    (sym (clean-shows ts d i s e f) ∙ ap (λ (l : List Rec). gather [] (i .count) (unparse l [])) r
+    ∙ ap (λ (n : ℕ). gather [] n (unparse (j .recs) [])) c ∙ clean-shows us d′ j t e′ f′)

@@ -96,11 +96,15 @@ on-function p before after ret g = entry p (before ++ sym1 K.LParen ++ g .toks +
 abbrev pub with-body : Place → List ℕ → ℕ → List Entry → List Entry
 with-body p name n [] = []
 with-body p name n (b ∷ []) = []
-with-body p name n (b ∷ r ∷ st) = on-function p (sym1 K.KwFn ++ (named K.Identifier name ∷ [])) (λ ret. ret ++ b .toks) (r .toks) (gather comma n st)
+with-body p name n (b ∷ r ∷ st) =
+    on-function p (sym1 K.KwFn ++ (named K.Identifier name ∷ [])) (λ ret. ret ++ b .toks) (r .toks)
+    (gather comma n st)
 
 abbrev pub external : Place → List ℕ → ℕ → List Entry → List Entry
 external p name n [] = []
-external p name n (r ∷ st) = on-function p (sym1 K.KwExtern ++ sym1 K.KwFn ++ (named K.Identifier name ∷ [])) (λ ret. ret ++ sym1 K.Semicolon) (r .toks) (gather comma n st)
+external p name n (r ∷ st) =
+    on-function p (sym1 K.KwExtern ++ sym1 K.KwFn ++ (named K.Identifier name ∷ []))
+    (λ ret. ret ++ sym1 K.Semicolon) (r .toks) (gather comma n st)
 
 abbrev pub dereference : Place → Entry → List Norm
 dereference p e = pick (same-place (e .place) p) (sym1 K.Star ++ e .toks) (e .toks ++ sym1 K.DotStar)
@@ -154,11 +158,13 @@ handlers p ns tx =
     at 0x42 (on2 p (λ a b. sym1 K.KwVar ++ (named K.Identifier tx ∷ []) ++ sym1 K.Colon ++ a ++ b ++ sym1 K.Semicolon)) ∷
     at 0x43 (on2 p (λ a b. a ++ sym1 K.Equals ++ b ++ sym1 K.Semicolon)) ∷
     at 0x44 (on2 p (λ a b. a ++ sym1 K.LArrow ++ b ++ sym1 K.Semicolon)) ∷
-    at 0x45 (λ st. pick (eqb (number-at 0 ns) 0) (leaf p (sym1 K.KwReturn ++ sym1 K.Semicolon) st) (on1 p (λ e. sym1 K.KwReturn ++ e .toks ++ sym1 K.Semicolon) st)) ∷
+    at 0x45 (λ st. pick (eqb (number-at 0 ns) 0) (leaf p (sym1 K.KwReturn ++ sym1 K.Semicolon) st)
+    (on1 p (λ e. sym1 K.KwReturn ++ e .toks ++ sym1 K.Semicolon) st)) ∷
     at 0x46 (on1 p (λ e. sym1 K.KwLoop ++ e .toks)) ∷
     at 0x47 (on2 p (λ a b. sym1 K.KwWhile ++ a ++ b)) ∷
     at 0x48 (leaf p (sym1 K.KwBreak ++ sym1 K.Semicolon)) ∷
-    at 0x49 (λ st. pick (eqb (number-at 0 ns) 2) (on2 p (λ a b. sym1 K.KwIf ++ a ++ b) st) (on3 p (λ a b c. sym1 K.KwIf ++ a ++ b ++ sym1 K.KwElse ++ c) st)) ∷
+    at 0x49 (λ st. pick (eqb (number-at 0 ns) 2) (on2 p (λ a b. sym1 K.KwIf ++ a ++ b) st)
+    (on3 p (λ a b c. sym1 K.KwIf ++ a ++ b ++ sym1 K.KwElse ++ c) st)) ∷
     at 0x4A (leaf p (named K.InlineAssemblyFragment tx ∷ [])) ∷
     at 0x50 (λ st. pick (eqb (number-at 0 ns) 0) (with-body p tx (number-at 1 ns) st) (external p tx (number-at 1 ns) st)) ∷
     at 0x51 (on1 p (λ e. sym1 K.KwType ++ (named K.Identifier tx ∷ []) ++ sym1 K.Equals ++ e .toks ++ sym1 K.Semicolon)) ∷
@@ -188,6 +194,7 @@ abbrev pub extend : List Norm → ℕ → List Norm → List Norm → List Norm
 extend sep zero ts us = us
 extend sep (suc n) ts us = ts ++ sep ++ us
 
-pub gather-one-more : (sep : List Norm) (n : ℕ) (e : Entry) (st st₀ : List Entry) (ts : List Norm) → gather sep n st ≡ gathered ts st₀ → gather sep (suc n) (e ∷ st) ≡ gathered (extend sep n ts (e .toks)) st₀
+pub gather-one-more : (sep : List Norm) (n : ℕ) (e : Entry) (st st₀ : List Entry) (ts : List Norm)
+    → gather sep n st ≡ gathered ts st₀ → gather sep (suc n) (e ∷ st) ≡ gathered (extend sep n ts (e .toks)) st₀
 gather-one-more sep zero e st st₀ ts h = ap (λ (g : Gathered). gathered (e .toks) (g .rest)) h
 gather-one-more sep (suc n) e st st₀ ts h = ap (λ (g : Gathered). add sep e g) h

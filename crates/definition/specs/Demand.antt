@@ -90,10 +90,11 @@ both-sizes c d = is-size (c .role) && is-size (d .role)
 abbrev pub value : Consumed → ℕ
 value c = number (c .tok .base) 0 (c .tok .text)
 
--- the same kind, and the same text; two array sizes need only have the same value
+-- the same kind, the same text and the same base; two array sizes need only have the same value
 pub record Same (c d : Consumed) : Type 0 where
   pub kind : c .tok .kind ≡ d .tok .kind
   pub text : both-sizes c d ≡ false → c .tok .text ≡ d .tok .text
+  pub base : both-sizes c d ≡ false → c .tok .base ≡ d .tok .base
   pub value : both-sizes c d ≡ true → value c ≡ value d
 
 -- as many in the one as in the other, and the same at every position

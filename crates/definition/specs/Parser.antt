@@ -470,28 +470,35 @@ modifiers-turn w =
     if t is K.KwInternal then (next λ _. loop (Modifiers (record { distinct = w .distinct; internal = 2 })) done) else
     done w
 
-unfoldable pub parse-type-alias : Act (Ans Node)
-parse-type-alias =
-    peek λ t.
-    loop (Modifiers (record { distinct = 0; internal = 0 })) λ w.
-    expect K.KwType >>? λ _.
+-- after `type`
+unfoldable pub alias-rule : ℕ → Place → Act (Ans Node)
+alias-rule words p =
     next λ n.
     if n is K.End then panic else
     if not (n is K.Identifier) then raise (error 16 (n .place) 0 0) else
     (expect K.Equals >>? λ _.
     parse-type >>? λ ty.
     expect K.Semicolon >>? λ _.
-    good (node (ty .item .recs) 0x51 (t .place) (byte (w .distinct + w .internal) ∷ []) (n .text)) (ty .errors))
+    good (node (ty .item .recs) 0x51 p (byte words ∷ []) (n .text)) (ty .errors))
 
-unfoldable pub parse-use : Act (Ans Node)
-parse-use =
+unfoldable pub parse-type-alias : Act (Ans Node)
+parse-type-alias =
     peek λ t.
-    expect K.KwUse >>? λ _.
+    loop (Modifiers (record { distinct = 0; internal = 0 })) λ w.
+    expect K.KwType >>? λ _.
+    alias-rule (w .distinct + w .internal) (t .place)
+
+-- after `use`
+unfoldable pub path-rule : Place → Act (Ans Node)
+path-rule p =
     next λ n.
     if n is K.End then panic else
     if not (n is K.String) then raise (error 17 (n .place) 0 0) else
     (expect K.Semicolon >>? λ _.
-    good (node [] 0x52 (t .place) [] (n .text)) [])
+    good (node [] 0x52 p [] (n .text)) [])
+
+unfoldable pub parse-use : Act (Ans Node)
+parse-use = peek λ t. expect K.KwUse >>? λ _. path-rule (t .place)
 
 unfoldable pub parse-top-level-var-declaration : Act (Ans Node)
 parse-top-level-var-declaration = peek λ t. expect K.KwVar >>? λ _. declaration 0x53 (t .place)
@@ -540,5 +547,5 @@ parse zero g s = refused 10
 parse (suc n) g s = run (λ h t. parse n h t) (λ l t. loops (λ h u. parse n h u) (suc (suc (length (t .left)))) l t) (rule g) s
 
 unfoldable pub parse-module : List Tok → Res Items
-unfolding run _>>=_ number ascii typed parse-typed-identifier parse-named-type parse-compound-struct-field parse-list after-item list-turn parse-array-type type-rule parse-group parse-atom parse-field-access-or-index suffixes-turn parse-sizeof parse-call prefix unary-rule parse-cast casts-turn parse-mul parse-add-sub parse-bit-shift parse-bitwise-and parse-bitwise-xor parse-bitwise-or operators-turn parse-comparison expression-rule parse-compound parse-var-like-declaration declaration parse-body body-turn parse-return parse-if after-expression expression-statement statement-rule function-body function parse-function-definition modifiers-turn parse-type-alias parse-use parse-top-level-var-declaration parse-top-level-item module-turn loops parse
+unfolding run _>>=_ number ascii typed parse-typed-identifier parse-named-type parse-compound-struct-field parse-list after-item list-turn parse-array-type type-rule parse-group parse-atom parse-field-access-or-index suffixes-turn parse-sizeof parse-call prefix unary-rule parse-cast casts-turn parse-mul parse-add-sub parse-bit-shift parse-bitwise-and parse-bitwise-xor parse-bitwise-or operators-turn parse-comparison expression-rule parse-compound parse-var-like-declaration declaration parse-body body-turn parse-return parse-if after-expression expression-statement statement-rule function-body function parse-function-definition modifiers-turn alias-rule parse-type-alias path-rule parse-use parse-top-level-var-declaration parse-top-level-item module-turn loops parse
 parse-module ts = loops (λ g s. parse 96 g s) (suc (suc (length ts))) (Module (no-items [])) (record { left = ts; read = []; full = [] })

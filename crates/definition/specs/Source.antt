@@ -13,6 +13,9 @@ pub record Place : Type 0 where
   pub line : ℕ
   pub column : ℕ
 
+abbrev pub spot : ℕ → ℕ → Place
+spot line column = record { line = line; column = column }
+
 -- `SourceLocation::stub()`, the place of an error at the end of the input
 abbrev pub nowhere : Place
 nowhere = record { line = 0; column = 0 }

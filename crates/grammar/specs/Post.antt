@@ -7,6 +7,7 @@ use lib.ListN.{length, take}
 use Rattle.definition.specs.Ascii.{ascii}
 use Rattle.definition.specs.Choice.{pick}
 use Rattle.definition.specs.Source.{Place}
+pub use Rattle.definition.specs.Source.{spot as place-at}
 use Rattle.definition.specs.Node.{recs-bytes}
 use Rattle.definition.specs.Fallible.{Err, Fallible, Ans, ok}
 use Rattle.definition.specs.Kind as K
@@ -26,9 +27,6 @@ use Rattle.steps.specs.declared.Front.{Front}
 use Rattle.steps.specs.Tokens.{rest, budget, Held}
 use Rattle.leaves.specs.Leaves.{level-at}
 use Rattle.steps.specs.Shows.{st-of, Moved, Shows, done-of, typed, items}
-
-abbrev pub place-at : ℕ → ℕ → Place
-place-at line column = record { line = line; column = column }
 
 abbrev pub place-of : Front → Place
 place-of t = place-at (t .line) (t .column)

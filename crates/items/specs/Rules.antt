@@ -1,5 +1,4 @@
 -- The parts of the definition's functions that functions of the code are of their own. Assumes nothing.
-use mathlib.Core.Bool.{not}
 use mathlib.Core.List.{[], _∷_, _++_}
 use Prim.Native.Nat.{ℕ}
 use lib.Dec.{leb}
@@ -9,8 +8,9 @@ use Rattle.definition.specs.Fallible.{Fallible, Ans}
 use Rattle.definition.specs.Kind as K
 use Rattle.definition.specs.Token.{Tok, _is_}
 use Rattle.definition.specs.Act as A
-use Rattle.definition.specs.Act.{Items, Node, Act, done, peek, next, loop, if_then_else_, panic, _>>=_, _>>?_}
+use Rattle.definition.specs.Act.{Items, Node, Act, done, peek, next, loop, if_then_else_, _>>=_, _>>?_}
 use Rattle.definition.specs.Parser as P
+unfoldable pub use Rattle.definition.specs.Parser.{alias-rule, path-rule}
 use Rattle.grammar.specs.Post.{as-answer}
 
 -- the return type of a function at the place p
@@ -35,26 +35,6 @@ function-on p external name x =
     P.good (P.node (x .item .recs) 0x50 p (byte 1 ∷ two (x .item .count) ∷ []) (name .text)) (x .errors)) else
     (P.parse-body >>= λ b.
     P.good (P.node (x .item .recs ++ P.node (b .recs) 0x40 p (two (b .count) ∷ []) [] .recs) 0x50 p (byte 0 ∷ two (x .item .count) ∷ []) (name .text)) (b .errors ++ x .errors))
-
--- behind `type`
-unfoldable pub alias-rule : ℕ → Place → Act (Ans Node)
-alias-rule words p =
-    next λ n.
-    if n is K.End then panic else
-    if not (n is K.Identifier) then P.raise (P.error 16 (n .place) 0 0) else
-    (P.expect K.Equals >>? λ _.
-    P.parse-type >>? λ ty.
-    P.expect K.Semicolon >>? λ _.
-    P.good (P.node (ty .item .recs) 0x51 p (byte words ∷ []) (n .text)) (ty .errors))
-
--- behind `use`
-unfoldable pub path-rule : Place → Act (Ans Node)
-path-rule p =
-    next λ n.
-    if n is K.End then panic else
-    if not (n is K.String) then P.raise (P.error 17 (n .place) 0 0) else
-    (P.expect K.Semicolon >>? λ _.
-    P.good (P.node [] 0x52 p [] (n .text)) [])
 
 -- the loop of a module
 abbrev pub items-on : Items → Act Items

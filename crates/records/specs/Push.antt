@@ -4,14 +4,11 @@ use mathlib.Core.Logic.{_⊎_}
 use mathlib.Core.List.{List}
 use Prim.Native.Nat.{ℕ, _+_, _*_, _<_, _≤_}
 use lib.ListN.{length}
-use Rattle.definition.specs.Source.{Place}
+pub use Rattle.definition.specs.Source.{spot}
 use Rattle.definition.specs.Fallible.{Err}
 use Rattle.definition.specs.Records.{errors-words}
 use Rattle.scan.specs.Scan.{Wrote}
 use Rattle.records.specs.declared.State.{State}
-
-abbrev pub spot : ℕ → ℕ → Place
-spot l c = record { line = l; column = c }
 
 pub record ErrorsWent (E : List ℕ) (f : State) (es : List Err) (E′ : List ℕ) (r : State) : Type 0 where
   pub few : f .errors + length es ≤ 255

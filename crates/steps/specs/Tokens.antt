@@ -4,6 +4,7 @@ use mathlib.Core.List.{List, [], _∷_}
 use Prim.Native.Nat.{ℕ, zero, suc, min, _+_, _*_, _-_, _<_, _≤_}
 use lib.ListN.{length, take, drop, getD}
 use Rattle.definition.specs.Token.{Tok, head, tail}
+unfoldable pub use Rattle.definition.specs.Cost.{spend}
 use Rattle.definition.specs.Records.{words-at, token-of}
 use Rattle.steps.specs.declared.Front.{Front}
 
@@ -18,14 +19,6 @@ from w x i (suc k) = tok-at w x i ∷ from w x (i + 1) k
 -- those of n records from the place `at` on
 unfoldable pub rest : List ℕ → List ℕ → ℕ → ℕ → List Tok
 rest w x n at = from w x at (n - at)
-
--- what a token pays for in the file
-abbrev pub cost : Tok → ℕ
-cost t = 16 * min (t .kind) 1 + length (t .text)
-
-unfoldable pub spend : List Tok → ℕ
-spend [] = 0
-spend (t ∷ ts) = cost t + spend ts
 
 abbrev pub budget : List ℕ → List ℕ → ℕ → ℕ → ℕ
 budget w x n at = spend (rest w x n at)

@@ -1,0 +1,12 @@
+-- What a token pays for in the file. No part of what is right: contracts and the law of room cite it. Assumes nothing.
+use mathlib.Core.List.{List, [], _∷_}
+use Prim.Native.Nat.{ℕ, _+_, _*_, min}
+use lib.ListN.{length}
+use Rattle.definition.specs.Token.{Tok}
+
+abbrev pub cost : Tok → ℕ
+cost t = 16 * min (t .kind) 1 + length (t .text)
+
+unfoldable pub spend : List Tok → ℕ
+spend [] = 0
+spend (t ∷ ts) = cost t + spend ts
