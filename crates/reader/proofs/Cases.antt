@@ -38,7 +38,10 @@ pub whole-is : (s o : List ℕ) → whole s o ≡ whole-by o (ltb 16384 (length 
 unfolding whole whole-by
 whole-is s o = one (ltb 16384 (length s)) (characters s) (ltb (length o) 65536)
   where
-    one : (b : Bool) (x : Option (List Ch)) (c : Bool) → _≡_ {A = O.Written} (elim b as (λ _. O.Written) [ true ↦ kept 1 o | false ↦ elim x as (λ _. O.Written) [ none ↦ kept 2 o | some cs ↦ elim c as (λ _. O.Written) [ true ↦ kept 3 o | false ↦ written o (read-tokenised (tokenize cs)) ] ] ]) (whole-by o b x c)
+    one : (b : Bool) (x : Option (List Ch)) (c : Bool)
+        → _≡_ {A = O.Written} (elim b as (λ _. O.Written)
+        [ true ↦ kept 1 o | false ↦ elim x as (λ _. O.Written) [ none ↦ kept 2 o | some cs ↦ elim c as (λ _. O.Written) [ true ↦ kept 3 o | false ↦ written o (read-tokenised (tokenize cs)) ] ] ])
+        (whole-by o b x c)
     one true x c = refl
     one false none c = refl
     one false (some cs) true = refl
@@ -73,7 +76,9 @@ module _ (s o : List ℕ) (q : Stands s origin × (length s ≤ 16384) × (65536
   -- by what the loop comes to
   runs : {t : Z.Tokens} → Z.tokenize-within 2048 (rest s origin) ≡ t → written o (read-tokenised t) ≡ whole s o
   unfolding whole
-  runs e = rw (le-ltb 16384 (length s) (q .1), the-characters s (q .0), le-ltb (length o) 65536 (q .2), whole) (ap (λ (t : Z.Tokens). written o (read-tokenised t)) (sym (within-limit (rest s origin) ∙ e)))
+  runs e =
+      rw (le-ltb 16384 (length s) (q .1), the-characters s (q .0), le-ltb (length o) 65536 (q .2), whole)
+      (ap (λ (t : Z.Tokens). written o (read-tokenised t)) (sym (within-limit (rest s origin) ∙ e)))
 
   module _ {T E X : List ℕ} {f : State} (g : Ran 2048 (rest s origin) T E X f) where
     pub whole-stopped : (f .how ≡ 0 → ⊥) → written o (O.refused (f .how)) ≡ whole s o
@@ -90,7 +95,16 @@ module _ (s o : List ℕ) (q : Stands s origin × (length s ≤ 16384) × (65536
       -- the records are good
       handed-back : handed T (f .tokens) E (f .errors) X ≡ some (record { tokens = d .ts; errors = d .es })
       handed-back =
-          cc (before-rest (8 * f .tokens) T (tokens-words 0 (d .ts)) (d .holds .toks), d .holds .tokens, before-rest (4 * f .errors) E (errors-words (d .es)) (d .holds .errs), d .holds .errors, before-rest (f .text) X (tokens-text (d .ts)) (d .holds .text), read-back s (rest s origin) (d .ts) (d .es) (q .1) (the-characters s (q .0)) (within-limit (rest s origin) ∙ d .is) (drop (8 * f .tokens) T) (drop (4 * f .errors) E) (drop (f .text) X))
+          cc (
+            before-rest (8 * f .tokens) T (tokens-words 0 (d .ts)) (d .holds .toks),
+            d .holds .tokens,
+            before-rest (4 * f .errors) E (errors-words (d .es)) (d .holds .errs),
+            d .holds .errors,
+            before-rest (f .text) X (tokens-text (d .ts)) (d .holds .text),
+            read-back s (rest s origin) (d .ts) (d .es) (q .1) (the-characters s (q .0))
+                (within-limit (rest s origin) ∙ d .is) (drop (8 * f .tokens) T) (drop (4 * f .errors) E)
+                (drop (f .text) X),
+          )
 
       pub whole-handed : is-some (handed T (f .tokens) E (f .errors) X) ≡ true
       whole-handed = ap is-some handed-back
@@ -103,9 +117,11 @@ module _ (s o : List ℕ) (q : Stands s origin × (length s ≤ 16384) × (65536
           go [] m e = e
           go (t ∷ ts) m e = absurd (omega arith)
 
-      pub whole-read : {o′ : List ℕ} {w : Written} → (f .tokens ≡ 0 → ⊥) → ReadHanded T (f .tokens) E (f .errors) X o o′ w → answer w o′ ≡ whole s o
+      pub whole-read : {o′ : List ℕ} {w : Written} → (f .tokens ≡ 0 → ⊥) → ReadHanded T (f .tokens) E (f .errors) X o o′ w
+          → answer w o′ ≡ whole s o
       whole-read {o′} {w} k r = go (d .ts) (λ m. k (d .holds .tokens ∙ m)) (r _ handed-back) (runs (d .is))
         where
-          go : (ts : List Tok) → (length ts ≡ 0 → ⊥) → answer w o′ ≡ O.read-handed o ts (d .es) → written o (read-tokens ts (d .es)) ≡ whole s o → answer w o′ ≡ whole s o
+          go : (ts : List Tok) → (length ts ≡ 0 → ⊥) → answer w o′ ≡ O.read-handed o ts (d .es)
+              → written o (read-tokens ts (d .es)) ≡ whole s o → answer w o′ ≡ whole s o
           go [] m e p = absurd (m refl)
           go (t ∷ ts) m e p = e ∙ p

@@ -22,7 +22,10 @@ use Rattle.reader.proofs.Cases.{whole-by, whole-is}
 -- ---- the file does not hang on the slice
 
 written-anywhere : (o p : List ℕ) (r : O.Outcome) → T.file (written o r) ≡ T.file (written p r)
-written-anywhere o p (O.file f) = ap (λ (bs : List ℕ). record { number = 0; bytes = bs }) (take-at f (replicate (length o - length f) 0) (length f) refl ∙ sym (take-at f (replicate (length p - length f) 0) (length f) refl))
+written-anywhere o p (O.file f) =
+    ap (λ (bs : List ℕ). record { number = 0; bytes = bs })
+    (take-at f (replicate (length o - length f) 0) (length f) refl
+    ∙ sym (take-at f (replicate (length p - length f) 0) (length f) refl))
 written-anywhere o p (O.refused n) = refl
 
 by-anywhere : (o p : List ℕ) (b : Bool) (x : Option (List Ch)) → T.file (whole-by o b x false) ≡ T.file (whole-by p b x false)
@@ -49,7 +52,9 @@ pub data Each : List Row → Type 0 where
 
 row-holds : (x : Row) → answered x ≡ x → Holds x
 unfolding answered
-row-holds x e o o′ r h a = ap T.file a ∙ anywhere (x .script) o (replicate 65536 1) h (omega (arith, length-replicate {A = ℕ} 65536 1)) ∙ ap (λ (y : Row). y .file) e
+row-holds x e o o′ r h a =
+    ap T.file a ∙ anywhere (x .script) o (replicate 65536 1) h (omega (arith, length-replicate {A = ℕ} 65536 1))
+    ∙ ap (λ (y : Row). y .file) e
 
 head-or : Row → List Row → Row
 head-or x [] = x

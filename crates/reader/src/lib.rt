@@ -12,6 +12,7 @@ ghost use lib.ListN.{length};
 ghost use Rattle.definition.specs.Operations as O;
 ghost use Rattle.source.specs.Place.{Stands, origin};
 ghost use Rattle.parser.specs.Answer.{answer};
+ghost use Rattle.reader.specs.OneTree.{OneTree};
 
 // A refusal behind the tests: the file is zeros.
 fn cleared(number: u32, file: &mut [u8]) -> Written
@@ -72,4 +73,28 @@ pub extern "C" fn dn_read(script: &[u8], file: &mut [u8], bytes: &mut usize) -> 
     let w = read_script(script, file);
     *bytes = w.bytes;
     w.number
+}
+
+// The answers for two scripts.
+pub struct TwoAnswers {
+    first: Written,
+    second: Written,
+}
+
+// Demand 3 of the code itself: two scripts are read, each into a file slice of its own, and the two answers are as
+// the demand says. No program calls this: it is here so that the checker ties the theorem to `read_script`.
+pub fn two_scripts_one_tree(
+    first: &[u8],
+    left: &mut [u8],
+    second: &[u8],
+    right: &mut [u8],
+) -> TwoAnswers
+    ensures { λ r. ⌜ OneTree (now (first .entry)) (now (left .exit)) (r .first) (now (second .entry)) (now (right .exit)) (r .second) ⌝ }
+{
+    let a = read_script(first, left);
+    let b = read_script(second, right);
+    TwoAnswers {
+        first: a,
+        second: b,
+    }
 }
