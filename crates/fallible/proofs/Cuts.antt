@@ -17,21 +17,49 @@ use Rattle.fallible.specs.Tallies.{Pushed, Propagated}
 use Rattle.fallible.specs.Answers.{refused-at, making, Raised, AbandonedOf, Abandoned, Cuts}
 
 -- there is room for an error, and it is entered
-pub made : (h : How) (n : ℕ) (s : State) {r f r′ f′ : List ℕ} {e : ℕ} {t : Tally} → s .full < 255 → Pushed r f (record { reported = s .reported; full = s .full }) e r′ f′ t
-    → Raised (making h n s) r f s e r′ f′ (record { how = h; state = record { at = s .at; pos = s .pos; reported = t .reported; full = t .full }; line = 0; column = 0 })
+pub made : (h : How) (n : ℕ) (s : State) {r f r′ f′ : List ℕ} {e : ℕ} {t : Tally} → s .full < 255
+    → Pushed r f (record { reported = s .reported; full = s .full }) e r′ f′ t
+    → Raised (making h n s) r f s e r′ f′ (record {
+      how = h;
+      state = record { at = s .at; pos = s .pos; reported = t .reported; full = t .full };
+      line = 0;
+      column = 0;
+    })
 made h n s l p = record {
-  is = ap (λ (t : Tally). record { how = h; state = record { at = s .at; pos = s .pos; reported = t .reported; full = t .full }; line = 0; column = 0 }) (p .is) ∙ sym (rw (lt-ltb (s .full) 255 l));
+  is =
+      ap (λ (t : Tally). record {
+        how = h;
+        state = record { at = s .at; pos = s .pos; reported = t .reported; full = t .full };
+        line = 0;
+        column = 0;
+      }) (p .is)
+      ∙ sym (rw (lt-ltb (s .full) 255 l));
   rep = λ _. p .rep;
   full = λ _. p .full;
 }
 
 -- there is none
-pub none-made : (h : How) (n : ℕ) (s : State) {r f : List ℕ} {e : ℕ} {a : Answer} → 255 ≤ s .full → a ≡ refused-at n s 12 → Raised (making h n s) r f s e r f a
-none-made h n s l z = record { is = z ∙ sym (rw (le-ltb (s .full) 255 l)); rep = λ k. absurd (omega (arith, k)); full = λ k. absurd (omega (arith, k)) }
+pub none-made : (h : How) (n : ℕ) (s : State) {r f : List ℕ} {e : ℕ} {a : Answer} → 255 ≤ s .full → a ≡ refused-at n s 12
+    → Raised (making h n s) r f s e r f a
+none-made h n s l z =
+    record {
+      is = z ∙ sym (rw (le-ltb (s .full) 255 l));
+      rep = λ k. absurd (omega (arith, k));
+      full = λ k. absurd (omega (arith, k));
+    }
 
 -- an answer that is not fatal stays as it is
 pub same : {r : List ℕ} {a : Answer} {i j k : ℕ} → Cuts r a i j k → OneOf (0 ∷ 2 ∷ []) (tagOf the-type (a .how)) → Abandoned r a i j k r a
-same {r} {a} {i} {j} {k} c h = record { at = refl; full = refl; low = omega arith; high = omega arith; first = omega arith; last = omega arith; is = go (a .how) h }
+same {r} {a} {i} {j} {k} c h =
+    record {
+      at = refl;
+      full = refl;
+      low = omega arith;
+      high = omega arith;
+      first = omega arith;
+      last = omega arith;
+      is = go (a .how) h;
+    }
   where
     go : (x : How) → OneOf (0 ∷ 2 ∷ []) (tagOf the-type x) → AbandonedOf x r a i j k r a
     go Done h = (refl, refl)
@@ -39,8 +67,22 @@ same {r} {a} {i} {j} {k} c h = record { at = refl; full = refl; low = omega arit
     go (Refused m) h = (refl, refl)
 
 -- a fatal one is cut
-pub cut : {r r′ : List ℕ} {a : Answer} {i j k : ℕ} {t : Tally} → Cuts r a i j k → a .how ≡ Fatal → Propagated r (record { reported = j; full = a .state .full }) k (a .state .reported) r′ t
-    → Abandoned r a i j k r′ (record { how = a .how; state = record { at = a .state .at; pos = i; reported = t .reported; full = t .full }; line = 0; column = 0 })
+pub cut : {r r′ : List ℕ} {a : Answer} {i j k : ℕ} {t : Tally} → Cuts r a i j k → a .how ≡ Fatal
+    → Propagated r (record { reported = j; full = a .state .full }) k (a .state .reported) r′ t
+    → Abandoned r a i j k r′ (record {
+      how = a .how;
+      state = record { at = a .state .at; pos = i; reported = t .reported; full = t .full };
+      line = 0;
+      column = 0;
+    })
 cut {r} {r′} {a} {i} {j} {k} {t} c h p =
     let m : t .reported ≡ j + (a .state .reported - k) = ap (λ (t : Tally). t .reported) (p .is) in
-    record { at = refl; full = ap (λ (t : Tally). t .full) (p .is); low = omega arith; high = omega arith; first = omega arith; last = omega arith; is = rw h (record { how = refl; pos = refl; reported = m; is = p .rep }) }
+    record {
+      at = refl;
+      full = ap (λ (t : Tally). t .full) (p .is);
+      low = omega arith;
+      high = omega arith;
+      first = omega arith;
+      last = omega arith;
+      is = rw h (record { how = refl; pos = refl; reported = m; is = p .rep });
+    }

@@ -4,7 +4,8 @@ use Prim.Native.Nat.{ℕ, _+_, _*_, _/_, _%_, _<_}
 use native.Mathlib.Omega.{arith}
 use Rattle.fallible.specs.Lists.{unpack, error-at}
 
-pub entry-is : (a b c d e : ℕ) → a < 256 → b < 65536 → c < 65536 → d < 256 → e < 256 → unpack ((((a * 65536 + b) * 65536 + c) * 256 + d) * 256 + e) ≡ error-at a b c d e
+pub entry-is : (a b c d e : ℕ) → a < 256 → b < 65536 → c < 65536 → d < 256 → e < 256
+    → unpack ((((a * 65536 + b) * 65536 + c) * 256 + d) * 256 + e) ≡ error-at a b c d e
 unfolding unpack
 entry-is a b c d e ha hb hc hd he =
     let h1 : ((((a * 65536 + b) * 65536 + c) * 256 + d) * 256 + e) / 281474976710656 % 256 ≡ a = omega arith in

@@ -45,7 +45,9 @@ module _ {l t₀ t : List ℕ} {at place len i : ℕ} (h : Copying l at t₀ pla
 
 -- some entries of a part
 part-is : (l : List ℕ) (j n k : ℕ) → j + n ≡ k → k ≤ length l → take n (drop j l) ≡ drop j (take k l)
-part-is l j n k e h = sym (ap (λ (x : ℕ). drop j (take x l)) (sym e) ∙ ap (λ (x : List ℕ). drop j x) (take-add j n l) ∙ drop-at (take j l) (take n (drop j l)) j (length-take-le j l (omega arith)))
+part-is l j n k e h =
+    sym (ap (λ (x : ℕ). drop j (take x l)) (sym e) ∙ ap (λ (x : List ℕ). drop j x) (take-add j n l)
+    ∙ drop-at (take j l) (take n (drop j l)) j (length-take-le j l (omega arith)))
 
 pub exchanged-none : {r : List ℕ} {j k m : ℕ} → j ≤ k → k ≤ m → j ≡ m → Exchanged r j k m r
 exchanged-none {r} {j} {k} {m} jk km e =
@@ -55,17 +57,21 @@ exchanged-none {r} {j} {k} {m} jk km e =
 
 module _ {r held r₁ r₂ : List ℕ} {j k m : ℕ} (held₀ : List ℕ) where
   pub exchanged : j ≤ k → k ≤ m → m ≤ length r → m ≤ length held₀
-      → Copied r j held₀ 0 (m - j) held → Copied held (k - j) r j (m - k) r₁ → Copied held 0 r₁ (j + (m - k)) (k - j) r₂ → Exchanged r j k m r₂
+      → Copied r j held₀ 0 (m - j) held → Copied held (k - j) r j (m - k) r₁
+      → Copied held 0 r₁ (j + (m - k)) (k - j) r₂ → Exchanged r j k m r₂
   exchanged jk km hr hh a b c =
       let lr : m - j ≤ length (drop j r) = simp length-drop (omega arith) in
       let lh : length held ≡ length held₀ = ap length a ∙ length-paste held₀ 0 (drop j r) (m - j) (omega arith) lr in
-      let all : take (m - j) held ≡ drop j (take m r) = ap (λ (x : List ℕ). take (m - j) x) a ∙ ap (λ (n : ℕ). take n (paste held₀ 0 (drop j r) (m - j))) (sym (zero-add (m - j))) ∙ take-paste held₀ 0 (drop j r) (m - j) (omega arith) lr ∙ part-is r j (m - j) m (omega arith) hr in
+      let all : take (m - j) held ≡ drop j (take m r) = ap (λ (x : List ℕ). take (m - j) x) a ∙ ap
+      (λ (n : ℕ). take n (paste held₀ 0 (drop j r) (m - j))) (sym (zero-add (m - j))) ∙ take-paste held₀ 0
+      (drop j r) (m - j) (omega arith) lr ∙ part-is r j (m - j) m (omega arith) hr in
       let jk-is : j + (k - j) ≡ k = omega arith in
       let back : take (m - k) (drop (k - j) held) ≡ drop k (take m r) =
       part-is held (k - j) (m - k) (m - j) (omega arith) (omega arith)
       ∙ ap (λ (x : List ℕ). drop (k - j) x) all ∙ drop-drop (k - j) j (take m r) ∙ ap (λ (x : ℕ). drop x (take m r)) jk-is in
       let front : take (k - j) held ≡ drop j (take k r) =
-      sym (take-take (k - j) (m - j) held (omega arith)) ∙ ap (λ (x : List ℕ). take (k - j) x) (all ∙ sym (part-is r j (m - j) m (omega arith) hr))
+      sym (take-take (k - j) (m - j) held (omega arith))
+      ∙ ap (λ (x : List ℕ). take (k - j) x) (all ∙ sym (part-is r j (m - j) m (omega arith) hr))
       ∙ take-take (k - j) (m - j) (drop j r) (omega arith) ∙ part-is r j (k - j) k (omega arith) (omega arith) in
       let ld : m - k ≤ length (drop (k - j) held) = simp length-drop (omega arith) in
       let l₁ : length r₁ ≡ length r = ap length b ∙ length-paste r j (drop (k - j) held) (m - k) (omega arith) ld in
@@ -74,7 +80,8 @@ module _ {r held r₁ r₂ : List ℕ} {j k m : ℕ} (held₀ : List ℕ) where
         same = ap length c ∙ length-paste r₁ (j + (m - k)) held (k - j) (omega arith) (omega arith) ∙ l₁;
         is = ap (λ (n : ℕ). take n r₂) e ∙ ap (λ (x : List ℕ). take ((j + (m - k)) + (k - j)) x) c
             ∙ take-paste r₁ (j + (m - k)) held (k - j) (omega arith) (omega arith)
-            ∙ ap (λ (x : List ℕ). x ++ take (k - j) held) (ap (λ (x : List ℕ). take (j + (m - k)) x) b ∙ take-paste r j (drop (k - j) held) (m - k) (omega arith) ld)
+            ∙ ap (λ (x : List ℕ). x ++ take (k - j) held) (ap (λ (x : List ℕ). take (j + (m - k)) x) b
+            ∙ take-paste r j (drop (k - j) held) (m - k) (omega arith) ld)
             ∙ append-assoc (take j r) (take (m - k) (drop (k - j) held)) (take (k - j) held)
             ∙ rw (back, front);
       }
