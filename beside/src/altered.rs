@@ -1,8 +1,8 @@
 //! Records of a script that are changed, so that no tokenizer gives them.
 
 use crate::random::Random;
-use crate::rules;
 use formats::{Handed, Tokens, TEXT_LIMIT};
+use marked::rules;
 
 /// The tokens with lines and texts further apart, and bytes between the texts that no text may have.
 pub fn spread(records: &Tokens) -> Tokens {

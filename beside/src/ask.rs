@@ -1,14 +1,13 @@
 //! The oracle's answer to any bytes, confirmed by the unchanged build.
 
-use crate::{rules, show};
-use formats::{Answer, Handed, PANIC, SCRIPT_LIMIT};
+use crate::show;
+use formats::{Answer, Exit, Given, Handed, PANIC};
+use marked::{operations, rules};
 
 pub fn answer(script: &[u8]) -> Answer {
-    if script.len() > SCRIPT_LIMIT {
-        return Answer { tokenised: Err(1), whole: Err(1) };
-    }
-    let Ok(text) = std::str::from_utf8(script) else {
-        return Answer { tokenised: Err(2), whole: Err(2) };
+    let text = match operations::admitted(script) {
+        Ok(text) => text,
+        Err(number) => return Answer { tokenised: Err(number), whole: Err(number) },
     };
     let answer = marked::answer(text);
     if !confirmed(text, &answer) {
@@ -47,6 +46,15 @@ pub fn read(handed: &Handed) -> Result<Vec<u8>, u8> {
         std::process::exit(3);
     }
     answer
+}
+
+/// What an operation answers and leaves in its slices.
+pub fn exit(given: &Given) -> Exit {
+    match given {
+        Given::Tokenise { script, .. } | Given::Whole { script, .. } => drop(answer(script)),
+        Given::Read(handed) => drop(read(handed)),
+    }
+    operations::run(given)
 }
 
 /// Keeps the panics that the oracle's steps may meet from being printed.

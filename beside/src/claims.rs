@@ -3,9 +3,9 @@
 use crate::ask;
 use crate::classes::{self, Class};
 use crate::compare::Tally;
-use crate::rules;
 use crate::show;
 use formats::{Field, Tokens};
+use marked::rules;
 
 /// Prints the scripts of which a statement is wrong; whether there are none.
 pub fn run(classes: &[Class]) -> bool {

@@ -4,11 +4,12 @@ use crate::random::Random;
 use crate::{damage, fixed, grammar};
 
 const NAMES: &str = "valid damaged soup bytes utf8 boundary limit-length limit-places limit-tokens limit-errors \
-                     limit-entries limit-nesting limit-sizes paper sequences short";
+                     limit-entries limit-nesting limit-sizes limit-counts paper constructs sequences short";
 
 /// What `coverage` runs, and any command that is given no class.
-pub const DEFAULT: [&str; 8] =
-    ["paper", "boundary", "valid:5000", "damaged:20000", "soup:20000", "bytes:5000", "utf8", "sequences:2"];
+pub const DEFAULT: [&str; 9] = [
+    "paper", "constructs", "boundary", "utf8", "sequences:2", "valid:5000", "damaged:20000", "soup:20000", "bytes:5000",
+];
 
 pub struct Class {
     pub word: String,
@@ -52,6 +53,7 @@ pub fn scripts(class: &Class, each: &mut dyn FnMut(&[u8])) {
     }
     let generate: fn(&mut Random) -> Vec<u8> = match class.name.as_str() {
         "paper" => return fixed::PAPER.iter().for_each(|script| each(script.as_bytes())),
+        "constructs" => return fixed::CONSTRUCTS.iter().for_each(|script| each(script.as_bytes())),
         "boundary" => return fixed::boundary(each),
         "utf8" => return damage::utf8(class.count, each),
         "sequences" => return damage::sequences(class.count, each),

@@ -1,12 +1,13 @@
-//! Which refusals, errors, kinds and tags a set of classes meets.
+//! Which refusals, errors, kinds and tags a set of classes meets, or each of the stored lists.
 
 use crate::ask;
 use crate::classes::{self, Class};
+use crate::lists::{self, Case};
 use crate::show;
-use formats::KINDS;
+use formats::{Given, FILE_SIZE, KINDS, TOKEN_SLICES};
 use std::collections::BTreeMap;
 
-/// How many scripts have it at least once, by sort and number.
+/// How many scripts or cases have it at least once, by sort and number.
 #[derive(Default)]
 struct Met(BTreeMap<(&'static str, u32), usize>);
 
@@ -48,7 +49,22 @@ pub fn run(classes: &[Class]) -> bool {
     print(&met)
 }
 
+/// Prints what each stored list meets; whether nothing is missing.
+pub fn lists() -> Result<bool, String> {
+    let mut complete = true;
+    for (sort, cases) in lists::stored()? {
+        let mut met = Met::default();
+        cases.iter().for_each(|case| met.add(&found_in_case(case)));
+        println!("the list of {sort}, {} cases", cases.len());
+        complete &= print_list(sort, &met);
+    }
+    println!("{}", if complete { "nothing is missing" } else { "something is missing" });
+    Ok(complete)
+}
+
 const REFUSAL: &str = "refusals of the whole operation (3 and 8 are of slices)";
+const NUMBER: &str = "numbers";
+const SLICE: &str = "output slices";
 const TOKEN_ERROR: &str = "token errors (62)";
 const REPORTED: &str = "reported errors (60)";
 const FULL: &str = "full list (61)";
@@ -89,29 +105,106 @@ fn in_file(file: &[u8], found: &mut Vec<(&'static str, u32)>) {
     }
 }
 
-fn print(met: &Met) -> bool {
-    let plain = |number: u32| number.to_string();
-    let kind = |number: u32| match number {
-        0 => "none".to_owned(),
-        number => format!("{number} {}", KINDS[number as usize - 1]),
+/// What the output slices of a case are, each with the least length that it may have.
+fn slices((given, _): &Case) -> Vec<(usize, usize)> {
+    match given {
+        Given::Tokenise { slices, .. } => slices.iter().copied().zip(TOKEN_SLICES).collect(),
+        Given::Read(handed) => vec![(handed.file, FILE_SIZE)],
+        Given::Whole { file, .. } => vec![(*file, FILE_SIZE)],
+    }
+}
+
+const SLICE_STATES: [&str; 4] = ["one short alone, 3", "least, accepted", "longer, accepted", "longer, refused"];
+
+fn found_in_case(case: &Case) -> Vec<(&'static str, u32)> {
+    let (given, exit) = case;
+    let mut found = vec![(NUMBER, exit.number as u32)];
+    let slices = slices(case);
+    for (at, (length, least)) in slices.iter().enumerate() {
+        let others = slices.iter().filter(|(length, least)| length < least).count() - (length < least) as usize;
+        let state = match (exit.number, length) {
+            (3, length) if length + 1 == *least && others == 0 => 0,
+            (0, length) if length == least => 1,
+            (0, length) if length > least => 2,
+            (4..=12, length) if length > least => 3,
+            _ => continue,
+        };
+        found.push((SLICE, (SLICE_STATES.len() * at + state) as u32));
+    }
+    match given {
+        Given::Tokenise { .. } => {
+            found.extend(exit.words[0].chunks(8).take(exit.counts[0]).map(|token| (KIND, token[0])));
+            found.extend(exit.words[1].chunks(4).take(exit.counts[1]).map(|error| (TOKEN_ERROR, error[0])));
+        }
+        _ => in_file(&exit.bytes[..exit.counts[0]], &mut found),
+    }
+    found
+}
+
+fn print_list(sort: &str, met: &Met) -> bool {
+    let tokenise = sort == "tokens";
+    let (all_numbers, slices): (&[u32], &[&str]) = match sort {
+        "tokens" => (&[0, 1, 2, 3, 4, 5, 6, 7], &["tokens", "errors", "text"]),
+        "records" => (&[0, 3, 8, 9, 10, 11, 12], &["file"]),
+        _ => (&[0, 1, 2, 3, 4, 5, 6, 7, 9, 10, 11, 12], &["file"]),
     };
-    let tags: Vec<u32> = show::TAGS.iter().map(|(tag, _)| *tag as u32).filter(|tag| *tag != 0x7F).collect();
-    let numbers = |from: u32, to: u32| (from..=to).collect::<Vec<_>>();
-    // the other kinds are expected only where they were seen before, or never
-    let expected = [0, 4, 15, 26, 38, 39, 41, 42, 44, 49, 50];
-    let operators = [numbers(0, 7), numbers(16, 20)].concat();
+    let states = SLICE_STATES.len();
+    let mut complete = [
+        met.print(NUMBER, all_numbers, plain),
+        met.print(SLICE, &numbers(0, (states * slices.len()) as u32 - 1), |code| {
+            format!("{}: {}", slices[code as usize / states], SLICE_STATES[code as usize % states])
+        }),
+        met.print(TOKEN_ERROR, &numbers(1, 4), plain),
+    ]
+    .to_vec();
+    if tokenise {
+        complete.push(met.print(KIND, &numbers(1, 54), kind));
+    } else {
+        complete.push(print_files(met));
+    }
+    complete.iter().all(|one| *one)
+}
+
+fn print(met: &Met) -> bool {
     let complete = [
         met.print(REFUSAL, &[1, 2, 4, 5, 6, 7, 9, 10, 11, 12], plain),
         met.print(TOKEN_ERROR, &numbers(1, 4), plain),
-        met.print(REPORTED, &numbers(1, 19), plain),
-        met.print(FULL, &numbers(1, 19), plain),
-        met.print(TAG, &tags, |tag| format!("{tag:02X} {}", show::tag_name(tag as u8))),
         met.print(KIND, &numbers(1, 54), kind),
-        met.print(OPERATOR, &operators, plain),
-        met.print(EXPECTED, &expected, kind),
-        met.print(GOT, &numbers(0, 54), kind),
+        print_files(met),
     ];
     let all = complete.iter().all(|one| *one);
     println!("{}", if all { "nothing is missing" } else { "something is missing" });
     all
+}
+
+/// What tree files have.
+fn print_files(met: &Met) -> bool {
+    let tags: Vec<u32> = show::TAGS.iter().map(|(tag, _)| *tag as u32).filter(|tag| *tag != 0x7F).collect();
+    // the other kinds are expected only where they were seen before, or never
+    let expected = [0, 4, 15, 26, 38, 39, 41, 42, 44, 49, 50];
+    let operators = [numbers(0, 7), numbers(16, 20)].concat();
+    let complete = [
+        met.print(REPORTED, &numbers(1, 19), plain),
+        met.print(FULL, &numbers(1, 19), plain),
+        met.print(TAG, &tags, |tag| format!("{tag:02X} {}", show::tag_name(tag as u8))),
+        met.print(OPERATOR, &operators, plain),
+        met.print(EXPECTED, &expected, kind),
+        met.print(GOT, &numbers(0, 54), kind),
+    ];
+    complete.iter().all(|one| *one)
+}
+
+fn numbers(from: u32, to: u32) -> Vec<u32> {
+    (from..=to).collect()
+}
+
+fn plain(number: u32) -> String {
+    number.to_string()
+}
+
+fn kind(number: u32) -> String {
+    match number {
+        0 => "none".to_owned(),
+        number => format!("{number} {}", KINDS[number as usize - 1]),
+    }
 }

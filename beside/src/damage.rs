@@ -90,7 +90,7 @@ fn damage_characters(random: &mut Random, script: &mut Vec<char>) {
     }
 }
 
-/// Random lexemes, now and then behind the opening of an item.
+/// Random lexemes, now and then after the opening of an item.
 pub fn soup(random: &mut Random) -> Vec<u8> {
     const OPENINGS: [&str; 14] = [
         "", "", "", "fn f(){", "fn f(){a", "fn f(", "extern fn f(", "var x:", "var x:T=", "var x:T<-#",
@@ -161,7 +161,7 @@ const FIRST: [u8; 20] = [
     0xF8, 0xFF,
 ];
 
-/// First bytes above 127, those at bounds first, with the bytes at the bounds behind them, in a string.
+/// First bytes above 127, those at bounds first, with the bytes at the bounds after them, in a string.
 pub fn utf8(count: usize, each: &mut dyn FnMut(&[u8])) {
     const SECOND: [u8; 8] = [0x7F, 0x80, 0x8F, 0x90, 0x9F, 0xA0, 0xBF, 0xC0];
     const LATER: [u8; 4] = [0x80, 0xBF, 0x7F, 0xC0];

@@ -80,6 +80,202 @@ pub const PAPER: &[&str] = &[
     "\u{100}",
 ];
 
+/// Each construct of the parser, whole and with parts that are wrong or missing.
+pub const CONSTRUCTS: &[&str] = &[
+    // words and numbers
+    "FN f(){}",
+    "Var x:T;",
+    "var x:T=TRUE;",
+    "use \"a\"; USE \"a\";",
+    "ASM{a}",
+    "var x:T=0X1;",
+    "var x:[0XF]T;",
+    "0X",
+    "0B1",
+    "0xFf 0b10 010 -010",
+    "\u{80}",
+    "a\u{80}",
+    "asm \u{80}",
+    "1\u{80}",
+    "\u{7F}",
+    "a\u{7F}b",
+    "\"\u{80}\" \u{FF}",
+    // items
+    "extern fn f();",
+    "extern fn f(){}",
+    "extern f();",
+    "fn f(a:T)->*T{return a;}",
+    "fn 1(){}",
+    "fn f){}",
+    "fn f(a T){}",
+    "fn f(1 T){}",
+    "fn f(a:T b:T){}",
+    "fn f(a:+){}",
+    "fn f()->{}",
+    "fn f()->+{}",
+    "fn f() a;",
+    "fn f(){a;",
+    "type T=a;",
+    "type T a;",
+    "type T=+;",
+    "type T=a",
+    "type 1=a;",
+    "distinct T=a;",
+    "internal type T=a;distinct type T=a;",
+    "use a;",
+    "use a",
+    "use \"a\"",
+    "use \"a\" \"b\";",
+    "var x;",
+    "var x T;",
+    "var 1 T;",
+    "var 1:+;",
+    "var 1:T=+;",
+    "var 1:T=a.1;",
+    "var 1:T=(a;",
+    "var 1:T=(+;",
+    "var 1:T=;",
+    "var 1:T=",
+    "var 1:T<-;",
+    "var 1:T<-#;",
+    "var 1:T<-#",
+    "var x:T=a",
+    "var x:T<-#[a",
+    // statements
+    "fn f(){return;}",
+    "fn f(){return}",
+    "fn f(){return a}",
+    "fn f(){return +;}",
+    "fn f(){break}",
+    "fn f(){break;break;}",
+    "fn f(){loop}",
+    "fn f(){loop",
+    "fn f(){while a",
+    "fn f(){if a b;else",
+    "fn f(){loop{a;b;}}",
+    "fn f(){loop +;a;}",
+    "fn f(){while a b;}",
+    "fn f(){while(a.1)b.1;}",
+    "fn f(){while + b;}",
+    "fn f(){if a b;else c;}",
+    "fn f(){if a if b c;else d;}",
+    "fn f(){if(a.1)b.1;}",
+    "fn f(){if(a.1)b.1;else c.1;}",
+    "fn f(){if a +;else b;}",
+    "fn f(){else a;}",
+    "fn f(){a=b;a.b=c;a[b]=c;a.*=b;}",
+    "fn f(){a=;}",
+    "fn f(){a=b}",
+    "fn f(){a=b=c;}",
+    "fn f(){a.1=b;}",
+    "fn f(){a.1;b;}",
+    "fn f(){a<-#[b];}",
+    "fn f(){a<-#{b=c};}",
+    "fn f(){a<-b;}",
+    "fn f(){a<-#(b);}",
+    "fn f(){a<-#[b]}",
+    "fn f(){asm{a}asm{b};}",
+    "fn f(){var a:T=b;var c:T<-#[d];var e:T;}",
+    "fn f(){var 1 T;a;}",
+    "fn f(){{}{a;}}",
+    "fn f(){a b;c;}",
+    "fn f(){var x:T=(+;}",
+    // operators
+    "var x:T=a&&b;",
+    "var x:T=a&&b&&c;",
+    "fn f(){a&&b&&c;}",
+    "fn f(){return a&&b&&c&&d;}",
+    "var x:T=(a==b)&&(a<b);",
+    "var x:T=(a<=b)&&(a>=b);",
+    "var x:T=a==b==c;",
+    "var x:T=a<b<c;",
+    "fn f(){a<=b>=c;}",
+    "var x:T=a>b&&c==d;",
+    "var x:T=a|b^c&d<<e+f*g;",
+    "var x:T=a*b+c<<d&e^f|g;",
+    "var x:T=a+b- c+d;",
+    "var x:T=a<<b>>c;",
+    "var x:T=a&b&c^d^e|f|g;",
+    "var x:T=a+b.1;",
+    "var x:T=a.1+b.1;",
+    "fn f(){a|b.1;}",
+    "fn f(){a==b.1&&c.1;}",
+    "var x:T=a as T as *U;",
+    "var x:T=!a as T;",
+    "var x:T=*a as T+~b as U;",
+    "var x:T=!~*&a;",
+    "var x:T=!!a;",
+    "var x:T=~f(a);",
+    // calls and suffixes
+    "fn f(){g()();}",
+    "fn f(){g(a)(b)(c);}",
+    "var x:T=f(a)(b);",
+    "var x:T=f(a).b;",
+    "var x:T=f(a)[b];",
+    "var x:T=a.b(c);",
+    "var x:T=(f)(a);",
+    "var x:T=f(a,,b);",
+    "var x:T=f(,a);",
+    "var x:T=f(a,b,,);",
+    "var x:T=f(a b c);",
+    "var x:T=f(+,a);",
+    "var x:T=f(a.1,b);",
+    "var x:T=f(g(",
+    "fn f(){g(h(",
+    "var x:T=sizeof(T);",
+    "var x:T=sizeof(*T)+sizeof([2]T);",
+    "var x:T=sizeof T;",
+    "var x:T=sizeof(T;",
+    "var x:T=sizeof(T)(a);",
+    "var x:T=sizeof(T).a;",
+    "var x:T=a.b.*.c[d].e;",
+    "var x:T=a.1.b;",
+    "var x:T=a.1[b];",
+    "var x:T=a.1.*;",
+    "fn f(){a.1.b;c;}",
+    "fn f(){a.1[b];c;}",
+    "var x:T=a[b;",
+    "var x:T=a[b.1];",
+    "var x:T=a[+];",
+    "var x:T=(a;",
+    "var x:T=(a.1);",
+    "var x:T=(a b);",
+    "var x:T=((+));",
+    "var x:T=\"a\"[b];",
+    "var x:T=true&&false;",
+    // types and lists
+    "var x:**T;",
+    "var x:[2][0b11]*[0xF]T;",
+    "var x:[2 T;",
+    "var x:[2)T;",
+    "var x:[T]T;",
+    "var x:fn;",
+    "var x:var;",
+    "var x:type;",
+    "var x:internal;",
+    "var x:asm{};",
+    "var x:struct{};",
+    "var x:struct{a:T,b:*U,};",
+    "var x:struct{a:T b:U};",
+    "var x:struct{a:T)b:U};",
+    "var x:struct{a:T};)",
+    "var x:struct{1:T,a T,b:+};",
+    "var x:struct(a:T};",
+    "var x:struct{a:struct{1:T}};",
+    "var x:struct{",
+    "var x:T<-#[a,b,];",
+    "var x:T<-#[a,,b];",
+    "var x:T<-#[a b];",
+    "var x:T<-#[+];",
+    "var x:T<-#{a=b,c=d,};",
+    "var x:T<-#{a b};",
+    "var x:T<-#{1=b};",
+    "var x:T<-#{a=+,b=c};",
+    "var x:T<-#{a=b)c=d};",
+    "var x:T<-#{a=b;",
+    "var x:T<-#{",
+];
+
 fn times(part: &str, count: usize) -> String {
     part.repeat(count)
 }
@@ -88,7 +284,7 @@ fn times(part: &str, count: usize) -> String {
 type Part = fn(&mut dyn FnMut(&[u8]));
 
 /// The scripts at the limits that document 01 names: one short, exact, one over.
-pub const LIMITS: [(&str, Part); 7] = [
+pub const LIMITS: [(&str, Part); 8] = [
     ("limit-length", script_length),
     ("limit-places", places),
     ("limit-tokens", token_count),
@@ -96,6 +292,7 @@ pub const LIMITS: [(&str, Part); 7] = [
     ("limit-entries", full_entries),
     ("limit-nesting", nesting),
     ("limit-sizes", array_sizes),
+    ("limit-counts", counts),
 ];
 
 pub fn boundary(each: &mut dyn FnMut(&[u8])) {
@@ -109,6 +306,9 @@ fn script_length(each: &mut dyn FnMut(&[u8])) {
         each(times(" ", length).as_bytes());
         each(format!("{};", times("a", length - 1)).as_bytes());
     }
+    // both too long and not UTF-8
+    each(&[b"\xC3", times(" ", 16_384).as_bytes()].concat());
+    each(&[b"var x:T;//\xFF", times(" ", 16_384).as_bytes()].concat());
     for length in [16_384, 16_385] {
         each(format!("var x:T;//{}", times("c", length - 10)).as_bytes());
         each(format!("use \"{}\";", times("s", length - 7)).as_bytes());
@@ -196,6 +396,9 @@ fn full_entries(each: &mut dyn FnMut(&[u8])) {
     each(format!("{full}fn f").as_bytes());
     each(format!("{full}type type").as_bytes());
     each(format!("{full}var x:T=(+").as_bytes());
+    each(format!("{full}var x:T={}a;", times("!", 96)).as_bytes());
+    each(format!("{full}fn f()->{}", stars(96)).as_bytes());
+    each(format!("{full}fn f(){}", times("{", 98)).as_bytes());
     let fewer = times("+", 254);
     for last in ["fn f", "fn f(){", "var x:T=(+", "type type", "use use", "var 1:T;", "var x:[", "type", "fn f(){a."] {
         each(format!("{fewer}{last}").as_bytes());
@@ -205,7 +408,7 @@ fn full_entries(each: &mut dyn FnMut(&[u8])) {
 /// Each way to open counted calls, around its limit; a way costs one call or two a step.
 fn nesting(each: &mut dyn FnMut(&[u8])) {
     let ways: &[(&str, &str, &str, &str, &str)] = &[
-        // before, opening, core, closing, behind
+        // before, opening, core, closing, after
         ("var p: ", "*", "T", "", ";"),
         ("var p: ", "[1]", "T", "", ";"),
         ("var p: ", "struct{a:", "T", "}", ";"),
@@ -241,9 +444,9 @@ fn nesting(each: &mut dyn FnMut(&[u8])) {
         ("var x:T=", "!(", "a", ")", ";"),
         ("var x:T=", "-1+(", "a", ")", ";"),
     ];
-    for (before, opening, core, closing, behind) in ways {
+    for (before, opening, core, closing, after) in ways {
         let reads = |count: usize| {
-            format!("{before}{}{core}{}{behind}", times(opening, count), times(closing, count))
+            format!("{before}{}{core}{}{after}", times(opening, count), times(closing, count))
         };
         let limit = (0..).find(|&count| crate::ask::answer(reads(count).as_bytes()).whole == Err(10)).unwrap();
         for count in [limit - 2, limit - 1, limit, limit + 1] {
@@ -282,4 +485,17 @@ fn array_sizes(each: &mut dyn FnMut(&[u8])) {
     each(format!("var x:[0b000{ones}]T;").as_bytes());
     each(format!("var x:[0b1{}]T;", times("0", 64)).as_bytes());
     each(format!("var x:[{}1]T;", times("0", 300)).as_bytes());
+}
+
+/// Counts of one byte and of two, in each record that has one.
+fn counts(each: &mut dyn FnMut(&[u8])) {
+    for count in [255, 256, 257] {
+        each(times("asm{}", count).as_bytes());
+        each(format!("fn f(){{{}}}", times("break;", count)).as_bytes());
+        each(format!("fn f({}){{}}", times("a:T,", count)).as_bytes());
+        each(format!("var x:T=f({});", times("a,", count)).as_bytes());
+        each(format!("var x:T<-#[{}];", times("a,", count)).as_bytes());
+        each(format!("var x:T<-#{{{}}};", times("a=b,", count)).as_bytes());
+        each(format!("var x:struct{{{}}};", times("a:T,", count)).as_bytes());
+    }
 }

@@ -15,7 +15,7 @@ pub struct Tokens {
 }
 
 /// What Read is handed: the slices, what is stated of them, and the length of the file slice.
-#[derive(Clone, Debug)]
+#[derive(Clone, Debug, PartialEq, Eq)]
 pub struct Handed {
     pub tokens: Vec<u32>,
     pub token_count: u64,
@@ -38,6 +38,34 @@ impl Handed {
         }
     }
 }
+
+/// What an operation is handed: a script or records, and the lengths of its output slices.
+#[derive(Clone, Debug, PartialEq, Eq)]
+pub enum Given {
+    /// the token slice and the error slice in words, the text slice in bytes
+    Tokenise { script: Vec<u8>, slices: [usize; 3] },
+    Read(Handed),
+    Whole { script: Vec<u8>, file: usize },
+}
+
+/// What an operation answers, and its output slices at exit.
+#[derive(Clone, Debug, PartialEq, Eq)]
+pub struct Exit {
+    /// 0, or the refusal
+    pub number: u8,
+    /// Tokenise: tokens, token errors, text bytes; the others: file bytes
+    pub counts: Vec<usize>,
+    /// Tokenise: the token slice and the error slice
+    pub words: Vec<Vec<u32>>,
+    /// the text slice or the file slice
+    pub bytes: Vec<u8>,
+    /// Read: what Token text gives for each record of the token slice, and after the last
+    pub texts: Vec<Vec<u8>>,
+}
+
+/// What output slices hold before a call.
+pub const FILLER: u8 = 0xA5;
+pub const FILLER_WORD: u32 = 0xA5A5_A5A5;
 
 /// An error of the parser: number, line, column, expected kind, kind met.
 #[derive(Clone, Copy, Debug, PartialEq, Eq)]
@@ -67,6 +95,9 @@ pub const PANIC: u8 = 255;
 pub const SCRIPT_LIMIT: usize = 16_384;
 pub const FILE_SIZE: usize = 65_536;
 
+/// The least lengths of Tokenise's output slices.
+pub const TOKEN_SLICES: [usize; 3] = [16_384, 1_024, 16_384];
+
 /// The largest line and column, and the largest end of a text.
 pub const PLACE_LIMIT: u32 = 16_384;
 pub const TEXT_LIMIT: usize = 16_384;
@@ -82,7 +113,7 @@ pub const KINDS: [&str; 54] = [
     "Semicolon", "RArrow", "LArrow", "Comma", "InlineAssemblyFragment",
 ];
 
-/// The number of a kind from its Debug spelling, with or without a text behind it.
+/// The number of a kind from its Debug spelling, with or without a text after it.
 pub fn kind_number(debug: &str) -> u8 {
     let end = debug.find(|c: char| !c.is_ascii_alphabetic()).unwrap_or(debug.len());
     let name = &debug[..end];
@@ -95,16 +126,16 @@ pub fn kind_number(debug: &str) -> u8 {
 /// A field of a tree file: tag and body.
 pub type Field<'a> = (u8, &'a [u8]);
 
-/// The whole fields at the start of some bytes, and what is left behind them. No tag is 0.
+/// The whole fields at the start of some bytes, and what is left after them. No tag is 0.
 pub fn fields(file: &[u8]) -> (Vec<Field<'_>>, &[u8]) {
     let mut fields = Vec::new();
     let mut rest = file;
-    while let [tag @ 1..=255, high, low, behind @ ..] = rest {
+    while let [tag @ 1..=255, high, low, left @ ..] = rest {
         let length = *high as usize * 256 + *low as usize;
-        if behind.len() < length {
+        if left.len() < length {
             break;
         }
-        let (body, after) = behind.split_at(length);
+        let (body, after) = left.split_at(length);
         fields.push((*tag, body));
         rest = after;
     }

@@ -2,7 +2,6 @@
 
 mod ask;
 mod linked;
-mod rules;
 mod show;
 
 use formats::FILE_SIZE;

@@ -1,21 +1,21 @@
 //! The library's answer to a script, and what it should be.
 
 use crate::{ask, show};
-use formats::FILE_SIZE;
+use formats::{FILE_SIZE, FILLER};
+use marked::operations;
 
 extern "C" {
     fn dn_read(script: *const u8, script_len: usize, file: *mut u8, file_len: usize, bytes: *mut usize) -> u32;
 }
 
-const FILLER: u8 = 0xA5;
-/// Bytes behind the slice that must not change.
-const BEHIND: usize = 64;
+/// Bytes after the slice that must not change.
+const AFTER: usize = 64;
 
 #[derive(PartialEq)]
 pub struct Result {
     number: u32,
     bytes: usize,
-    /// the file slice and the bytes behind it
+    /// the file slice and the bytes after it
     memory: Vec<u8>,
 }
 
@@ -30,34 +30,28 @@ pub fn slice_lengths(turn: usize) -> Vec<usize> {
 }
 
 pub fn call(script: &[u8], length: usize) -> Result {
-    let mut memory = vec![FILLER; length + BEHIND];
+    let mut memory = vec![FILLER; length + AFTER];
     let mut bytes = usize::MAX;
     let number = unsafe { dn_read(script.as_ptr(), script.len(), memory.as_mut_ptr(), length, &mut bytes) };
     Result { number, bytes, memory }
 }
 
 pub fn expected(script: &[u8], length: usize) -> Result {
-    let mut memory = vec![FILLER; length + BEHIND];
     let answer = match ask::answer(script).whole {
-        Err(number @ (1 | 2)) => return Result { number: number as u32, bytes: 0, memory },
-        _ if length < FILE_SIZE => return Result { number: 3, bytes: 0, memory },
+        Err(number @ (1 | 2)) => Err(number),
+        _ if length < FILE_SIZE => Err(3),
         answer => answer,
     };
-    memory[..length].fill(0);
-    match answer {
-        Err(number) => Result { number: number as u32, bytes: 0, memory },
-        Ok(file) => {
-            memory[..file.len()].copy_from_slice(&file);
-            Result { number: 0, bytes: file.len(), memory }
-        }
-    }
+    let exit = operations::whole_exit(length, &answer);
+    let memory = [exit.bytes, vec![FILLER; AFTER]].concat();
+    Result { number: exit.number as u32, bytes: exit.counts[0], memory }
 }
 
 pub fn lines(result: &Result) -> Vec<String> {
-    let (slice, behind) = result.memory.split_at(result.memory.len() - BEHIND);
+    let (slice, after) = result.memory.split_at(result.memory.len() - AFTER);
     let mut lines = vec![
         format!("number {}, {} bytes, a slice of {}", result.number, result.bytes, slice.len()),
-        format!("behind the slice: {}", if behind.iter().all(|b| *b == FILLER) { "untouched" } else { "changed" }),
+        format!("after the slice: {}", if after.iter().all(|b| *b == FILLER) { "untouched" } else { "changed" }),
     ];
     if slice.iter().all(|byte| *byte == FILLER) {
         lines.push("the slice is untouched".to_owned());

@@ -2,33 +2,105 @@
 
 use crate::classes::{self, Class};
 use crate::random::Random;
-use crate::{altered, ask, made, show};
-use formats::{Answer, Handed, Tokens};
+use crate::{altered, ask, made, show, slices};
+use formats::{Exit, Given, Handed, Tokens, FILE_SIZE, TOKEN_SLICES};
+use marked::operations;
 use std::io::Write;
+
+/// The lists and where they are stored.
+const STORED: [(&str, &str); 3] = [
+    ("tokens", "crates/replay/stdin"),
+    ("records", "crates/replay_read/stdin"),
+    ("files", "crates/replay_files/stdin"),
+];
 
 /// How many bytes each word of a record has.
 const TOKEN_SIZES: [usize; 8] = [1, 2, 2, 2, 2, 1, 1, 1];
 const ERROR_SIZES: [usize; 4] = [1, 2, 2, 1];
 
+/// A case: what an operation is handed, and how it should leave.
+pub type Case = (Given, Exit);
+
+// ---- the cases of a list
+
+/// Writes a list: hand-made cases, then those of the classes.
 pub fn write(sort: &str, classes: &[Class], out: &mut dyn Write) -> Result<(), String> {
-    let part: fn(&Answer) -> Vec<u8> = match sort {
-        "tokens" => tokens_part,
-        "files" => file_part,
-        "records" => return records(classes, out),
-        _ => return Err(format!("no list is of the sort {sort}; there are: tokens files records")),
+    let mut written = Written { from: String::new(), cases: 0, bytes: 0 };
+    let mut each = |from: &str, given: Given| {
+        let exit = ask::exit(&given);
+        let bytes = bytes(&given, &exit);
+        assert!(read(sort, &bytes) == Ok(vec![(given, exit)]), "a case is not read as it was written");
+        written.count(from, bytes.len());
+        out.write_all(&bytes).expect("the list can't be written");
     };
-    for class in classes {
-        let (mut count, mut size) = (0, 0);
-        classes::scripts(class, &mut |script| {
-            let case = [number(script.len(), 3), script.to_vec(), part(&ask::answer(script))].concat();
-            out.write_all(&case).expect("the list can't be written");
-            count += 1;
-            size += case.len();
-        });
-        eprintln!("{}: {count} scripts, {size} bytes", class.word);
+    match sort {
+        "tokens" => {
+            slices::tokens(&mut |given| each("slices", given));
+            scripts(classes, &mut |from, script| each(from, Given::Tokenise { script, slices: TOKEN_SLICES }));
+        }
+        "files" => {
+            slices::files(&mut |given| each("slices", given));
+            scripts(classes, &mut |from, script| each(from, Given::Whole { script, file: FILE_SIZE }));
+        }
+        "records" => {
+            for case in made::cases() {
+                let answer = ask::read(&case.handed);
+                if answer.as_ref().err().unwrap_or(&0) != &case.number {
+                    show::handed(&case.handed).iter().for_each(|line| eprintln!("{line}"));
+                    return Err(format!("a case of {} has {} and not {:?}", case.sort, case.number, answer.err()));
+                }
+                each(case.sort, Given::Read(case.handed));
+            }
+            altered(classes, &mut |from, handed| each(from, Given::Read(handed)));
+        }
+        _ => return Err(format!("no list is of the sort {sort}; there are: tokens files records")),
     }
+    written.print();
     Ok(())
 }
+
+fn scripts(classes: &[Class], each: &mut dyn FnMut(&str, Vec<u8>)) {
+    for class in classes {
+        classes::scripts(class, &mut |script| each(&class.word, script.to_vec()));
+    }
+}
+
+/// Three for each script that Tokenise accepts: its records, the same further apart, and damaged ones.
+fn altered(classes: &[Class], each: &mut dyn FnMut(&str, Handed)) {
+    let mut random = Random::new(1);
+    scripts(classes, &mut |from, script| {
+        let Ok(records) = ask::answer(&script).tokenised else { return };
+        each(from, Handed::new(&records));
+        each(from, Handed::new(&altered::spread(&records)));
+        each(from, altered::damaged(&records, &mut random));
+    });
+}
+
+/// How many cases and bytes are written from one class or sort.
+struct Written {
+    from: String,
+    cases: usize,
+    bytes: usize,
+}
+
+impl Written {
+    fn count(&mut self, from: &str, bytes: usize) {
+        if from != self.from {
+            self.print();
+            *self = Written { from: from.to_owned(), cases: 0, bytes: 0 };
+        }
+        self.cases += 1;
+        self.bytes += bytes;
+    }
+
+    fn print(&self) {
+        if self.cases > 0 {
+            eprintln!("{}: {} cases, {} bytes", self.from, self.cases, self.bytes);
+        }
+    }
+}
+
+// ---- a case in bytes
 
 /// A number in some bytes, high byte first.
 fn number(value: usize, bytes: usize) -> Vec<u8> {
@@ -37,193 +109,180 @@ fn number(value: usize, bytes: usize) -> Vec<u8> {
     all[8 - bytes..].to_vec()
 }
 
-fn file_part(answer: &Answer) -> Vec<u8> {
-    match &answer.whole {
-        Ok(file) => [vec![0], number(file.len(), 3), file.clone()].concat(),
-        Err(refusal) => [vec![*refusal], number(0, 3)].concat(),
+fn numbers(values: &[usize], bytes: usize) -> Vec<u8> {
+    values.iter().flat_map(|value| number(*value, bytes)).collect()
+}
+
+/// The first records of a slice, each word in its bytes.
+fn records(words: &[u32], count: usize, sizes: &[usize]) -> Vec<u8> {
+    let words = words[..count * sizes.len()].iter();
+    words.zip(sizes.iter().cycle()).flat_map(|(word, bytes)| number(*word as usize, *bytes)).collect()
+}
+
+fn words(words: &[u32]) -> Vec<u8> {
+    words.iter().flat_map(|word| word.to_be_bytes()).collect()
+}
+
+/// The length of the text of each record; after the last there is none.
+fn text_lengths(texts: &[Vec<u8>]) -> Vec<u8> {
+    let (last, texts) = texts.split_last().expect("there is a place after the last record");
+    assert!(last.is_empty(), "no record has a text");
+    texts.iter().flat_map(|text| number(text.len(), 2)).collect()
+}
+
+fn bytes(given: &Given, exit: &Exit) -> Vec<u8> {
+    let refusal = vec![exit.number];
+    let written = exit.bytes[..*exit.counts.last().unwrap()].to_vec();
+    match given {
+        Given::Tokenise { script, slices } => [
+            numbers(&[&[script.len()][..], slices].concat(), 3),
+            refusal,
+            numbers(&exit.counts, 2),
+            script.clone(),
+            records(&exit.words[0], exit.counts[0], &TOKEN_SIZES),
+            records(&exit.words[1], exit.counts[1], &ERROR_SIZES),
+            written,
+        ]
+        .concat(),
+        Given::Read(handed) => [
+            numbers(&[handed.tokens.len(), handed.errors.len(), handed.text.len(), handed.file], 3),
+            handed.token_count.to_be_bytes().to_vec(),
+            handed.error_count.to_be_bytes().to_vec(),
+            refusal,
+            number(written.len(), 3),
+            words(&handed.tokens),
+            words(&handed.errors),
+            handed.text.clone(),
+            written,
+            text_lengths(&exit.texts),
+        ]
+        .concat(),
+        Given::Whole { script, file } => {
+            [numbers(&[script.len(), *file], 3), refusal, number(written.len(), 3), script.clone(), written].concat()
+        }
     }
 }
 
-fn tokens_part(answer: &Answer) -> Vec<u8> {
-    let none = Tokens::default();
-    let (refusal, records) = match &answer.tokenised {
-        Ok(records) => (0, records),
-        Err(refusal) => (*refusal, &none),
+/// The cases of a list, or why it can't be read.
+pub fn read(sort: &str, list: &[u8]) -> Result<Vec<Case>, String> {
+    let mut list = List { rest: list };
+    let mut cases = Vec::new();
+    while !list.rest.is_empty() {
+        let case = match sort {
+            "tokens" => list.tokens_case(),
+            "records" => list.records_case(),
+            _ => list.files_case(),
+        };
+        cases.push(case.ok_or_else(|| format!("the list of {sort} ends inside case {}", cases.len()))?);
+    }
+    Ok(cases)
+}
+
+/// The three stored lists, one after the other.
+pub fn stored() -> Result<Vec<(&'static str, Vec<Case>)>, String> {
+    let list = |(sort, path): (&'static str, &str)| {
+        let list = std::fs::read(path).map_err(|e| format!("{path} can't be read: {e}"))?;
+        Ok((sort, read(sort, &list)?))
     };
-    let mut part = vec![refusal];
-    for count in [records.tokens.len(), records.errors.len(), records.text.len()] {
-        part.extend(number(count, 2));
-    }
-    for token in &records.tokens {
-        for (word, bytes) in token.iter().zip(TOKEN_SIZES) {
-            part.extend(number(*word as usize, bytes));
-        }
-    }
-    for error in &records.errors {
-        for (word, bytes) in error.iter().zip(ERROR_SIZES) {
-            part.extend(number(*word as usize, bytes));
-        }
-    }
-    part.extend(&records.text);
-    part
-}
-
-/// The hand-made cases, then three for each script that Tokenise accepts: its records, the same further
-/// apart, and damaged ones.
-fn records(classes: &[Class], out: &mut dyn Write) -> Result<(), String> {
-    let mut tally = Written { sort: "", cases: 0, bytes: 0 };
-    for (at, case) in made::cases().iter().enumerate() {
-        let answer = ask::read(&case.handed);
-        if answer.as_ref().err().unwrap_or(&0) != &case.number {
-            show::handed(&case.handed).iter().for_each(|line| eprintln!("{line}"));
-            return Err(format!("case {at}, of {}, has {} and not {:?}", case.sort, case.number, answer.err()));
-        }
-        tally.write(case.sort, &records_case(&case.handed, &answer), out);
-    }
-    let mut random = Random::new(1);
-    for class in classes {
-        classes::scripts(class, &mut |script| {
-            let Ok(records) = ask::answer(script).tokenised else { return };
-            let forms = [
-                Handed::new(&records),
-                Handed::new(&altered::spread(&records)),
-                altered::damaged(&records, &mut random),
-            ];
-            for handed in forms {
-                tally.write(&class.word, &records_case(&handed, &ask::read(&handed)), out);
-            }
-        });
-    }
-    tally.print();
-    Ok(())
-}
-
-/// How many cases and bytes of a sort are written.
-struct Written<'a> {
-    sort: &'a str,
-    cases: usize,
-    bytes: usize,
-}
-
-impl<'a> Written<'a> {
-    fn write(&mut self, sort: &'a str, case: &[u8], out: &mut dyn Write) {
-        if sort != self.sort {
-            self.print();
-            *self = Written { sort, cases: 0, bytes: 0 };
-        }
-        out.write_all(case).expect("the list can't be written");
-        self.cases += 1;
-        self.bytes += case.len();
-    }
-
-    fn print(&self) {
-        if self.cases > 0 {
-            eprintln!("{}: {} cases, {} bytes", self.sort, self.cases, self.bytes);
-        }
-    }
-}
-
-fn records_case(handed: &Handed, answer: &Result<Vec<u8>, u8>) -> Vec<u8> {
-    let (refusal, file) = match answer {
-        Ok(file) => (0, file.as_slice()),
-        Err(refusal) => (*refusal, &[][..]),
-    };
-    let words = |words: &[u32]| words.iter().flat_map(|word| word.to_be_bytes()).collect::<Vec<_>>();
-    [
-        number(handed.tokens.len(), 3),
-        number(handed.errors.len(), 3),
-        number(handed.text.len(), 3),
-        number(handed.file, 3),
-        handed.token_count.to_be_bytes().to_vec(),
-        handed.error_count.to_be_bytes().to_vec(),
-        vec![refusal],
-        number(file.len(), 3),
-        words(&handed.tokens),
-        words(&handed.errors),
-        handed.text.clone(),
-        file.to_vec(),
-    ]
-    .concat()
-}
-
-/// Prints the case of a number, from 0, of a list.
-pub fn print_case(sort: &str, number: usize, list: &[u8]) -> Result<(), String> {
-    let mut rest = List { sort, rest: list };
-    for _ in 0..number {
-        rest.case();
-    }
-    if rest.rest.is_empty() {
-        return Err(format!("the list has no case {number}"));
-    }
-    rest.case().iter().for_each(|line| println!("{line}"));
-    Ok(())
+    STORED.into_iter().map(list).collect()
 }
 
 /// A list from some case on.
 struct List<'a> {
-    sort: &'a str,
     rest: &'a [u8],
 }
 
 impl<'a> List<'a> {
-    fn take(&mut self, count: usize) -> &'a [u8] {
-        let (part, rest) = self.rest.split_at(count);
+    fn take(&mut self, count: usize) -> Option<&'a [u8]> {
+        let (part, rest) = self.rest.split_at_checked(count)?;
         self.rest = rest;
-        part
+        Some(part)
     }
 
-    fn number(&mut self, bytes: usize) -> usize {
-        self.take(bytes).iter().fold(0, |number, byte| number * 256 + *byte as usize)
+    fn number(&mut self, bytes: usize) -> Option<usize> {
+        Some(self.take(bytes)?.iter().fold(0, |number, byte| number * 256 + *byte as usize))
     }
 
-    fn words<const N: usize>(&mut self, sizes: [usize; N]) -> [u32; N] {
-        sizes.map(|bytes| self.number(bytes) as u32)
-    }
-
-    /// The next case in lines: what is given, then the answer.
-    fn case(&mut self) -> Vec<String> {
-        if self.sort == "records" {
-            return self.records_case();
+    fn numbers<const N: usize>(&mut self, sizes: [usize; N]) -> Option<[usize; N]> {
+        let mut numbers = [0; N];
+        for (number, bytes) in numbers.iter_mut().zip(sizes) {
+            *number = self.number(bytes)?;
         }
-        let length = self.number(3);
-        let mut lines = vec![show::script(self.take(length))];
-        let refusal = self.number(1) as u8;
-        let answer = if self.sort == "files" {
-            let length = self.number(3);
-            show::fields(self.take(length))
-        } else {
-            let [tokens, errors, text] = self.words([2, 2, 2]);
-            let records = Tokens {
-                tokens: (0..tokens).map(|_| self.words(TOKEN_SIZES)).collect(),
-                errors: (0..errors).map(|_| self.words(ERROR_SIZES)).collect(),
-                text: self.take(text as usize).to_vec(),
-            };
-            show::tokenised(&Ok(records))
-        };
-        lines.extend(answered(refusal, answer));
-        lines
+        Some(numbers)
     }
 
-    fn records_case(&mut self) -> Vec<String> {
-        let [tokens, errors, text, file] = self.words([3, 3, 3, 3]);
-        let (token_count, error_count) = (self.number(8) as u64, self.number(8) as u64);
-        let refusal = self.number(1) as u8;
-        let length = self.number(3);
-        let handed = Handed {
-            tokens: (0..tokens).map(|_| self.number(4) as u32).collect(),
-            token_count,
-            errors: (0..errors).map(|_| self.number(4) as u32).collect(),
-            error_count,
-            text: self.take(text as usize).to_vec(),
-            file: file as usize,
+    fn record<const N: usize>(&mut self, sizes: [usize; N]) -> Option<[u32; N]> {
+        Some(self.numbers(sizes)?.map(|word| word as u32))
+    }
+
+    fn words(&mut self, count: usize) -> Option<Vec<u32>> {
+        (0..count).map(|_| Some(self.number(4)? as u32)).collect()
+    }
+
+    fn tokens_case(&mut self) -> Option<Case> {
+        let [length, a, b, c] = self.numbers([3; 4])?;
+        let number = self.number(1)? as u8;
+        let [tokens, errors, text] = self.numbers([2; 3])?;
+        let script = self.take(length)?.to_vec();
+        let records = Tokens {
+            tokens: (0..tokens).map(|_| self.record(TOKEN_SIZES)).collect::<Option<_>>()?,
+            errors: (0..errors).map(|_| self.record(ERROR_SIZES)).collect::<Option<_>>()?,
+            text: self.take(text)?.to_vec(),
         };
-        let mut lines = show::handed(&handed);
-        lines.extend(answered(refusal, show::fields(self.take(length))));
-        lines
+        let answer = if number == 0 { Ok(records) } else { Err(number) };
+        let slices = [a, b, c];
+        Some((Given::Tokenise { script, slices }, operations::tokens_exit(slices, &answer)))
+    }
+
+    fn records_case(&mut self) -> Option<Case> {
+        let [tokens, errors, text, file] = self.numbers([3; 4])?;
+        let [token_count, error_count] = self.numbers([8; 2])?;
+        let number = self.number(1)? as u8;
+        let length = self.number(3)?;
+        let handed = Handed {
+            tokens: self.words(tokens)?,
+            token_count: token_count as u64,
+            errors: self.words(errors)?,
+            error_count: error_count as u64,
+            text: self.take(text)?.to_vec(),
+            file,
+        };
+        let answer = self.file(number, length)?;
+        let mut texts = Vec::new();
+        for token in handed.tokens.chunks_exact(8) {
+            // an empty text may have any start
+            let text = match self.number(2)? {
+                0 => &[],
+                length => handed.text.get(token[3] as usize..)?.get(..length)?,
+            };
+            texts.push(text.to_vec());
+        }
+        texts.push(Vec::new());
+        let exit = operations::read_exit(&handed, &answer, texts);
+        Some((Given::Read(handed), exit))
+    }
+
+    fn files_case(&mut self) -> Option<Case> {
+        let [length, file] = self.numbers([3; 2])?;
+        let number = self.number(1)? as u8;
+        let written = self.number(3)?;
+        let script = self.take(length)?.to_vec();
+        let exit = operations::whole_exit(file, &self.file(number, written)?);
+        Some((Given::Whole { script, file }, exit))
+    }
+
+    fn file(&mut self, number: u8, length: usize) -> Option<Result<Vec<u8>, u8>> {
+        let file = self.take(length)?.to_vec();
+        Some(if number == 0 { Ok(file) } else { Err(number) })
     }
 }
 
-/// An answer in lines, or the refusal.
-fn answered(refusal: u8, lines: Vec<String>) -> Vec<String> {
-    if refusal == 0 { lines } else { vec![format!("refused {refusal}")] }
+/// Prints the case of a number, from 0, of a list.
+pub fn print_case(sort: &str, number: usize, list: &[u8]) -> Result<(), String> {
+    let cases = read(sort, list)?;
+    let (given, exit) = cases.get(number).ok_or_else(|| format!("the list has no case {number}"))?;
+    for line in show::given(given).iter().chain(&show::exit(exit)) {
+        println!("{line}");
+    }
+    Ok(())
 }

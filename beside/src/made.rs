@@ -1,5 +1,6 @@
 //! Hand-made records for Read, each with the number that the rules of document 01 give it.
 
+use crate::altered;
 use formats::{Handed, Token, TokenError, Tokens, FILE_SIZE, PLACE_LIMIT, TEXT_LIMIT};
 
 pub struct Case {
@@ -12,7 +13,7 @@ pub struct Case {
 /// Adds the cases of a sort.
 type Sort = fn(&mut Made);
 
-const SORTS: [(&str, Sort); 13] = [
+const SORTS: [(&str, Sort); 14] = [
     ("kinds", kinds),
     ("places", places),
     ("bases and last words", bases),
@@ -26,6 +27,7 @@ const SORTS: [(&str, Sort); 13] = [
     ("file slices", file_slices),
     ("refusals of the parser", parser),
     ("two reasons", priority),
+    ("one rule", one_rule),
 ];
 
 pub fn cases() -> Vec<Case> {
@@ -124,7 +126,7 @@ fn kinds(made: &mut Made) {
             token[word] = value;
             made.records(number, &Tokens { tokens: vec![token], errors: Vec::new(), text: b"10".to_vec() });
         };
-        // nothing behind `type` and `use`
+        // nothing after `type` and `use`
         let number = if [15, 18].contains(&kind) { 11 } else { 0 };
         alone(number, KIND, kind);
         if kind == INTEGER {
@@ -164,9 +166,9 @@ fn places(made: &mut Made) {
     made.word(8, 1, COLUMN, 1);
     made.word(8, 2, COLUMN, 5);
     made.word(8, 2, COLUMN, 4);
-    // a token in a later line, and what is behind it not
+    // a token in a later line, and what is after it not
     made.word(8, 3, LINE, 2);
-    // what is behind it too: columns begin again
+    // what is after it too: columns begin again
     for column in [1, 7, PLACE_LIMIT] {
         let mut records = of(SCRIPT);
         for token in &mut records.tokens[4..] {
@@ -242,7 +244,7 @@ fn texts(made: &mut Made) {
         records.tokens[8][LENGTH] = 0;
         made.records(number, &records);
     }
-    // a slice with other bytes before, between and behind the texts
+    // a slice with other bytes before, between and after the texts
     let mut records = of(SCRIPT);
     records.text = b"\xFF\xFFx\xFFT\xC3\xA912\x80\x80\x80s\xF4t\xED\xA0".to_vec();
     for (token, start) in [(1, 2), (3, 4), (5, 7), (8, 12), (LAST, 14)] {
@@ -428,10 +430,10 @@ fn counts(made: &mut Made) {
     made.records(0, &most());
     let semicolons = Tokens { tokens: repeated(50, 2_049), ..Tokens::default() };
     made.records(8, &semicolons);
-    let mut one_behind = Handed::new(&semicolons);
-    one_behind.token_count = 2_048;
+    let mut one_after = Handed::new(&semicolons);
+    one_after.token_count = 2_048;
     // a 256th error of the parser
-    made.handed(12, one_behind);
+    made.handed(12, one_after);
     let errors = vec![[1, 1, 1, 0]; 256];
     made.errors(0, &errors[..255]);
     made.errors(8, &errors);
@@ -442,7 +444,7 @@ fn counts(made: &mut Made) {
     for count in 0..=12 {
         let number = match count {
             0 => 9,
-            // nothing behind `use`
+            // nothing after `use`
             8 => 11,
             12 => 8,
             _ => 0,
@@ -473,8 +475,8 @@ fn lengths(made: &mut Made) {
     for missing in [1, 7, 8] {
         made.handed(8, handed(|h| h.tokens.truncate(8 * (LAST + 1) - missing)));
     }
-    for behind in [1, 7, 8, 9] {
-        made.handed(0, handed(|h| h.tokens.extend(vec![u32::MAX; behind])));
+    for after in [1, 7, 8, 9] {
+        made.handed(0, handed(|h| h.tokens.extend(vec![u32::MAX; after])));
     }
     let errors = vec![1, 1, 1, 0, 2, 1, 2, 0];
     let with_errors = |length: usize| {
@@ -514,7 +516,7 @@ fn file_slices(made: &mut Made) {
 }
 
 fn parser(made: &mut Made) {
-    let stars = |count: usize, behind: &str| format!("var p: {}{behind}", "*".repeat(count));
+    let stars = |count: usize, after: &str| format!("var p: {}{after}", "*".repeat(count));
     let groups = |count: usize| format!("var x:T={}a{};", "(".repeat(count), ")".repeat(count));
     let nested = [
         (0, stars(95, "T;")),
@@ -537,8 +539,8 @@ fn parser(made: &mut Made) {
         // with token errors the slice is filled with zeros too
         made.records(number, &Tokens { errors: vec![[4, 1, 1, 0]; 3], ..of(&script) });
     }
-    // an error for each semicolon, then a script in the lines behind them
-    let behind = |count: u32, script: &str| {
+    // an error for each semicolon, then a script in the lines after them
+    let after = |count: u32, script: &str| {
         let mut records = of(script);
         for token in &mut records.tokens {
             token[LINE] += count;
@@ -557,10 +559,14 @@ fn parser(made: &mut Made) {
         (12, 255, "fn f(){c(w -1);}"),
     ];
     for (number, count, script) in entries {
-        made.records(number, &behind(count, script));
+        made.records(number, &after(count, script));
     }
     for (number, count, depth) in [(0, 255, 95), (10, 255, 96), (12, 256, 96)] {
-        made.records(number, &behind(count, &stars(depth, "T;")));
+        made.records(number, &after(count, &stars(depth, "T;")));
+    }
+    made.records(10, &after(255, &groups(48)));
+    for script in ["use", "var x:T=a."] {
+        made.records(11, &after(255, script));
     }
 }
 
@@ -580,4 +586,66 @@ fn priority(made: &mut Made) {
     made.handed(8, changed("type", |h| h.tokens[7] = 1));
     made.handed(8, changed("type", |h| (h.error_count, h.errors) = (1, vec![1, 1, 1, 1])));
     made.handed(8, changed(&format!("var p:{}T;", "*".repeat(96)), |h| h.text.clear()));
+}
+
+/// Records of which one rule alone is broken, or which a limit just lets pass, in more than one place.
+fn one_rule(made: &mut Made) {
+    // a token by itself: only its own line and column count
+    for token in [[50, 1, 1, 0, 0, 0, 0, 0], [IDENTIFIER, 1, 1, 0, 1, 0, 0, 0], [INTEGER, 1, 1, 0, 1, 10, 0, 0]] {
+        for word in [LINE, COLUMN] {
+            for (number, value) in [(8, 0), (0, PLACE_LIMIT), (8, PLACE_LIMIT + 1)] {
+                let mut token = token;
+                token[word] = value;
+                made.records(number, &Tokens { tokens: vec![token], errors: Vec::new(), text: b"1".to_vec() });
+            }
+        }
+    }
+    // each token in a line of its own: a column need not be after the former one
+    let apart = altered::spread(&of(SCRIPT));
+    for at in 0..=LAST {
+        for (number, column) in [(8, 0), (0, 1), (0, PLACE_LIMIT), (8, PLACE_LIMIT + 1)] {
+            let mut records = apart.clone();
+            records.tokens[at][COLUMN] = column;
+            made.records(number, &records);
+        }
+    }
+    // kinds with no text
+    for at in [0, 2, 4, 6, 7, 9] {
+        for kind in [0, 55] {
+            made.word(8, at, KIND, kind);
+        }
+    }
+    // bases
+    for (base, text) in [(8, "0"), (8, "7"), (8, "12"), (16, "-0"), (16, "-a"), (2, "-0")] {
+        made.records(8, &sized(base, text.as_bytes()));
+    }
+    // the end of an empty text counts
+    for (at, start) in [(1, 2), (3, 3), (8, 6)] {
+        let mut records = of(SCRIPT);
+        records.tokens[at][START] = start;
+        records.tokens[at][LENGTH] = 0;
+        made.records(8, &records);
+    }
+    // counts that the parser would take
+    for (number, count) in [(0, 2_048), (8, 2_049)] {
+        made.records(number, &Tokens { tokens: repeated(ASSEMBLY, count), ..Tokens::default() });
+    }
+    for (number, count) in [(0, 255), (8, 256)] {
+        for script in ["var x:T;", "fn f", "asm{}"] {
+            made.records(number, &Tokens { errors: vec![[4, 1, 1, 0]; count], ..of(script) });
+        }
+    }
+    for (number, error) in [(8, 0), (0, 1), (0, 4), (8, 5)] {
+        made.records(number, &Tokens { errors: vec![[error, 1, 1, 0]], ..of("fn f") });
+    }
+    // the end of the token slice inside a record, and of the error slice
+    for words in [1, 7] {
+        made.handed(8, changed("fn f", |h| h.tokens.truncate(8 + words)));
+    }
+    made.handed(8, changed("fn f", |h| (h.errors, h.error_count) = (vec![4, 1, 1], 1)));
+    // 3 before 8, and 8 before 9
+    for script in ["fn f", "type"] {
+        made.handed(3, changed(script, |h| (h.file, h.tokens[5]) = (FILE_SIZE - 1, 1)));
+        made.handed(8, changed(script, |h| (h.token_count, h.errors, h.error_count) = (0, vec![0; 4], 1)));
+    }
 }

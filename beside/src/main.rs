@@ -14,18 +14,24 @@ mod grammar;
 mod linked;
 mod lists;
 mod made;
+mod noticed;
 mod random;
-mod rules;
 mod show;
+mod slices;
+// the steps are for `mark`
+#[allow(dead_code)]
+mod wrong_steps;
 
 use std::io::{self, Read, Write};
 
 const USAGE: &str = "usage: beside coverage CLASS..
+       beside coverage lists
        beside claims CLASS..
        beside program PROGRAM CLASS..
        beside lib CLASS..
        beside list tokens|files|records CLASS..
        beside case tokens|files|records NUMBER < LIST
+       beside wrong
        beside definitions COUNT LONGEST CLASS..
        beside dictionary
        beside show < SCRIPT";
@@ -50,6 +56,7 @@ fn run() -> Result<bool, String> {
     let words: Vec<String> = std::env::args().skip(1).collect();
     let names: Vec<&str> = words.iter().map(String::as_str).collect();
     match names.as_slice() {
+        ["coverage", "lists"] => coverage::lists(),
         ["coverage", ..] => Ok(coverage::run(&classes::parse(&words[1..])?)),
         ["claims", ..] => Ok(claims::run(&classes::parse(&words[1..])?)),
         ["program", program, ..] => Ok(compare::program(program, &classes::parse(&words[2..])?)),
@@ -60,6 +67,7 @@ fn run() -> Result<bool, String> {
             out.flush().expect("the list can't be written");
             Ok(true)
         }
+        ["wrong"] => noticed::run(),
         ["dictionary"] => {
             print!("{}", damage::dictionary());
             Ok(true)

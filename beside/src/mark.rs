@@ -1,5 +1,8 @@
-//! mark FROM TO: copies the five Rust files and puts the marks of `marks.rs` into the copy. Each
+//! mark SRC CODE OUT: writes the files of the crates `plain`, `marked` and `wrong`. The first has the five Rust
+//! files unchanged, the second has the marks of `marks.rs` in them, the third also the wrong steps. Each
 //! substitution states how many places it has.
+
+mod wrong_steps;
 
 use std::{env, fs, path::Path, process};
 
@@ -69,23 +72,71 @@ const MARKS: &[Mark] = &[
 
 const FILES: [&str; 5] = ["source.rs", "fallible.rs", "node.rs", "tokenizer.rs", "parser.rs"];
 
+/// The files beside the five that the crates have, and their names there.
+const BESIDE: [(&str, &str); 6] = [
+    ("decode.rs", "decode.rs"),
+    ("encode.rs", "encode.rs"),
+    ("marks.rs", "marks.rs"),
+    ("operations.rs", "operations.rs"),
+    ("rules.rs", "rules.rs"),
+    ("oracle.rs", "lib.rs"),
+];
+
 fn main() {
     let words: Vec<String> = env::args().collect();
-    let (from, to) = (Path::new(&words[1]), Path::new(&words[2]));
+    let (five, code, out) = (Path::new(&words[1]), Path::new(&words[2]), Path::new(&words[3]));
     for file in FILES {
-        let text = fs::read_to_string(from.join(file)).expect("a Rust file is missing");
-        fs::write(to.join(file), marked(file, text)).expect("the copy can't be written");
+        crates(file, &read(&five.join(file)), out);
     }
+    for (from, file) in BESIDE {
+        crates(file, &read(&code.join(from)), out);
+    }
+}
+
+/// Writes a file of each of the three crates.
+fn crates(file: &str, text: &str, out: &Path) {
+    let marked = marked(file, text.to_owned());
+    write(&out.join("plain").join(file), text);
+    write(&out.join("marked").join(file), &marked);
+    write(&out.join("wrong").join(file), &wronged(file, marked));
+}
+
+fn read(path: &Path) -> String {
+    fs::read_to_string(path).unwrap_or_else(|e| panic!("{} can't be read: {e}", path.display()))
+}
+
+fn write(path: &Path, text: &str) {
+    fs::write(path, text).unwrap_or_else(|e| panic!("{} can't be written: {e}", path.display()))
 }
 
 fn marked(file: &str, mut text: String) -> String {
     for mark in MARKS.iter().filter(|mark| mark.file == file) {
-        let places = text.matches(mark.old).count();
-        if places != mark.places {
-            eprintln!("{file}: {places} places, not {}, of: {}", mark.places, mark.old);
-            process::exit(1);
-        }
-        text = text.replace(mark.old, mark.new);
+        text = put("a mark", file, &text, mark.places, mark.old, mark.new);
     }
     text
+}
+
+/// The text with all wrong steps, each with the test whether it is taken.
+fn wronged(file: &str, mut text: String) -> String {
+    for (number, wrong) in wrong_steps::table().iter().enumerate() {
+        let test = format!("crate::marks::wrong({number})");
+        for step in wrong.steps.iter().filter(|step| step.file == file) {
+            let (old, new) = (step.old.join("\n"), step.new.join("\n"));
+            let new = match step.instead {
+                true => format!("(if {test} {{ {new} }} else {{ {old} }})"),
+                false => new.replace("WRONG", &test),
+            };
+            text = put(&format!("{}, {}", wrong.part, wrong.name), file, &text, 1, &old, &new);
+        }
+    }
+    text
+}
+
+fn put(name: &str, file: &str, text: &str, places: usize, old: &str, new: &str) -> String {
+    let found = text.matches(old).count();
+    if found != places {
+        eprintln!("{file}, {name}: {found} places, not {places}, of: {old}");
+        process::exit(1);
+    }
+    text.replace(old, new)
 }

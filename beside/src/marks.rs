@@ -11,7 +11,25 @@ thread_local! {
     static FULL: RefCell<Vec<Error>> = const { RefCell::new(Vec::new()) };
     static OPEN: Cell<u32> = const { Cell::new(0) };
     static QUIET: Cell<bool> = const { Cell::new(false) };
+    static WRONG: Cell<Option<usize>> = const { Cell::new(None) };
+    static TESTS: Cell<usize> = const { Cell::new(0) };
 }
+
+/// Before a reading of the crate `wrong`: the number of the wrong step that it takes.
+pub fn take_wrong_step(number: Option<usize>) {
+    WRONG.with(|wrong| wrong.set(number));
+    TESTS.with(|tests| tests.set(0));
+}
+
+/// Whether a wrong step is taken.
+pub fn wrong(number: usize) -> bool {
+    let tests = TESTS.with(|tests| tests.replace(tests.get() + 1));
+    assert!(tests < MOST_TESTS, "the reading does not end");
+    WRONG.with(|wrong| wrong.get() == Some(number))
+}
+
+/// More than a reading that ends has.
+const MOST_TESTS: usize = 100_000_000;
 
 /// Before a reading: no error is made and no call is open.
 pub fn begin() {

@@ -8,7 +8,9 @@ pub mod encode;
 pub mod fallible;
 pub mod marks;
 pub mod node;
+pub mod operations;
 pub mod parser;
+pub mod rules;
 pub mod source;
 pub mod tokenizer;
 

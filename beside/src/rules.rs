@@ -53,7 +53,7 @@ pub fn has_text(token: &Token) -> bool {
 }
 
 /// The rules that need no other record.
-fn good_token(token: &Token, text: &[u8]) -> bool {
+pub fn good_token(token: &Token, text: &[u8]) -> bool {
     let [kind, line, column, start, length, base, seventh, eighth] = *token;
     let end = start as usize + length as usize;
     if end > TEXT_LIMIT || end > text.len() {

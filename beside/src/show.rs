@@ -1,6 +1,6 @@
 //! Scripts and answers in readable lines.
 
-use formats::{Handed, Tokens, KINDS};
+use formats::{Exit, Given, Handed, Tokens, FILLER, KINDS};
 
 /// A script in quotes; a long one is cut in its middle.
 pub fn script(bytes: &[u8]) -> String {
@@ -20,7 +20,7 @@ pub fn whole(answer: &Result<Vec<u8>, u8>) -> Vec<String> {
     }
 }
 
-/// The fields of a file; zeros behind them are counted.
+/// The fields of a file; zeros after them are counted.
 pub fn fields(file: &[u8]) -> Vec<String> {
     let (fields, rest) = formats::fields(file);
     let mut lines: Vec<String> = fields.iter().map(|(tag, body)| field(*tag, body)).collect();
@@ -125,5 +125,33 @@ pub fn handed(handed: &Handed) -> Vec<String> {
     lines.extend(handed.tokens.chunks(8).map(|words| format!("token {words:?}")));
     lines.extend(handed.errors.chunks(4).map(|words| format!("token error {words:?}")));
     lines.push(format!("text {}", script(&handed.text)));
+    lines
+}
+
+/// What an operation is handed.
+pub fn given(given: &Given) -> Vec<String> {
+    match given {
+        Given::Tokenise { script: bytes, slices } => vec![script(bytes), format!("slices of {slices:?}")],
+        Given::Read(records) => handed(records),
+        Given::Whole { script: bytes, file } => vec![script(bytes), format!("a file slice of {file}")],
+    }
+}
+
+/// What an operation answers, a line for each record of its slices.
+pub fn exit(exit: &Exit) -> Vec<String> {
+    let mut lines = vec![format!("number {}, counts {:?}", exit.number, exit.counts)];
+    if exit.bytes.first() == Some(&FILLER) {
+        lines.push("the slices are untouched".to_owned());
+    } else if let [tokens, errors] = &exit.words[..] {
+        let records = Tokens {
+            tokens: tokens.chunks_exact(8).take(exit.counts[0]).map(|words| words.try_into().unwrap()).collect(),
+            errors: errors.chunks_exact(4).take(exit.counts[1]).map(|words| words.try_into().unwrap()).collect(),
+            text: exit.bytes.clone(),
+        };
+        lines.extend(tokenised(&Ok(records)));
+    } else {
+        lines.extend(fields(&exit.bytes));
+    }
+    lines.extend(exit.texts.iter().enumerate().map(|(at, text)| format!("text {at} {}", script(text))));
     lines
 }

@@ -67,14 +67,14 @@ pub fn none() -> Counts {
     }
 }
 
-pub fn one_agrees(counts: Counts) -> Counts {
+fn one_agrees(counts: Counts) -> Counts {
     Counts {
         agree: std::num::wrapping_add_u64(counts.agree, 1),
         ..counts
     }
 }
 
-pub fn one_differs(counts: Counts) -> Counts {
+fn one_differs(counts: Counts) -> Counts {
     let mut first = counts.first;
     if counts.differ == 0 {
         first = counts.agree;
@@ -83,6 +83,22 @@ pub fn one_differs(counts: Counts) -> Counts {
         agree: counts.agree,
         differ: std::num::wrapping_add_u64(counts.differ, 1),
         first,
+    }
+}
+
+pub fn is_end(found: Found) -> bool {
+    match found {
+        Found::End => true,
+        _ => false,
+    }
+}
+
+// One case more.
+pub fn counted(counts: Counts, found: Found) -> Counts {
+    match found {
+        Found::Agrees => one_agrees(counts),
+        Found::Differs => one_differs(counts),
+        Found::End => counts,
     }
 }
 

@@ -1,6 +1,5 @@
 // Reads a list of scripts with the answers that Tokenise should give (beside/README.md has its format) from
 // standard input, and writes how many agree and how many differ, and the number of the first that differs.
-// In a case that agrees, Token text gave the part of each token too, and the empty part where it should.
 use cases::Counts;
 use cases::Found;
 use cases::fill;
@@ -9,6 +8,56 @@ use cases::pair;
 use cases::three;
 use cases::wide;
 use libc::STDIN_FILENO;
+use tokenizer::Tokenized;
+
+// What the slices hold before each call.
+const FILLER: u8 = 165;
+
+const FILLER_WORD: u32 = 2779096485;
+
+// ---- what opens a case
+
+// The lengths of the script and of the slices, and the answer without the records.
+struct Opening {
+    script_bytes: usize,
+    token_words: usize,
+    error_words: usize,
+    text_bytes: usize,
+    number: u32,
+    tokens: u32,
+    errors: u32,
+    bytes: u32,
+}
+
+fn opened(b: &[u8; 19]) -> Opening {
+    Opening {
+        script_bytes: long(three(b[0], b[1], b[2])),
+        token_words: long(three(b[3], b[4], b[5])),
+        error_words: long(three(b[6], b[7], b[8])),
+        text_bytes: long(three(b[9], b[10], b[11])),
+        number: wide(b[12]),
+        tokens: pair(b[13], b[14]),
+        errors: pair(b[15], b[16]),
+        bytes: pair(b[17], b[18]),
+    }
+}
+
+// Whether the slices are untouched: Tokenise refuses before any work.
+fn untouched(number: u32) -> bool {
+    (number == 1) | (number == 2) | (number == 3)
+}
+
+// What a slice of words has after its records.
+fn rest_word(number: u32) -> u32 {
+    if untouched(number) { FILLER_WORD } else { 0 }
+}
+
+// What the text slice has after the text.
+fn rest_byte(number: u32) -> u8 {
+    if untouched(number) { FILLER } else { 0 }
+}
+
+// ---- slices
 
 // Whether the next twelve bytes of the input are the token record at an index.
 fn token_agrees(tokens: &[u32], at: usize) -> bool {
@@ -74,7 +123,7 @@ fn record_agrees(words: &[u32], at: usize, is_token: bool) -> bool {
     }
 }
 
-// Reads so many records, also behind one that differs.
+// Reads so many records, also after one that differs.
 fn records_agree(words: &[u32], count: u32, are_tokens: bool) -> bool {
     let mut agree = true;
     for at in 0..count {
@@ -85,171 +134,126 @@ fn records_agree(words: &[u32], count: u32, are_tokens: bool) -> bool {
     agree
 }
 
-fn same_start(a: &[u8], b: &[u8], n: usize) -> bool {
-    if a.len() < n {
-        return false;
-    }
-    if b.len() < n {
-        return false;
-    }
-    let from = 0;
-    check::same(&a[from..n], &b[from..n])
-}
-
-// Whether the next bytes of the input, so many, are the text.
-fn text_agrees(text: &[u8], count: u32) -> bool {
-    let mut space = [0u8; 16384];
-    let n = count as usize;
-    if !fill(&mut space, n) {
-        return false;
-    }
-    same_start(text, &space, n)
-}
-
-// ---- the text of each token
-
-fn textless(tokens: &[u32], text: &[u8], at: usize) -> bool {
-    let got = records::token_text(tokens, text, at);
-    got.len() == 0
-}
-
-// Whether a token's text is the part of the text that its record names, and nothing where the slice ends inside it.
-fn part_agrees(tokens: &[u32], text: &[u8], at: usize) -> bool {
-    if tokens.len() / 8 <= at {
-        return false;
-    }
-    let i = 8 * at;
-    let start = long(tokens[i + 3]);
-    let size = long(tokens[i + 4]);
-    if text.len() < start {
-        return false;
-    }
-    if text.len() - start < size {
-        return false;
-    }
-    let end = start + size;
-    let got = records::token_text(tokens, text, at);
-    if !check::same(got, &text[start..end]) {
-        return false;
-    }
-    if end == 0 {
-        return true;
-    }
-    let from = 0;
-    let short = end - 1;
-    textless(tokens, &text[from..short], at)
-}
-
-// Whether a token has no text with another word in its record.
-fn textless_with(tokens: &[u32], text: &[u8], at: usize, word: usize, other: u32) -> bool {
-    if tokens.len() / 8 <= at {
-        return false;
-    }
-    if 8 <= word {
-        return false;
-    }
-    let i = 8 * at;
-    let mut record = [
-        tokens[i],
-        tokens[i + 1],
-        tokens[i + 2],
-        tokens[i + 3],
-        tokens[i + 4],
-        tokens[i + 5],
-        tokens[i + 6],
-        tokens[i + 7],
-    ];
-    record[word] = other;
-    textless(&record, text, 0)
-}
-
-// Whether a token has no text where its record is damaged, in each word by itself.
-fn textless_damaged(tokens: &[u32], text: &[u8], at: usize) -> bool {
-    let kind = textless_with(tokens, text, at, 0, 0) & textless_with(tokens, text, at, 0, 55);
-    let line = textless_with(tokens, text, at, 1, 0) & textless_with(tokens, text, at, 1, 16385);
-    let column = textless_with(tokens, text, at, 2, 0) & textless_with(tokens, text, at, 2, 16385);
-    let start = textless_with(tokens, text, at, 3, 16385);
-    let size = textless_with(tokens, text, at, 4, 16385);
-    let base = textless_with(tokens, text, at, 5, 3);
-    let rest = textless_with(tokens, text, at, 6, 1) & textless_with(tokens, text, at, 7, 1);
-    kind & line & column & start & size & base & rest
-}
-
-fn token_text_agrees(tokens: &[u32], text: &[u8], at: usize) -> bool {
-    part_agrees(tokens, text, at) & textless_damaged(tokens, text, at)
-}
-
-// No token behind so many has a text.
-fn end_agrees(tokens: &[u32], text: &[u8], count: u32) -> bool {
-    textless(tokens, text, long(count))
-        & textless(tokens, text, tokens.len() / 8)
-        & textless(tokens, text, 18446744073709551615)
-}
-
-// Token text, for so many tokens and behind them.
-fn texts_agree(tokens: &[u32], text: &[u8], count: u32) -> bool {
-    let mut agree = end_agrees(tokens, text, count);
-    for at in 0..count {
-        if !token_text_agrees(tokens, text, at as usize) {
-            agree = false;
+// Whether all words from an index on are one.
+fn words_are(words: &[u32], from: usize, word: u32) -> bool {
+    for at in from..words.len() {
+        if words[at] != word {
+            return false;
         }
     }
-    agree
+    true
+}
+
+// Whether the token slice begins with the next records of the input, so many, and what stands after them.
+fn tokens_agree(tokens: &[u32], count: u32, number: u32) -> bool {
+    let end = long(count) % 65536 * 8;
+    records_agree(tokens, count, true) & words_are(tokens, end, rest_word(number))
+}
+
+// The same for the error slice.
+fn errors_agree(errors: &[u32], count: u32, number: u32) -> bool {
+    let end = long(count) % 65536 * 4;
+    records_agree(errors, count, false) & words_are(errors, end, rest_word(number))
+}
+
+// The same for the text slice.
+fn text_agrees(text: &[u8], count: u32, number: u32) -> bool {
+    let mut expected = [rest_byte(number); 20000];
+    if !fill(&mut expected, long(count)) {
+        return false;
+    }
+    let from = 0;
+    let n = text.len();
+    if expected.len() < n {
+        return false;
+    }
+    check::same(text, &expected[from..n])
 }
 
 // ---- cases
 
-// Tokenises the first bytes of a slice, then reads the answer that should come of them; whether it did.
-fn answer_agrees(space: &[u8], n: usize) -> bool {
-    if space.len() < n {
-        return false;
-    }
+fn counts_agree(got: Tokenized, o: Opening) -> bool {
+    (got.number == o.number)
+        & (got.tokens == long(o.tokens))
+        & (got.errors == long(o.errors))
+        & (got.bytes == long(o.bytes))
+}
+
+// Whether the slices at exit are those of a case; reads all of its records, also after one that differs.
+fn slices_agree(tokens: &[u32], errors: &[u32], text: &[u8], o: Opening) -> bool {
+    tokens_agree(tokens, o.tokens, o.number)
+        & errors_agree(errors, o.errors, o.number)
+        & text_agrees(text, o.bytes, o.number)
+}
+
+// Tokenises, then reads the records that should come of it; whether they did.
+fn exit_agrees(
+    script: &[u8],
+    tokens: &mut [u32],
+    errors: &mut [u32],
+    text: &mut [u8],
+    o: Opening,
+) -> bool {
+    let got = tokenizer::tokenize(script, tokens, errors, text);
+    slices_agree(tokens, errors, text, o) & counts_agree(got, o)
+}
+
+// The same with the script and the slices cut to their lengths.
+fn parts_agree(
+    script: &[u8],
+    tokens: &mut [u32],
+    errors: &mut [u32],
+    text: &mut [u8],
+    o: Opening,
+) -> bool {
     let from = 0;
-    let mut tokens = [0u32; 16384];
-    let mut errors = [0u32; 1024];
-    let mut text = [0u8; 16384];
-    let got = tokenizer::tokenize(&space[from..n], &mut tokens, &mut errors, &mut text);
-    let mut b = [0u8; 7];
-    if io::read_full(STDIN_FILENO, &mut b) != 7 {
+    let script_bytes = o.script_bytes;
+    if script.len() < script_bytes {
         return false;
     }
-    let token_count = pair(b[1], b[2]);
-    let error_count = pair(b[3], b[4]);
-    let text_count = pair(b[5], b[6]);
-    let tokens_same = records_agree(&tokens, token_count, true);
-    let errors_same = records_agree(&errors, error_count, false);
-    let text_same = text_agrees(&text, text_count);
-    let texts_same = texts_agree(&tokens, &text, token_count);
-    if got.number != wide(b[0]) {
+    let token_words = o.token_words;
+    if tokens.len() < token_words {
         return false;
     }
-    if got.tokens != token_count as usize {
+    let error_words = o.error_words;
+    if errors.len() < error_words {
         return false;
     }
-    if got.errors != error_count as usize {
+    let text_bytes = o.text_bytes;
+    if text.len() < text_bytes {
         return false;
     }
-    if got.bytes != text_count as usize {
+    exit_agrees(
+        &script[from..script_bytes],
+        &mut tokens[from..token_words],
+        &mut errors[from..error_words],
+        &mut text[from..text_bytes],
+        o,
+    )
+}
+
+// Reads the script of a case, and compares.
+fn script_agrees(o: Opening) -> bool {
+    let mut script = [0u8; 20000];
+    let mut tokens = [FILLER_WORD; 17000];
+    let mut errors = [FILLER_WORD; 2000];
+    let mut text = [FILLER; 20000];
+    if !fill(&mut script, o.script_bytes) {
         return false;
     }
-    tokens_same & errors_same & text_same & texts_same
+    parts_agree(&script, &mut tokens, &mut errors, &mut text, o)
 }
 
 fn case() -> Found {
-    let mut b = [0u8; 3];
+    let mut b = [0u8; 19];
     let got = io::read_full(STDIN_FILENO, &mut b);
     if got == 0 {
         return Found::End;
     }
-    if got != 3 {
+    if got != 19 {
         return Found::Differs;
     }
-    let mut space = [0u8; 20000];
-    let n = long(three(b[0], b[1], b[2]));
-    if !fill(&mut space, n) {
-        return Found::Differs;
-    }
-    cases::compared(answer_agrees(&space, n))
+    cases::compared(script_agrees(opened(&b)))
 }
 
 // A list has fewer cases than this.
@@ -258,17 +262,11 @@ const MOST: u64 = 1000000000;
 fn all_cases() -> Counts {
     let mut counts = cases::none();
     for turn in 0..MOST {
-        match case() {
-            Found::Agrees => {
-                counts = cases::one_agrees(counts);
-            }
-            Found::Differs => {
-                counts = cases::one_differs(counts);
-            }
-            Found::End => {
-                return counts;
-            }
+        let found = case();
+        if cases::is_end(found) {
+            return counts;
         }
+        counts = cases::counted(counts, found);
     }
     counts
 }

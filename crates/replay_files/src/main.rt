@@ -11,14 +11,31 @@ use libc::STDIN_FILENO;
 // What the file slice holds before each call.
 const FILLER: u8 = 165;
 
-// The most bytes of a script in a list: more than a script may have.
+// The most bytes of a script and of a file slice in a list: more than a script may have, or a file needs.
 const SCRIPT: usize = 20000;
 
-const FILE: usize = 65536;
+const FILE: usize = 70000;
 
-// What the file slice has behind the tree file: it is untouched where the script itself is refused.
-fn behind(number: u32) -> u8 {
-    if (number == 1) | (number == 2) {
+// What opens a case: the lengths of the script and of the file slice, and the answer without the tree file.
+struct Opening {
+    script_bytes: usize,
+    file_bytes: usize,
+    number: u32,
+    bytes: usize,
+}
+
+fn opened(b: &[u8; 10]) -> Opening {
+    Opening {
+        script_bytes: long(three(b[0], b[1], b[2])),
+        file_bytes: long(three(b[3], b[4], b[5])),
+        number: wide(b[6]),
+        bytes: long(three(b[7], b[8], b[9])),
+    }
+}
+
+// What the file slice has after the tree file: it is untouched where 1, 2 or 3 is given.
+fn rest(number: u32) -> u8 {
+    if (number == 1) | (number == 2) | (number == 3) {
         FILLER
     } else {
         0
@@ -26,56 +43,63 @@ fn behind(number: u32) -> u8 {
 }
 
 // Whether the whole operation gives the answer of a case; `expected` is the file slice at exit.
-fn file_agrees(script: &[u8], expected: &[u8], number: u32, bytes: usize) -> bool {
-    let mut file = [FILLER; FILE];
-    let got = reader::read_script(script, &mut file);
-    if got.number != number {
+fn file_agrees(script: &[u8], file: &mut [u8], expected: &[u8], o: Opening) -> bool {
+    let got = reader::read_script(script, file);
+    if got.number != o.number {
         return false;
     }
-    if got.bytes != bytes {
+    if got.bytes != o.bytes {
         return false;
     }
-    check::same(&file, expected)
+    check::same(file, expected)
 }
 
-// Reads the answer of a case behind its script, and compares.
-fn answer_agrees(script: &[u8]) -> bool {
-    let mut b = [0u8; 4];
-    if io::read_full(STDIN_FILENO, &mut b) != 4 {
-        return false;
-    }
-    let number = wide(b[0]);
-    let bytes = long(three(b[1], b[2], b[3]));
-    let mut expected = [behind(number); FILE];
-    if !cases::fill(&mut expected, bytes) {
-        return false;
-    }
-    file_agrees(script, &expected, number, bytes)
-}
-
-// Reads the script of a case, of so many bytes, and its answer.
-fn script_agrees(n: usize) -> bool {
-    let mut script = [0u8; SCRIPT];
-    if !cases::fill(&mut script, n) {
-        return false;
-    }
-    if SCRIPT < n {
-        return false;
-    }
+// The same with the script and the slices cut to their lengths.
+fn parts_agree(script: &[u8], file: &mut [u8], expected: &[u8], o: Opening) -> bool {
     let from = 0;
-    answer_agrees(&script[from..n])
+    let script_bytes = o.script_bytes;
+    if script.len() < script_bytes {
+        return false;
+    }
+    let file_bytes = o.file_bytes;
+    if file.len() < file_bytes {
+        return false;
+    }
+    if expected.len() < file_bytes {
+        return false;
+    }
+    file_agrees(
+        &script[from..script_bytes],
+        &mut file[from..file_bytes],
+        &expected[from..file_bytes],
+        o,
+    )
+}
+
+// Reads the script and the tree file of a case, and compares.
+fn script_agrees(o: Opening) -> bool {
+    let mut script = [0u8; SCRIPT];
+    let mut file = [FILLER; FILE];
+    let mut expected = [rest(o.number); FILE];
+    if !cases::fill(&mut script, o.script_bytes) {
+        return false;
+    }
+    if !cases::fill(&mut expected, o.bytes) {
+        return false;
+    }
+    parts_agree(&script, &mut file, &expected, o)
 }
 
 fn case() -> Found {
-    let mut b = [0u8; 3];
+    let mut b = [0u8; 10];
     let got = io::read_full(STDIN_FILENO, &mut b);
     if got == 0 {
         return Found::End;
     }
-    if got != 3 {
+    if got != 10 {
         return Found::Differs;
     }
-    cases::compared(script_agrees(long(three(b[0], b[1], b[2]))))
+    cases::compared(script_agrees(opened(&b)))
 }
 
 // A list has fewer cases than this.
@@ -84,17 +108,11 @@ const MOST: u64 = 1000000000;
 fn all_cases() -> Counts {
     let mut counts = cases::none();
     for turn in 0..MOST {
-        match case() {
-            Found::Agrees => {
-                counts = cases::one_agrees(counts);
-            }
-            Found::Differs => {
-                counts = cases::one_differs(counts);
-            }
-            Found::End => {
-                return counts;
-            }
+        let found = case();
+        if cases::is_end(found) {
+            return counts;
         }
+        counts = cases::counted(counts, found);
     }
     counts
 }

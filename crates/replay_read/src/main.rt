@@ -1,9 +1,10 @@
-// Reads a list of records with the answers that Read should give (beside/README.md has its format) from
-// standard input, and writes how many agree and how many differ, and the number of the first that differs.
+// Reads a list of records with the answers that Read and Token text should give (beside/README.md has its format)
+// from standard input, and writes how many agree and how many differ, and the number of the first that differs.
 use cases::Counts;
 use cases::Found;
 use cases::four;
 use cases::long;
+use cases::pair;
 use cases::three;
 use cases::wide;
 use libc::STDIN_FILENO;
@@ -74,8 +75,8 @@ fn read_words(words: &mut [u32], count: usize) -> bool {
     true
 }
 
-// What the file slice has behind the tree file: it is untouched where Read refuses before any work.
-fn behind(number: u32) -> u8 {
+// What the file slice has after the tree file: it is untouched where Read refuses before any work.
+fn rest(number: u32) -> u8 {
     if (number == 3) | (number == 8) | (number == 9) {
         FILLER
     } else {
@@ -83,9 +84,57 @@ fn behind(number: u32) -> u8 {
     }
 }
 
+// ---- Token text
+
+fn textless(tokens: &[u32], text: &[u8], at: usize) -> bool {
+    let got = records::token_text(tokens, text, at);
+    got.len() == 0
+}
+
+// Whether Token text gives so many bytes from the start that a record names; none is the empty part.
+fn part_agrees(tokens: &[u32], text: &[u8], at: usize, size: usize) -> bool {
+    if size == 0 {
+        return textless(tokens, text, at);
+    }
+    if tokens.len() / 8 <= at {
+        return false;
+    }
+    let start = long(tokens[8 * at + 3]);
+    if text.len() < start {
+        return false;
+    }
+    if text.len() - start < size {
+        return false;
+    }
+    let end = start + size;
+    let got = records::token_text(tokens, text, at);
+    check::same(got, &text[start..end])
+}
+
+// Reads the length of a record's text, and compares.
+fn text_agrees(tokens: &[u32], text: &[u8], at: usize) -> bool {
+    let mut b = [0u8; 2];
+    if io::read_full(STDIN_FILENO, &mut b) != 2 {
+        return false;
+    }
+    part_agrees(tokens, text, at, long(pair(b[0], b[1])))
+}
+
+// The same for each record of the slice, also after one that differs. After the last there is no text.
+fn texts_agree(tokens: &[u32], text: &[u8]) -> bool {
+    let count = tokens.len() / 8;
+    let mut agree = textless(tokens, text, count) & textless(tokens, text, 18446744073709551615);
+    for at in 0..count {
+        if !text_agrees(tokens, text, at) {
+            agree = false;
+        }
+    }
+    agree
+}
+
 // ---- cases
 
-// Whether Read gives the answer of a case; `expected` is the file slice at exit.
+// Whether Read and Token text give the answers of a case; `expected` is the file slice at exit.
 fn read_agrees(
     tokens: &[u32],
     errors: &[u32],
@@ -95,13 +144,10 @@ fn read_agrees(
     o: Opening,
 ) -> bool {
     let got = parser::read(tokens, o.tokens, errors, o.errors, text, file);
-    if got.number != o.number {
-        return false;
-    }
-    if got.bytes != o.bytes {
-        return false;
-    }
-    check::same(file, expected)
+    texts_agree(tokens, text)
+        & check::same(file, expected)
+        & (got.number == o.number)
+        & (got.bytes == o.bytes)
 }
 
 // The same with the slices cut to their lengths.
@@ -149,7 +195,7 @@ fn slices_agree(o: Opening) -> bool {
     let mut errors = [0u32; 2000];
     let mut text = [0u8; 20000];
     let mut file = [FILLER; 70000];
-    let mut expected = [behind(o.number); 70000];
+    let mut expected = [rest(o.number); 70000];
     if !read_words(&mut tokens, o.token_words) {
         return false;
     }
@@ -183,17 +229,11 @@ const MOST: u64 = 1000000000;
 fn all_cases() -> Counts {
     let mut counts = cases::none();
     for turn in 0..MOST {
-        match case() {
-            Found::Agrees => {
-                counts = cases::one_agrees(counts);
-            }
-            Found::Differs => {
-                counts = cases::one_differs(counts);
-            }
-            Found::End => {
-                return counts;
-            }
+        let found = case();
+        if cases::is_end(found) {
+            return counts;
         }
+        counts = cases::counted(counts, found);
     }
     counts
 }

@@ -32,4 +32,15 @@ returns : tie.Need-returns Inv-loop μ-loop
 returns c = tt
 
 pub records-agree-spec : {M : Type 1} → statement M
-records-agree-spec = tie.close (tie.spec Inv-loop μ-loop loop-holds cast-record-agrees record-agrees-requires add-at loop-less loop-again returns)
+records-agree-spec =
+    tie.close
+    (tie.spec
+    Inv-loop
+    μ-loop
+    loop-holds
+    cast-record-agrees
+    record-agrees-requires
+    add-at
+    loop-less
+    loop-again
+    returns)
