@@ -1,6 +1,8 @@
 // Reads a script from standard input and writes its tree file to standard output. Refused, it writes 7F 00 01 and
-// the number. Where standard input cannot be read to its end, it writes nothing.
+// the number. Where standard input cannot be read to its end, it writes nothing. It says on standard error where
+// a read or a write failed: a program has no exit status.
 use definition::limit;
+use libc::STDERR_FILENO;
 use libc::STDIN_FILENO;
 use libc::STDOUT_FILENO;
 
@@ -10,9 +12,19 @@ fn at_end() -> bool {
     libc::read(STDIN_FILENO, &mut b) == 0
 }
 
+// Errors stand last in a tree file, so one that is cut can look clean.
+fn write_file(file: &[u8]) {
+    if !io::write_all(STDOUT_FILENO, file) {
+        io::write_all(
+            STDERR_FILENO,
+            b"delta_null: the tree file is not written whole\n",
+        );
+    }
+}
+
 fn write_refusal(number: u32) {
     let field = [0x7Fu8, 0, 1, (number % 256) as u8];
-    io::write_all(STDOUT_FILENO, &field);
+    write_file(&field);
 }
 
 fn main() {
@@ -22,6 +34,10 @@ fn main() {
     let n = io::read_full(STDIN_FILENO, &mut script);
     if n <= limit::SCRIPT_BYTES {
         if !at_end() {
+            io::write_all(
+                STDERR_FILENO,
+                b"delta_null: standard input cannot be read to its end\n",
+            );
             return;
         }
     }
@@ -31,5 +47,5 @@ fn main() {
         return;
     }
     let bytes = w.bytes;
-    io::write_all(STDOUT_FILENO, &file[..bytes]);
+    write_file(&file[..bytes]);
 }
