@@ -100,12 +100,17 @@ alone c = pick (eqb c (char "\"")) Z.Quote (no-word c)
 
 pub class-is : (c d : ℕ) →
     Z.class c d ≡
-    pick (ltb 127 c) Z.Foreign (pick (is-white c) Z.White (pick (eqb c (char "/") && eqb d (char "/")) Z.Comment (pick (ltb 0 (Z.pair c d)) Z.Pair (pick (ltb 0 (Z.symbol c)) Z.Symbol (pick (eqb c (char "\"")) Z.Quote (pick (is-letter c) Z.Word (no-word c)))))))
+    pick (ltb 127 c) Z.Foreign (pick (is-white c) Z.White (pick (eqb c (char "/") && eqb d (char "/")) Z.Comment
+    (pick (ltb 0 (Z.pair c d)) Z.Pair (pick (ltb 0 (Z.symbol c)) Z.Symbol
+    (pick (eqb c (char "\"")) Z.Quote (pick (is-letter c) Z.Word (no-word c)))))))
 unfolding Z.class
 class-is c d = refl
 
-pub no-symbol : (c d : ℕ) {p y : ℕ} {v w : Bool} {r : Z.Class} → v ≡ is-letter c → v ≡ false → w ≡ is-white c → w ≡ false → c ≤ 127 → (eqb c (char "/") && eqb d (char "/")) ≡ false → p ≡ Z.pair c d → p ≤ 0 → y ≡ Z.symbol c → y ≤ 0 → r ≡ alone c → r ≡ Z.class c d
-no-symbol c d a b e f h g i j k l m = rw (class-is, le-ltb 127 c h, sym e ∙ f, g, no-kind (Z.pair c d) i j, no-kind (Z.symbol c) k l, sym a ∙ b) m
+pub no-symbol : (c d : ℕ) {p y : ℕ} {v w : Bool} {r : Z.Class} → v ≡ is-letter c → v ≡ false → w ≡ is-white c → w ≡ false
+    → c ≤ 127 → (eqb c (char "/") && eqb d (char "/")) ≡ false → p ≡ Z.pair c d → p ≤ 0 → y ≡ Z.symbol c → y ≤ 0
+    → r ≡ alone c → r ≡ Z.class c d
+no-symbol c d a b e f h g i j k l m =
+    rw (class-is, le-ltb 127 c h, sym e ∙ f, g, no-kind (Z.pair c d) i j, no-kind (Z.symbol c) k l, sym a ∙ b) m
 
 -- a letter is none of what is tested before it
 module _ (c : ℕ) (h : is-letter c ≡ true) where
@@ -120,5 +125,6 @@ module _ (c : ℕ) (h : is-letter c ≡ true) where
 
 pub white-begins : (c d : ℕ) → is-white c ≡ true → Z.White ≡ Z.class c d
 white-begins c d h =
-    let l : c ≤ 127 = either-true (between 9 13 c) (eqb c 32) (λ e. omega (arith, between-bounds 9 13 c e)) (λ e. omega (arith, eqb-true c 32 e)) h in
+    let l : c ≤ 127 = either-true (between 9 13 c) (eqb c 32) (λ e. omega (arith, between-bounds 9 13 c e))
+    (λ e. omega (arith, eqb-true c 32 e)) h in
     rw (class-is, le-ltb 127 c l, h)

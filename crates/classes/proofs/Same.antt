@@ -22,11 +22,19 @@ cm-start = record { ia = omega arith; ib = omega arith; is = refl }
 module _ {a b : List ℕ} {i : ℕ} (q : Comparing a b i) where
   pub cm-more : i < length a → i < length b → getD a i 0 ≡ getD b i 0 → Comparing a b (i + 1)
   unfolding Z.same
-  cm-more h k e = record { ia = omega arith; ib = omega arith; is = rw add-one (sym (ap (λ (t : Bool). t && Z.same (drop (suc i) a) (drop (suc i) b)) (eq-eqb _ _ e)) ∙ rw (drop-cons a i 0 h, drop-cons b i 0 k) at (q .is)) }
+  cm-more h k e =
+      record {
+        ia = omega arith;
+        ib = omega arith;
+        is = rw add-one (sym (ap (λ (t : Bool). t && Z.same (drop (suc i) a) (drop (suc i) b)) (eq-eqb _ _ e))
+            ∙ rw (drop-cons a i 0 h, drop-cons b i 0 k) at (q .is));
+      }
 
   pub cm-differ : i < length a → i < length b → (getD a i 0 ≡ getD b i 0 → ⊥) → false ≡ Z.same a b
   unfolding Z.same
-  cm-differ h k e = sym (ap (λ (t : Bool). t && Z.same (drop (suc i) a) (drop (suc i) b)) (ne-eqb _ _ e)) ∙ rw (drop-cons a i 0 h, drop-cons b i 0 k) at (q .is)
+  cm-differ h k e =
+      sym (ap (λ (t : Bool). t && Z.same (drop (suc i) a) (drop (suc i) b)) (ne-eqb _ _ e))
+      ∙ rw (drop-cons a i 0 h, drop-cons b i 0 k) at (q .is)
 
   pub cm-short : i < length a → length b ≤ i → false ≡ Z.same a b
   unfolding Z.same

@@ -1,7 +1,7 @@
 // The fixed spellings: symbols, keywords and escapes. 0 stands for none.
 use definition::kind;
 ghost use mathlib.Core.Path.{_≡_};
-ghost use Prim.Native.Nat.{_+_, _-_, _<_};
+ghost use Prim.Native.Nat.{_+_, _<_};
 ghost use Rattle.definition.specs.Tokenizer as Z;
 
 // Two characters that are one symbol.

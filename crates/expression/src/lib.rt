@@ -38,7 +38,7 @@ use steps::expect_identifier;
 use steps::finish;
 use steps::finish_text;
 use steps::head;
-ghost use Prim.Native.Nat.{_+_, _<_, _≤_};
+ghost use Prim.Native.Nat.{_<_, _≤_};
 ghost use Rattle.definition.specs.Parser as P;
 ghost use Rattle.leaves.specs.Leaves.{listed-of, level-of};
 ghost use Rattle.grammar.specs.Post.{place-of, operators-on};

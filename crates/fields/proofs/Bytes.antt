@@ -13,7 +13,9 @@ use Rattle.fields.specs.Errors.{Fielded}
 
 -- the seven bytes of an entry
 abbrev seven : ℕ → List ℕ
-seven e = e / 281474976710656 % 256 ∷ e / 1099511627776 % 256 ∷ e / 4294967296 % 256 ∷ e / 16777216 % 256 ∷ e / 65536 % 256 ∷ e / 256 % 256 ∷ e % 256 ∷ []
+seven e =
+    e / 281474976710656 % 256 ∷ e / 1099511627776 % 256 ∷ e / 4294967296 % 256 ∷ e / 16777216 % 256 ∷ e / 65536
+    % 256 ∷ e / 256 % 256 ∷ e % 256 ∷ []
 
 body-is : (e : ℕ) → seven e ≡ err-body (unpack e)
 unfolding unpack
@@ -24,7 +26,8 @@ body-is e =
     let cl : e / 65536 % 65536 % 256 ≡ e / 65536 % 256 = omega arith in
     sym (rw (lh, ll, ch, cl))
 
-pub fielded-one : {o o′ : List ℕ} {p tag q : ℕ} (e : ℕ) → Wrote o p (bare-of tag None (seven e)) 10 o′ q → Fielded o p tag (unpack e ∷ []) o′ q
+pub fielded-one : {o o′ : List ℕ} {p tag q : ℕ} (e : ℕ) → Wrote o p (bare-of tag None (seven e)) 10 o′ q
+    → Fielded o p tag (unpack e ∷ []) o′ q
 unfolding rec-bytes nums-bytes errs-bytes
 fielded-one {o} {o′} {p} {tag} {q} e w = record {
   end = w .end;

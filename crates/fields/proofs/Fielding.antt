@@ -14,13 +14,19 @@ use Rattle.fields.specs.Errors.{Fielded}
 bytes-append : (tag : ℕ) (es fs : List Err) → errs-bytes tag (es ++ fs) ≡ errs-bytes tag es ++ errs-bytes tag fs
 unfolding errs-bytes
 bytes-append tag [] fs = refl
-bytes-append tag (e ∷ es) fs = ap (λ (x : List ℕ). err-bytes tag e ++ x) (bytes-append tag es fs) ∙ sym (append-assoc (err-bytes tag e) (errs-bytes tag es) (errs-bytes tag fs))
+bytes-append tag (e ∷ es) fs =
+    ap (λ (x : List ℕ). err-bytes tag e ++ x) (bytes-append tag es fs)
+    ∙ sym (append-assoc (err-bytes tag e) (errs-bytes tag es) (errs-bytes tag fs))
 
 -- some fields, then some more
-pub fielded-more : {o o1 o2 : List ℕ} {p tag q r : ℕ} {es fs : List Err} → Fielded o p tag es o1 q → Fielded o1 q tag fs o2 r → Fielded o p tag (es ++ fs) o2 r
+pub fielded-more : {o o1 o2 : List ℕ} {p tag q r : ℕ} {es fs : List Err} → Fielded o p tag es o1 q → Fielded o1 q tag fs o2 r
+    → Fielded o p tag (es ++ fs) o2 r
 fielded-more {o} {p = p} {tag = tag} {es = es} {fs = fs} a b = record {
   end = b .end ∙ simp length-append (omega (arith, a .end));
-  is = b .is ∙ ap (λ (x : List ℕ). x ++ errs-bytes tag fs) (a .is) ∙ append-assoc (take p o) (errs-bytes tag es) (errs-bytes tag fs) ∙ ap (λ (x : List ℕ). take p o ++ x) (sym (bytes-append tag es fs));
+  is =
+      b .is ∙ ap (λ (x : List ℕ). x ++ errs-bytes tag fs) (a .is)
+      ∙ append-assoc (take p o) (errs-bytes tag es) (errs-bytes tag fs)
+      ∙ ap (λ (x : List ℕ). take p o ++ x) (sym (bytes-append tag es fs));
 }
 
 -- the fields of the first i stand, up to p
@@ -34,11 +40,26 @@ pub record Fielding (f : ℕ → List Err) (o₀ : List ℕ) (pos tag count : �
 module _ {f : ℕ → List Err} {o₀ : List ℕ} {pos tag count : ℕ} where
   pub fields-none : f 0 ≡ [] → pos + 10 * count + 13 ≤ length o₀ → Fielding f o₀ pos tag count o₀ 0 pos
   unfolding errs-bytes
-  fields-none z h = record { room = h; upto = omega arith; size = refl; at = omega arith; is = rw z (record { end = omega arith; is = sym (append-nil (take pos o₀)) }) }
+  fields-none z h =
+      record {
+        room = h;
+        upto = omega arith;
+        size = refl;
+        at = omega arith;
+        is = rw z (record { end = omega arith; is = sym (append-nil (take pos o₀)) });
+      }
 
   module _ {o : List ℕ} {i p : ℕ} (h : Fielding f o₀ pos tag count o i p) where
-    pub fields-more : {o1 : List ℕ} {q : ℕ} {e : Err} → i < count → f (i + 1) ≡ f i ++ (e ∷ []) → Fielded o p tag (e ∷ []) o1 q → length o1 ≡ length o → Fielding f o₀ pos tag count o1 (i + 1) q
-    fields-more g n w s = record { room = h .room; upto = omega arith; size = s ∙ h .size; at = omega (arith, w .end, h .at); is = rw n (fielded-more (h .is) w) }
+    pub fields-more : {o1 : List ℕ} {q : ℕ} {e : Err} → i < count → f (i + 1) ≡ f i ++ (e ∷ [])
+        → Fielded o p tag (e ∷ []) o1 q → length o1 ≡ length o → Fielding f o₀ pos tag count o1 (i + 1) q
+    fields-more g n w s =
+        record {
+          room = h .room;
+          upto = omega arith;
+          size = s ∙ h .size;
+          at = omega (arith, w .end, h .at);
+          is = rw n (fielded-more (h .is) w);
+        }
 
     pub fields-done : count ≤ i → Fielded o₀ pos tag (f count) o p
     fields-done g = let e : i ≡ count = omega arith in (rw e at (h .is))

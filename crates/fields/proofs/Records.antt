@@ -31,7 +31,8 @@ listed-more ws i n = ap (λ (k : ℕ). listed ws i k) (add-one n) ∙ go i n
     go i zero = ap (λ (k : ℕ). error-of (error-at ws k) ∷ []) (sym (add-zero i))
     go i (suc n) =
         let e : suc i + n ≡ i + suc n = omega arith in
-        ap (λ (x : List Err). error-of (error-at ws i) ∷ x) (go (suc i) n ∙ ap (λ (k : ℕ). listed ws (suc i) n ++ (error-of (error-at ws k) ∷ [])) e)
+        ap (λ (x : List Err). error-of (error-at ws i) ∷ x)
+        (go (suc i) n ∙ ap (λ (k : ℕ). listed ws (suc i) n ++ (error-of (error-at ws k) ∷ [])) e)
 
 -- a good record's numbers are small
 pub record Small (w : ErrorWords) : Type 0 where
@@ -46,16 +47,22 @@ small w g =
     record {
       number = between-bounds 1 4 (w .number) (left-true (between 1 4 (w .number)) (between 1 16384 (w .line)) nl) .1;
       line = between-bounds 1 16384 (w .line) (right-true (between 1 4 (w .number)) (between 1 16384 (w .line)) nl) .1;
-      column = between-bounds 1 16384 (w .column) (right-true (between 1 4 (w .number) && between 1 16384 (w .line)) (between 1 16384 (w .column)) nlc) .1;
+      column =
+          between-bounds 1 16384 (w .column)
+          (right-true (between 1 4 (w .number) && between 1 16384 (w .line)) (between 1 16384 (w .column)) nlc) .1;
     }
 
 -- a good record before others that are good
-good-first : (b : Bool) (e : Err) (o : Option (List Err)) → is-some {A = List Err} (elim b as (λ _. Option (List Err)) [ true ↦ error-before e o | false ↦ none ]) ≡ true → (b ≡ true) × (is-some o ≡ true)
+good-first : (b : Bool) (e : Err) (o : Option (List Err))
+    → is-some {A = List Err} (elim b as (λ _. Option (List Err)) [ true ↦ error-before e o | false ↦ none ])
+    ≡ true
+    → (b ≡ true) × (is-some o ≡ true)
 good-first true e none h = clash (sym h)
 good-first true e (some es) h = (refl, refl)
 good-first false e o h = clash (sym h)
 
-good-next : (ws : List ℕ) (i n : ℕ) → is-some (errors-of ws i (suc n)) ≡ true → (good-error (error-at ws i) ≡ true) × (is-some (errors-of ws (suc i) n) ≡ true)
+good-next : (ws : List ℕ) (i n : ℕ) → is-some (errors-of ws i (suc n)) ≡ true
+    → (good-error (error-at ws i) ≡ true) × (is-some (errors-of ws (suc i) n) ≡ true)
 unfolding errors-of
 good-next ws i n h = good-first (good-error (error-at ws i)) (error-of (error-at ws i)) (errors-of ws (suc i) n) h
 
@@ -77,15 +84,20 @@ errors-are ws n es e = Option·some-injective (listed ws 0 n) es (sym (listed-is
 
 -- ---- the loop
 
-module _ (ws : List ℕ) (i : ℕ) {a b d : ℕ} (na : a ≡ getD ws (4 * i) 0) (nb : b ≡ getD ws (4 * i + 1) 0) (nd : d ≡ getD ws (4 * i + 2) 0) where
-  pub entry-fits : (count : ℕ) → is-some (errors-of ws 0 count) ≡ true → i < count → (a < 256) × ((b < 65536) × ((d < 65536) × ((0 < 256) × (0 < 256))))
+module _ (ws : List ℕ) (i : ℕ) {a b d : ℕ} (na : a ≡ getD ws (4 * i) 0) (nb : b ≡ getD ws (4 * i + 1) 0)
+    (nd : d ≡ getD ws (4 * i + 2) 0) where
+  pub entry-fits : (count : ℕ) → is-some (errors-of ws 0 count) ≡ true → i < count
+      → (a < 256) × ((b < 65536) × ((d < 65536) × ((0 < 256) × (0 < 256))))
   entry-fits count h g = let s = rw zero-add at (small-at ws 0 count i h g) in omega arith
 
-  pub token-more : {o₀ o o1 : List ℕ} {pos count p q : ℕ} (x : ℕ) → Fielding (λ n. listed ws 0 n) o₀ pos 0x62 count o i p → i < count → L.unpack x ≡ L.error-at a b d 0 0 → Fielded o p 0x62 (L.unpack x ∷ []) o1 q → length o1 ≡ length o
+  pub token-more : {o₀ o o1 : List ℕ} {pos count p q : ℕ} (x : ℕ) → Fielding (λ n. listed ws 0 n) o₀ pos 0x62 count o i p
+      → i < count → L.unpack x ≡ L.error-at a b d 0 0 → Fielded o p 0x62 (L.unpack x ∷ []) o1 q
+      → length o1 ≡ length o
       → Fielding (λ n. listed ws 0 n) o₀ pos 0x62 count o1 (i + 1) q
   token-more x h g u w s =
       let e : error-of (error-at ws (0 + i)) ≡ L.unpack x = sym (u ∙ rw (na, nb, nd, zero-add)) in
       fields-more h g (listed-more ws 0 i ∙ ap (λ (y : Err). listed ws 0 i ++ (y ∷ [])) e) w s
 
-pub token-done : (ws : List ℕ) {o₀ o : List ℕ} {pos count i p : ℕ} → Fielding (λ n. listed ws 0 n) o₀ pos 0x62 count o i p → count ≤ i → TokenFields o₀ pos ws count o p
+pub token-done : (ws : List ℕ) {o₀ o : List ℕ} {pos count i p : ℕ} → Fielding (λ n. listed ws 0 n) o₀ pos 0x62 count o i p
+    → count ≤ i → TokenFields o₀ pos ws count o p
 token-done ws {count = count} h g es e = rw (errors-are ws count es e) at (fields-done h g)

@@ -45,44 +45,87 @@ use Rattle.grammar.proofs.Joins.{goes-none}
 module _ {A : Type 0} {K : View A} {w x : List ℕ} {n d : ℕ} {o r f o1 r1 f1 o2 : List ℕ} {s : State} {b y : Answer} {t : Front} {v : Record} {m : Act (Ans A)} {M : Act (Ans Node)} (p : A → Place) (ns : A → List Num) (text : List ℕ)
     (q : Asked w x n o r f s) (u : Seen w x n (s .at) t) (B : Reads K w x n d m o r f (fore s t) o1 r1 f1 b) (F : Finished x o1 b v o2 y)
     (paid : size-of v ≤ 16 * min (t .kind) 1 + t .len) (made : (i : A) → K .fine (b .line) (b .column) i → rec-of x v ≡ record { tag = v .tag; place = some (p i); numbers = ns i; text = text }) where
-  pub wraps-token : (rd′ : List Consumed → List Consumed) → ((rd : List Consumed) → go d M (st-of w x n f rd s) ≡ go d (m >>? wrapped K [] [] (v .tag) p ns text) (st-of w x n f (rd′ rd) (fore s t))) → Reads node w x n d M o r f s o2 r1 f1 y
+  pub wraps-token : (rd′ : List Consumed → List Consumed)
+      → ((rd : List Consumed)
+      → go d M (st-of w x n f rd s)
+      ≡ go d (m >>? wrapped K [] [] (v .tag) p ns text) (st-of w x n f (rd′ rd) (fore s t)))
+      → Reads node w x n d M o r f s o2 r1 f1 y
   wraps-token rd′ step =
       let e : budget w x n (y .state .at) ≡ budget w x n (b .state .at) = ap (λ (k : ℕ). budget w x n k) (F .at) in
       record {
-        moved = record { at = omega (arith, F .at, u .up, B .moved); end = omega (arith, F .at, B .moved); pos = omega (arith, F .low, B .moved); room = omega (arith, F .high, B .moved, u .pays); reported = omega (arith, F .reported, B .moved); less = omega (arith, F .reported, F .full, B .moved); full = omega (arith, F .full, B .moved); few = omega (arith, F .full, B .moved) };
+        moved =
+            record {
+              at = omega (arith, F .at, u .up, B .moved);
+              end = omega (arith, F .at, B .moved);
+              pos = omega (arith, F .low, B .moved);
+              room = omega (arith, F .high, B .moved, u .pays);
+              reported = omega (arith, F .reported, B .moved);
+              less = omega (arith, F .reported, F .full, B .moved);
+              full = omega (arith, F .full, B .moved);
+              few = omega (arith, F .full, B .moved);
+            };
         on = omega (arith, F .at, u .on, u .kind, B .moved .at);
-        is = λ rd. say (step rd ∙ go-bind d m (or-return (wrapped K [] [] (v .tag) p ns text)) _) (finishes d p ns text F made (B .is (rd′ rd)));
+        is =
+            λ rd. say (step rd ∙ go-bind d m (or-return (wrapped K [] [] (v .tag) p ns text)) _)
+            (finishes d p ns text F made (B .is (rd′ rd)));
       }
 
 -- ---- prefixes
 
-module _ {w x : List ℕ} {n d : ℕ} {o r f : List ℕ} {s : State} {t : Front} {tag : ℕ} (q : Asked w x n o r f s) (nz : d ≡ 0 → ⊥) (u : Seen w x n (s .at) t) (k : Prefix (t .kind) tag) where
-  pub unary-none : {o1 r1 f1 : List ℕ} {a : Answer} → tag ≡ 0 → Reads node w x n (d - 1) P.parse-call o r f s o1 r1 f1 a → Reads node w x n d P.parse-unary o r f s o1 r1 f1 a
-  unary-none h B = down Unary nz (record { moved = B .moved; on = B .on; is = λ rd. say (k .is (d - 1) (st-of w x n f rd s) (u .kind) ∙ rw (eq-eqb tag 0 h)) (B .is rd) })
+module _ {w x : List ℕ} {n d : ℕ} {o r f : List ℕ} {s : State} {t : Front} {tag : ℕ} (q : Asked w x n o r f s)
+    (nz : d ≡ 0 → ⊥) (u : Seen w x n (s .at) t) (k : Prefix (t .kind) tag) where
+  pub unary-none : {o1 r1 f1 : List ℕ} {a : Answer} → tag ≡ 0 → Reads node w x n (d - 1) P.parse-call o r f s o1 r1 f1 a
+      → Reads node w x n d P.parse-unary o r f s o1 r1 f1 a
+  unary-none h B =
+      down Unary nz (record {
+        moved = B .moved;
+        on = B .on;
+        is = λ rd. say (k .is (d - 1) (st-of w x n f rd s) (u .kind) ∙ rw (eq-eqb tag 0 h)) (B .is rd);
+      })
 
-  pub unary-prefix : {o1 r1 f1 o2 : List ℕ} {a y : Answer} → (tag ≡ 0 → ⊥) → Reads node w x n (d - 1) P.parse-unary o r f (fore s t) o1 r1 f1 a → Finished x o1 a (record { tag = tag; line = a .line; column = a .column; numbers = None; start = 0; len = 0 }) o2 y → Reads node w x n d P.parse-unary o r f s o2 r1 f1 y
+  pub unary-prefix : {o1 r1 f1 o2 : List ℕ} {a y : Answer} → (tag ≡ 0 → ⊥)
+      → Reads node w x n (d - 1) P.parse-unary o r f (fore s t) o1 r1 f1 a
+      → Finished x o1 a
+      (record { tag = tag; line = a .line; column = a .column; numbers = None; start = 0; len = 0 }) o2 y
+      → Reads node w x n d P.parse-unary o r f s o2 r1 f1 y
   unfolding go run P.prefix
   unary-prefix {a = a} h B F =
       down Unary nz
       (wraps-token (λ i. i .place) (λ _. []) [] q u B F (omega (arith, k .real)) (λ i e. rw e) (past w x n (s .at))
-      (λ rd. k .is (d - 1) (st-of w x n f rd s) (u .kind) ∙ rw (ne-eqb tag 0 h) (ap (λ (S : St). go (d - 1) (P.parse-unary >>? wrapped node [] [] tag (λ i. i .place) (λ _. []) []) S) (adv s u (λ _. plain) f rd))))
+      (λ rd. k .is (d - 1) (st-of w x n f rd s) (u .kind) ∙ rw (ne-eqb tag 0 h)
+      (ap (λ (S : St). go (d - 1) (P.parse-unary >>? wrapped node [] [] tag (λ i. i .place) (λ _. []) []) S)
+      (adv s u (λ _. plain) f rd))))
 
 -- ---- calls: the arguments behind what is called; their errors are dropped
 
 abbrev pub call-on : Fallible Node → Act (Ans Node)
-call-on e = A.peek λ t. A.if_then_else_ (t is K.LParen) (P.parse-list Arguments >>= λ i. P.good (P.node (e .item .recs ++ i .recs) 0x24 (e .item .place) (two (i .count) ∷ []) []) (e .errors)) (done (ok e))
+call-on e =
+    A.peek λ t. A.if_then_else_ (t is K.LParen) (P.parse-list Arguments >>= λ i. P.good
+    (P.node (e .item .recs ++ i .recs) 0x24 (e .item .place) (two (i .count) ∷ []) []) (e .errors))
+    (done (ok e))
 
 module _ {A : Type 0} {K : View A} {w x : List ℕ} {n : ℕ} {o r f : List ℕ} {b : Answer} {q : Res (Ans A)} (never : b .how ≡ Fatal → ⊥) where
   -- behind what the construct has before
-  pub rebased : {T T′ : List ℕ} {E E′ : List Err} (rs : List Rec) (es : List Err) → T′ ≡ T ++ recs-bytes rs → E′ ≡ E ++ es → Shows K T′ E′ [] [] w x n o r f b q → Shows K T E rs es w x n o r f b q
+  pub rebased : {T T′ : List ℕ} {E E′ : List Err} (rs : List Rec) (es : List Err) → T′ ≡ T ++ recs-bytes rs → E′ ≡ E ++ es
+      → Shows K T′ E′ [] [] w x n o r f b q → Shows K T E rs es w x n o r f b q
   rebased {T} {T′} {E} {E′} rs es t e v = record { told = one (b .how) refl (v .told) }
     where
       one : (s : How) → b .how ≡ s → ShowsOf s K T′ E′ [] [] w x n o r f b q → ShowsOf s K T E rs es w x n o r f b q
-      one Done z g = record { item = g .item; errors = g .errors; read = g .read; is = g .is; tree = tree-join T rs (K .recs (g .item)) t (g .tree); rep = errs-join E es (g .errors) e (g .rep); holds = g .holds }
+      one Done z g =
+          record {
+            item = g .item;
+            errors = g .errors;
+            read = g .read;
+            is = g .is;
+            tree = tree-join T rs (K .recs (g .item)) t (g .tree);
+            rep = errs-join E es (g .errors) e (g .rep);
+            holds = g .holds;
+          }
       one Fatal z g = absurd (never z)
       one (Refused m) z g = g
 
-module _ {w x : List ℕ} {n d i j : ℕ} {o r f : List ℕ} {a : Answer} {t : Front} (q : GoesOn w x n o r f a i j) (z : a .how ≡ Done) (u : Seen w x n (a .state .at) t) where
+module _ {w x : List ℕ} {n d i j : ℕ} {o r f : List ℕ} {a : Answer} {t : Front} (q : GoesOn w x n o r f a i j)
+    (z : a .how ≡ Done) (u : Seen w x n (a .state .at) t) where
   pub call-none : (t .kind ≡ 41 → ⊥) → Goes node node w x n d call-on i j o r f a o r f a
   unfolding go run
   call-none h = goes-none q z (λ e rd. rw (run, no u h))
@@ -93,7 +136,16 @@ module _ {w x : List ℕ} {n d i j : ℕ} {o r f : List ℕ} {a : Answer} {t : F
     call-moved =
         let e : budget w x n (y .state .at) ≡ budget w x n (b .state .at) = ap (λ (k : ℕ). budget w x n k) (F .at) in
         let s : head (rest w x n (a .state .at)) .kind ≡ 41 = u .kind ∙ h in
-        record { at = omega (arith, F .at, B .moved); end = omega (arith, F .at, B .moved); pos = omega (arith, F .low, B .moved, q .pos); room = omega (arith, F .high, B .spare); reported = omega (arith, F .reported, q .reported); less = omega (arith, F .reported, F .full, B .moved); full = omega (arith, F .full, B .moved); few = omega (arith, F .full, B .moved) }
+        record {
+          at = omega (arith, F .at, B .moved);
+          end = omega (arith, F .at, B .moved);
+          pos = omega (arith, F .low, B .moved, q .pos);
+          room = omega (arith, F .high, B .spare);
+          reported = omega (arith, F .reported, q .reported);
+          less = omega (arith, F .reported, F .full, B .moved);
+          full = omega (arith, F .full, B .moved);
+          few = omega (arith, F .full, B .moved);
+        }
 
     pub call-found : Goes node node w x n d call-on i j o r f a o2 r1 f1 y
     unfolding go run
@@ -101,32 +153,55 @@ module _ {w x : List ℕ} {n d i j : ℕ} {o r f : List ℕ} {a : Answer} {t : F
       moved = call-moved;
       is = λ T E p li lj v.
           let g = good-of z v in
-          say (follows d call-on (g .is) ∙ rw (run, yes u h) (dropping d (P.parse-list Arguments) _ (wrapped items (g .item .recs) (g .errors) 0x24 (λ _. g .item .place) (λ i. two (i .count) ∷ []) []) (λ i. rw append-nil) (st-of w x n f (g .read) (a .state))))
+          say (follows d call-on (g .is)
+          ∙ rw (run, yes u h) (dropping d (P.parse-list Arguments) _
+          (wrapped items (g .item .recs) (g .errors) 0x24 (λ _. g .item .place) (λ i. two (i .count) ∷ []) [])
+          (λ i. rw append-nil) (st-of w x n f (g .read) (a .state))))
           (finishes d (λ _. g .item .place) (λ i. two (i .count) ∷ []) [] F (λ i e. rw (e, g .holds))
           (rebased (B .never) (g .item .recs) (g .errors) (g .tree) (g .rep)
           (drops d (B .never) (errs-length r (a .state .reported) (omega arith)) (B .moved .reported) (B .is (g .read)))));
     }
 
   -- with the answer that `silence` gives
-  pub call-done : {o1 r1 f1 o2 : List ℕ} {b c y : Answer} → t .kind ≡ 41 → ReadsList w x n d Arguments o r f (a .state) o1 r1 f1 b → c ≡ silent b (a .state .reported) → Finished x o1 c (record { tag = 0x24; line = a .line; column = a .column; numbers = Two (b .line); start = 0; len = 0 }) o2 y → Goes node node w x n d call-on i j o r f a o2 r1 f1 y
-  call-done {o1} {o2 = o2} {b = b} {c = c} {y = y} h B C F = call-found h B (subst (λ (k : Answer). Finished x o1 k (record { tag = 0x24; line = a .line; column = a .column; numbers = Two (b .line); start = 0; len = 0 }) o2 y) C F)
+  pub call-done : {o1 r1 f1 o2 : List ℕ} {b c y : Answer} → t .kind ≡ 41
+      → ReadsList w x n d Arguments o r f (a .state) o1 r1 f1 b → c ≡ silent b (a .state .reported)
+      → Finished x o1 c
+      (record { tag = 0x24; line = a .line; column = a .column; numbers = Two (b .line); start = 0; len = 0 })
+      o2 y
+      → Goes node node w x n d call-on i j o r f a o2 r1 f1 y
+  call-done {o1} {o2 = o2} {b = b} {c = c} {y = y} h B C F =
+      call-found h B (subst (λ (k : Answer). Finished x o1 k
+      (record { tag = 0x24; line = a .line; column = a .column; numbers = Two (b .line); start = 0; len = 0 })
+      o2 y) C F)
 
 -- what the list is asked with: a place behind the operand's, and room for the record behind it
-pub call-later : {w x : List ℕ} {n d : ℕ} {m : Act (Ans Node)} {o r f o1 r1 f1 : List ℕ} {s : State} {a : Answer} {t : Front} → Asked w x n o r f s → Reads node w x n d m o r f s o1 r1 f1 a → Seen w x n (a .state .at) t → t .kind ≡ 41 → s .at < a .state .at
-call-later {s = s} q B u h = omega (arith, B .on, alive {at = s .at} (q .asks .held) (omega (arith, B .moved .at, u .on, u .kind, u .end, h)))
+pub call-later : {w x : List ℕ} {n d : ℕ} {m : Act (Ans Node)} {o r f o1 r1 f1 : List ℕ} {s : State} {a : Answer} {t : Front}
+    → Asked w x n o r f s → Reads node w x n d m o r f s o1 r1 f1 a → Seen w x n (a .state .at) t → t .kind ≡ 41
+    → s .at < a .state .at
+call-later {s = s} q B u h =
+    omega
+    (arith, B .on, alive {at = s .at} (q .asks .held) (omega (arith, B .moved .at, u .on, u .kind, u .end, h)))
 
-pub call-room : {w x : List ℕ} {n i j i′ j′ k : ℕ} {o r f o1 : List ℕ} {s t : State} {b c : Answer} → Asked w x n o r f s → Moved w x n i j s t → Moved w x n i′ j′ t (b .state) → c ≡ silent b k → length o1 ≡ length o → Room o1 x (c .state .pos) (16 + 0) 0 0
+pub call-room : {w x : List ℕ} {n i j i′ j′ k : ℕ} {o r f o1 : List ℕ} {s t : State} {b c : Answer} → Asked w x n o r f s
+    → Moved w x n i j s t → Moved w x n i′ j′ t (b .state) → c ≡ silent b k → length o1 ≡ length o
+    → Room o1 x (c .state .pos) (16 + 0) 0 0
 call-room q u v e l = rw e (record { room = omega (arith, q .room, u .room, v .room); part = omega arith })
 
 -- ---- `sizeof`
 
 -- an item, `expect`, and what follows: two ways to say it
 pub expect-seam : {A B : Type 0} (d : ℕ) (role : Role) (k : ℕ) (g : Fallible A → Act (Ans B)) (q : Res (Ans A))
-    → after q (λ z S. go d (or-return (λ e. P.expect-as role k >>? λ _. g e) z) S) ≡ after (after q (λ z S. go d (or-return (expecting role k) z) S)) (λ z S. go d (or-return g z) S)
+    → after q (λ z S. go d (or-return (λ e. P.expect-as role k >>? λ _. g e) z) S)
+    ≡ after (after q (λ z S. go d (or-return (expecting role k) z) S)) (λ z S. go d (or-return g z) S)
 unfolding go run
-expect-seam d role k g (gives (ok y) S) = go-bind d (P.expect-as role k) (or-return (λ _. g y)) S ∙ one (go d (P.expect-as role k) S) ∙ sym (ap (λ (p : Res (Ans _)). after p (λ z S. go d (or-return g z) S)) (go-bind d (P.expect-as role k) (or-return (λ _. done (ok y))) S))
+expect-seam d role k g (gives (ok y) S) =
+    go-bind d (P.expect-as role k) (or-return (λ _. g y)) S ∙ one (go d (P.expect-as role k) S)
+    ∙ sym (ap (λ (p : Res (Ans _)). after p (λ z S. go d (or-return g z) S))
+    (go-bind d (P.expect-as role k) (or-return (λ _. done (ok y))) S))
   where
-    one : (p : Res (Ans Tok)) → after p (λ z S. go d (or-return (λ _. g y) z) S) ≡ after (after p (λ z S. go d (or-return (λ _. done (ok y)) z) S)) (λ z S. go d (or-return g z) S)
+    one : (p : Res (Ans Tok))
+        → after p (λ z S. go d (or-return (λ _. g y) z) S)
+        ≡ after (after p (λ z S. go d (or-return (λ _. done (ok y)) z) S)) (λ z S. go d (or-return g z) S)
     one (gives (ok t) S) = refl
     one (gives (fatal es) S) = refl
     one (refused n) = refl
@@ -136,37 +211,87 @@ expect-seam d role k g (refused n) = refl
 abbrev sized : Tok → Fallible Node → Act (Ans Node)
 sized op ty = P.good (P.node (ty .item .recs) 0x2F (op .place) [] []) (ty .errors)
 
-sizeof-step : {w x : List ℕ} {n : ℕ} {t : Front} (d : ℕ) (f : List ℕ) (s : State) → Seen w x n (s .at) t → t .kind ≡ 17 → (rd : List Consumed)
-    → go d P.parse-sizeof (st-of w x n f rd s) ≡ after (go d (P.expect-as plain 41) (st-of w x n f (past w x n (s .at) rd) (fore s t))) (λ z S. go d (or-return (λ _. P.parse-type >>? λ ty. P.expect-as plain 42 >>? λ _. sized (head (rest w x n (s .at))) ty) z) S)
+sizeof-step : {w x : List ℕ} {n : ℕ} {t : Front} (d : ℕ) (f : List ℕ) (s : State) → Seen w x n (s .at) t → t .kind ≡ 17
+    → (rd : List Consumed)
+    → go d P.parse-sizeof (st-of w x n f rd s)
+    ≡ after (go d (P.expect-as plain 41) (st-of w x n f (past w x n (s .at) rd) (fore s t))) (λ z S. go d
+    (or-return (λ _. P.parse-type >>? λ ty. P.expect-as plain 42 >>? λ _. sized (head (rest w x n (s .at))) ty) z)
+    S)
 unfolding go run P.parse-sizeof
-sizeof-step {w} {x} {n} d f s u h rd = rw (run, yes u h) (ap (λ (S : St). go d (P.expect-as plain 41 >>? λ _. P.parse-type >>? λ ty. P.expect-as plain 42 >>? λ _. sized (head (rest w x n (s .at))) ty) S) (adv s u (λ _. plain) f rd) ∙ go-bind d (P.expect-as plain 41) (or-return (λ _. P.parse-type >>? λ ty. P.expect-as plain 42 >>? λ _. sized (head (rest w x n (s .at))) ty)) _)
+sizeof-step {w} {x} {n} d f s u h rd =
+    rw (run, yes u h) (ap
+    (λ (S : St). go d (P.expect-as plain 41 >>? λ _. P.parse-type >>? λ ty. P.expect-as plain 42 >>? λ _. sized
+    (head (rest w x n (s .at))) ty) S) (adv s u (λ _. plain) f rd)
+    ∙ go-bind d (P.expect-as plain 41)
+    (or-return (λ _. P.parse-type >>? λ ty. P.expect-as plain 42 >>? λ _. sized (head (rest w x n (s .at))) ty))
+    _)
 
 module _ {w x : List ℕ} {n d : ℕ} {o r f : List ℕ} {s : State} {t : Front} (q : Asked w x n o r f s) (u : Seen w x n (s .at) t) where
-  pub sizeof-other : {o1 r1 f1 : List ℕ} {a : Answer} → (t .kind ≡ 17 → ⊥) → Reads node w x n d P.parse-field-access-or-index o r f s o1 r1 f1 a → Reads node w x n d P.parse-sizeof o r f s o1 r1 f1 a
+  pub sizeof-other : {o1 r1 f1 : List ℕ} {a : Answer} → (t .kind ≡ 17 → ⊥)
+      → Reads node w x n d P.parse-field-access-or-index o r f s o1 r1 f1 a
+      → Reads node w x n d P.parse-sizeof o r f s o1 r1 f1 a
   unfolding go run P.parse-sizeof
   sizeof-other h B = record { moved = B .moved; on = B .on; is = λ rd. say (rw (run, no u h)) (B .is rd) }
 
   module _ {r1 f1 : List ℕ} {a : Answer} (h : t .kind ≡ 17) (X : Expects w x n (λ role. P.expect-as role 41) r f (fore s t) r1 f1 a) where
     pub sizeof-stop : Stopped a → Reads node w x n d P.parse-sizeof o r f s o r1 f1 a
-    sizeof-stop nd = record { moved = omega (arith, X .moved, u .pays, u .up); on = omega (arith, X .moved .at, u .on, u .kind); is = λ rd. say (sizeof-step d f s u h rd) (stops d _ _ nd (X .is plain d (past w x n (s .at) rd) o)) }
+    sizeof-stop nd =
+        record {
+          moved = omega (arith, X .moved, u .pays, u .up);
+          on = omega (arith, X .moved .at, u .on, u .kind);
+          is = λ rd. say (sizeof-step d f s u h rd) (stops d _ _ nd (X .is plain d (past w x n (s .at) rd) o));
+        }
 
-    pub sizeof-asks : {o1 r2 f2 : List ℕ} {b : Answer} → a .how ≡ Done → Reads node w x n d P.parse-type o r1 f1 (a .state) o1 r2 f2 b → length r2 ≡ length r → length f2 ≡ length f → Follows w x n r2 f2 b (s .pos) (s .reported)
-    sizeof-asks z B lr lf = record { asks = asks-moved (q .asks) (moved-trans (moved-trans (fore-moved (q .asks) u) (X .moved)) (B .moved)) lr lf; pos = omega (arith, B .moved, X .pos); reported = omega (arith, B .moved, X .kept z .0) }
+    pub sizeof-asks : {o1 r2 f2 : List ℕ} {b : Answer} → a .how ≡ Done
+        → Reads node w x n d P.parse-type o r1 f1 (a .state) o1 r2 f2 b → length r2 ≡ length r
+        → length f2 ≡ length f → Follows w x n r2 f2 b (s .pos) (s .reported)
+    sizeof-asks z B lr lf =
+        record {
+          asks = asks-moved (q .asks) (moved-trans (moved-trans (fore-moved (q .asks) u) (X .moved)) (B .moved))
+              lr lf;
+          pos = omega (arith, B .moved, X .pos);
+          reported = omega (arith, B .moved, X .kept z .0);
+        }
 
-    pub sizeof-done : {o1 r2 f2 r3 f3 o2 : List ℕ} {b c y : Answer} → a .how ≡ Done → Reads node w x n d P.parse-type o r1 f1 (a .state) o1 r2 f2 b → length r2 ≡ length r → length f2 ≡ length f → Expected w x n 42 (s .pos) (s .reported) r2 f2 b r3 f3 c
-        → Finished x o1 c (record { tag = 0x2F; line = t .line; column = t .column; numbers = None; start = 0; len = 0 }) o2 y → Reads node w x n d P.parse-sizeof o r f s o2 r3 f3 y
+    pub sizeof-done : {o1 r2 f2 r3 f3 o2 : List ℕ} {b c y : Answer} → a .how ≡ Done
+        → Reads node w x n d P.parse-type o r1 f1 (a .state) o1 r2 f2 b → length r2 ≡ length r
+        → length f2 ≡ length f → Expected w x n 42 (s .pos) (s .reported) r2 f2 b r3 f3 c
+        → Finished x o1 c
+        (record { tag = 0x2F; line = t .line; column = t .column; numbers = None; start = 0; len = 0 }) o2 y
+        → Reads node w x n d P.parse-sizeof o r f s o2 r3 f3 y
     sizeof-done {o1} {r2} {f2} {r3} {f3} {o2} {b} {c} {y} z B lr lf C F =
         let e : budget w x n (y .state .at) ≡ budget w x n (c .state .at) = ap (λ (k : ℕ). budget w x n k) (F .at) in
         let kept = X .kept z in
         record {
-          moved = record { at = omega (arith, F .at, C .moved, B .moved, X .moved, u .up); end = omega (arith, F .at, C .moved); pos = omega (arith, F .low, C .moved); room = omega (arith, F .high, C .moved, B .moved, X .moved, u .pays); reported = omega (arith, F .reported, C .moved); less = omega (arith, F .reported, F .full, C .moved, B .moved, X .moved); full = omega (arith, F .full, C .moved, B .moved, X .moved); few = omega (arith, F .full, C .moved) };
+          moved =
+              record {
+                at = omega (arith, F .at, C .moved, B .moved, X .moved, u .up);
+                end = omega (arith, F .at, C .moved);
+                pos = omega (arith, F .low, C .moved);
+                room = omega (arith, F .high, C .moved, B .moved, X .moved, u .pays);
+                reported = omega (arith, F .reported, C .moved);
+                less = omega (arith, F .reported, F .full, C .moved, B .moved, X .moved);
+                full = omega (arith, F .full, C .moved, B .moved, X .moved);
+                few = omega (arith, F .full, C .moved);
+              };
           on = omega (arith, F .at, C .moved .at, B .moved .at, X .moved .at, u .on, u .kind);
           is = λ rd.
               let g = good-of z (X .is plain d (past w x n (s .at) rd) o) in
               let T-is : take (a .state .pos) o ≡ take (s .pos) o = ap (λ (k : ℕ). take k o) (X .pos) in
-              let v : Shows node (take (s .pos) o) (errs r (s .reported)) [] [] w x n o1 r2 f2 b (go d P.parse-type (st-of w x n f1 (g .read) (a .state))) = subst (λ (T : List ℕ). Shows node T (errs r (s .reported)) [] [] w x n o1 r2 f2 b (go d P.parse-type (st-of w x n f1 (g .read) (a .state)))) T-is (subst (λ (E : List Err). Shows node (take (a .state .pos) o) E [] [] w x n o1 r2 f2 b (go d P.parse-type (st-of w x n f1 (g .read) (a .state)))) (kept .1) (B .is (g .read))) in
-              say (sizeof-step d f s u h rd ∙ follows d _ (g .is) ∙ go-bind d P.parse-type (or-return (λ ty. P.expect-as plain 42 >>? λ _. sized (head (rest w x n (s .at))) ty)) (st-of w x n f1 (g .read) (a .state)) ∙ expect-seam d plain 42 (sized (head (rest w x n (s .at)))) (go d P.parse-type (st-of w x n f1 (g .read) (a .state))))
-              (finishes d (λ _. head (rest w x n (s .at)) .place) (λ _. []) [] F (λ i _. rw (u .place)) (expects-behind (sizeof-asks z B lr lf) C plain d (length-take-le (s .pos) o (omega arith)) (errs-length r (s .reported) (omega arith)) v));
+              let v : Shows node (take (s .pos) o) (errs r (s .reported)) [] [] w x n o1 r2 f2 b (go d P.parse-type (st-of w x n f1 (g .read) (a .state))) =
+              subst (λ (T : List ℕ). Shows node T (errs r (s .reported)) [] [] w x n o1 r2 f2 b
+              (go d P.parse-type (st-of w x n f1 (g .read) (a .state)))) T-is
+              (subst (λ (E : List Err). Shows node (take (a .state .pos) o) E [] [] w x n o1 r2 f2 b
+              (go d P.parse-type (st-of w x n f1 (g .read) (a .state)))) (kept .1) (B .is (g .read))) in
+              say (sizeof-step d f s u h rd ∙ follows d _ (g .is)
+              ∙ go-bind d P.parse-type
+              (or-return (λ ty. P.expect-as plain 42 >>? λ _. sized (head (rest w x n (s .at))) ty))
+              (st-of w x n f1 (g .read) (a .state))
+              ∙ expect-seam d plain 42 (sized (head (rest w x n (s .at))))
+              (go d P.parse-type (st-of w x n f1 (g .read) (a .state))))
+              (finishes d (λ _. head (rest w x n (s .at)) .place) (λ _. []) [] F (λ i _. rw (u .place))
+              (expects-behind (sizeof-asks z B lr lf) C plain d (length-take-le (s .pos) o (omega arith))
+              (errs-length r (s .reported) (omega arith)) v));
         }
 
 -- ---- groups: both parentheses, and no `?`
@@ -177,63 +302,131 @@ closing e = P.expect-as group 42 >>= λ c. done (P.both e c)
 
 module _ {w x : List ℕ} {n : ℕ} {o r f r1 f1 : List ℕ} {a y : Answer} (d : ℕ) {T : List ℕ} {E : List Err} {q : Res (Ans Node)} where
   -- a node with the errors of the parenthesis behind its own
-  pub closes-good : a .how ≡ Done → Good node T E [] [] w x n o r f a q → Closing w x n r f a r1 f1 y → Shows node T E [] [] w x n o r1 f1 y (after q (λ z S. go d (closing z) S))
+  pub closes-good : a .how ≡ Done → Good node T E [] [] w x n o r f a q → Closing w x n r f a r1 f1 y
+      → Shows node T E [] [] w x n o r1 f1 y (after q (λ z S. go d (closing z) S))
   unfolding go run
   closes-good z g v = one (v .b .how) refl (v .is) (v .expects .is group d (g .read) o .told)
     where
       S : St
       S = st-of w x n f (g .read) (a .state)
 
-      step : after q (λ z S. go d (closing z) S) ≡ after (go d (P.expect-as group 42) S) (λ c S. go d (done (P.both (ok (record { item = g .item; errors = g .errors })) c)) S)
+      step : after q (λ z S. go d (closing z) S)
+          ≡ after (go d (P.expect-as group 42) S)
+          (λ c S. go d (done (P.both (ok (record { item = g .item; errors = g .errors })) c)) S)
       step = rw (g .is) (go-bind d (P.expect-as group 42) (λ c. done (P.both (ok (record { item = g .item; errors = g .errors })) c)) S)
 
-      more : (es : List Err) → errs r1 (v .b .state .reported) ≡ errs r (a .state .reported) ++ es → errs r1 (v .b .state .reported) ≡ E ++ (g .errors ++ es)
+      more : (es : List Err) → errs r1 (v .b .state .reported) ≡ errs r (a .state .reported) ++ es
+          → errs r1 (v .b .state .reported) ≡ E ++ (g .errors ++ es)
       more es e = errs-join E (g .errors) es (g .rep) e
 
       tree : take (v .b .state .pos) o ≡ T ++ recs-bytes (g .item .recs)
       tree = ap (λ (l : ℕ). take l o) (v .expects .pos) ∙ g .tree
 
-      one : (h : How) → v .b .how ≡ h → ClosingOf h a (v .b) y → ShowsOf h (token (head (rest w x n (a .state .at)))) (take (a .state .pos) o) (errs r (a .state .reported)) [] [] w x n o r1 f1 (v .b) (go d (P.expect-as group 42) S) → Shows node T E [] [] w x n o r1 f1 y (after q (λ z S. go d (closing z) S))
-      one Done h m t = rw m (record { told = rw z (record { item = g .item; errors = g .errors ++ t .errors; read = t .read; is = step ∙ rw (t .is); tree = tree; rep = more (t .errors) (t .rep); holds = g .holds }) })
-      one Fatal h m t = rw m (record { told = rw z (record { item = g .item; errors = g .errors ++ t .errors; read = t .read; is = step ∙ rw (t .is); tree = tree; rep = more (t .errors) (t .rep); holds = g .holds }) })
+      one : (h : How) → v .b .how ≡ h → ClosingOf h a (v .b) y
+          → ShowsOf h (token (head (rest w x n (a .state .at)))) (take (a .state .pos) o)
+          (errs r (a .state .reported)) [] [] w x n o r1 f1 (v .b) (go d (P.expect-as group 42) S)
+          → Shows node T E [] [] w x n o r1 f1 y (after q (λ z S. go d (closing z) S))
+      one Done h m t =
+          rw m (record {
+            told = rw z (record {
+              item = g .item;
+              errors = g .errors ++ t .errors;
+              read = t .read;
+              is = step ∙ rw (t .is);
+              tree = tree;
+              rep = more (t .errors) (t .rep);
+              holds = g .holds;
+            });
+          })
+      one Fatal h m t =
+          rw m (record {
+            told = rw z (record {
+              item = g .item;
+              errors = g .errors ++ t .errors;
+              read = t .read;
+              is = step ∙ rw (t .is);
+              tree = tree;
+              rep = more (t .errors) (t .rep);
+              holds = g .holds;
+            });
+          })
       one (Refused k) h m t = rw m (record { told = rw h (step ∙ rw t) })
 
   -- a fatal answer with them
-  pub closes-bad : a .how ≡ Fatal → Bad T E w x n o r f a q → Closing w x n r f a r1 f1 y → Shows node T E [] [] w x n o r1 f1 y (after q (λ z S. go d (closing z) S))
+  pub closes-bad : a .how ≡ Fatal → Bad T E w x n o r f a q → Closing w x n r f a r1 f1 y
+      → Shows node T E [] [] w x n o r1 f1 y (after q (λ z S. go d (closing z) S))
   unfolding go run
   closes-bad z g v = one (v .b .how) refl (v .is) (v .expects .is group d (g .read) o .told)
     where
       S : St
       S = st-of w x n f (g .read) (a .state)
 
-      step : after q (λ z S. go d (closing z) S) ≡ after (go d (P.expect-as group 42) S) (λ c S. go d (done (P.both (fatal (g .errors)) c)) S)
+      step : after q (λ z S. go d (closing z) S)
+          ≡ after (go d (P.expect-as group 42) S) (λ c S. go d (done (P.both (fatal (g .errors)) c)) S)
       step = rw (g .is) (go-bind d (P.expect-as group 42) (λ c. done (P.both (fatal (g .errors)) c)) S)
 
-      more : (es : List Err) → errs r1 (v .b .state .reported) ≡ errs r (a .state .reported) ++ es → errs r1 (v .b .state .reported) ≡ E ++ (g .errors ++ es)
+      more : (es : List Err) → errs r1 (v .b .state .reported) ≡ errs r (a .state .reported) ++ es
+          → errs r1 (v .b .state .reported) ≡ E ++ (g .errors ++ es)
       more es e = errs-join E (g .errors) es (g .rep) e
 
       tree : take (v .b .state .pos) o ≡ T
       tree = ap (λ (l : ℕ). take l o) (v .expects .pos) ∙ g .tree
 
-      one : (h : How) → v .b .how ≡ h → ClosingOf h a (v .b) y → ShowsOf h (token (head (rest w x n (a .state .at)))) (take (a .state .pos) o) (errs r (a .state .reported)) [] [] w x n o r1 f1 (v .b) (go d (P.expect-as group 42) S) → Shows node T E [] [] w x n o r1 f1 y (after q (λ z S. go d (closing z) S))
-      one Done h m t = rw m (record { told = rw z (record { errors = g .errors ++ t .errors; read = t .read; is = step ∙ rw (t .is); tree = tree; rep = more (t .errors) (t .rep) }) })
-      one Fatal h m t = rw m (record { told = rw z (record { errors = g .errors ++ t .errors; read = t .read; is = step ∙ rw (t .is); tree = tree; rep = more (t .errors) (t .rep) }) })
+      one : (h : How) → v .b .how ≡ h → ClosingOf h a (v .b) y
+          → ShowsOf h (token (head (rest w x n (a .state .at)))) (take (a .state .pos) o)
+          (errs r (a .state .reported)) [] [] w x n o r1 f1 (v .b) (go d (P.expect-as group 42) S)
+          → Shows node T E [] [] w x n o r1 f1 y (after q (λ z S. go d (closing z) S))
+      one Done h m t =
+          rw m (record {
+            told = rw z (record {
+              errors = g .errors ++ t .errors;
+              read = t .read;
+              is = step ∙ rw (t .is);
+              tree = tree;
+              rep = more (t .errors) (t .rep);
+            });
+          })
+      one Fatal h m t =
+          rw m (record {
+            told = rw z (record {
+              errors = g .errors ++ t .errors;
+              read = t .read;
+              is = step ∙ rw (t .is);
+              tree = tree;
+              rep = more (t .errors) (t .rep);
+            });
+          })
       one (Refused k) h m t = rw m (record { told = rw h (step ∙ rw t) })
 
-  pub closes : Closed w x n r f a r1 f1 y → Shows node T E [] [] w x n o r f a q → Shows node T E [] [] w x n o r1 f1 y (after q (λ z S. go d (closing z) S))
+  pub closes : Closed w x n r f a r1 f1 y → Shows node T E [] [] w x n o r f a q
+      → Shows node T E [] [] w x n o r1 f1 y (after q (λ z S. go d (closing z) S))
   unfolding go run
   closes v u = one (a .how) refl (v .is) (u .told)
     where
-      one : (h : How) → a .how ≡ h → ClosedOf h w x n r f a r1 f1 y → ShowsOf h node T E [] [] w x n o r f a q → Shows node T E [] [] w x n o r1 f1 y (after q (λ z S. go d (closing z) S))
+      one : (h : How) → a .how ≡ h → ClosedOf h w x n r f a r1 f1 y → ShowsOf h node T E [] [] w x n o r f a q
+          → Shows node T E [] [] w x n o r1 f1 y (after q (λ z S. go d (closing z) S))
       one Done z m g = closes-good z g m
       one Fatal z m g = closes-bad z g m
       one (Refused k) z m g = rw (m .0, m .1 .0, m .1 .1) (record { told = rw (z, g) })
 
 module _ {w x : List ℕ} {n d : ℕ} {o r f : List ℕ} {s : State} {t : Front} (q : Asked w x n o r f s) (u : Seen w x n (s .at) t) where
-  pub atom-group : {o1 r1 f1 r2 f2 : List ℕ} {a y : Answer} → t .kind ≡ 41 → Reads node w x n d P.parse-expression o r f (fore s t) o1 r1 f1 a → Closed w x n r1 f1 a r2 f2 y → Reads node w x n d P.parse-atom o r f s o1 r2 f2 y
+  pub atom-group : {o1 r1 f1 r2 f2 : List ℕ} {a y : Answer} → t .kind ≡ 41
+      → Reads node w x n d P.parse-expression o r f (fore s t) o1 r1 f1 a → Closed w x n r1 f1 a r2 f2 y
+      → Reads node w x n d P.parse-atom o r f s o1 r2 f2 y
   unfolding go run P.parse-atom P.parse-group
   atom-group h B C = record {
     moved = omega (arith, C .moved, C .pos, B .moved, u .pays, u .up);
     on = omega (arith, C .moved .at, B .moved .at, u .on, u .kind);
-    is = λ rd. say (rw (run, no {k = 2} u (λ e. omega arith), no {k = 1} u (λ e. omega arith), no {k = 3} u (λ e. omega arith), no {k = 12} u (λ e. omega arith), no {k = 13} u (λ e. omega arith), yes u h) (ap (λ (S : St). go d (P.parse-expression >>= closing) S) (adv s u (λ _. group) f rd) ∙ go-bind d P.parse-expression closing _)) (closes d C (B .is (rd ++ now-read (λ _. group) (rest w x n (s .at)))));
+    is =
+        λ rd. say (rw (
+          run,
+          no {k = 2} u (λ e. omega arith),
+          no {k = 1} u (λ e. omega arith),
+          no {k = 3} u (λ e. omega arith),
+          no {k = 12} u (λ e. omega arith),
+          no {k = 13} u (λ e. omega arith),
+          yes u h,
+        ) (ap (λ (S : St). go d (P.parse-expression >>= closing) S) (adv s u (λ _. group) f rd)
+        ∙ go-bind d P.parse-expression closing _))
+        (closes d C (B .is (rd ++ now-read (λ _. group) (rest w x n (s .at)))));
   }

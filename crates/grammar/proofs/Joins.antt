@@ -27,27 +27,57 @@ use Rattle.steps.proofs.Answers.{Stopped, say, good-of, is-good, stops, follows
 use Rattle.steps.proofs.Constructs.{seam, then-goes}
 
 -- a function and what goes on from its answer
-pub then-asked : {A B : Type 0} {K : View A} {L : View B} {w x : List ℕ} {n d : ℕ} {m : Act (Ans A)} (k : Fallible A → Act (Ans B)) {o r f o1 r1 f1 o2 r2 f2 : List ℕ} {s : State} {a y : Answer}
-    → Asked w x n o r f s → Reads K w x n d m o r f s o1 r1 f1 a → Goes K L w x n d k (s .pos) (s .reported) o1 r1 f1 a o2 r2 f2 y → Reads L w x n d (m >>? k) o r f s o2 r2 f2 y
+pub then-asked : {A B : Type 0} {K : View A} {L : View B} {w x : List ℕ} {n d : ℕ} {m : Act (Ans A)}
+    (k : Fallible A → Act (Ans B)) {o r f o1 r1 f1 o2 r2 f2 : List ℕ} {s : State} {a y : Answer}
+    → Asked w x n o r f s → Reads K w x n d m o r f s o1 r1 f1 a
+    → Goes K L w x n d k (s .pos) (s .reported) o1 r1 f1 a o2 r2 f2 y
+    → Reads L w x n d (m >>? k) o r f s o2 r2 f2 y
 then-asked k q u v = then-goes k u (omega arith) (omega arith) v
 
 -- it asks for what the answer has
-pub goes-on : {A : Type 0} {K : View A} {w x : List ℕ} {n d : ℕ} {m : Act (Ans A)} {o r f o1 r1 f1 : List ℕ} {s : State} {a : Answer} → Asked w x n o r f s → Reads K w x n d m o r f s o1 r1 f1 a → length o1 ≡ length o → length r1 ≡ length r → length f1 ≡ length f → GoesOn w x n o1 r1 f1 a (s .pos) (s .reported)
+pub goes-on : {A : Type 0} {K : View A} {w x : List ℕ} {n d : ℕ} {m : Act (Ans A)} {o r f o1 r1 f1 : List ℕ} {s : State}
+    {a : Answer}
+    → Asked w x n o r f s → Reads K w x n d m o r f s o1 r1 f1 a → length o1 ≡ length o → length r1 ≡ length r
+    → length f1 ≡ length f → GoesOn w x n o1 r1 f1 a (s .pos) (s .reported)
 goes-on q u a b c = record { asked = asked-moved q (u .moved) a b c; pos = u .moved .pos; reported = u .moved .reported }
 
 -- ---- nothing follows
 
 module _ {w x : List ℕ} {n i j : ℕ} {o r f : List ℕ} {a : Answer} (q : GoesOn w x n o r f a i j) where
   stays-on : Moved w x n i j (a .state) (a .state)
-  stays-on = record { at = omega arith; end = q .asked .asks .at; pos = q .pos; room = omega arith; reported = q .reported; less = omega arith; full = omega arith; few = q .asked .asks .few }
+  stays-on =
+      record {
+        at = omega arith;
+        end = q .asked .asks .at;
+        pos = q .pos;
+        room = omega arith;
+        reported = q .reported;
+        less = omega arith;
+        full = omega arith;
+        few = q .asked .asks .few;
+      }
 
-  pub goes-stops : {A B : Type 0} {K : View A} {L : View B} {d : ℕ} {k : Fallible A → Act (Ans B)} → Stopped a → Goes K L w x n d k i j o r f a o r f a
+  pub goes-stops : {A B : Type 0} {K : View A} {L : View B} {d : ℕ} {k : Fallible A → Act (Ans B)} → Stopped a
+      → Goes K L w x n d k i j o r f a o r f a
   goes-stops {d = d} {k = k} nd = record { moved = stays-on; is = λ T E p li lj h. stops d k p nd h }
 
-  pub goes-none : {A : Type 0} {K : View A} {d : ℕ} {k : Fallible A → Act (Ans A)} → a .how ≡ Done → ((e : Fallible A) (rd : List Consumed) → go d (k e) (st-of w x n f rd (a .state)) ≡ gives (ok e) (st-of w x n f rd (a .state))) → Goes K K w x n d k i j o r f a o r f a
+  pub goes-none : {A : Type 0} {K : View A} {d : ℕ} {k : Fallible A → Act (Ans A)} → a .how ≡ Done
+      → ((e : Fallible A) (rd : List Consumed)
+      → go d (k e) (st-of w x n f rd (a .state)) ≡ gives (ok e) (st-of w x n f rd (a .state)))
+      → Goes K K w x n d k i j o r f a o r f a
   goes-none {d = d} {k = k} z step = record {
     moved = stays-on;
-    is = λ T E p li lj h. let g = good-of z h in say (follows d k (g .is) ∙ step _ _) (is-good z (record { item = g .item; errors = g .errors; read = g .read; is = refl; tree = g .tree; rep = g .rep; holds = g .holds }));
+    is =
+        λ T E p li lj h. let g = good-of z h in
+        say (follows d k (g .is) ∙ step _ _) (is-good z (record {
+          item = g .item;
+          errors = g .errors;
+          read = g .read;
+          is = refl;
+          tree = g .tree;
+          rep = g .rep;
+          holds = g .holds;
+        }));
   }
 
 -- ---- another operand, and the record of both
@@ -57,7 +87,16 @@ module _ {A : Type 0} {K : View A} {w x : List ℕ} {n d i j : ℕ} {o r f o1 r1
   pub joined-moved : Moved w x n i j (a .state) (y .state)
   joined-moved =
       let e : budget w x n (y .state .at) ≡ budget w x n (b .state .at) = ap (λ (k : ℕ). budget w x n k) (F .at ∙ C .at) in
-      record { at = omega (arith, F .at, C .at, u .up, B .moved); end = omega (arith, F .at, C .at, B .moved); pos = omega (arith, F .low, C .low); room = omega (arith, F .high, C .high, B .moved, u .pays); reported = omega (arith, F .reported, C .first); less = omega (arith, F .reported, F .full, C .last, C .full, B .moved); full = omega (arith, F .full, C .full, B .moved); few = omega (arith, F .full, C .full, B .moved) }
+      record {
+        at = omega (arith, F .at, C .at, u .up, B .moved);
+        end = omega (arith, F .at, C .at, B .moved);
+        pos = omega (arith, F .low, C .low);
+        room = omega (arith, F .high, C .high, B .moved, u .pays);
+        reported = omega (arith, F .reported, C .first);
+        less = omega (arith, F .reported, F .full, C .last, C .full, B .moved);
+        full = omega (arith, F .full, C .full, B .moved);
+        few = omega (arith, F .full, C .full, B .moved);
+      }
 
   -- the next turn may go on from it
   pub joined-on : length o2 ≡ length o → length r2 ≡ length r → length f1 ≡ length f → GoesOn w x n o2 r2 f1 y i j
@@ -65,51 +104,86 @@ module _ {A : Type 0} {K : View A} {w x : List ℕ} {n d i j : ℕ} {o r f o1 r1
 
 -- Behind the answer a, the token t is read and then b by the act m; what `?` leaves of it is c; y has the record v.
 module _ {A : Type 0} {K : View A} {w x : List ℕ} {n d i j : ℕ} {o r f o1 r1 f1 r2 o2 : List ℕ} {a b c y : Answer} {t : Front} {v : Record} {m : Act (Ans A)} (p : Place) (ns : List Num)
-    (q : GoesOn w x n o r f a i j) (z : a .how ≡ Done) (u : Seen w x n (a .state .at) t) (B : Reads K w x n d m o r f (fore (a .state) t) o1 r1 f1 b) (C : Abandoned r1 b i j (a .state .reported) r2 c) (F : Finished x o1 c v o2 y)
+    (q : GoesOn w x n o r f a i j) (z : a .how ≡ Done) (u : Seen w x n (a .state .at) t)
+    (B : Reads K w x n d m o r f (fore (a .state) t) o1 r1 f1 b)
+    (C : Abandoned r1 b i j (a .state .reported) r2 c) (F : Finished x o1 c v o2 y)
     (paid : size-of v ≤ 16 * min (t .kind) 1) (made : rec-of x v ≡ record { tag = v .tag; place = some p; numbers = ns; text = [] }) where
   -- the record of the operand e and the other
   abbrev pub both : Fallible Node → Fallible A → Act (Ans Node)
   both e = wrapped K (e .item .recs) (e .errors) (v .tag) (λ _. p) (λ _. ns) []
 
-  pub joined : {T : List ℕ} {E : List Err} {h : Res (Ans Node)} → length T ≡ i → length E ≡ j → (g : Good node T E [] [] w x n o r f a h) (rd : List Consumed)
-      → Shows node T E [] [] w x n o2 r2 f1 y (go d (m >>? both (record { item = g .item; errors = g .errors })) (st-of w x n f rd (fore (a .state) t)))
+  pub joined : {T : List ℕ} {E : List Err} {h : Res (Ans Node)} → length T ≡ i → length E ≡ j
+      → (g : Good node T E [] [] w x n o r f a h) (rd : List Consumed)
+      → Shows node T E [] [] w x n o2 r2 f1 y
+      (go d (m >>? both (record { item = g .item; errors = g .errors })) (st-of w x n f rd (fore (a .state) t)))
   joined {T} {E} li lj g rd =
       say (go-bind d m (or-return (both (record { item = g .item; errors = g .errors }))) _)
       (finishes d (λ _. p) (λ _. ns) [] F (λ _ _. made)
-      (abandons {T = T} {E = E} (g .tree) (g .rep) li lj (errs-length r (a .state .reported) (omega arith)) C (omega (arith, q .pos, B .moved .pos)) (omega (arith, q .reported, B .moved .reported)) (B .is rd)))
+      (abandons {T = T} {E = E} (g .tree) (g .rep) li lj (errs-length r (a .state .reported) (omega arith)) C
+      (omega (arith, q .pos, B .moved .pos)) (omega (arith, q .reported, B .moved .reported)) (B .is rd)))
 
   module _ {k : Fallible Node → Act (Ans Node)} (past : List Consumed → List Consumed) where
     -- it ends there
-    pub goes-joined : ((e : Fallible Node) (rd : List Consumed) → go d (k e) (st-of w x n f rd (a .state)) ≡ go d (m >>? both e) (st-of w x n f (past rd) (fore (a .state) t))) → Goes node node w x n d k i j o r f a o2 r2 f1 y
-    goes-joined step = record { moved = joined-moved q u B C F paid; is = λ T E h li lj u. let g = good-of z u in say (follows d k (g .is) ∙ step _ _) (joined li lj g (past (g .read))) }
+    pub goes-joined : ((e : Fallible Node) (rd : List Consumed)
+        → go d (k e) (st-of w x n f rd (a .state))
+        ≡ go d (m >>? both e) (st-of w x n f (past rd) (fore (a .state) t)))
+        → Goes node node w x n d k i j o r f a o2 r2 f1 y
+    goes-joined step =
+        record {
+          moved = joined-moved q u B C F paid;
+          is = λ T E h li lj u. let g = good-of z u in
+              say (follows d k (g .is) ∙ step _ _) (joined li lj g (past (g .read)));
+        }
 
     -- it goes on with the next turn
-    pub goes-turn : {o3 r3 f3 : List ℕ} {y′ : Answer} (bin : Fallible Node → Fallible A → Fallible Node) → ((e : Fallible Node) (b : Fallible A) → both e b ≡ done (ok (bin e b)))
-        → ((e : Fallible Node) (rd : List Consumed) → go d (k e) (st-of w x n f rd (a .state)) ≡ go d (m >>? λ b. k (bin e b)) (st-of w x n f (past rd) (fore (a .state) t))) → Goes node node w x n d k i j o2 r2 f1 y o3 r3 f3 y′ → Goes node node w x n d k i j o r f a o3 r3 f3 y′
+    pub goes-turn : {o3 r3 f3 : List ℕ} {y′ : Answer} (bin : Fallible Node → Fallible A → Fallible Node)
+        → ((e : Fallible Node) (b : Fallible A) → both e b ≡ done (ok (bin e b)))
+        → ((e : Fallible Node) (rd : List Consumed)
+        → go d (k e) (st-of w x n f rd (a .state))
+        ≡ go d (m >>? λ b. k (bin e b)) (st-of w x n f (past rd) (fore (a .state) t)))
+        → Goes node node w x n d k i j o2 r2 f1 y o3 r3 f3 y′ → Goes node node w x n d k i j o r f a o3 r3 f3 y′
     goes-turn bin is-bin step G = record {
       moved = moved-trans (joined-moved q u B C F paid) (G .moved);
       is = λ T E h li lj u.
           let g = good-of z u in
           let e : Fallible Node = record { item = g .item; errors = g .errors } in
-          say (follows d k (g .is) ∙ step e (g .read) ∙ go-bind d m (or-return (λ b. k (bin e b))) _ ∙ seam d (both e) k (bin e) (is-bin e) (go d m (st-of w x n f (past (g .read)) (fore (a .state) t))) ∙ ap (λ (p : Res (Ans Node)). after p (λ z S. go d (or-return k z) S)) (sym (go-bind d m (or-return (both e)) _)))
+          say (follows d k (g .is) ∙ step e (g .read) ∙ go-bind d m (or-return (λ b. k (bin e b))) _
+          ∙ seam d (both e) k (bin e) (is-bin e) (go d m (st-of w x n f (past (g .read)) (fore (a .state) t)))
+          ∙ ap (λ (p : Res (Ans Node)). after p (λ z S. go d (or-return k z) S))
+          (sym (go-bind d m (or-return (both e)) _)))
           (G .is T E _ li lj (joined li lj g (past (g .read))));
     }
 
 -- ---- what the steps ask for
 
-module _ {A : Type 0} {K : View A} {w x : List ℕ} {n d i j : ℕ} {o r f o1 r1 f1 : List ℕ} {a b : Answer} {t : Front} {m : Act (Ans A)} (q : GoesOn w x n o r f a i j) (u : Seen w x n (a .state .at) t) (B : Reads K w x n d m o r f (fore (a .state) t) o1 r1 f1 b) where
+module _ {A : Type 0} {K : View A} {w x : List ℕ} {n d i j : ℕ} {o r f o1 r1 f1 : List ℕ} {a b : Answer}
+    {t : Front} {m : Act (Ans A)} (q : GoesOn w x n o r f a i j) (u : Seen w x n (a .state .at) t)
+    (B : Reads K w x n d m o r f (fore (a .state) t) o1 r1 f1 b) where
   pub join-cuts : length r1 ≡ length r → Cuts r1 b i j (a .state .reported)
-  join-cuts e = record { pos = omega (arith, q .pos, B .moved .pos); order = q .reported; own = B .moved .reported; within = omega (arith, B .moved, q .asked .asks) }
+  join-cuts e =
+      record {
+        pos = omega (arith, q .pos, B .moved .pos);
+        order = q .reported;
+        own = B .moved .reported;
+        within = omega (arith, B .moved, q .asked .asks);
+      }
 
-  pub join-room : {r2 : List ℕ} {c : Answer} → Abandoned r1 b i j (a .state .reported) r2 c → length o1 ≡ length o → Room o1 x (c .state .pos) (16 + 0) 0 0
+  pub join-room : {r2 : List ℕ} {c : Answer} → Abandoned r1 b i j (a .state .reported) r2 c → length o1 ≡ length o
+      → Room o1 x (c .state .pos) (16 + 0) 0 0
   join-room C e = record { room = omega (arith, C .high, B .moved .room, u .pays, q .asked .room); part = omega arith }
 
 -- room for a record with no text, at a later state
-pub room-at : {w x : List ℕ} {n i j : ℕ} {o r f o1 : List ℕ} {s t : State} → Asked w x n o r f s → Moved w x n i j s t → length o1 ≡ length o → Room o1 x (t .pos) (16 + 0) 0 0
+pub room-at : {w x : List ℕ} {n i j : ℕ} {o r f o1 : List ℕ} {s t : State} → Asked w x n o r f s → Moved w x n i j s t
+    → length o1 ≡ length o → Room o1 x (t .pos) (16 + 0) 0 0
 room-at q m e = record { room = omega (arith, q .room, m .room); part = omega arith }
 
-pub turn-on : {w x : List ℕ} {n i j : ℕ} {o r f o2 r2 f2 : List ℕ} {a y : Answer} → GoesOn w x n o r f a i j → Moved w x n i j (a .state) (y .state) → length o2 ≡ length o → length r2 ≡ length r → length f2 ≡ length f → GoesOn w x n o2 r2 f2 y i j
+pub turn-on : {w x : List ℕ} {n i j : ℕ} {o r f o2 r2 f2 : List ℕ} {a y : Answer} → GoesOn w x n o r f a i j
+    → Moved w x n i j (a .state) (y .state) → length o2 ≡ length o → length r2 ≡ length r → length f2 ≡ length f
+    → GoesOn w x n o2 r2 f2 y i j
 turn-on q m a b c = record { asked = asked-moved (q .asked) m a b c; pos = m .pos; reported = m .reported }
 
-pub goes-further : {A B : Type 0} {K : View A} {L : View B} {w x : List ℕ} {n d i j : ℕ} {k : Fallible A → Act (Ans B)} {o r f o2 r2 f2 : List ℕ} {a y : Answer} → GoesOn w x n o r f a i j → Goes K L w x n d k i j o r f a o2 r2 f2 y → length o2 ≡ length o → length r2 ≡ length r → length f2 ≡ length f → GoesOn w x n o2 r2 f2 y i j
+pub goes-further : {A B : Type 0} {K : View A} {L : View B} {w x : List ℕ} {n d i j : ℕ} {k : Fallible A → Act (Ans B)}
+    {o r f o2 r2 f2 : List ℕ} {a y : Answer}
+    → GoesOn w x n o r f a i j → Goes K L w x n d k i j o r f a o2 r2 f2 y → length o2 ≡ length o
+    → length r2 ≡ length r → length f2 ≡ length f → GoesOn w x n o2 r2 f2 y i j
 goes-further q g a b c = turn-on q (g .moved) a b c

@@ -39,35 +39,53 @@ use Rattle.grammar.proofs.Loops.{answered, not-fatal, refusal, loop-end
 -- ---- `item`
 
 module _ {w x : List ℕ} {n d : ℕ} {o r f o1 r1 f1 : List ℕ} {s : State} {a : Answer} {what : Listed} where
-  pub item-parameter : what ≡ I.Parameters → Reads node w x n d P.parse-named-type o r f s o1 r1 f1 a → Reads node w x n d (P.item (listed-of what)) o r f s o1 r1 f1 a
+  pub item-parameter : what ≡ I.Parameters → Reads node w x n d P.parse-named-type o r f s o1 r1 f1 a
+      → Reads node w x n d (P.item (listed-of what)) o r f s o1 r1 f1 a
   item-parameter z u = rw z u
 
-  pub item-argument : what ≡ I.Arguments → Reads node w x n d P.parse-expression o r f s o1 r1 f1 a → Reads node w x n d (P.item (listed-of what)) o r f s o1 r1 f1 a
+  pub item-argument : what ≡ I.Arguments → Reads node w x n d P.parse-expression o r f s o1 r1 f1 a
+      → Reads node w x n d (P.item (listed-of what)) o r f s o1 r1 f1 a
   item-argument z u = rw z u
 
-  pub item-field : what ≡ I.StructFields → Reads node w x n d P.parse-named-type o r f s o1 r1 f1 a → Reads node w x n d (P.item (listed-of what)) o r f s o1 r1 f1 a
+  pub item-field : what ≡ I.StructFields → Reads node w x n d P.parse-named-type o r f s o1 r1 f1 a
+      → Reads node w x n d (P.item (listed-of what)) o r f s o1 r1 f1 a
   item-field z u = rw z u
 
-  pub item-value : what ≡ I.ArrayValues → Reads node w x n d P.parse-expression o r f s o1 r1 f1 a → Reads node w x n d (P.item (listed-of what)) o r f s o1 r1 f1 a
+  pub item-value : what ≡ I.ArrayValues → Reads node w x n d P.parse-expression o r f s o1 r1 f1 a
+      → Reads node w x n d (P.item (listed-of what)) o r f s o1 r1 f1 a
   item-value z u = rw z u
 
-  pub item-named-value : what ≡ I.StructValues → Reads node w x n d P.parse-compound-struct-field o r f s o1 r1 f1 a → Reads node w x n d (P.item (listed-of what)) o r f s o1 r1 f1 a
+  pub item-named-value : what ≡ I.StructValues → Reads node w x n d P.parse-compound-struct-field o r f s o1 r1 f1 a
+      → Reads node w x n d (P.item (listed-of what)) o r f s o1 r1 f1 a
   item-named-value z u = rw z u
 
 -- ---- `list`
 
 -- a list is its opener, and the loop with what that reports
-listing : (k : A.Listed) (d : ℕ) (S : St) → go d (P.parse-list k >>= as-answer) S ≡ after (go d (P.expect (P.opener k)) S) (λ y T. go d (loop (ListOf k (P.no-items (P.errors-of y))) done >>= as-answer) T)
+listing : (k : A.Listed) (d : ℕ) (S : St)
+    → go d (P.parse-list k >>= as-answer) S
+    ≡ after (go d (P.expect (P.opener k)) S)
+    (λ y T. go d (loop (ListOf k (P.no-items (P.errors-of y))) done >>= as-answer) T)
 unfolding P.parse-list
 listing k d S =
-    go-bind d (P.parse-list k) as-answer S ∙ ap (λ (z : Res Items). after z (λ i T. go d (as-answer i) T)) (go-bind d (P.expect (P.opener k)) (λ y. loop (ListOf k (P.no-items (P.errors-of y))) done) S) ∙ one (go d (P.expect (P.opener k)) S)
+    go-bind d (P.parse-list k) as-answer S
+    ∙ ap (λ (z : Res Items). after z (λ i T. go d (as-answer i) T))
+    (go-bind d (P.expect (P.opener k)) (λ y. loop (ListOf k (P.no-items (P.errors-of y))) done) S)
+    ∙ one (go d (P.expect (P.opener k)) S)
   where
-    one : (z : Res (Ans Tok)) → after (after z (λ y T. go d (loop (ListOf k (P.no-items (P.errors-of y))) done) T)) (λ i T. go d (as-answer i) T) ≡ after z (λ y T. go d (loop (ListOf k (P.no-items (P.errors-of y))) done >>= as-answer) T)
+    one : (z : Res (Ans Tok))
+        → after (after z (λ y T. go d (loop (ListOf k (P.no-items (P.errors-of y))) done) T))
+        (λ i T. go d (as-answer i) T)
+        ≡ after z (λ y T. go d (loop (ListOf k (P.no-items (P.errors-of y))) done >>= as-answer) T)
     one (gives y T) = sym (go-bind d (loop (ListOf k (P.no-items (P.errors-of y))) done) as-answer T)
     one (refused m) = refl
 
-module _ {w x : List ℕ} {n wanted : ℕ} (k : A.Listed) {o r f r1 f1 : List ℕ} {s : State} {a : Answer} (q : Asked w x n o r f s) (c : (wanted ≡ P.opener k) × ((0 < wanted) × (wanted < 256))) (e : Expects w x n (λ role. P.expect-as role wanted) r f s r1 f1 a) where
-  opens : (d : ℕ) (rd : List Consumed) → Shows (token (head (rest w x n (s .at)))) (take (s .pos) o) (errs r (s .reported)) [] [] w x n o r1 f1 a (go d (P.expect (P.opener k)) (st-of w x n f rd s))
+module _ {w x : List ℕ} {n wanted : ℕ} (k : A.Listed) {o r f r1 f1 : List ℕ} {s : State} {a : Answer}
+    (q : Asked w x n o r f s) (c : (wanted ≡ P.opener k) × ((0 < wanted) × (wanted < 256)))
+    (e : Expects w x n (λ role. P.expect-as role wanted) r f s r1 f1 a) where
+  opens : (d : ℕ) (rd : List Consumed)
+      → Shows (token (head (rest w x n (s .at)))) (take (s .pos) o) (errs r (s .reported)) [] [] w x n o r1 f1 a
+      (go d (P.expect (P.opener k)) (st-of w x n f rd s))
   opens d rd = rw (← c .0) (e .is plain d rd o)
 
   pub list-refused : {d : ℕ} → Ended a → ReadsList w x n d k o r f s o r1 f1 a
@@ -79,7 +97,8 @@ module _ {w x : List ℕ} {n wanted : ℕ} (k : A.Listed) {o r f r1 f1 : List �
     is = λ rd. refusal h (λ m g. listing k d _ ∙ rw g) (opens d rd);
   }
 
-  pub list-on : {d : ℕ} {o2 r2 f2 : List ℕ} {y : Answer} → Alive a → LoopOn (listed-on k) w x n d 0 o r1 f1 (a .state) o2 r2 f2 y → ReadsList w x n d k o r f s o2 r2 f2 y
+  pub list-on : {d : ℕ} {o2 r2 f2 : List ℕ} {y : Answer} → Alive a
+      → LoopOn (listed-on k) w x n d 0 o r1 f1 (a .state) o2 r2 f2 y → ReadsList w x n d k o r f s o2 r2 f2 y
   unfolding recs-bytes
   list-on {d} {o2} {r2} {f2} {y} h u = record {
     moved = moved-onward (e .moved) (u .moved);
@@ -89,27 +108,50 @@ module _ {w x : List ℕ} {n wanted : ℕ} (k : A.Listed) {o r f r1 f1 : List �
     is = λ rd. say (listing k d _) (one rd (a .how) h (opens d rd .told));
   }
     where
-      one : (rd : List Consumed) (g : How) → OneOf (0 ∷ 1 ∷ []) (tagOf the-type g) → ShowsOf g (token (head (rest w x n (s .at)))) (take (s .pos) o) (errs r (s .reported)) [] [] w x n o r1 f1 a (go d (P.expect (P.opener k)) (st-of w x n f rd s))
-          → Shows items (take (s .pos) o) (errs r (s .reported)) [] [] w x n o2 r2 f2 y (after (go d (P.expect (P.opener k)) (st-of w x n f rd s)) (λ z S. go d (loop (ListOf k (P.no-items (P.errors-of z))) done >>= as-answer) S))
-      one rd Done h i = rw (i .is) (u .is (i .read) (take (s .pos) o) (errs r (s .reported)) (P.no-items (i .errors)) (i .tree) (i .rep) refl)
-      one rd Fatal h i = rw (i .is) (u .is (i .read) (take (s .pos) o) (errs r (s .reported)) (P.no-items (i .errors)) (i .tree ∙ sym (append-nil (take (s .pos) o))) (i .rep) refl)
+      one : (rd : List Consumed) (g : How) → OneOf (0 ∷ 1 ∷ []) (tagOf the-type g)
+          → ShowsOf g (token (head (rest w x n (s .at)))) (take (s .pos) o) (errs r (s .reported)) [] [] w x n o
+          r1 f1 a (go d (P.expect (P.opener k)) (st-of w x n f rd s))
+          → Shows items (take (s .pos) o) (errs r (s .reported)) [] [] w x n o2 r2 f2 y
+          (after (go d (P.expect (P.opener k)) (st-of w x n f rd s))
+          (λ z S. go d (loop (ListOf k (P.no-items (P.errors-of z))) done >>= as-answer) S))
+      one rd Done h i =
+          rw (i .is)
+          (u .is (i .read) (take (s .pos) o) (errs r (s .reported)) (P.no-items (i .errors)) (i .tree) (i .rep)
+          refl)
+      one rd Fatal h i =
+          rw (i .is) (u .is (i .read) (take (s .pos) o) (errs r (s .reported)) (P.no-items (i .errors))
+          (i .tree ∙ sym (append-nil (take (s .pos) o))) (i .rep) refl)
       one rd (Refused m) h i = absurd (⊎-elim (λ z. omega arith) (λ z. omega arith) h)
 
 -- ---- its loop
 
-module _ {w x : List ℕ} {n count : ℕ} (k : A.Listed) {o r f : List ℕ} {s : State} {t : Front} (q : Asked w x n o r f s × (count ≤ s .at)) (v : Seen w x n (s .at) t) where
-  pub rest-end : {d e : ℕ} {r1 f1 : List ℕ} {b : Answer} → t .kind ≡ 0 → unpack e ≡ error-at 14 0 0 0 0 → Raised (noted n s) r f s e r1 f1 b → LoopOn (listed-on k) w x n d count o r f s o r1 f1 (record { how = b .how; state = b .state; line = count; column = 0 })
+module _ {w x : List ℕ} {n count : ℕ} (k : A.Listed) {o r f : List ℕ} {s : State} {t : Front}
+    (q : Asked w x n o r f s × (count ≤ s .at)) (v : Seen w x n (s .at) t) where
+  pub rest-end : {d e : ℕ} {r1 f1 : List ℕ} {b : Answer} → t .kind ≡ 0 → unpack e ≡ error-at 14 0 0 0 0
+      → Raised (noted n s) r f s e r1 f1 b
+      → LoopOn (listed-on k) w x n d count o r f s o r1 f1
+      (record { how = b .how; state = b .state; line = count; column = 0 })
   unfolding go run P.list-turn
-  rest-end {d} z i g = loop-ended (listed-on k) q v g (λ rd l. go-loop d (ListOf k l) (st-of w x n f rd s) ∙ rw (run, yes v z) (ap (λ (X : Err). go d (make X (done (P.with-error l X))) (st-of w x n f rd s)) (sym i)))
+  rest-end {d} z i g =
+      loop-ended (listed-on k) q v g (λ rd l. go-loop d (ListOf k l) (st-of w x n f rd s) ∙ rw (run, yes v z)
+      (ap (λ (X : Err). go d (make X (done (P.with-error l X))) (st-of w x n f rd s)) (sym i)))
 
   module _ {close : ℕ} (m0 : t .kind ≡ 0 → ⊥) (c : close ≡ P.closer k) where
-    pub rest-closed : {d : ℕ} → t .kind ≡ close → LoopOn (listed-on k) w x n d count o r f s o r f (record { how = Done; state = fore s t; line = count; column = 0 })
+    pub rest-closed : {d : ℕ} → t .kind ≡ close
+        → LoopOn (listed-on k) w x n d count o r f s o r f
+        (record { how = Done; state = fore s t; line = count; column = 0 })
     unfolding go run P.list-turn
-    rest-closed {d} z = loop-closed (listed-on k) q v (λ rd l. go-loop d (ListOf k l) (st-of w x n f rd s) ∙ rw (run, no v m0, yes v (z ∙ c)) (ap (λ (S : St). gives l S) (adv s v (λ _. plain) f rd)))
+    rest-closed {d} z =
+        loop-closed (listed-on k) q v
+        (λ rd l. go-loop d (ListOf k l) (st-of w x n f rd s) ∙ rw (run, no v m0, yes v (z ∙ c))
+        (ap (λ (S : St). gives l S) (adv s v (λ _. plain) f rd)))
 
-    module _ {d : ℕ} {o1 r1 f1 : List ℕ} {b : Answer} (mc : t .kind ≡ close → ⊥) (u : Reads node w x n d (P.item k) o r f s o1 r1 f1 b) where
+    module _ {d : ℕ} {o1 r1 f1 : List ℕ} {b : Answer} (mc : t .kind ≡ close → ⊥)
+        (u : Reads node w x n d (P.item k) o r f s o1 r1 f1 b) where
       -- a turn that reads an item
-      item-turn : (rd : List Consumed) (l : Items) → go d (listed-on k l) (st-of w x n f rd s) ≡ go d (P.item k >>= λ a. P.after-item k (P.integrate l a)) (st-of w x n f rd s)
+      item-turn : (rd : List Consumed) (l : Items)
+          → go d (listed-on k l) (st-of w x n f rd s)
+          ≡ go d (P.item k >>= λ a. P.after-item k (P.integrate l a)) (st-of w x n f rd s)
       unfolding go run P.list-turn
       item-turn rd l = go-loop d (ListOf k l) (st-of w x n f rd s) ∙ rw (run, no v m0, no v (λ z. mc (z ∙ sym c)))
 
@@ -120,32 +162,54 @@ module _ {w x : List ℕ} {n count : ℕ} (k : A.Listed) {o r f : List ℕ} {s :
         pub rest-comma : Stopped a → LoopOn (listed-on k) w x n d count o r f s o1 r2 f2 a
         rest-comma nd = record {
           moved = moved-onward (u .moved) (g .moved);
-          never = λ z. subst (λ (h : How). CommasOf h w x n k r1 f1 (b .state) r2 f2 (a .state) d [] (P.no-items [])) z (g .is k (sym c) d [] (P.no-items []));
-          is = λ rd T E l et ee ec. let j = joined (listed-on k) (P.after-item k) (P.item k) item-turn u alive rd T E l et ee ec in say (j .is) (record { told = one T E (j .read) (j .list) (a .how) nd (g .is k (sym c) d (j .read) (j .list)) });
+          never =
+              λ z. subst
+              (λ (h : How). CommasOf h w x n k r1 f1 (b .state) r2 f2 (a .state) d [] (P.no-items [])) z
+              (g .is k (sym c) d [] (P.no-items []));
+          is =
+              λ rd T E l et ee ec. let j = joined (listed-on k) (P.after-item k) (P.item k) item-turn u alive rd
+              T E l et ee ec in
+              say (j .is)
+              (record { told = one T E (j .read) (j .list) (a .how) nd (g .is k (sym c) d (j .read) (j .list)) });
         }
           where
-            one : (T : List ℕ) (E : List Err) (rd : List Consumed) (l : Items) (h : How) → OneOf (1 ∷ 2 ∷ []) (tagOf the-type h) → CommasOf h w x n k r1 f1 (b .state) r2 f2 (a .state) d rd l
+            one : (T : List ℕ) (E : List Err) (rd : List Consumed) (l : Items) (h : How)
+                → OneOf (1 ∷ 2 ∷ []) (tagOf the-type h)
+                → CommasOf h w x n k r1 f1 (b .state) r2 f2 (a .state) d rd l
                 → ShowsOf h items T E [] [] w x n o1 r2 f2 a (answered d (go d (P.after-item k l) (st-of w x n f1 rd (b .state))))
             one T E rd l Done nd i = absurd (⊎-elim (λ z. omega arith) (λ z. omega arith) nd)
             one T E rd l Fatal nd i = absurd i
             one T E rd l (Refused m) nd i = rw i
 
-        pub rest-next : {m : ℕ} {o3 r3 f3 : List ℕ} {y : Answer} → a .how ≡ Done → Counted (b .how) count m → LoopOn (listed-on k) w x n d m o1 r2 f2 (a .state) o3 r3 f3 y → LoopOn (listed-on k) w x n d count o r f s o3 r3 f3 y
+        pub rest-next : {m : ℕ} {o3 r3 f3 : List ℕ} {y : Answer} → a .how ≡ Done → Counted (b .how) count m
+            → LoopOn (listed-on k) w x n d m o1 r2 f2 (a .state) o3 r3 f3 y
+            → LoopOn (listed-on k) w x n d count o r f s o3 r3 f3 y
         rest-next {m} z cm h = record {
           moved = moved-onward (moved-onward (u .moved) (g .moved)) (h .moved);
           never = h .never;
           is = λ rd T E l et ee ec.
               let j = joined (listed-on k) (P.after-item k) (P.item k) item-turn u alive rd T E l et ee ec in
-              let i : Next w x n k r1 f1 (b .state) r2 f2 (a .state) d (j .read) (j .list) = subst (λ (h : How). CommasOf h w x n k r1 f1 (b .state) r2 f2 (a .state) d (j .read) (j .list)) z (g .is k (sym c) d (j .read) (j .list)) in
+              let i : Next w x n k r1 f1 (b .state) r2 f2 (a .state) d (j .read) (j .list) = subst
+              (λ (h : How). CommasOf h w x n k r1 f1 (b .state) r2 f2 (a .state) d (j .read) (j .list)) z
+              (g .is k (sym c) d (j .read) (j .list)) in
               say (j .is ∙ ap (answered d) (i .is) ∙ sym (go-bind d (listed-on k (with-errors (j .list) (i .errors))) as-answer _))
-              (h .is (i .read) T E (with-errors (j .list) (i .errors)) (ap (λ (p : ℕ). take p o1) (g .pos) ∙ j .tree) (errs-join E (j .list .errors) (i .errors) (j .rep) (i .rep)) (j .counts ∙ sym (cm .is)));
+              (h .is (i .read) T E (with-errors (j .list) (i .errors))
+              (ap (λ (p : ℕ). take p o1) (g .pos) ∙ j .tree)
+              (errs-join E (j .list .errors) (i .errors) (j .rep) (i .rep)) (j .counts ∙ sym (cm .is)));
         }
 
 -- ---- what their calls ask for
 
-module _ {w x : List ℕ} {n d count : ℕ} {act : Act (Ans Node)} {o r f o1 r1 f1 : List ℕ} {s : State} {t : Front} {b : Answer} (q : Asked w x n o r f s × (count ≤ s .at)) (v : Seen w x n (s .at) t) (m0 : t .kind ≡ 0 → ⊥) (u : Reads node w x n d act o r f s o1 r1 f1 b) where
+module _ {w x : List ℕ} {n d count : ℕ} {act : Act (Ans Node)} {o r f o1 r1 f1 : List ℕ} {s : State} {t : Front}
+    {b : Answer} (q : Asked w x n o r f s × (count ≤ s .at)) (v : Seen w x n (s .at) t) (m0 : t .kind ≡ 0 → ⊥)
+    (u : Reads node w x n d act o r f s o1 r1 f1 b) where
   pub comma-asks : length r1 ≡ length r → length f1 ≡ length f → Asks w x n r1 f1 (b .state)
   comma-asks l g = asks-moved (q .0 .asks) (u .moved) l g
 
-  pub rest-asked : {close m : ℕ} {r2 f2 : List ℕ} {a : Answer} → Commas w x n r1 f1 (b .state) close r2 f2 a → Counted (b .how) count m → length o1 ≡ length o → length r2 ≡ length r → length f2 ≡ length f → Asked w x n o1 r2 f2 (a .state) × (m ≤ a .state .at)
-  rest-asked g c lo l h = (asked-moved (q .0) (moved-onward (u .moved) (g .moved)) lo l h, omega (arith, q .1, v .kind, m0, u .on, g .moved .at, c .high))
+  pub rest-asked : {close m : ℕ} {r2 f2 : List ℕ} {a : Answer} → Commas w x n r1 f1 (b .state) close r2 f2 a
+      → Counted (b .how) count m → length o1 ≡ length o → length r2 ≡ length r → length f2 ≡ length f
+      → Asked w x n o1 r2 f2 (a .state) × (m ≤ a .state .at)
+  rest-asked g c lo l h = (
+    asked-moved (q .0) (moved-onward (u .moved) (g .moved)) lo l h,
+    omega (arith, q .1, v .kind, m0, u .on, g .moved .at, c .high),
+  )

@@ -43,7 +43,9 @@ pub not-fatal : (h : How) → tagOf the-type h ≡ 2 → h ≡ Fatal → ⊥
 not-fatal h e z = let y : tagOf the-type h ≡ 1 = rw z in omega arith
 
 -- a refusal is one for what follows, too
-pub refusal : {A : Type 0} {K : View A} {T : List ℕ} {E : List Err} {w x : List ℕ} {n : ℕ} {o r f o′ r′ f′ : List ℕ} {T′ : List ℕ} {E′ : List Err} {a : Answer} {q : Res (Ans A)} {q′ : Res (Ans Items)} → Ended a → ((m : ℕ) → q ≡ refused m → q′ ≡ refused m)
+pub refusal : {A : Type 0} {K : View A} {T : List ℕ} {E : List Err} {w x : List ℕ} {n : ℕ} {o r f o′ r′ f′ : List ℕ}
+    {T′ : List ℕ} {E′ : List Err} {a : Answer} {q : Res (Ans A)} {q′ : Res (Ans Items)}
+    → Ended a → ((m : ℕ) → q ≡ refused m → q′ ≡ refused m)
     → Shows {A = A} K T E [] [] w x n o r f a q → Shows items T′ E′ [] [] w x n o′ r′ f′ a q′
 refusal {A} {K} {T} {E} {w} {x} {n} {o} {r} {f} {o′} {r′} {f′} {T′} {E′} {a} {q} {q′} e h v = record { told = one (a .how) e (v .told) }
   where
@@ -54,27 +56,59 @@ refusal {A} {K} {T} {E} {w} {x} {n} {o} {r} {f} {o′} {r′} {f′} {T′} {E�
 
 -- ---- a turn that ends the loop `on`
 
-module _ {w x : List ℕ} {n d count : ℕ} (on : Items → Act Items) {o r f : List ℕ} {s : State} {t : Front} (q : Asked w x n o r f s × (count ≤ s .at)) (v : Seen w x n (s .at) t) where
+module _ {w x : List ℕ} {n d count : ℕ} (on : Items → Act Items) {o r f : List ℕ} {s : State} {t : Front}
+    (q : Asked w x n o r f s × (count ≤ s .at)) (v : Seen w x n (s .at) t) where
   -- behind the token that closes it
-  pub loop-closed : ((rd : List Consumed) (l : Items) → go d (on l) (st-of w x n f rd s) ≡ gives l (st-of w x n f (past w x n (s .at) rd) (fore s t))) → LoopOn on w x n d count o r f s o r f (record { how = Done; state = fore s t; line = count; column = 0 })
+  pub loop-closed : ((rd : List Consumed) (l : Items)
+      → go d (on l) (st-of w x n f rd s) ≡ gives l (st-of w x n f (past w x n (s .at) rd) (fore s t)))
+      → LoopOn on w x n d count o r f s o r f (record { how = Done; state = fore s t; line = count; column = 0 })
   unfolding go run
   loop-closed step = record {
     moved = fore-moved (q .0 .asks) v;
     never = λ y. let e : _≡_ {A = ℕ} 0 1 = cc in omega arith;
-    is = λ rd T E l et ee ec. record { told = record { item = l; errors = l .errors; read = past w x n (s .at) rd; is = go-bind d (on l) as-answer _ ∙ ap (answered d) (step rd l); tree = et; rep = ee; holds = ec } };
+    is =
+        λ rd T E l et ee ec. record {
+          told = record {
+            item = l;
+            errors = l .errors;
+            read = past w x n (s .at) rd;
+            is = go-bind d (on l) as-answer _ ∙ ap (answered d) (step rd l);
+            tree = et;
+            rep = ee;
+            holds = ec;
+          };
+        };
   }
 
   -- with an error, at the end of the script
-  pub loop-ended : {e : ℕ} {r1 f1 : List ℕ} {b : Answer} → Raised (noted n s) r f s e r1 f1 b → ((rd : List Consumed) (l : Items) → go d (on l) (st-of w x n f rd s) ≡ go d (make (unpack e) (done (P.with-error l (unpack e)))) (st-of w x n f rd s))
+  pub loop-ended : {e : ℕ} {r1 f1 : List ℕ} {b : Answer} → Raised (noted n s) r f s e r1 f1 b
+      → ((rd : List Consumed) (l : Items)
+      → go d (on l) (st-of w x n f rd s)
+      ≡ go d (make (unpack e) (done (P.with-error l (unpack e)))) (st-of w x n f rd s))
       → LoopOn on w x n d count o r f s o r1 f1 (record { how = b .how; state = b .state; line = count; column = 0 })
   unfolding go run
   loop-ended {e} {r1} {f1} {b} g step = record {
     moved = rw (g .is) (making-moved (q .0 .asks) Done);
-    never = made-so Done n s (λ y. y .how ≡ Fatal → ⊥) (g .is) (λ _ y. let e : _≡_ {A = ℕ} 0 1 = cc in omega arith) (λ _ y. let e : _≡_ {A = ℕ} 0 1 = cc in omega arith);
+    never =
+        made-so Done n s (λ y. y .how ≡ Fatal → ⊥) (g .is) (λ _ y. let e : _≡_ {A = ℕ} 0 1 = cc in omega arith)
+        (λ _ y. let e : _≡_ {A = ℕ} 0 1 = cc in omega arith);
     is = λ rd T E l et ee ec.
-        let made : go d (on l >>= as-answer) (st-of w x n f rd s) ≡ answered d (go d (make (unpack e) (done (P.with-error l (unpack e)))) (st-of w x n f rd s)) = go-bind d (on l) as-answer _ ∙ ap (answered d) (step rd l) in
-        made-so Done n s (λ y. Shows items T E [] [] w x n o r1 f1 (record { how = y .how; state = y .state; line = count; column = 0 }) (go d (on l >>= as-answer) (st-of w x n f rd s))) (g .is)
-        (λ h. record { told = record { item = P.with-error l (unpack e); errors = l .errors ++ (unpack e ∷ []); read = rd; is = made ∙ ap (answered d) (makes (q .0 .asks) g d (done (P.with-error l (unpack e))) rd h); tree = et; rep = errs-join E (l .errors) (unpack e ∷ []) ee (g .rep h); holds = ec } })
+        let made : go d (on l >>= as-answer) (st-of w x n f rd s) ≡ answered d (go d (make (unpack e) (done (P.with-error l (unpack e)))) (st-of w x n f rd s)) =
+        go-bind d (on l) as-answer _ ∙ ap (answered d) (step rd l) in
+        made-so Done n s (λ y. Shows items T E [] [] w x n o r1 f1
+        (record { how = y .how; state = y .state; line = count; column = 0 })
+        (go d (on l >>= as-answer) (st-of w x n f rd s))) (g .is)
+        (λ h. record {
+          told = record {
+            item = P.with-error l (unpack e);
+            errors = l .errors ++ (unpack e ∷ []);
+            read = rd;
+            is = made ∙ ap (answered d) (makes (q .0 .asks) g d (done (P.with-error l (unpack e))) rd h);
+            tree = et;
+            rep = errs-join E (l .errors) (unpack e ∷ []) ee (g .rep h);
+            holds = ec;
+          };
+        })
         (λ h. record { told = made ∙ ap (answered d) (makes-none (q .0 .asks) g d (done (P.with-error l (unpack e))) rd h) });
   }
 
@@ -93,31 +127,69 @@ pub record Joined (w x : List ℕ) (n d : ℕ) (next : Items → Act Items) (T :
 module _ {w x : List ℕ} {n d : ℕ} {o r f o1 r1 f1 : List ℕ} {s : State} {b : Answer} (on next : Items → Act Items) (m : Act (Ans Node)) (step : (rd : List Consumed) (l : Items) → go d (on l) (st-of w x n f rd s) ≡ go d (m >>= λ a. next (P.integrate l a)) (st-of w x n f rd s))
     (u : Reads node w x n d m o r f s o1 r1 f1 b) where
   -- the item, and what follows it
-  item-first : (rd : List Consumed) (l : Items) → go d (on l >>= as-answer) (st-of w x n f rd s) ≡ answered d (after (go d m (st-of w x n f rd s)) (λ a S. go d (next (P.integrate l a)) S))
-  item-first rd l = go-bind d (on l) as-answer (st-of w x n f rd s) ∙ ap (answered d) (step rd l ∙ go-bind d m (λ a. next (P.integrate l a)) (st-of w x n f rd s))
+  item-first : (rd : List Consumed) (l : Items)
+      → go d (on l >>= as-answer) (st-of w x n f rd s)
+      ≡ answered d (after (go d m (st-of w x n f rd s)) (λ a S. go d (next (P.integrate l a)) S))
+  item-first rd l =
+      go-bind d (on l) as-answer (st-of w x n f rd s)
+      ∙ ap (answered d) (step rd l ∙ go-bind d m (λ a. next (P.integrate l a)) (st-of w x n f rd s))
 
   pub loop-refused : {count : ℕ} → Ended b → LoopOn on w x n d count o r f s o1 r1 f1 b
-  loop-refused h = record { moved = u .moved; never = not-fatal (b .how) h; is = λ rd T E l et ee ec. refusal h (λ m g. item-first rd l ∙ rw g) (u .is rd) }
+  loop-refused h =
+      record {
+        moved = u .moved;
+        never = not-fatal (b .how) h;
+        is = λ rd T E l et ee ec. refusal h (λ m g. item-first rd l ∙ rw g) (u .is rd);
+      }
 
-  pub joined : {count : ℕ} → Alive b → (rd : List Consumed) (T : List ℕ) (E : List Err) (l : Items) → take (s .pos) o ≡ T ++ recs-bytes (l .recs) → errs r (s .reported) ≡ E ++ l .errors → l .count ≡ count → Joined w x n d next T E o1 r1 f1 b count (go d (on l >>= as-answer) (st-of w x n f rd s))
+  pub joined : {count : ℕ} → Alive b → (rd : List Consumed) (T : List ℕ) (E : List Err) (l : Items)
+      → take (s .pos) o ≡ T ++ recs-bytes (l .recs) → errs r (s .reported) ≡ E ++ l .errors → l .count ≡ count
+      → Joined w x n d next T E o1 r1 f1 b count (go d (on l >>= as-answer) (st-of w x n f rd s))
   joined {count} alive rd T E l et ee ec = one (b .how) refl alive (u .is rd .told)
     where
-      one : (h : How) → b .how ≡ h → OneOf (0 ∷ 1 ∷ []) (tagOf the-type h) → ShowsOf h node (take (s .pos) o) (errs r (s .reported)) [] [] w x n o1 r1 f1 b (go d m (st-of w x n f rd s)) → Joined w x n d next T E o1 r1 f1 b count (go d (on l >>= as-answer) (st-of w x n f rd s))
-      one Done z h i = record { list = P.integrate l (ok (record { item = i .item; errors = i .errors })); read = i .read; is = item-first rd l ∙ rw (i .is); tree = tree-join T (l .recs) (i .item .recs) et (i .tree); rep = errs-join E (l .errors) (i .errors) ee (i .rep); counts = rw z (omega (arith, ec)) }
-      one Fatal z h i = record { list = P.integrate l (fatal (i .errors)); read = i .read; is = item-first rd l ∙ rw (i .is); tree = i .tree ∙ et; rep = errs-join E (l .errors) (i .errors) ee (i .rep); counts = rw z ec }
+      one : (h : How) → b .how ≡ h → OneOf (0 ∷ 1 ∷ []) (tagOf the-type h)
+          → ShowsOf h node (take (s .pos) o) (errs r (s .reported)) [] [] w x n o1 r1 f1 b
+          (go d m (st-of w x n f rd s))
+          → Joined w x n d next T E o1 r1 f1 b count (go d (on l >>= as-answer) (st-of w x n f rd s))
+      one Done z h i =
+          record {
+            list = P.integrate l (ok (record { item = i .item; errors = i .errors }));
+            read = i .read;
+            is = item-first rd l ∙ rw (i .is);
+            tree = tree-join T (l .recs) (i .item .recs) et (i .tree);
+            rep = errs-join E (l .errors) (i .errors) ee (i .rep);
+            counts = rw z (omega (arith, ec));
+          }
+      one Fatal z h i =
+          record {
+            list = P.integrate l (fatal (i .errors));
+            read = i .read;
+            is = item-first rd l ∙ rw (i .is);
+            tree = i .tree ∙ et;
+            rep = errs-join E (l .errors) (i .errors) ee (i .rep);
+            counts = rw z ec;
+          }
       one (Refused m) z h i = absurd (⊎-elim (λ z. omega arith) (λ z. omega arith) h)
 
 -- a loop that goes on with itself
 module _ {w x : List ℕ} {n d : ℕ} {o r f o1 r1 f1 : List ℕ} {s : State} {b : Answer} (on : Items → Act Items) (m : Act (Ans Node)) (step : (rd : List Consumed) (l : Items) → go d (on l) (st-of w x n f rd s) ≡ go d (m >>= λ a. on (P.integrate l a)) (st-of w x n f rd s))
     (u : Reads node w x n d m o r f s o1 r1 f1 b) where
-  pub loop-next : {count k : ℕ} {o3 r3 f3 : List ℕ} {y : Answer} → Alive b → Counted (b .how) count k → LoopOn on w x n d k o1 r1 f1 (b .state) o3 r3 f3 y → LoopOn on w x n d count o r f s o3 r3 f3 y
+  pub loop-next : {count k : ℕ} {o3 r3 f3 : List ℕ} {y : Answer} → Alive b → Counted (b .how) count k
+      → LoopOn on w x n d k o1 r1 f1 (b .state) o3 r3 f3 y → LoopOn on w x n d count o r f s o3 r3 f3 y
   loop-next alive ck h = record {
     moved = moved-onward (u .moved) (h .moved);
     never = h .never;
-    is = λ rd T E l et ee ec. let j = joined on on m step u alive rd T E l et ee ec in say (j .is ∙ sym (go-bind d (on (j .list)) as-answer _)) (h .is (j .read) T E (j .list) (j .tree) (j .rep) (j .counts ∙ sym (ck .is)));
+    is =
+        λ rd T E l et ee ec. let j = joined on on m step u alive rd T E l et ee ec in
+        say (j .is ∙ sym (go-bind d (on (j .list)) as-answer _))
+        (h .is (j .read) T E (j .list) (j .tree) (j .rep) (j .counts ∙ sym (ck .is)));
   }
 
 -- what the next turn asks for: an item that a token begins passes it
-pub loop-asked : {w x : List ℕ} {n d count k : ℕ} {m : Act (Ans Node)} {o r f o1 r1 f1 : List ℕ} {s : State} {b : Answer} {t : Front} → Asked w x n o r f s × (count ≤ s .at) → Seen w x n (s .at) t → (t .kind ≡ 0 → ⊥) → Reads node w x n d m o r f s o1 r1 f1 b → Counted (b .how) count k → length o1 ≡ length o → length r1 ≡ length r → length f1 ≡ length f
+pub loop-asked : {w x : List ℕ} {n d count k : ℕ} {m : Act (Ans Node)} {o r f o1 r1 f1 : List ℕ} {s : State} {b : Answer}
+    {t : Front}
+    → Asked w x n o r f s × (count ≤ s .at) → Seen w x n (s .at) t → (t .kind ≡ 0 → ⊥)
+    → Reads node w x n d m o r f s o1 r1 f1 b → Counted (b .how) count k → length o1 ≡ length o
+    → length r1 ≡ length r → length f1 ≡ length f
     → Asked w x n o1 r1 f1 (b .state) × (k ≤ b .state .at)
 loop-asked q v m0 u c lo lr lf = (asked-moved (q .0) (u .moved) lo lr lf, omega (arith, q .1, v .kind, m0, u .on, c .high))

@@ -58,16 +58,48 @@ module _ {w x : List ℕ} {n : ℕ} {o : List ℕ} {a : Answer} {tag at : ℕ} (
 
   module _ {t : Front} (z : a .how ≡ Done) (v : Seen w x n at t) where
     -- the name is written
-    named : {o′ : List ℕ} {p k : ℕ} {name : List ℕ} → name-of (head (rest w x n at)) ≡ name → length name ≤ 3 + length (head (rest w x n at) .text) → k ≡ 3 + length name → Wrote o (a .state .pos) (bare-of tag None name) k o′ p
-        → BareNamed w x n o a tag at o′ (record { how = a .how; state = record { at = a .state .at; pos = p; reported = a .state .reported; full = a .state .full }; line = 0; column = 0 })
-    named e l g u = let d : done-of (a .how) ≡ 1 = rw z in record { at = refl; reported = refl; full = refl; low = omega (arith, u .end); high = omega (arith, u .end); is = rw (z, e) (refl, (record { end = omega (arith, u .end); is = u .is }, (refl, refl))) }
+    named : {o′ : List ℕ} {p k : ℕ} {name : List ℕ} → name-of (head (rest w x n at)) ≡ name
+        → length name ≤ 3 + length (head (rest w x n at) .text) → k ≡ 3 + length name
+        → Wrote o (a .state .pos) (bare-of tag None name) k o′ p
+        → BareNamed w x n o a tag at o′ (record {
+          how = a .how;
+          state = record { at = a .state .at; pos = p; reported = a .state .reported; full = a .state .full };
+          line = 0;
+          column = 0;
+        })
+    named e l g u =
+        let d : done-of (a .how) ≡ 1 = rw z in
+        record {
+          at = refl;
+          reported = refl;
+          full = refl;
+          low = omega (arith, u .end);
+          high = omega (arith, u .end);
+          is = rw (z, e) (refl, (record { end = omega (arith, u .end); is = u .is }, (refl, refl)));
+        }
 
-    pub bare-name : {o′ : List ℕ} {p : ℕ} → t .kind ≡ 1 → Wrote o (a .state .pos) (bare-of tag None (take (t .len) (drop (t .start) x))) (bare-size None (t .len)) o′ p
-        → BareNamed w x n o a tag at o′ (record { how = a .how; state = record { at = a .state .at; pos = p; reported = a .state .reported; full = a .state .full }; line = 0; column = 0 })
-    bare-name y u = let l = text-length v in let g = ap length (v .text) in named (rw (eq-eqb _ _ (v .kind ∙ y)) (v .text)) (omega arith) (omega arith) u
+    pub bare-name : {o′ : List ℕ} {p : ℕ} → t .kind ≡ 1
+        → Wrote o (a .state .pos) (bare-of tag None (take (t .len) (drop (t .start) x))) (bare-size None (t .len))
+        o′ p
+        → BareNamed w x n o a tag at o′ (record {
+          how = a .how;
+          state = record { at = a .state .at; pos = p; reported = a .state .reported; full = a .state .full };
+          line = 0;
+          column = 0;
+        })
+    bare-name y u =
+        let l = text-length v in
+        let g = ap length (v .text) in
+        named (rw (eq-eqb _ _ (v .kind ∙ y)) (v .text)) (omega arith) (omega arith) u
 
-    pub bare-unknown : {o′ : List ℕ} {p : ℕ} → (t .kind ≡ 1 → ⊥) → Wrote o (a .state .pos) (bare-of tag None (take 3 (drop 0 unknown))) (bare-size None 3) o′ p
-        → BareNamed w x n o a tag at o′ (record { how = a .how; state = record { at = a .state .at; pos = p; reported = a .state .reported; full = a .state .full }; line = 0; column = 0 })
+    pub bare-unknown : {o′ : List ℕ} {p : ℕ} → (t .kind ≡ 1 → ⊥)
+        → Wrote o (a .state .pos) (bare-of tag None (take 3 (drop 0 unknown))) (bare-size None 3) o′ p
+        → BareNamed w x n o a tag at o′ (record {
+          how = a .how;
+          state = record { at = a .state .at; pos = p; reported = a .state .reported; full = a .state .full };
+          line = 0;
+          column = 0;
+        })
     unfolding ascii
     bare-unknown y u = named (rw (ne-eqb _ _ (λ k. y (sym (v .kind) ∙ k)))) (omega arith) (omega arith) u
 
@@ -97,12 +129,25 @@ type-on name es y = P.good (record { name = name; type = y .item .recs }) (es ++
 abbrev colon-on : List ℕ → List Err → Fallible Tok → Act (Ans P.Typed)
 colon-on name es _ = P.parse-type >>? type-on name es
 
-typed-shows : {T : List ℕ} {E es : List Err} {w x : List ℕ} {n : ℕ} {o r f : List ℕ} {a : Answer} {q : Res (Ans Node)} (d : ℕ) (name : List ℕ) → Shows node T E [] es w x n o r f a q → Shows (typed name) T E [] [] w x n o r f a (after q (λ z S. go d (or-return (type-on name es) z) S))
+typed-shows : {T : List ℕ} {E es : List Err} {w x : List ℕ} {n : ℕ} {o r f : List ℕ} {a : Answer} {q : Res (Ans Node)}
+    (d : ℕ) (name : List ℕ)
+    → Shows node T E [] es w x n o r f a q
+    → Shows (typed name) T E [] [] w x n o r f a (after q (λ z S. go d (or-return (type-on name es) z) S))
 unfolding go run
 typed-shows {T} {E} {es} {w} {x} {n} {o} {r} {f} {a} {q} d name v = record { told = one (a .how) (v .told) }
   where
-    one : (h : How) → ShowsOf h node T E [] es w x n o r f a q → ShowsOf h (typed name) T E [] [] w x n o r f a (after q (λ z S. go d (or-return (type-on name es) z) S))
-    one Done g = record { item = record { name = name; type = g .item .recs }; errors = es ++ g .errors; read = g .read; is = rw (g .is); tree = g .tree; rep = g .rep; holds = refl }
+    one : (h : How) → ShowsOf h node T E [] es w x n o r f a q
+        → ShowsOf h (typed name) T E [] [] w x n o r f a (after q (λ z S. go d (or-return (type-on name es) z) S))
+    one Done g =
+        record {
+          item = record { name = name; type = g .item .recs };
+          errors = es ++ g .errors;
+          read = g .read;
+          is = rw (g .is);
+          tree = g .tree;
+          rep = g .rep;
+          holds = refl;
+        }
     one Fatal g = record { errors = g .errors; read = g .read; is = rw (g .is); tree = g .tree; rep = g .rep }
     one (Refused u) g = rw g
 
@@ -114,7 +159,10 @@ module _ {w x : List ℕ} {n : ℕ} {o r f : List ℕ} {s : State} (q : Asked w 
   pub len-rep : length (errs r (s .reported)) ≡ s .reported
   len-rep = errs-length r (s .reported) (omega (arith, q .asks))
 
-module _ {w x : List ℕ} {n d j : ℕ} {o r f r1 f1 r2 : List ℕ} {s : State} {a b : Answer} (q : Asked w x n o r f s × (j ≤ s .reported)) (e : Expects w x n (λ role. P.expect-as role 49) r f s r1 f1 a) (v : Abandoned r1 a (s .pos) j (s .reported) r2 b) where
+module _ {w x : List ℕ} {n d j : ℕ} {o r f r1 f1 r2 : List ℕ} {s : State} {a b : Answer}
+    (q : Asked w x n o r f s × (j ≤ s .reported))
+    (e : Expects w x n (λ role. P.expect-as role 49) r f s r1 f1 a)
+    (v : Abandoned r1 a (s .pos) j (s .reported) r2 b) where
   pub typed-colon : Stopped b → TypedOn w x n d j o r f s o r2 f1 b
   unfolding P.typed recs-bytes
   typed-colon nd =
@@ -122,71 +170,111 @@ module _ {w x : List ℕ} {n d j : ℕ} {o r f r1 f1 r2 : List ℕ} {s : State} 
       record {
         moved = m;
         spare = omega (arith, m .room, not-done (b .how) nd);
-        is = λ rd name E es le h. say (go-bind d (P.expect 49) (or-return (colon-on name es)) _) (stops d (colon-on name es) _ nd (abandons {T = take (s .pos) o} {E = E} {rs = []} {es = es} (sym (append-nil _)) h (len-pos (q .0)) le (len-rep (q .0)) v (e .moved .pos) (omega (arith, q .1, e .moved .reported)) (e .is plain d rd o)));
+        is =
+            λ rd name E es le h. say (go-bind d (P.expect 49) (or-return (colon-on name es)) _)
+            (stops d (colon-on name es) _ nd
+            (abandons {T = take (s .pos) o} {E = E} {rs = []} {es = es} (sym (append-nil _)) h (len-pos (q .0))
+            le (len-rep (q .0)) v (e .moved .pos) (omega (arith, q .1, e .moved .reported)) (e .is plain d rd o)));
       }
 
   module _ {o3 r3 f3 r4 : List ℕ} {c y : Answer} where
     -- where `:` is there, it is as it was
-    typed-there : a .how ≡ Done → Reads node w x n d P.parse-type o r1 f1 (a .state) o3 r3 f3 c → Abandoned r3 c (s .pos) j (a .state .reported) r4 y → TypedOn w x n d j o r f s o3 r4 f3 y
+    typed-there : a .how ≡ Done → Reads node w x n d P.parse-type o r1 f1 (a .state) o3 r3 f3 c
+        → Abandoned r3 c (s .pos) j (a .state .reported) r4 y → TypedOn w x n d j o r f s o3 r4 f3 y
     unfolding P.typed recs-bytes
     typed-there z u k =
         let m = abandoned-moved (moved-onward (e .moved) (u .moved)) k in
         let b : budget w x n (y .state .at) ≡ budget w x n (c .state .at) = ap (λ (i : ℕ). budget w x n i) (k .at) in
-        let g : (rd : List Consumed) → Good (token (head (rest w x n (s .at)))) (take (s .pos) o) (errs r (s .reported)) [] [] w x n o r1 f1 a (go d (P.expect 49) (st-of w x n f rd s)) = λ rd. good-of z (e .is plain d rd o) in
+        let g : (rd : List Consumed) → Good (token (head (rest w x n (s .at)))) (take (s .pos) o) (errs r (s .reported)) [] [] w x n o r1 f1 a (go d (P.expect 49) (st-of w x n f rd s)) =
+        λ rd. good-of z (e .is plain d rd o) in
         let da : done-of (a .how) ≡ 1 = rw z in
         record {
           moved = m;
           spare = omega (arith, e .pays, e .pos, u .moved .room, k .high, done-le (y .how));
-          is = λ rd name E es le h. say (go-bind d (P.expect 49) (or-return (colon-on name es)) _ ∙ follows d (colon-on name es) (g rd .is) ∙ go-bind d P.parse-type (or-return (type-on name es)) _)
-              (typed-shows d name (abandons {T = take (s .pos) o} {E = E} {rs = []} {es = es} (ap (λ (i : ℕ). take i o) (e .pos) ∙ sym (append-nil _)) (e .kept z .1 ∙ h) (len-pos (q .0)) le (ap length (e .kept z .1) ∙ len-rep (q .0) ∙ sym (e .kept z .0)) k (omega (arith, e .moved .pos, u .moved .pos)) (omega (arith, q .1, e .moved .reported, u .moved .reported)) (u .is (g rd .read))));
+          is =
+              λ rd name E es le h. say
+              (go-bind d (P.expect 49) (or-return (colon-on name es)) _ ∙ follows d (colon-on name es) (g rd .is)
+              ∙ go-bind d P.parse-type (or-return (type-on name es)) _)
+              (typed-shows d name (abandons {T = take (s .pos) o} {E = E} {rs = []} {es = es}
+              (ap (λ (i : ℕ). take i o) (e .pos) ∙ sym (append-nil _)) (e .kept z .1 ∙ h) (len-pos (q .0)) le
+              (ap length (e .kept z .1) ∙ len-rep (q .0) ∙ sym (e .kept z .0)) k
+              (omega (arith, e .moved .pos, u .moved .pos))
+              (omega (arith, q .1, e .moved .reported, u .moved .reported)) (u .is (g rd .read))));
         }
 
-    pub typed-type : b .how ≡ Done → Reads node w x n d P.parse-type o r2 f1 (b .state) o3 r3 f3 c → Abandoned r3 c (s .pos) j (b .state .reported) r4 y → TypedOn w x n d j o r f s o3 r4 f3 y
+    pub typed-type : b .how ≡ Done → Reads node w x n d P.parse-type o r2 f1 (b .state) o3 r3 f3 c
+        → Abandoned r3 c (s .pos) j (b .state .reported) r4 y → TypedOn w x n d j o r f s o3 r4 f3 y
     typed-type z u k = let h = kept-done v z in typed-there (rw (h .0) at z) (rw (h .0, h .1) at u) (rw (h .0) at k)
 
 -- ---- an error noted
 
 module _ (n : ℕ) {e : ℕ} {r f r′ f′ : List ℕ} {s : State} {b : Answer} (g : Raised (noted n s) r f s e r′ f′ b) where
   pub note-there : b .how ≡ Done → (s .full < 255) × (b ≡ record { how = Done; state = one-more s; line = 0; column = 0 })
-  note-there z = made-so Done n s (λ y. y .how ≡ Done → (s .full < 255) × (y ≡ record { how = Done; state = one-more s; line = 0; column = 0 })) (g .is) (λ l _. (l, refl)) (λ l y. let e : _≡_ {A = ℕ} 0 1 = cc in absurd (omega arith)) z
+  note-there z =
+      made-so Done n s (λ y. y .how ≡ Done → (s .full < 255)
+      × (y ≡ record { how = Done; state = one-more s; line = 0; column = 0 })) (g .is) (λ l _. (l, refl))
+      (λ l y. let e : _≡_ {A = ℕ} 0 1 = cc in absurd (omega arith)) z
 
   pub note-none : Stopped b → (255 ≤ s .full) × (b ≡ refused-at n s 12)
-  note-none nd = made-so Done n s (λ y. Stopped y → (255 ≤ s .full) × (y ≡ refused-at n s 12)) (g .is) (λ l y. absurd (⊎-elim (λ z. omega arith) (λ z. omega arith) y)) (λ l _. (l, refl)) nd
+  note-none nd =
+      made-so Done n s (λ y. Stopped y → (255 ≤ s .full) × (y ≡ refused-at n s 12)) (g .is)
+      (λ l y. absurd (⊎-elim (λ z. omega arith) (λ z. omega arith) y)) (λ l _. (l, refl)) nd
 
 -- ---- `typed_name`
 
 -- the name under another term
-renamed : {u u′ : List ℕ} {T : List ℕ} {E : List Err} {w x : List ℕ} {n : ℕ} {o r f : List ℕ} {a : Answer} {q : Res (Ans P.Typed)} → u ≡ u′ → Shows (typed u′) T E [] [] w x n o r f a q → Shows (typed u) T E [] [] w x n o r f a q
+renamed : {u u′ : List ℕ} {T : List ℕ} {E : List Err} {w x : List ℕ} {n : ℕ} {o r f : List ℕ} {a : Answer}
+    {q : Res (Ans P.Typed)}
+    → u ≡ u′ → Shows (typed u′) T E [] [] w x n o r f a q → Shows (typed u) T E [] [] w x n o r f a q
 renamed e v = rw e v
 
-error-same : (d : ℕ) {X Y : Err} {S S′ : St} → X ≡ Y → S ≡ S′ → go d (make X (P.typed (ascii "<?>") (X ∷ []))) S ≡ go d (make Y (P.typed (ascii "<?>") (Y ∷ []))) S′
+error-same : (d : ℕ) {X Y : Err} {S S′ : St} → X ≡ Y → S ≡ S′
+    → go d (make X (P.typed (ascii "<?>") (X ∷ []))) S ≡ go d (make Y (P.typed (ascii "<?>") (Y ∷ []))) S′
 error-same d p q = rw (p, q)
 
 module _ {w x : List ℕ} {n : ℕ} {o r f : List ℕ} {s : State} {t : Front} (q : Asked w x n o r f s) (v : Seen w x n (s .at) t) where
-  pub identifier-name : {d : ℕ} {o1 r1 f1 : List ℕ} {a : Answer} → t .kind ≡ 1 → TypedOn w x n d (s .reported) o r f (fore s t) o1 r1 f1 a → ReadsTyped w x n d o r f s o1 r1 f1 a
+  pub identifier-name : {d : ℕ} {o1 r1 f1 : List ℕ} {a : Answer} → t .kind ≡ 1
+      → TypedOn w x n d (s .reported) o r f (fore s t) o1 r1 f1 a → ReadsTyped w x n d o r f s o1 r1 f1 a
   unfolding go run P.parse-typed-identifier
   identifier-name {d} {a = a} z u = record {
     moved = moved-trans (fore-moved (q .asks) v) (u .moved);
     on = omega (arith, v .kind, v .on, u .moved .at);
     spare = omega (arith, text-length v, v .pays, u .spare, done-le (a .how));
-    is = λ rd. renamed (rw (eq-eqb _ _ (v .kind ∙ z))) (say (rw (run, yes v z) (ap (λ (S : St). go d (P.typed (head (rest w x n (s .at)) .text) []) S) (adv s v (λ _. plain) f rd))) (u .is (past w x n (s .at) rd) (head (rest w x n (s .at)) .text) (errs r (s .reported)) [] (len-rep q) (sym (append-nil _))));
+    is =
+        λ rd. renamed (rw (eq-eqb _ _ (v .kind ∙ z))) (say (rw (run, yes v z)
+        (ap (λ (S : St). go d (P.typed (head (rest w x n (s .at)) .text) []) S) (adv s v (λ _. plain) f rd)))
+        (u .is (past w x n (s .at) rd) (head (rest w x n (s .at)) .text) (errs r (s .reported)) [] (len-rep q)
+        (sym (append-nil _))));
   }
 
   module _ (m1 : t .kind ≡ 1 → ⊥) where
-    pub identifier-end : {d e : ℕ} {r′ f′ : List ℕ} {a : Answer} → t .kind ≡ 0 → unpack e ≡ error-at 5 0 0 0 0 → Raised (raised n (fore s t)) r f (fore s t) e r′ f′ a → ReadsTyped w x n d o r f s o r′ f′ a
+    pub identifier-end : {d e : ℕ} {r′ f′ : List ℕ} {a : Answer} → t .kind ≡ 0 → unpack e ≡ error-at 5 0 0 0 0
+        → Raised (raised n (fore s t)) r f (fore s t) e r′ f′ a → ReadsTyped w x n d o r f s o r′ f′ a
     unfolding go run P.parse-typed-identifier
     identifier-end {d} {a = a} z i g =
-        let u : Reads (typed (name-of (head (rest w x n (s .at))))) w x n d P.parse-typed-identifier o r f s o _ _ a = raise-reads (q .asks) v plain g d (λ rd. rw (run, no v m1, yes v z) (raise-same d (sym i) (adv s v (λ _. plain) f rd))) in
+        let u : Reads (typed (name-of (head (rest w x n (s .at))))) w x n d P.parse-typed-identifier o r f s o _ _ a =
+        raise-reads (q .asks) v plain g d
+        (λ rd. rw (run, no v m1, yes v z) (raise-same d (sym i) (adv s v (λ _. plain) f rd))) in
         record {
           moved = u .moved;
           on = u .on;
-          spare = made-so Fatal n (fore s t) (λ y. y .state .pos + budget w x n (y .state .at) + 32 * done-of (y .how) + length (head (rest w x n (s .at)) .text) ≤ s .pos + budget w x n (s .at)) (g .is) (λ _. omega (arith, text-length v, v .pays)) (λ _. omega (arith, text-length v, v .pays, spent w x n));
+          spare =
+              made-so Fatal n (fore s t)
+              (λ y. y .state .pos + budget w x n (y .state .at) + 32 * done-of (y .how) + length
+              (head (rest w x n (s .at)) .text) ≤ s .pos + budget w x n (s .at)) (g .is)
+              (λ _. omega (arith, text-length v, v .pays))
+              (λ _. omega (arith, text-length v, v .pays, spent w x n));
           is = u .is;
         }
 
-    module _ {e : ℕ} {r1 f1 : List ℕ} {b : Answer} (m0 : t .kind ≡ 0 → ⊥) (i : unpack e ≡ error-at 4 (t .line) (t .column) 0 0) (g : Raised (noted n (fore s t)) r f (fore s t) e r1 f1 b) where
+    module _ {e : ℕ} {r1 f1 : List ℕ} {b : Answer} (m0 : t .kind ≡ 0 → ⊥)
+        (i : unpack e ≡ error-at 4 (t .line) (t .column) 0 0)
+        (g : Raised (noted n (fore s t)) r f (fore s t) e r1 f1 b) where
       -- the error is made
-      unnamed : (d : ℕ) (rd : List Consumed) → go d P.parse-typed-identifier (st-of w x n f rd s) ≡ go d (make (unpack e) (P.typed (ascii "<?>") (unpack e ∷ []))) (st-of w x n f (past w x n (s .at) rd) (fore s t))
+      unnamed : (d : ℕ) (rd : List Consumed)
+          → go d P.parse-typed-identifier (st-of w x n f rd s)
+          ≡ go d (make (unpack e) (P.typed (ascii "<?>") (unpack e ∷ [])))
+          (st-of w x n f (past w x n (s .at) rd) (fore s t))
       unfolding go run P.parse-typed-identifier
       unnamed d rd = rw (run, no v m1, no v m0) (error-same d (rw (v .place) (sym i)) (adv s v (λ _. plain) f rd))
 
@@ -200,7 +288,8 @@ module _ {w x : List ℕ} {n : ℕ} {o r f : List ℕ} {s : State} {t : Front} (
             is = λ rd. record { told = unnamed d rd ∙ makes-none (asks-fore (q .asks) v) g d _ _ (h .0) };
           })
 
-      pub identifier-noted : {d : ℕ} {o2 r2 f2 : List ℕ} {a : Answer} → b .how ≡ Done → TypedOn w x n d (s .reported) o r1 f1 (b .state) o2 r2 f2 a → ReadsTyped w x n d o r f s o2 r2 f2 a
+      pub identifier-noted : {d : ℕ} {o2 r2 f2 : List ℕ} {a : Answer} → b .how ≡ Done
+          → TypedOn w x n d (s .reported) o r1 f1 (b .state) o2 r2 f2 a → ReadsTyped w x n d o r f s o2 r2 f2 a
       identifier-noted {d} {o2} {r2} {f2} {a} z u =
           let h = note-there n g z in
           let k : TypedOn w x n d (s .reported) o r1 f1 (one-more (fore s t)) o2 r2 f2 a = rw (h .1) at u in
@@ -209,7 +298,11 @@ module _ {w x : List ℕ} {n : ℕ} {o r f : List ℕ} {s : State} {t : Front} (
             moved = m;
             on = omega (arith, v .kind, v .on, k .moved .at);
             spare = omega (arith, text-length v, v .pays, k .spare, done-le (a .how));
-            is = λ rd. renamed {u′ = ascii "<?>"} (rw (ne-eqb _ _ (λ y. m1 (sym (v .kind) ∙ y)))) (say (unnamed d rd ∙ makes (asks-fore (q .asks) v) g d _ _ (h .0)) (k .is (past w x n (s .at) rd) (ascii "<?>") (errs r (s .reported)) (unpack e ∷ []) (len-rep q) (g .rep (h .0))));
+            is =
+                λ rd. renamed {u′ = ascii "<?>"} (rw (ne-eqb _ _ (λ y. m1 (sym (v .kind) ∙ y))))
+                (say (unnamed d rd ∙ makes (asks-fore (q .asks) v) g d _ _ (h .0))
+                (k .is (past w x n (s .at) rd) (ascii "<?>") (errs r (s .reported)) (unpack e ∷ []) (len-rep q)
+                (g .rep (h .0))));
           }
 
 -- ---- `named`
@@ -218,24 +311,49 @@ module _ {w x : List ℕ} {n : ℕ} {o r f : List ℕ} {s : State} {t : Front} (
 abbrev name-on : Fallible P.Typed → Act (Ans Node)
 name-on y = P.good (P.bare (y .item .type) 21 (y .item .name)) (y .errors)
 
-bare-shows : {T : List ℕ} {E : List Err} {w x : List ℕ} {n at : ℕ} {o r f o′ : List ℕ} {a y : Answer} {q : Res (Ans P.Typed)} (d : ℕ) → BareNamed w x n o a 21 at o′ y → Shows (typed (name-of (head (rest w x n at)))) T E [] [] w x n o r f a q
+bare-shows : {T : List ℕ} {E : List Err} {w x : List ℕ} {n at : ℕ} {o r f o′ : List ℕ} {a y : Answer}
+    {q : Res (Ans P.Typed)} (d : ℕ)
+    → BareNamed w x n o a 21 at o′ y → Shows (typed (name-of (head (rest w x n at)))) T E [] [] w x n o r f a q
     → Shows node T E [] [] w x n o′ r f y (after q (λ z S. go d (or-return name-on z) S))
 unfolding go run
 bare-shows {T} {E} {w} {x} {n} {at} {o} {r} {f} {o′} {a} {y} {q} d u v = record { told = one (a .how) refl (u .is) (v .told) }
   where
-    one : (h : How) → a .how ≡ h → BareNamedOf h w x n o a 21 at o′ y → ShowsOf h (typed (name-of (head (rest w x n at)))) T E [] [] w x n o r f a q → ShowsOf (y .how) node T E [] [] w x n o′ r f y (after q (λ z S. go d (or-return name-on z) S))
-    one Done z m g = rw (m .0) (record { item = P.bare (g .item .type) 21 (g .item .name); errors = g .errors; read = g .read; is = rw (g .is, u .at, u .full); tree = wrote T (g .item .type) (m .1 .0) (g .tree) (rw (g .holds)); rep = ap (λ (k : ℕ). errs r k) (u .reported) ∙ g .rep; holds = sym (rw (m .1 .1 .0, m .1 .1 .1)) })
+    one : (h : How) → a .how ≡ h → BareNamedOf h w x n o a 21 at o′ y
+        → ShowsOf h (typed (name-of (head (rest w x n at)))) T E [] [] w x n o r f a q
+        → ShowsOf (y .how) node T E [] [] w x n o′ r f y (after q (λ z S. go d (or-return name-on z) S))
+    one Done z m g =
+        rw (m .0) (record {
+          item = P.bare (g .item .type) 21 (g .item .name);
+          errors = g .errors;
+          read = g .read;
+          is = rw (g .is, u .at, u .full);
+          tree = wrote T (g .item .type) (m .1 .0) (g .tree) (rw (g .holds));
+          rep = ap (λ (k : ℕ). errs r k) (u .reported) ∙ g .rep;
+          holds = sym (rw (m .1 .1 .0, m .1 .1 .1));
+        })
     one Fatal z m g = rw (m .0, m .1, z) (record { errors = g .errors; read = g .read; is = rw (g .is); tree = g .tree; rep = g .rep })
     one (Refused k) z m g = rw (m .0, z, g)
 
-module _ {w x : List ℕ} {n d : ℕ} {o r f o1 r1 f1 : List ℕ} {s : State} {a : Answer} (q : Asked w x n o r f s) (u : ReadsTyped w x n d o r f s o1 r1 f1 a) where
-  pub named-reads : {o2 : List ℕ} {y : Answer} → BareNamed w x n o1 a 21 (s .at) o2 y → Reads node w x n d P.parse-named-type o r f s o2 r1 f1 y
+module _ {w x : List ℕ} {n d : ℕ} {o r f o1 r1 f1 : List ℕ} {s : State} {a : Answer} (q : Asked w x n o r f s)
+    (u : ReadsTyped w x n d o r f s o1 r1 f1 a) where
+  pub named-reads : {o2 : List ℕ} {y : Answer} → BareNamed w x n o1 a 21 (s .at) o2 y
+      → Reads node w x n d P.parse-named-type o r f s o2 r1 f1 y
   unfolding P.parse-named-type
   named-reads {o2} {y} b =
       let e : budget w x n (y .state .at) ≡ budget w x n (a .state .at) = ap (λ (k : ℕ). budget w x n k) (b .at) in
       let m = u .moved in
       record {
-        moved = record { at = omega (arith, m, b .at); end = omega (arith, m, b .at); pos = omega (arith, m .pos, b .low); room = omega (arith, u .spare, b .high); reported = omega (arith, m .reported, b .reported); less = omega (arith, m .less, b .reported, b .full); full = omega (arith, m .full, b .full); few = omega (arith, m .few, b .full) };
+        moved =
+            record {
+              at = omega (arith, m, b .at);
+              end = omega (arith, m, b .at);
+              pos = omega (arith, m .pos, b .low);
+              room = omega (arith, u .spare, b .high);
+              reported = omega (arith, m .reported, b .reported);
+              less = omega (arith, m .less, b .reported, b .full);
+              full = omega (arith, m .full, b .full);
+              few = omega (arith, m .few, b .full);
+            };
         on = omega (arith, u .on, b .at);
         is = λ rd. say (go-bind d P.parse-typed-identifier (or-return name-on) _) (bare-shows d b (u .is rd));
       }
@@ -256,19 +374,24 @@ pub record Met (w x : List ℕ) (n k : ℕ) (r f : List ℕ) (a : Answer) (r′ 
   pub column : y .column ≡ a .column
   pub item : ℕ → List Consumed → Fallible Tok
   pub read : ℕ → List Consumed → List Consumed
-  pub is : (d : ℕ) (rd : List Consumed) → go d (P.expect k) (st-of w x n f rd (a .state)) ≡ gives (ok (item d rd)) (st-of w x n f′ (read d rd) (y .state))
+  pub is : (d : ℕ) (rd : List Consumed)
+      → go d (P.expect k) (st-of w x n f rd (a .state))
+      ≡ gives (ok (item d rd)) (st-of w x n f′ (read d rd) (y .state))
 
-pub expected-there : {w x : List ℕ} {n k i j : ℕ} {r f r′ f′ : List ℕ} {a y : Answer} → Expected w x n k i j r f a r′ f′ y → y .how ≡ Done → Met w x n k r f a r′ f′ y
+pub expected-there : {w x : List ℕ} {n k i j : ℕ} {r f r′ f′ : List ℕ} {a y : Answer} → Expected w x n k i j r f a r′ f′ y
+    → y .how ≡ Done → Met w x n k r f a r′ f′ y
 expected-there {w} {x} {n} {k} {i} {j} {r} {f} {r′} {f′} {a} {y} v z = one (a .how) refl (v .is)
   where
     never : {h : How} → a .how ≡ h → y ≡ a → (h ≡ Done → ⊥) → ⊥
     never e u m = m (sym e ∙ ap (λ (b : Answer). b .how) (sym u) ∙ z)
 
-    on : a .how ≡ Done → (F : Followed w x n k i j r f a r′ f′ y) → F .c .how ≡ Done → (F .c ≡ F .b) × (r′ ≡ F .between) → Met w x n k r f a r′ f′ y
+    on : a .how ≡ Done → (F : Followed w x n k i j r f a r′ f′ y) → F .c .how ≡ Done
+        → (F .c ≡ F .b) × (r′ ≡ F .between) → Met w x n k r f a r′ f′ y
     on e F zc h =
         let zb : F .b .how ≡ Done = ap (λ (b : Answer). b .how) (sym (h .0)) ∙ zc in
         let st : y .state ≡ F .b .state = ap (λ (b : Answer). b .state) (F .is) ∙ ap (λ (b : Answer). b .state) (h .0) in
-        let g : (d : ℕ) (rd : List Consumed) → Good (token (head (rest w x n (a .state .at)))) (take (a .state .pos) []) (errs r (a .state .reported)) [] [] w x n [] (F .between) f′ (F .b) (go d (P.expect k) (st-of w x n f rd (a .state))) = λ d rd. good-of zb (F .expects .is plain d rd []) in
+        let g : (d : ℕ) (rd : List Consumed) → Good (token (head (rest w x n (a .state .at)))) (take (a .state .pos) []) (errs r (a .state .reported)) [] [] w x n [] (F .between) f′ (F .b) (go d (P.expect k) (st-of w x n f rd (a .state))) =
+        λ d rd. good-of zb (F .expects .is plain d rd []) in
         record {
           there = e;
           pos = rw st (F .expects .pos);
@@ -278,7 +401,10 @@ expected-there {w} {x} {n} {k} {i} {j} {r} {f} {r′} {f′} {a} {y} v z = one (
           column = rw (F .is);
           item = λ d rd. record { item = g d rd .item; errors = g d rd .errors };
           read = λ d rd. g d rd .read;
-          is = λ d rd. g d rd .is ∙ ap (λ (u : State). gives (ok (record { item = g d rd .item; errors = g d rd .errors })) (st-of w x n f′ (g d rd .read) u)) (sym st);
+          is =
+              λ d rd. g d rd .is ∙ ap
+              (λ (u : State). gives (ok (record { item = g d rd .item; errors = g d rd .errors }))
+              (st-of w x n f′ (g d rd .read) u)) (sym st);
         }
 
     one : (h : How) → a .how ≡ h → ExpectedOf h w x n k i j r f a r′ f′ y → Met w x n k r f a r′ f′ y
@@ -287,24 +413,39 @@ expected-there {w} {x} {n} {k} {i} {j} {r} {f} {r′} {f′} {a} {y} v z = one (
     one (Refused p) e m = absurd (never e (m .0) (λ u. let c : _≡_ {A = ℕ} 0 1 = cc in omega arith))
 
 -- an answer that is not there has no line
-relined : {A : Type 0} {K : View A} {T : List ℕ} {E : List Err} {w x : List ℕ} {n l m : ℕ} {o r f : List ℕ} {a : Answer} {q : Res (Ans A)} → Stopped a → Shows K T E [] [] w x n o r f a q → Shows K T E [] [] w x n o r f (record { how = a .how; state = a .state; line = l; column = m }) q
+relined : {A : Type 0} {K : View A} {T : List ℕ} {E : List Err} {w x : List ℕ} {n l m : ℕ} {o r f : List ℕ}
+    {a : Answer} {q : Res (Ans A)}
+    → Stopped a → Shows K T E [] [] w x n o r f a q
+    → Shows K T E [] [] w x n o r f (record { how = a .how; state = a .state; line = l; column = m }) q
 relined {A} {K} {T} {E} {w} {x} {n} {l} {m} {o} {r} {f} {a} {q} nd v = record { told = one (a .how) nd (v .told) }
   where
-    one : (h : How) → OneOf (1 ∷ 2 ∷ []) (tagOf the-type h) → ShowsOf h K T E [] [] w x n o r f a q → ShowsOf h K T E [] [] w x n o r f (record { how = a .how; state = a .state; line = l; column = m }) q
+    one : (h : How) → OneOf (1 ∷ 2 ∷ []) (tagOf the-type h) → ShowsOf h K T E [] [] w x n o r f a q
+        → ShowsOf h K T E [] [] w x n o r f (record { how = a .how; state = a .state; line = l; column = m }) q
     one Done nd g = absurd (⊎-elim (λ z. omega arith) (λ z. omega arith) nd)
     one Fatal nd g = record { errors = g .errors; read = g .read; is = g .is; tree = g .tree; rep = g .rep }
     one (Refused u) nd g = g
 
-pub expected-stops : {A B : Type 0} {K : View A} {L : View B} {T : List ℕ} {E : List Err} {w x : List ℕ} {n k i j : ℕ} {o r f r′ f′ : List ℕ} {a y : Answer} {q : Res (Ans A)} (d : ℕ) (on : Fallible A → Fallible Tok → Act (Ans B))
-    → Follows w x n r f a i j → Expected w x n k i j r f a r′ f′ y → Stopped y → length T ≡ i → length E ≡ j → Shows K T E [] [] w x n o r f a q → Shows L T E [] [] w x n o r′ f′ y (after q (λ z S. go d (or-return (λ e. P.expect k >>? on e) z) S))
-expected-stops {A} {B} {K} {L} {T} {E} {w} {x} {n} {k} {i} {j} {o} {r} {f} {r′} {f′} {a} {y} {q} d on p v nd li lj u = one (a .how) refl (v .is)
+pub expected-stops : {A B : Type 0} {K : View A} {L : View B} {T : List ℕ} {E : List Err} {w x : List ℕ} {n k i j : ℕ}
+    {o r f r′ f′ : List ℕ} {a y : Answer} {q : Res (Ans A)} (d : ℕ)
+    (on : Fallible A → Fallible Tok → Act (Ans B))
+    → Follows w x n r f a i j → Expected w x n k i j r f a r′ f′ y → Stopped y → length T ≡ i → length E ≡ j
+    → Shows K T E [] [] w x n o r f a q
+    → Shows L T E [] [] w x n o r′ f′ y (after q (λ z S. go d (or-return (λ e. P.expect k >>? on e) z) S))
+expected-stops {A} {B} {K} {L} {T} {E} {w} {x} {n} {k} {i} {j} {o} {r} {f} {r′} {f′} {a} {y} {q} d on p v nd li lj u =
+    one (a .how) refl (v .is)
   where
-    one : (h : How) → a .how ≡ h → ExpectedOf h w x n k i j r f a r′ f′ y → Shows L T E [] [] w x n o r′ f′ y (after q (λ z S. go d (or-return (λ e. P.expect k >>? on e) z) S))
+    one : (h : How) → a .how ≡ h → ExpectedOf h w x n k i j r f a r′ f′ y
+        → Shows L T E [] [] w x n o r′ f′ y (after q (λ z S. go d (or-return (λ e. P.expect k >>? on e) z) S))
     one Done e F =
         let g = good-of e u in
         let nc : Stopped (F .c) = rw (F .is) at nd in
-        say (follows d (λ e. P.expect k >>? on e) (g .is) ∙ go-bind d (P.expect k) (or-return (on (record { item = g .item; errors = g .errors }))) _)
-        (rw (F .is) (relined nc (stops d (on (record { item = g .item; errors = g .errors })) _ nc (abandons {T = T} {E = E} (g .tree) (g .rep) li lj (errs-length r (a .state .reported) (omega (arith, p .asks))) (F .abandoned) (omega (arith, p .pos, F .expects .moved .pos)) (omega (arith, p .reported, F .expects .moved .reported)) (F .expects .is plain d (g .read) o)))))
+        say (follows d (λ e. P.expect k >>? on e) (g .is)
+        ∙ go-bind d (P.expect k) (or-return (on (record { item = g .item; errors = g .errors }))) _)
+        (rw (F .is) (relined nc (stops d (on (record { item = g .item; errors = g .errors })) _ nc
+        (abandons {T = T} {E = E} (g .tree) (g .rep) li lj
+        (errs-length r (a .state .reported) (omega (arith, p .asks))) (F .abandoned)
+        (omega (arith, p .pos, F .expects .moved .pos))
+        (omega (arith, p .reported, F .expects .moved .reported)) (F .expects .is plain d (g .read) o)))))
     one Fatal e m = let na : Stopped a = rw (m .0) at nd in rw (m .0, m .1 .0, m .1 .1) (stops d (λ e. P.expect k >>? on e) q na u)
     one (Refused c) e m = let na : Stopped a = rw (m .0) at nd in rw (m .0, m .1 .0, m .1 .1) (stops d (λ e. P.expect k >>? on e) q na u)
 
@@ -320,7 +461,9 @@ equals-on id _ = P.parse-expression >>? value-on id
 abbrev field-on : Fallible Tok → Act (Ans Node)
 field-on id = P.expect 26 >>? equals-on id
 
-module _ {w x : List ℕ} {n : ℕ} {o r f r1 f1 : List ℕ} {s : State} {t : Front} {a : Answer} (q : Asked w x n o r f s) (v : Seen w x n (s .at) t) (e : Expects w x n (λ role. P.expect-identifier) r f s r1 f1 a) where
+module _ {w x : List ℕ} {n : ℕ} {o r f r1 f1 : List ℕ} {s : State} {t : Front} {a : Answer}
+    (q : Asked w x n o r f s) (v : Seen w x n (s .at) t)
+    (e : Expects w x n (λ role. P.expect-identifier) r f s r1 f1 a) where
   pub field-follows : length r1 ≡ length r → length f1 ≡ length f → Follows w x n r1 f1 a (s .pos) (s .reported)
   field-follows l k = record { asks = asks-moved (q .asks) (e .moved) l k; pos = e .moved .pos; reported = e .moved .reported }
 
@@ -328,43 +471,80 @@ module _ {w x : List ℕ} {n : ℕ} {o r f r1 f1 : List ℕ} {s : State} {t : Fr
     pub field-asked : length r2 ≡ length r → length f2 ≡ length f → Asked w x n o r2 f2 (b .state)
     field-asked l k = asked-moved q (moved-trans (e .moved) (u .moved)) refl l k
 
-    pub field-stops : {d : ℕ} → length r1 ≡ length r → length f1 ≡ length f → Stopped b → Reads node w x n d P.parse-compound-struct-field o r f s o r2 f2 b
+    pub field-stops : {d : ℕ} → length r1 ≡ length r → length f1 ≡ length f → Stopped b
+        → Reads node w x n d P.parse-compound-struct-field o r f s o r2 f2 b
     unfolding P.parse-compound-struct-field
     field-stops {d} l k nd = record {
       moved = moved-trans (e .moved) (u .moved);
       on = omega (arith, e .on, u .moved .at);
-      is = λ rd. say (go-bind d P.expect-identifier (or-return field-on) _) (expected-stops d equals-on (field-follows l k) u nd (len-pos q) (len-rep q) (e .is plain d rd o));
+      is =
+          λ rd. say (go-bind d P.expect-identifier (or-return field-on) _)
+          (expected-stops d equals-on (field-follows l k) u nd (len-pos q) (len-rep q) (e .is plain d rd o));
     }
 
-    module _ {d : ℕ} {o3 r3 f3 : List ℕ} {c : Answer} (z : b .how ≡ Done) (h : Reads node w x n d P.parse-expression o r2 f2 (b .state) o3 r3 f3 c) where
+    module _ {d : ℕ} {o3 r3 f3 : List ℕ} {c : Answer} (z : b .how ≡ Done)
+        (h : Reads node w x n d P.parse-expression o r2 f2 (b .state) o3 r3 f3 c) where
       -- the record is paid for
       field-paid : c .state .pos + budget w x n (c .state .at) + 16 + t .len ≤ s .pos + budget w x n (s .at)
-      field-paid = let db : done-of (b .how) ≡ 1 = rw z in omega (arith, h .moved .room, u .pays, u .high, e .pos, paid (s .at) (a .state .at) (q .asks .held) (e .on), text-length v)
+      field-paid =
+          let db : done-of (b .how) ≡ 1 = rw z in
+          omega (
+            arith,
+            h .moved .room,
+            u .pays,
+            u .high,
+            e .pos,
+            paid (s .at) (a .state .at) (q .asks .held) (e .on),
+            text-length v,
+          )
 
       pub field-room : length o3 ≡ length o → Room o3 x (c .state .pos) (16 + t .len) (t .start) (t .len)
       field-room l = record { room = omega (arith, field-paid, q .room); part = v .part }
 
-      pub field-done : {o4 : List ℕ} {y : Answer} → Finished x o3 c (record { tag = 50; line = b .line; column = b .column; numbers = None; start = t .start; len = t .len }) o4 y → Reads node w x n d P.parse-compound-struct-field o r f s o4 r3 f3 y
+      pub field-done : {o4 : List ℕ} {y : Answer}
+          → Finished x o3 c (record {
+            tag = 50;
+            line = b .line;
+            column = b .column;
+            numbers = None;
+            start = t .start;
+            len = t .len;
+          }) o4 y
+          → Reads node w x n d P.parse-compound-struct-field o r f s o4 r3 f3 y
       unfolding P.parse-compound-struct-field
       field-done F =
           let m = expected-there u z in
-          let g : (rd : List Consumed) → Good (token (head (rest w x n (s .at)))) (take (s .pos) o) (errs r (s .reported)) [] [] w x n o r1 f1 a (go d P.expect-identifier (st-of w x n f rd s)) = λ rd. good-of (m .there) (e .is plain d rd o) in
+          let g : (rd : List Consumed) → Good (token (head (rest w x n (s .at)))) (take (s .pos) o) (errs r (s .reported)) [] [] w x n o r1 f1 a (go d P.expect-identifier (st-of w x n f rd s)) =
+          λ rd. good-of (m .there) (e .is plain d rd o) in
           let id : List Consumed → Fallible Tok = λ rd. record { item = g rd .item; errors = g rd .errors } in
           record-reads {K = node} (head (rest w x n (s .at)) .place) (λ _. []) (head (rest w x n (s .at)) .text) F
-          (moved-onward (moved-trans (e .moved) (u .moved)) (h .moved)) (omega (arith, e .on, u .moved .at, h .moved .at)) (omega (arith, field-paid))
+          (moved-onward (moved-trans (e .moved) (u .moved)) (h .moved))
+          (omega (arith, e .on, u .moved .at, h .moved .at)) (omega (arith, field-paid))
           (λ _ _. rw (m .line, m .column, g [] .holds .1, v .text))
           (λ rd. go d P.parse-expression (st-of w x n f2 (m .read d (g rd .read)) (b .state)))
           (λ rd. go-bind d P.expect-identifier (or-return field-on) _ ∙ follows d field-on (g rd .is) ∙ go-bind d (P.expect 26) (or-return (equals-on (id rd))) _ ∙ follows d (equals-on (id rd)) (m .is d (g rd .read))
-          ∙ go-bind d P.parse-expression (or-return (value-on (id rd))) _ ∙ ap (λ (k : Tok). after (go d P.parse-expression (st-of w x n f2 (m .read d (g rd .read)) (b .state))) (λ z S. go d (or-return (value-on (record { item = k; errors = [] })) z) S)) (g rd .holds .0))
+          ∙ go-bind d P.parse-expression (or-return (value-on (id rd))) _
+          ∙ ap (λ (k : Tok). after (go d P.parse-expression (st-of w x n f2 (m .read d (g rd .read)) (b .state)))
+          (λ z S. go d (or-return (value-on (record { item = k; errors = [] })) z) S)) (g rd .holds .0))
           (λ rd. shown-from h (m .pos ∙ e .pos) (m .rep ∙ e .kept (m .there) .1) (m .read d (g rd .read)))
 
 -- ---- what their calls ask for
 
 -- what `?` may drop
-pub cuts-moved : {w x : List ℕ} {n i j : ℕ} {r f r1 : List ℕ} {s : State} {a : Answer} → Asks w x n r f s → Moved w x n (s .pos) (s .reported) s (a .state) → i ≤ s .pos → j ≤ s .reported → length r1 ≡ length r → Cuts r1 a i j (s .reported)
-cuts-moved q m hi hj l = record { pos = omega (arith, m .pos); order = hj; own = m .reported; within = omega (arith, q .reported, q .few, q .reps, m .less, m .few) }
+pub cuts-moved : {w x : List ℕ} {n i j : ℕ} {r f r1 : List ℕ} {s : State} {a : Answer} → Asks w x n r f s
+    → Moved w x n (s .pos) (s .reported) s (a .state) → i ≤ s .pos → j ≤ s .reported → length r1 ≡ length r
+    → Cuts r1 a i j (s .reported)
+cuts-moved q m hi hj l =
+    record {
+      pos = omega (arith, m .pos);
+      order = hj;
+      own = m .reported;
+      within = omega (arith, q .reported, q .few, q .reps, m .less, m .few);
+    }
 
-module _ {w x : List ℕ} {n j : ℕ} {o r f r1 f1 : List ℕ} {s : State} {a : Answer} (q : Asked w x n o r f s × (j ≤ s .reported)) (e : Expects w x n (λ role. P.expect-as role 49) r f s r1 f1 a) where
+module _ {w x : List ℕ} {n j : ℕ} {o r f r1 f1 : List ℕ} {s : State} {a : Answer}
+    (q : Asked w x n o r f s × (j ≤ s .reported))
+    (e : Expects w x n (λ role. P.expect-as role 49) r f s r1 f1 a) where
   pub colon-cuts : length r1 ≡ length r → Cuts r1 a (s .pos) j (s .reported)
   colon-cuts l = cuts-moved (q .0 .asks) (e .moved) (omega arith) (q .1) l
 
@@ -372,11 +552,15 @@ module _ {w x : List ℕ} {n j : ℕ} {o r f r1 f1 : List ℕ} {s : State} {a : 
     pub type-asked : length r2 ≡ length r → length f1 ≡ length f → Asked w x n o r2 f1 (b .state)
     type-asked l k = asked-moved (q .0) (abandoned-moved (e .moved) v) refl l k
 
-    pub type-cuts : {d : ℕ} {o3 r3 f3 : List ℕ} {c : Answer} → Reads node w x n d P.parse-type o r2 f1 (b .state) o3 r3 f3 c → length r2 ≡ length r → length f1 ≡ length f → length r3 ≡ length r2 → Cuts r3 c (s .pos) j (b .state .reported)
+    pub type-cuts : {d : ℕ} {o3 r3 f3 : List ℕ} {c : Answer} → Reads node w x n d P.parse-type o r2 f1 (b .state) o3 r3 f3 c
+        → length r2 ≡ length r → length f1 ≡ length f → length r3 ≡ length r2
+        → Cuts r3 c (s .pos) j (b .state .reported)
     type-cuts u l k g = cuts-moved (type-asked l k .asks) (u .moved) (v .low) (v .first) g
 
 -- behind an error noted
-module _ {w x : List ℕ} {n e : ℕ} {o r f r1 f1 : List ℕ} {s : State} {t : Front} {b : Answer} (q : Asked w x n o r f s) (v : Seen w x n (s .at) t) (g : Raised (noted n (fore s t)) r f (fore s t) e r1 f1 b) where
+module _ {w x : List ℕ} {n e : ℕ} {o r f r1 f1 : List ℕ} {s : State} {t : Front} {b : Answer}
+    (q : Asked w x n o r f s) (v : Seen w x n (s .at) t)
+    (g : Raised (noted n (fore s t)) r f (fore s t) e r1 f1 b) where
   pub noted-moved : Moved w x n (s .pos) (s .reported) s (b .state)
   noted-moved = rw (g .is) (moved-onward (fore-moved (q .asks) v) (making-moved (asks-fore (q .asks) v) Done))
 

@@ -43,19 +43,33 @@ past-two w x n at next rd = past w x n next (past w x n at rd)
 
 -- behind the dot, whose place is p
 abbrev dotted : Place → Fallible Node → Tok → Act (Ans Node)
-dotted p e n = Act.if_then_else_ (n is K.End) Act.panic (Act.if_then_else_ (n is K.Identifier) (suffixes-on (P.wrap 0x29 p (n .text) e)) (Act.make (P.error 4 (n .place) 0 0) (P.good (e .item) (e .errors ++ (P.error 4 (n .place) 0 0 ∷ [])))))
+dotted p e n =
+    Act.if_then_else_ (n is K.End) Act.panic
+    (Act.if_then_else_ (n is K.Identifier) (suffixes-on (P.wrap 0x29 p (n .text) e))
+    (Act.make (P.error 4 (n .place) 0 0) (P.good (e .item) (e .errors ++ (P.error 4 (n .place) 0 0 ∷ [])))))
 
-dot-step : {w x : List ℕ} {n : ℕ} {t : Front} (d : ℕ) (f : List ℕ) (s : State) → Seen w x n (s .at) t → t .kind ≡ 34 → (e : Fallible Node) (rd : List Consumed)
-    → go d (suffixes-on e) (st-of w x n f rd s) ≡ go d (Act.next (dotted (head (rest w x n (s .at)) .place) e)) (st-of w x n f (past w x n (s .at) rd) (fore s t))
+dot-step : {w x : List ℕ} {n : ℕ} {t : Front} (d : ℕ) (f : List ℕ) (s : State) → Seen w x n (s .at) t → t .kind ≡ 34
+    → (e : Fallible Node) (rd : List Consumed)
+    → go d (suffixes-on e) (st-of w x n f rd s)
+    ≡ go d (Act.next (dotted (head (rest w x n (s .at)) .place) e))
+    (st-of w x n f (past w x n (s .at) rd) (fore s t))
 unfolding go run P.suffixes-turn
-dot-step {w} {x} {n} d f s u h e rd = go-loop d (Suffixes e) (st-of w x n f rd s) ∙ rw (run, yes u h) (ap (λ (S : St). go d (Act.next (dotted (head (rest w x n (s .at)) .place) e)) S) (adv s u (λ _. plain) f rd))
+dot-step {w} {x} {n} d f s u h e rd =
+    go-loop d (Suffixes e) (st-of w x n f rd s)
+    ∙ rw (run, yes u h)
+    (ap (λ (S : St). go d (Act.next (dotted (head (rest w x n (s .at)) .place) e)) S) (adv s u (λ _. plain) f rd))
 
 -- ---- a record behind the operand itself, and the next turn
 
 module _ {w x : List ℕ} {n d i j : ℕ} {o r f o2 o3 r3 f3 : List ℕ} {a y y′ : Answer} {on : State} {v : Record} (p : Place) (text : List ℕ) (q : GoesOn w x n o r f a i j) (z : a .how ≡ Done)
     (F : Finished x o (record { how = a .how; state = on; line = a .line; column = a .column }) v o2 y) (made : rec-of x v ≡ record { tag = v .tag; place = some p; numbers = []; text = text }) where
-  pub goes-wrapped : (rd′ : List Consumed → List Consumed) → on .pos ≡ a .state .pos → on .reported ≡ a .state .reported → on .full ≡ a .state .full → Moved w x n i j (a .state) (y .state)
-      → ((e : Fallible Node) (rd : List Consumed) → go d (suffixes-on e) (st-of w x n f rd (a .state)) ≡ go d (suffixes-on (P.wrap (v .tag) p text e)) (st-of w x n f (rd′ rd) on)) → Goes node node w x n d suffixes-on i j o2 r f y o3 r3 f3 y′ → Goes node node w x n d suffixes-on i j o r f a o3 r3 f3 y′
+  pub goes-wrapped : (rd′ : List Consumed → List Consumed) → on .pos ≡ a .state .pos → on .reported ≡ a .state .reported
+      → on .full ≡ a .state .full → Moved w x n i j (a .state) (y .state)
+      → ((e : Fallible Node) (rd : List Consumed)
+      → go d (suffixes-on e) (st-of w x n f rd (a .state))
+      ≡ go d (suffixes-on (P.wrap (v .tag) p text e)) (st-of w x n f (rd′ rd) on))
+      → Goes node node w x n d suffixes-on i j o2 r f y o3 r3 f3 y′
+      → Goes node node w x n d suffixes-on i j o r f a o3 r3 f3 y′
   unfolding go run
   goes-wrapped rd′ e1 e2 e3 m step G = record {
     moved = moved-trans m (G .moved);
@@ -63,35 +77,75 @@ module _ {w x : List ℕ} {n d i j : ℕ} {o r f o2 o3 r3 f3 : List ℕ} {a y y�
         let g = good-of z u in
         say (follows d suffixes-on (g .is) ∙ step (record { item = g .item; errors = g .errors }) (g .read))
         (G .is T E _ li lj (finishes {K = node} {rs = []} {es = []} {q = gives (ok (record { item = g .item; errors = g .errors })) (st-of w x n f (rd′ (g .read)) on)} d (λ _. p) (λ _. []) text F (λ _ _. made)
-        (is-good {K = node} z (record { item = g .item; errors = g .errors; read = rd′ (g .read); is = refl; tree = ap (λ (k : ℕ). take k o) e1 ∙ g .tree; rep = ap (λ (k : ℕ). errs r k) e2 ∙ g .rep; holds = g .holds }))));
+        (is-good {K = node} z (record {
+          item = g .item;
+          errors = g .errors;
+          read = rd′ (g .read);
+          is = refl;
+          tree = ap (λ (k : ℕ). take k o) e1 ∙ g .tree;
+          rep = ap (λ (k : ℕ). errs r k) e2 ∙ g .rep;
+          holds = g .holds;
+        }))));
   }
 
 -- where a turn without an index leads
-module _ {w x : List ℕ} {n i j : ℕ} {o r f : List ℕ} {a : Answer} {t : Front} (q : GoesOn w x n o r f a i j) (u : Seen w x n (a .state .at) t) where
-  pub star-moved : {o2 : List ℕ} {y : Answer} → t .kind ≡ 35 → Finished x o (record { how = a .how; state = fore (a .state) t; line = a .line; column = a .column }) (record { tag = 0x28; line = t .line; column = t .column; numbers = None; start = 0; len = 0 }) o2 y → Moved w x n i j (a .state) (y .state)
+module _ {w x : List ℕ} {n i j : ℕ} {o r f : List ℕ} {a : Answer} {t : Front} (q : GoesOn w x n o r f a i j)
+    (u : Seen w x n (a .state .at) t) where
+  pub star-moved : {o2 : List ℕ} {y : Answer} → t .kind ≡ 35
+      → Finished x o (record { how = a .how; state = fore (a .state) t; line = a .line; column = a .column })
+      (record { tag = 0x28; line = t .line; column = t .column; numbers = None; start = 0; len = 0 }) o2 y
+      → Moved w x n i j (a .state) (y .state)
   star-moved {y = y} k F =
       let e : budget w x n (y .state .at) ≡ budget w x n (t .next) = ap (λ (k : ℕ). budget w x n k) (F .at) in
-      record { at = omega (arith, F .at, u .up); end = omega (arith, F .at, u .end); pos = omega (arith, F .low, q .pos); room = omega (arith, F .high, u .pays); reported = omega (arith, F .reported, q .reported); less = omega (arith, F .reported, F .full); full = omega (arith, F .full); few = omega (arith, F .full, q .asked .asks .few) }
+      record {
+        at = omega (arith, F .at, u .up);
+        end = omega (arith, F .at, u .end);
+        pos = omega (arith, F .low, q .pos);
+        room = omega (arith, F .high, u .pays);
+        reported = omega (arith, F .reported, q .reported);
+        less = omega (arith, F .reported, F .full);
+        full = omega (arith, F .full);
+        few = omega (arith, F .full, q .asked .asks .few);
+      }
 
-  pub dot-moved : {v : Front} {o2 : List ℕ} {y : Answer} → Seen w x n (t .next) v → v .kind ≡ 1 → Finished x o (record { how = a .how; state = fore (fore (a .state) t) v; line = a .line; column = a .column }) (record { tag = 0x29; line = t .line; column = t .column; numbers = None; start = v .start; len = v .len }) o2 y → Moved w x n i j (a .state) (y .state)
+  pub dot-moved : {v : Front} {o2 : List ℕ} {y : Answer} → Seen w x n (t .next) v → v .kind ≡ 1
+      → Finished x o
+      (record { how = a .how; state = fore (fore (a .state) t) v; line = a .line; column = a .column })
+      (record { tag = 0x29; line = t .line; column = t .column; numbers = None; start = v .start; len = v .len })
+      o2 y
+      → Moved w x n i j (a .state) (y .state)
   dot-moved {v} {y = y} s k F =
       let e : budget w x n (y .state .at) ≡ budget w x n (v .next) = ap (λ (k : ℕ). budget w x n k) (F .at) in
-      record { at = omega (arith, F .at, u .up, s .up); end = omega (arith, F .at, s .end); pos = omega (arith, F .low, q .pos); room = omega (arith, F .high, u .pays, s .pays); reported = omega (arith, F .reported, q .reported); less = omega (arith, F .reported, F .full); full = omega (arith, F .full); few = omega (arith, F .full, q .asked .asks .few) }
+      record {
+        at = omega (arith, F .at, u .up, s .up);
+        end = omega (arith, F .at, s .end);
+        pos = omega (arith, F .low, q .pos);
+        room = omega (arith, F .high, u .pays, s .pays);
+        reported = omega (arith, F .reported, q .reported);
+        less = omega (arith, F .reported, F .full);
+        full = omega (arith, F .full);
+        few = omega (arith, F .full, q .asked .asks .few);
+      }
 
-module _ {w x : List ℕ} {n d i j : ℕ} {o r f : List ℕ} {a : Answer} {t : Front} (q : GoesOn w x n o r f a i j) (z : a .how ≡ Done) (u : Seen w x n (a .state .at) t) where
+module _ {w x : List ℕ} {n d i j : ℕ} {o r f : List ℕ} {a : Answer} {t : Front} (q : GoesOn w x n o r f a i j)
+    (z : a .how ≡ Done) (u : Seen w x n (a .state .at) t) where
   pub suffix-none : (t .kind ≡ 34 → ⊥) → (t .kind ≡ 35 → ⊥) → (t .kind ≡ 43 → ⊥) → Goes node node w x n d suffixes-on i j o r f a o r f a
   unfolding go run P.suffixes-turn
   suffix-none h k l = goes-none q z (λ e rd. go-loop d (Suffixes e) (st-of w x n f rd (a .state)) ∙ rw (run, no u h, no u k, no u l))
 
   -- ---- `.*`
 
-  pub suffix-star : {o2 o3 r3 f3 : List ℕ} {y y′ : Answer} → (t .kind ≡ 34 → ⊥) → t .kind ≡ 35 → Finished x o (record { how = a .how; state = fore (a .state) t; line = a .line; column = a .column }) (record { tag = 0x28; line = t .line; column = t .column; numbers = None; start = 0; len = 0 }) o2 y
+  pub suffix-star : {o2 o3 r3 f3 : List ℕ} {y y′ : Answer} → (t .kind ≡ 34 → ⊥) → t .kind ≡ 35
+      → Finished x o (record { how = a .how; state = fore (a .state) t; line = a .line; column = a .column })
+      (record { tag = 0x28; line = t .line; column = t .column; numbers = None; start = 0; len = 0 }) o2 y
       → Goes node node w x n d suffixes-on i j o2 r f y o3 r3 f3 y′ → Goes node node w x n d suffixes-on i j o r f a o3 r3 f3 y′
   unfolding go run P.suffixes-turn
   suffix-star h k F G =
       goes-wrapped (head (rest w x n (a .state .at)) .place) [] q z F (rw (u .place)) (past w x n (a .state .at)) refl refl refl
       (star-moved q u k F)
-      (λ e rd. go-loop d (Suffixes e) (st-of w x n f rd (a .state)) ∙ rw (run, no u h, yes u k) (ap (λ (S : St). go d (suffixes-on (P.wrap 0x28 (head (rest w x n (a .state .at)) .place) [] e)) S) (adv (a .state) u (λ _. plain) f rd))) G
+      (λ e rd. go-loop d (Suffixes e) (st-of w x n f rd (a .state)) ∙ rw (run, no u h, yes u k)
+      (ap (λ (S : St). go d (suffixes-on (P.wrap 0x28 (head (rest w x n (a .state .at)) .place) [] e)) S)
+      (adv (a .state) u (λ _. plain) f rd))) G
 
   -- ---- `.name`
 
@@ -101,45 +155,120 @@ module _ {w x : List ℕ} {n d i j : ℕ} {o r f : List ℕ} {a : Answer} {t : F
     dot-end k e =
         rw e
         (record {
-          moved = let m = refused-moved (q .asked .asks) 11 in record { at = m .at; end = m .end; pos = q .pos; room = m .room; reported = q .reported; less = m .less; full = m .full; few = m .few };
-          is = λ T E p li lj w. let g = good-of z w in record { told = follows d suffixes-on (g .is) ∙ dot-step d f (a .state) u h (record { item = g .item; errors = g .errors }) (g .read) ∙ rw (run, yes s k) };
+          moved =
+              let m = refused-moved (q .asked .asks) 11 in
+              record {
+                at = m .at;
+                end = m .end;
+                pos = q .pos;
+                room = m .room;
+                reported = q .reported;
+                less = m .less;
+                full = m .full;
+                few = m .few;
+              };
+          is =
+              λ T E p li lj w. let g = good-of z w in
+              record {
+                told = follows d suffixes-on (g .is)
+                    ∙ dot-step d f (a .state) u h (record { item = g .item; errors = g .errors }) (g .read)
+                    ∙ rw (run, yes s k);
+              };
         })
 
-    pub dot-name : {o2 o3 r3 f3 : List ℕ} {y y′ : Answer} → (v .kind ≡ 0 → ⊥) → v .kind ≡ 1 → Finished x o (record { how = a .how; state = fore (fore (a .state) t) v; line = a .line; column = a .column }) (record { tag = 0x29; line = t .line; column = t .column; numbers = None; start = v .start; len = v .len }) o2 y
+    pub dot-name : {o2 o3 r3 f3 : List ℕ} {y y′ : Answer} → (v .kind ≡ 0 → ⊥) → v .kind ≡ 1
+        → Finished x o
+        (record { how = a .how; state = fore (fore (a .state) t) v; line = a .line; column = a .column })
+        (record {
+          tag = 0x29;
+          line = t .line;
+          column = t .column;
+          numbers = None;
+          start = v .start;
+          len = v .len;
+        }) o2 y
         → Goes node node w x n d suffixes-on i j o2 r f y o3 r3 f3 y′ → Goes node node w x n d suffixes-on i j o r f a o3 r3 f3 y′
     unfolding go run P.suffixes-turn
     dot-name m k F G =
-        goes-wrapped (head (rest w x n (a .state .at)) .place) (head (rest w x n (t .next)) .text) q z F (rw (u .place, s .text)) (past-two w x n (a .state .at) (t .next)) refl refl refl
+        goes-wrapped (head (rest w x n (a .state .at)) .place) (head (rest w x n (t .next)) .text) q z F
+        (rw (u .place, s .text)) (past-two w x n (a .state .at) (t .next)) refl refl refl
         (dot-moved q u s k F)
-        (λ e rd. dot-step d f (a .state) u h e rd ∙ rw (run, no s m, yes s k) (ap (λ (S : St). go d (suffixes-on (P.wrap 0x29 (head (rest w x n (a .state .at)) .place) (head (rest w x n (t .next)) .text) e)) S) (adv (fore (a .state) t) s (λ _. plain) f (past w x n (a .state .at) rd)))) G
+        (λ e rd. dot-step d f (a .state) u h e rd ∙ rw (run, no s m, yes s k) (ap (λ (S : St). go d (suffixes-on
+        (P.wrap 0x29 (head (rest w x n (a .state .at)) .place) (head (rest w x n (t .next)) .text) e)) S)
+        (adv (fore (a .state) t) s (λ _. plain) f (past w x n (a .state .at) rd)))) G
 
     -- another token: error 4, and the loop ends
-    pub dot-other : {e : ℕ} {r1 f1 : List ℕ} {b : Answer} → (v .kind ≡ 0 → ⊥) → (v .kind ≡ 1 → ⊥) → unpack e ≡ error-at 4 (v .line) (v .column) 0 0 → Raised (noted n (fore (fore (a .state) t) v)) r f (fore (fore (a .state) t) v) e r1 f1 b
-        → Goes node node w x n d suffixes-on i j o r f a o r1 f1 (record { how = b .how; state = b .state; line = a .line; column = a .column })
+    pub dot-other : {e : ℕ} {r1 f1 : List ℕ} {b : Answer} → (v .kind ≡ 0 → ⊥) → (v .kind ≡ 1 → ⊥)
+        → unpack e ≡ error-at 4 (v .line) (v .column) 0 0
+        → Raised (noted n (fore (fore (a .state) t) v)) r f (fore (fore (a .state) t) v) e r1 f1 b
+        → Goes node node w x n d suffixes-on i j o r f a o r1 f1
+        (record { how = b .how; state = b .state; line = a .line; column = a .column })
     unfolding go run P.suffixes-turn
     dot-other {e} {r1} {f1} {b} m k c g =
         let q2 : Asks w x n r f (fore (fore (a .state) t) v) = asks-fore (asks-fore (q .asked .asks) u) s in
-        let mv : Moved w x n (a .state .pos) (a .state .reported) (a .state) (b .state) = rw (g .is) (moved-trans (fore-moved (q .asked .asks) u) (moved-trans (fore-moved (asks-fore (q .asked .asks) u) s) (making-moved q2 Done))) in
+        let mv : Moved w x n (a .state .pos) (a .state .reported) (a .state) (b .state) = rw (g .is)
+        (moved-trans (fore-moved (q .asked .asks) u)
+        (moved-trans (fore-moved (asks-fore (q .asked .asks) u) s) (making-moved q2 Done))) in
         record {
-          moved = record { at = mv .at; end = mv .end; pos = omega (arith, q .pos, mv .pos); room = mv .room; reported = omega (arith, q .reported, mv .reported); less = mv .less; full = mv .full; few = mv .few };
+          moved =
+              record {
+                at = mv .at;
+                end = mv .end;
+                pos = omega (arith, q .pos, mv .pos);
+                room = mv .room;
+                reported = omega (arith, q .reported, mv .reported);
+                less = mv .less;
+                full = mv .full;
+                few = mv .few;
+              };
           is = λ T E p li lj y.
               let h2 = good-of z y in
               say
               (follows d suffixes-on (h2 .is) ∙ dot-step d f (a .state) u h (record { item = h2 .item; errors = h2 .errors }) (h2 .read)
-              ∙ rw (run, no s m, no s k) (ap (λ (S : St). go d (Act.make (P.error 4 (head (rest w x n (t .next)) .place) 0 0) (P.good (h2 .item) (h2 .errors ++ (P.error 4 (head (rest w x n (t .next)) .place) 0 0 ∷ [])))) S) (adv (fore (a .state) t) s (λ _. plain) f (past w x n (a .state .at) (h2 .read)))
-              ∙ ap (λ (er : Err). go d (Act.make er (P.good (h2 .item) (h2 .errors ++ (er ∷ [])))) (st-of w x n f (past-two w x n (a .state .at) (t .next) (h2 .read)) (fore (fore (a .state) t) v))) (rw (s .place) (sym c))))
+              ∙ rw (run, no s m, no s k)
+              (ap (λ (S : St). go d (Act.make (P.error 4 (head (rest w x n (t .next)) .place) 0 0) (P.good (h2 .item) (h2 .errors ++ (P.error 4 (head (rest w x n (t .next)) .place) 0 0 ∷ [])))) S) (adv (fore (a .state) t) s (λ _. plain) f (past w x n (a .state .at) (h2 .read)))
+              ∙ ap (λ (er : Err). go d (Act.make er (P.good (h2 .item) (h2 .errors ++ (er ∷ []))))
+              (st-of w x n f (past-two w x n (a .state .at) (t .next) (h2 .read)) (fore (fore (a .state) t) v)))
+              (rw (s .place) (sym c))))
               (made-so Done n (fore (fore (a .state) t) v) (λ b. Shows node T E [] [] w x n o r1 f1 (record { how = b .how; state = b .state; line = a .line; column = a .column }) (go d (Act.make (unpack e) (P.good (h2 .item) (h2 .errors ++ (unpack e ∷ [])))) (st-of w x n f (past-two w x n (a .state .at) (t .next) (h2 .read)) (fore (fore (a .state) t) v)))) (g .is)
-              (λ l. record { told = record { item = h2 .item; errors = h2 .errors ++ (unpack e ∷ []); read = past-two w x n (a .state .at) (t .next) (h2 .read); is = makes q2 g d (P.good (h2 .item) (h2 .errors ++ (unpack e ∷ []))) (past-two w x n (a .state .at) (t .next) (h2 .read)) l; tree = h2 .tree; rep = errs-join E (h2 .errors) (unpack e ∷ []) (h2 .rep) (g .rep l); holds = h2 .holds } })
-              (λ l. record { told = makes-none q2 g d (P.good (h2 .item) (h2 .errors ++ (unpack e ∷ []))) (past-two w x n (a .state .at) (t .next) (h2 .read)) l }));
+              (λ l. record {
+                told = record {
+                  item = h2 .item;
+                  errors = h2 .errors ++ (unpack e ∷ []);
+                  read = past-two w x n (a .state .at) (t .next) (h2 .read);
+                  is = makes q2 g d (P.good (h2 .item) (h2 .errors ++ (unpack e ∷ [])))
+                      (past-two w x n (a .state .at) (t .next) (h2 .read)) l;
+                  tree = h2 .tree;
+                  rep = errs-join E (h2 .errors) (unpack e ∷ []) (h2 .rep) (g .rep l);
+                  holds = h2 .holds;
+                };
+              })
+              (λ l. record {
+                told = makes-none q2 g d (P.good (h2 .item) (h2 .errors ++ (unpack e ∷ [])))
+                    (past-two w x n (a .state .at) (t .next) (h2 .read)) l;
+              }));
         }
 
   -- ---- `[index]`
 
-  pub index-asks : {o1 r1 f1 r2 : List ℕ} {b c : Answer} → Reads node w x n d P.parse-expression o r f (fore (a .state) t) o1 r1 f1 b → Abandoned r1 b i j (a .state .reported) r2 c → length r2 ≡ length r → length f1 ≡ length f → Follows w x n r2 f1 c i j
+  pub index-asks : {o1 r1 f1 r2 : List ℕ} {b c : Answer}
+      → Reads node w x n d P.parse-expression o r f (fore (a .state) t) o1 r1 f1 b
+      → Abandoned r1 b i j (a .state .reported) r2 c → length r2 ≡ length r → length f1 ≡ length f
+      → Follows w x n r2 f1 c i j
   index-asks {b = b} {c = c} B C lr lf =
       let g : budget w x n (c .state .at) ≡ budget w x n (b .state .at) = ap (λ (k : ℕ). budget w x n k) (C .at) in
       record {
-        asks = asks-moved {i = i} {j = j} (q .asked .asks) (record { at = omega (arith, C .at, u .up, B .moved); end = omega (arith, C .at, B .moved); pos = C .low; room = omega (arith, C .high, B .moved, u .pays); reported = C .first; less = omega (arith, C .last, C .full, B .moved); full = omega (arith, C .full, B .moved); few = omega (arith, C .full, B .moved) }) lr lf;
+        asks =
+            asks-moved {i = i} {j = j} (q .asked .asks) (record {
+              at = omega (arith, C .at, u .up, B .moved);
+              end = omega (arith, C .at, B .moved);
+              pos = C .low;
+              room = omega (arith, C .high, B .moved, u .pays);
+              reported = C .first;
+              less = omega (arith, C .last, C .full, B .moved);
+              full = omega (arith, C .full, B .moved);
+              few = omega (arith, C .full, B .moved);
+            }) lr lf;
         pos = C .low;
         reported = C .first;
       }
@@ -150,9 +279,20 @@ module _ {w x : List ℕ} {n d i j : ℕ} {o r f : List ℕ} {a : Answer} {t : F
     index-moved =
         let e : budget w x n (y .state .at) ≡ budget w x n (d1 .state .at) = ap (λ (k : ℕ). budget w x n k) (F .at) in
         let g : budget w x n (c .state .at) ≡ budget w x n (b .state .at) = ap (λ (k : ℕ). budget w x n k) (C .at) in
-        record { at = omega (arith, F .at, X .moved, C .at, u .up, B .moved); end = omega (arith, F .at, X .moved); pos = omega (arith, F .low, X .moved); room = omega (arith, F .high, X .moved, C .high, B .moved, u .pays); reported = omega (arith, F .reported, X .moved); less = omega (arith, F .reported, F .full, X .moved, C .last, C .full, B .moved); full = omega (arith, F .full, X .moved, C .full, B .moved); few = omega (arith, F .full, X .moved) }
+        record {
+          at = omega (arith, F .at, X .moved, C .at, u .up, B .moved);
+          end = omega (arith, F .at, X .moved);
+          pos = omega (arith, F .low, X .moved);
+          room = omega (arith, F .high, X .moved, C .high, B .moved, u .pays);
+          reported = omega (arith, F .reported, X .moved);
+          less = omega (arith, F .reported, F .full, X .moved, C .last, C .full, B .moved);
+          full = omega (arith, F .full, X .moved, C .full, B .moved);
+          few = omega (arith, F .full, X .moved);
+        }
 
-    pub suffix-index : {o4 r4 f4 : List ℕ} {y′ : Answer} → (t .kind ≡ 34 → ⊥) → (t .kind ≡ 35 → ⊥) → Goes node node w x n d suffixes-on i j o2 r3 f3 y o4 r4 f4 y′ → Goes node node w x n d suffixes-on i j o r f a o4 r4 f4 y′
+    pub suffix-index : {o4 r4 f4 : List ℕ} {y′ : Answer} → (t .kind ≡ 34 → ⊥) → (t .kind ≡ 35 → ⊥)
+        → Goes node node w x n d suffixes-on i j o2 r3 f3 y o4 r4 f4 y′
+        → Goes node node w x n d suffixes-on i j o r f a o4 r4 f4 y′
     unfolding go run P.suffixes-turn
     suffix-index k l G = record {
       moved = moved-trans index-moved (G .moved);
@@ -164,11 +304,19 @@ module _ {w x : List ℕ} {n d i j : ℕ} {o r f : List ℕ} {a : Answer} {t : F
           let q1 : Res (Ans Node) = go d P.parse-expression S1 in
           say
           (follows d suffixes-on (g .is) ∙ go-loop d (Suffixes e) (st-of w x n f (g .read) (a .state))
-          ∙ rw (run, no u k, no u l, yes u h) (ap (λ (S : St). go d (P.parse-expression >>? λ x. P.expect-as plain 44 >>? λ _. suffixes-on (P.binary 0x25 [] pl e x)) S) (adv (a .state) u (λ _. plain) f (g .read)))
-          ∙ go-bind d P.parse-expression (or-return (λ x. P.expect-as plain 44 >>? λ _. suffixes-on (P.binary 0x25 [] pl e x))) S1 ∙ expect-seam d plain 44 (λ x. suffixes-on (P.binary 0x25 [] pl e x)) q1
-          ∙ seam d (wrapped node (g .item .recs) (g .errors) 0x25 (λ _. pl) (λ _. []) []) suffixes-on (λ x. P.binary 0x25 [] pl e x) (λ x. refl) (after q1 (λ z S. go d (or-return (expecting plain 44) z) S)))
+          ∙ rw (run, no u k, no u l, yes u h) (ap (λ (S : St). go d
+          (P.parse-expression >>? λ x. P.expect-as plain 44 >>? λ _. suffixes-on (P.binary 0x25 [] pl e x)) S)
+          (adv (a .state) u (λ _. plain) f (g .read)))
+          ∙ go-bind d P.parse-expression
+          (or-return (λ x. P.expect-as plain 44 >>? λ _. suffixes-on (P.binary 0x25 [] pl e x))) S1
+          ∙ expect-seam d plain 44 (λ x. suffixes-on (P.binary 0x25 [] pl e x)) q1
+          ∙ seam d (wrapped node (g .item .recs) (g .errors) 0x25 (λ _. pl) (λ _. []) []) suffixes-on
+          (λ x. P.binary 0x25 [] pl e x) (λ x. refl)
+          (after q1 (λ z S. go d (or-return (expecting plain 44) z) S)))
           (G .is T E _ li lj
           (finishes d (λ _. pl) (λ _. []) [] F (λ _ _. rw (u .place))
           (expects-behind (index-asks B C lr lf) X plain d li lj
-          (abandons {T = T} {E = E} (g .tree) (g .rep) li lj (errs-length r (a .state .reported) (omega arith)) C (omega (arith, q .pos, B .moved .pos)) (omega (arith, q .reported, B .moved .reported)) (B .is (past w x n (a .state .at) (g .read)))))));
+          (abandons {T = T} {E = E} (g .tree) (g .rep) li lj (errs-length r (a .state .reported) (omega arith)) C
+          (omega (arith, q .pos, B .moved .pos)) (omega (arith, q .reported, B .moved .reported))
+          (B .is (past w x n (a .state .at) (g .read)))))));
     }

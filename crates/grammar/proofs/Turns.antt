@@ -26,13 +26,29 @@ pub at-start : {P : Shown} {o r f : List ℕ} {k : ℕ} → Turned P P o r f o r
 at-start = record { file = refl; rep = refl; full = refl; on = omega arith; rest = λ g. g }
 
 pub one-turn : {P Q R : Shown} {o r f o1 r1 f1 o2 r2 f2 : List ℕ} {k m l : ℕ}
-    → Turned P Q o r f o1 r1 f1 k m → length o2 ≡ length o1 → length r2 ≡ length r1 → length f2 ≡ length f1 → m ≤ l → ((o′ r′ f′ : List ℕ) (y : Answer) → R o′ r′ f′ y → Q o′ r′ f′ y) → Turned P R o r f o2 r2 f2 k l
-one-turn t a b c h q = record { file = omega (arith, t .file, a); rep = omega (arith, t .rep, b); full = omega (arith, t .full, c); on = omega (arith, t .on, h); rest = λ g. t .rest (q _ _ _ _ g) }
+    → Turned P Q o r f o1 r1 f1 k m → length o2 ≡ length o1 → length r2 ≡ length r1 → length f2 ≡ length f1
+    → m ≤ l → ((o′ r′ f′ : List ℕ) (y : Answer) → R o′ r′ f′ y → Q o′ r′ f′ y) → Turned P R o r f o2 r2 f2 k l
+one-turn t a b c h q =
+    record {
+      file = omega (arith, t .file, a);
+      rep = omega (arith, t .rep, b);
+      full = omega (arith, t .full, c);
+      on = omega (arith, t .on, h);
+      rest = λ g. t .rest (q _ _ _ _ g);
+    }
 
 -- the loops behind an operand
-abbrev pub GoesTurned : (k : Fallible Node → Act (Ans Node)) (w x : List ℕ) (n d i j : ℕ) (o r f : List ℕ) (a : Answer) (o1 r1 f1 : List ℕ) (b : Answer) → Type 0
-GoesTurned k w x n d i j o r f a o1 r1 f1 b = GoesOn w x n o1 r1 f1 b i j × Turned (Goes node node w x n d k i j o r f a) (Goes node node w x n d k i j o1 r1 f1 b) o r f o1 r1 f1 (a .state .at) (b .state .at)
+abbrev pub GoesTurned : (k : Fallible Node → Act (Ans Node)) (w x : List ℕ) (n d i j : ℕ) (o r f : List ℕ) (a : Answer)
+    (o1 r1 f1 : List ℕ) (b : Answer)
+    → Type 0
+GoesTurned k w x n d i j o r f a o1 r1 f1 b =
+    GoesOn w x n o1 r1 f1 b i j × Turned (Goes node node w x n d k i j o r f a)
+    (Goes node node w x n d k i j o1 r1 f1 b) o r f o1 r1 f1 (a .state .at) (b .state .at)
 
 -- the loops that count what they read: L is what the rest shows of the count, the slices and the state
-abbrev pub ItemsTurned : (L : ℕ → List ℕ → List ℕ → List ℕ → State → Shown) (w x : List ℕ) (n c : ℕ) (o r f : List ℕ) (s : State) (c1 : ℕ) (o1 r1 f1 : List ℕ) (s1 : State) → Type 0
-ItemsTurned L w x n c o r f s c1 o1 r1 f1 s1 = (Asked w x n o1 r1 f1 s1 × (c1 ≤ s1 .at)) × Turned (L c o r f s) (L c1 o1 r1 f1 s1) o r f o1 r1 f1 (s .at) (s1 .at)
+abbrev pub ItemsTurned : (L : ℕ → List ℕ → List ℕ → List ℕ → State → Shown) (w x : List ℕ) (n c : ℕ) (o r f : List ℕ) (s : State)
+    (c1 : ℕ) (o1 r1 f1 : List ℕ) (s1 : State)
+    → Type 0
+ItemsTurned L w x n c o r f s c1 o1 r1 f1 s1 =
+    (Asked w x n o1 r1 f1 s1 × (c1 ≤ s1 .at)) × Turned (L c o r f s) (L c1 o1 r1 f1 s1) o r f o1 r1 f1 (s .at)
+    (s1 .at)

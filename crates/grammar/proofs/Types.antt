@@ -43,8 +43,19 @@ use Rattle.grammar.specs.Post.{place-at, as-answer, ReadsList}
 -- ---- numbers
 
 -- a part within a construct that began earlier
-pub moved-onward : {w x : List ℕ} {n i j : ℕ} {s t u : State} → Moved w x n i j s t → Moved w x n (t .pos) (t .reported) t u → Moved w x n i j s u
-moved-onward p q = record { at = omega arith; end = q .end; pos = omega arith; room = omega arith; reported = omega arith; less = omega arith; full = omega arith; few = q .few }
+pub moved-onward : {w x : List ℕ} {n i j : ℕ} {s t u : State} → Moved w x n i j s t → Moved w x n (t .pos) (t .reported) t u
+    → Moved w x n i j s u
+moved-onward p q =
+    record {
+      at = omega arith;
+      end = q .end;
+      pos = omega arith;
+      room = omega arith;
+      reported = omega arith;
+      less = omega arith;
+      full = omega arith;
+      few = q .few;
+    }
 
 -- what was read, and the token at `at`
 abbrev pub past-as : Role → List ℕ → List ℕ → ℕ → ℕ → List Consumed → List Consumed
@@ -65,10 +76,15 @@ either {C} n i p q = one (ltb i n) (λ e. ltb-true i n e) (λ e. ltb-false i n e
 passed : (w x : List ℕ) (n i k : ℕ) → budget w x n (i + k) ≤ budget w x n i
 unfolding spend
 passed w x n i zero = let e : i + 0 ≡ i = omega arith in rw e (omega arith)
-passed w x n i (suc k) = let e : i + suc k ≡ i + 1 + k = omega arith in either n i (λ h. rw (rest-nil w x n (i + suc k) (omega arith)) (omega arith)) (λ h. rw (e, rest-cons w x n i h) (omega (arith, passed w x n (i + 1) k)))
+passed w x n i (suc k) =
+    let e : i + suc k ≡ i + 1 + k = omega arith in
+    either n i (λ h. rw (rest-nil w x n (i + suc k) (omega arith)) (omega arith))
+    (λ h. rw (e, rest-cons w x n i h) (omega (arith, passed w x n (i + 1) k)))
 
 -- once the token at i is passed, what it pays for is spent
-pub paid : {w x : List ℕ} {n : ℕ} (i j : ℕ) → Held w x n → i + min (head (rest w x n i) .kind) 1 ≤ j → budget w x n j + 16 * min (head (rest w x n i) .kind) 1 + length (head (rest w x n i) .text) ≤ budget w x n i
+pub paid : {w x : List ℕ} {n : ℕ} (i j : ℕ) → Held w x n → i + min (head (rest w x n i) .kind) 1 ≤ j
+    → budget w x n j + 16 * min (head (rest w x n i) .kind) 1 + length (head (rest w x n i) .text) ≤ budget w x n
+    i
 unfolding spend
 paid {w} {x} {n} i j q h = either n i end on
   where
@@ -76,53 +92,110 @@ paid {w} {x} {n} i j q h = either n i end on
     end g = let a : n ≤ j = omega arith in rw (rest-nil w x n j a, rest-nil w x n i g) (omega arith)
 
     on : i < n → budget w x n j + 16 * min (head (rest w x n i) .kind) 1 + length (head (rest w x n i) .text) ≤ budget w x n i
-    on g = let l = alive q g in let e : i + 1 + (j - (i + 1)) ≡ j = omega arith in let p : budget w x n j ≤ budget w x n (i + 1) = rw (← e) (passed w x n (i + 1) (j - (i + 1))) in rw (rest-cons w x n i g) (omega arith)
+    on g =
+        let l = alive q g in
+        let e : i + 1 + (j - (i + 1)) ≡ j = omega arith in
+        let p : budget w x n j ≤ budget w x n (i + 1) = rw (← e) (passed w x n (i + 1) (j - (i + 1))) in
+        rw (rest-cons w x n i g) (omega arith)
 
 -- where nothing was written or reported before it
-pub shown-from : {A : Type 0} {K : View A} {w x : List ℕ} {n d p : ℕ} {E : List Err} {m : Act (Ans A)} {o r f o′ r′ f′ : List ℕ} {s : State} {a : Answer} → Reads K w x n d m o r f s o′ r′ f′ a → s .pos ≡ p → errs r (s .reported) ≡ E
+pub shown-from : {A : Type 0} {K : View A} {w x : List ℕ} {n d p : ℕ} {E : List Err} {m : Act (Ans A)}
+    {o r f o′ r′ f′ : List ℕ} {s : State} {a : Answer}
+    → Reads K w x n d m o r f s o′ r′ f′ a → s .pos ≡ p → errs r (s .reported) ≡ E
     → (rd : List Consumed) → Shows K (take p o) E [] [] w x n o′ r′ f′ a (go d m (st-of w x n f rd s))
 shown-from u e h rd = rw (← e, ← h) (u .is rd)
 
 -- ---- a record behind one answer
 
 -- the numbers, where the record is paid for
-pub finished-moved : {w x : List ℕ} {n i j : ℕ} {o o′ : List ℕ} {s : State} {a y : Answer} {v : Record} → Moved w x n i j s (a .state) → a .state .pos + budget w x n (a .state .at) + size-of v ≤ s .pos + budget w x n (s .at) → Finished x o a v o′ y → Moved w x n i j s (y .state)
-finished-moved {w} {x} {n} m h u = let b = ap (λ (k : ℕ). budget w x n k) (u .at) in record { at = omega arith; end = omega arith; pos = omega arith; room = omega arith; reported = omega arith; less = omega arith; full = omega arith; few = omega arith }
+pub finished-moved : {w x : List ℕ} {n i j : ℕ} {o o′ : List ℕ} {s : State} {a y : Answer} {v : Record}
+    → Moved w x n i j s (a .state)
+    → a .state .pos + budget w x n (a .state .at) + size-of v ≤ s .pos + budget w x n (s .at)
+    → Finished x o a v o′ y → Moved w x n i j s (y .state)
+finished-moved {w} {x} {n} m h u =
+    let b = ap (λ (k : ℕ). budget w x n k) (u .at) in
+    record {
+      at = omega arith;
+      end = omega arith;
+      pos = omega arith;
+      room = omega arith;
+      reported = omega arith;
+      less = omega arith;
+      full = omega arith;
+      few = omega arith;
+    }
 
 -- Of an act m, what is left is the answer b and the record v behind it.
-module _ {A : Type 0} {K : View A} {w x : List ℕ} {n d : ℕ} {m : Act (Ans Node)} {o r f o1 r1 f1 o2 : List ℕ} {s : State} {b y : Answer} {v : Record} (p : Place) (ns : A → List Num) (text : List ℕ) (F : Finished x o1 b v o2 y) where
-  pub record-reads : Moved w x n (s .pos) (s .reported) s (b .state) → s .at + min (head (rest w x n (s .at)) .kind) 1 ≤ b .state .at → b .state .pos + budget w x n (b .state .at) + size-of v ≤ s .pos + budget w x n (s .at)
+module _ {A : Type 0} {K : View A} {w x : List ℕ} {n d : ℕ} {m : Act (Ans Node)} {o r f o1 r1 f1 o2 : List ℕ}
+    {s : State} {b y : Answer} {v : Record} (p : Place) (ns : A → List Num) (text : List ℕ)
+    (F : Finished x o1 b v o2 y) where
+  pub record-reads : Moved w x n (s .pos) (s .reported) s (b .state)
+      → s .at + min (head (rest w x n (s .at)) .kind) 1 ≤ b .state .at
+      → b .state .pos + budget w x n (b .state .at) + size-of v ≤ s .pos + budget w x n (s .at)
       → ((i : A) → K .fine (b .line) (b .column) i → rec-of x v ≡ record { tag = v .tag; place = some p; numbers = ns i; text = text })
-      → (q : List Consumed → Res (Ans A)) → ((rd : List Consumed) → go d m (st-of w x n f rd s) ≡ after (q rd) (λ z S. go d (or-return (wrapped K [] [] (v .tag) (λ _. p) ns text) z) S))
-      → ((rd : List Consumed) → Shows K (take (s .pos) o) (errs r (s .reported)) [] [] w x n o1 r1 f1 b (q rd)) → Reads node w x n d m o r f s o2 r1 f1 y
-  record-reads mv on paid e q step h = record { moved = finished-moved mv paid F; on = omega (arith, F .at); is = λ rd. say (step rd) (finishes d (λ _. p) ns text F e (h rd)) }
+      → (q : List Consumed → Res (Ans A))
+      → ((rd : List Consumed)
+      → go d m (st-of w x n f rd s)
+      ≡ after (q rd) (λ z S. go d (or-return (wrapped K [] [] (v .tag) (λ _. p) ns text) z) S))
+      → ((rd : List Consumed) → Shows K (take (s .pos) o) (errs r (s .reported)) [] [] w x n o1 r1 f1 b (q rd))
+      → Reads node w x n d m o r f s o2 r1 f1 y
+  record-reads mv on paid e q step h =
+      record {
+        moved = finished-moved mv paid F;
+        on = omega (arith, F .at);
+        is = λ rd. say (step rd) (finishes d (λ _. p) ns text F e (h rd));
+      }
 
 -- ---- the answer of a list
 
 -- an act that gives items, and what follows: two ways to say it
-pub through : {B : Type 0} (d : ℕ) (m : Act Items) (k : Items → Act (Ans B)) (h : Fallible Items → Act (Ans B)) → ((i : Items) → k i ≡ h (record { item = i; errors = i .errors })) → (S : St) → go d (m >>= k) S ≡ after (go d (m >>= as-answer) S) (λ z T. go d (or-return h z) T)
+pub through : {B : Type 0} (d : ℕ) (m : Act Items) (k : Items → Act (Ans B)) (h : Fallible Items → Act (Ans B))
+    → ((i : Items) → k i ≡ h (record { item = i; errors = i .errors })) → (S : St)
+    → go d (m >>= k) S ≡ after (go d (m >>= as-answer) S) (λ z T. go d (or-return h z) T)
 unfolding go run
-through d m k h e S = go-bind d m k S ∙ one (go d m S) ∙ ap (λ (q : Res (Ans Items)). after q (λ z T. go d (or-return h z) T)) (sym (go-bind d m as-answer S))
+through d m k h e S =
+    go-bind d m k S ∙ one (go d m S)
+    ∙ ap (λ (q : Res (Ans Items)). after q (λ z T. go d (or-return h z) T)) (sym (go-bind d m as-answer S))
   where
     one : (q : Res Items) → after q (λ i T. go d (k i) T) ≡ after (after q (λ i T. go d (as-answer i) T)) (λ z T. go d (or-return h z) T)
     one (gives i T) = ap (λ (a : Act (Ans _)). go d a T) (e i)
     one (refused n) = refl
 
 -- its errors are dropped
-pub drops : {A : Type 0} {K : View A} {T : List ℕ} {E : List Err} {w x : List ℕ} {n j : ℕ} {o r f : List ℕ} {a : Answer} {q : Res (Ans A)} (d : ℕ) → (a .how ≡ Fatal → ⊥) → length E ≡ j → j ≤ a .state .reported → Shows K T E [] [] w x n o r f a q
+pub drops : {A : Type 0} {K : View A} {T : List ℕ} {E : List Err} {w x : List ℕ} {n j : ℕ} {o r f : List ℕ} {a : Answer}
+    {q : Res (Ans A)} (d : ℕ)
+    → (a .how ≡ Fatal → ⊥) → length E ≡ j → j ≤ a .state .reported → Shows K T E [] [] w x n o r f a q
     → Shows K T E [] [] w x n o r f (silent a j) (after q (λ z S. go d (or-return (λ y. P.good (y .item) []) z) S))
 unfolding go run
 drops {A} {K} {T} {E} {w} {x} {n} {j} {o} {r} {f} {a} {q} d nf le hj v = record { told = one (a .how) nf (v .told) }
   where
-    one : (h : How) → (h ≡ Fatal → ⊥) → ShowsOf h K T E [] [] w x n o r f a q → ShowsOf h K T E [] [] w x n o r f (silent a j) (after q (λ z S. go d (or-return (λ y. P.good (y .item) []) z) S))
-    one Done nf g = record { item = g .item; errors = []; read = g .read; is = rw (g .is); tree = g .tree; rep = errs-take r j (a .state .reported) hj ∙ ap (λ (l : List Err). take j l) (g .rep) ∙ take-at E (g .errors) j le ∙ sym (append-nil E); holds = g .holds }
+    one : (h : How) → (h ≡ Fatal → ⊥) → ShowsOf h K T E [] [] w x n o r f a q
+        → ShowsOf h K T E [] [] w x n o r f (silent a j)
+        (after q (λ z S. go d (or-return (λ y. P.good (y .item) []) z) S))
+    one Done nf g =
+        record {
+          item = g .item;
+          errors = [];
+          read = g .read;
+          is = rw (g .is);
+          tree = g .tree;
+          rep = errs-take r j (a .state .reported) hj ∙ ap (λ (l : List Err). take j l) (g .rep)
+              ∙ take-at E (g .errors) j le ∙ sym (append-nil E);
+          holds = g .holds;
+        }
     one Fatal nf g = absurd (nf refl)
     one (Refused u) nf g = rw g
 
 -- so they are for what follows
-pub dropping : {B : Type 0} (d : ℕ) (m : Act Items) (k : Items → Act (Ans B)) (h : Fallible Items → Act (Ans B)) → ((i : Items) → k i ≡ h (record { item = i; errors = [] })) → (S : St)
-    → go d (m >>= k) S ≡ after (after (go d (m >>= as-answer) S) (λ z T. go d (or-return (λ y. P.good (y .item) []) z) T)) (λ z T. go d (or-return h z) T)
-dropping d m k h e S = through d m k (λ y. h (record { item = y .item; errors = [] })) e S ∙ seam d (λ y. P.good (y .item) []) h (λ y. record { item = y .item; errors = [] }) (λ y. refl) (go d (m >>= as-answer) S)
+pub dropping : {B : Type 0} (d : ℕ) (m : Act Items) (k : Items → Act (Ans B)) (h : Fallible Items → Act (Ans B))
+    → ((i : Items) → k i ≡ h (record { item = i; errors = [] })) → (S : St)
+    → go d (m >>= k) S
+    ≡ after (after (go d (m >>= as-answer) S) (λ z T. go d (or-return (λ y. P.good (y .item) []) z) T))
+    (λ z T. go d (or-return h z) T)
+dropping d m k h e S =
+    through d m k (λ y. h (record { item = y .item; errors = [] })) e S
+    ∙ seam d (λ y. P.good (y .item) []) h (λ y. record { item = y .item; errors = [] }) (λ y. refl)
+    (go d (m >>= as-answer) S)
 
 -- ---- `ty`
 
@@ -131,30 +204,44 @@ module _ {w x : List ℕ} {n d : ℕ} {o r f : List ℕ} {s : State} (q : Asked 
   type-deep z e = deep Type' (q .asks) z e
 
   module _ {t : Front} (nz : d ≡ 0 → ⊥) (v : Seen w x n (s .at) t) where
-    pub type-name : {o′ : List ℕ} {y : Answer} → t .kind ≡ 1 → Finished x o (there s t) (texted t 16 None t) o′ y → Reads node w x n d P.parse-type o r f s o′ r f y
+    pub type-name : {o′ : List ℕ} {y : Answer} → t .kind ≡ 1 → Finished x o (there s t) (texted t 16 None t) o′ y
+        → Reads node w x n d P.parse-type o r f s o′ r f y
     unfolding go run P.type-rule
-    type-name z u = down Type' nz (leaf-reads (q .asks) v [] (head (rest w x n (s .at)) .text) u (omega arith) (rw (v .place, v .text)) (d - 1) (λ rd. rw (run, yes v z)))
+    type-name z u =
+        down Type' nz
+        (leaf-reads (q .asks) v [] (head (rest w x n (s .at)) .text) u (omega arith) (rw (v .place, v .text))
+        (d - 1) (λ rd. rw (run, yes v z)))
 
     module _ (m1 : t .kind ≡ 1 → ⊥) where
       -- behind `*`
       abbrev star-on : Fallible Node → Act (Ans Node)
       star-on e = wrapped node [] [] 18 (λ _. head (rest w x n (s .at)) .place) (λ _. []) [] e
 
-      pub type-star : {o1 r1 f1 o2 : List ℕ} {b y : Answer} → t .kind ≡ 24 → Reads node w x n (d - 1) P.parse-type o r f (fore s t) o1 r1 f1 b → Finished x o1 b (untexted t 18 None) o2 y → Reads node w x n d P.parse-type o r f s o2 r1 f1 y
+      pub type-star : {o1 r1 f1 o2 : List ℕ} {b y : Answer} → t .kind ≡ 24
+          → Reads node w x n (d - 1) P.parse-type o r f (fore s t) o1 r1 f1 b
+          → Finished x o1 b (untexted t 18 None) o2 y → Reads node w x n d P.parse-type o r f s o2 r1 f1 y
       unfolding go run P.type-rule
       type-star z u F = down Type' nz
           (record-reads (head (rest w x n (s .at)) .place) (λ _. []) [] F (moved-onward (fore-moved (q .asks) v) (u .moved)) (omega (arith, v .kind, v .on, u .moved .at)) (omega arith) (λ _ _. rw (v .place))
           (λ rd. go (d - 1) P.parse-type (st-of w x n f (past w x n (s .at) rd) (fore s t)))
-          (λ rd. rw (run, no v m1, yes v z) (ap (λ (S : St). go (d - 1) (P.parse-type >>? star-on) S) (adv s v (λ _. plain) f rd)) ∙ go-bind (d - 1) P.parse-type (or-return star-on) _)
+          (λ rd. rw (run, no v m1, yes v z)
+          (ap (λ (S : St). go (d - 1) (P.parse-type >>? star-on) S) (adv s v (λ _. plain) f rd)) ∙ go-bind
+          (d - 1) P.parse-type (or-return star-on) _)
           (λ rd. u .is (past w x n (s .at) rd)))
 
       module _ (m24 : t .kind ≡ 24 → ⊥) where
-        pub type-array : {o1 r1 f1 : List ℕ} {b : Answer} → t .kind ≡ 43 → Reads node w x n (d - 1) (P.parse-array-type (place-at (t .line) (t .column))) o r f (fore s t) o1 r1 f1 b → Reads node w x n d P.parse-type o r f s o1 r1 f1 b
+        pub type-array : {o1 r1 f1 : List ℕ} {b : Answer} → t .kind ≡ 43
+            → Reads node w x n (d - 1) (P.parse-array-type (place-at (t .line) (t .column))) o r f (fore s t) o1
+            r1 f1 b
+            → Reads node w x n d P.parse-type o r f s o1 r1 f1 b
         unfolding go run P.type-rule
         type-array z u = down Type' nz (record {
           moved = moved-onward (fore-moved (q .asks) v) (u .moved);
           on = omega (arith, v .kind, v .on, u .moved .at);
-          is = λ rd. say (rw (run, no v m1, no v m24, yes v z, v .place) (ap (λ (S : St). go (d - 1) (P.parse-array-type (place-at (t .line) (t .column))) S) (adv s v (λ _. plain) f rd))) (u .is (past w x n (s .at) rd));
+          is =
+              λ rd. say (rw (run, no v m1, no v m24, yes v z, v .place)
+              (ap (λ (S : St). go (d - 1) (P.parse-array-type (place-at (t .line) (t .column))) S)
+              (adv s v (λ _. plain) f rd))) (u .is (past w x n (s .at) rd));
         })
 
         module _ (m43 : t .kind ≡ 43 → ⊥) where
@@ -162,25 +249,44 @@ module _ {w x : List ℕ} {n d : ℕ} {o r f : List ℕ} {s : State} (q : Asked 
           abbrev struct-on : Fallible Items → Act (Ans Node)
           struct-on e = wrapped items [] [] 20 (λ _. head (rest w x n (s .at)) .place) (λ i. two (i .count) ∷ []) [] e
 
-          pub type-struct : {o1 r1 f1 o2 : List ℕ} {a b y : Answer} → t .kind ≡ 16 → ReadsList w x n (d - 1) StructFields o r f (fore s t) o1 r1 f1 a → b ≡ silent a (s .reported) → Finished x o1 b (untexted t 20 (Two (a .line))) o2 y → Reads node w x n d P.parse-type o r f s o2 r1 f1 y
+          pub type-struct : {o1 r1 f1 o2 : List ℕ} {a b y : Answer} → t .kind ≡ 16
+              → ReadsList w x n (d - 1) StructFields o r f (fore s t) o1 r1 f1 a → b ≡ silent a (s .reported)
+              → Finished x o1 b (untexted t 20 (Two (a .line))) o2 y
+              → Reads node w x n d P.parse-type o r f s o2 r1 f1 y
           unfolding go run P.type-rule
           type-struct {o1} {r1} {f1} {o2} {a} {b} {y} z u e F =
               let G : Finished x o1 (silent a (s .reported)) (untexted t 20 (Two (a .line))) o2 y = rw e at F in
               let mv = moved-onward (fore-moved (q .asks) v) (u .moved) in
               down Type' nz
               (record-reads {K = items} (head (rest w x n (s .at)) .place) (λ i. two (i .count) ∷ []) [] G (record { at = mv .at; end = mv .end; pos = mv .pos; room = mv .room; reported = omega arith; less = omega arith; full = mv .full; few = mv .few }) (omega (arith, v .kind, v .on, u .moved .at)) (omega arith) (λ i h. rw (v .place, h))
-              (λ rd. after (go (d - 1) (P.parse-list StructFields >>= as-answer) (st-of w x n f (past w x n (s .at) rd) (fore s t))) (λ z S. go (d - 1) (or-return (λ y. P.good (y .item) []) z) S))
-              (λ rd. rw (run, no v m1, no v m24, no v m43, yes v z) (ap (λ (S : St). go (d - 1) (P.parse-list StructFields >>= λ i. struct-on (record { item = i; errors = [] })) S) (adv s v (λ _. plain) f rd)) ∙ dropping (d - 1) (P.parse-list StructFields) _ struct-on (λ i. refl) (st-of w x n f (past w x n (s .at) rd) (fore s t)))
-              (λ rd. drops (d - 1) (u .never) (errs-length r (s .reported) (omega arith)) (u .moved .reported) (u .is (past w x n (s .at) rd))))
+              (λ rd. after (go (d - 1) (P.parse-list StructFields >>= as-answer)
+              (st-of w x n f (past w x n (s .at) rd) (fore s t)))
+              (λ z S. go (d - 1) (or-return (λ y. P.good (y .item) []) z) S))
+              (λ rd. rw (run, no v m1, no v m24, no v m43, yes v z) (ap (λ (S : St). go (d - 1)
+              (P.parse-list StructFields >>= λ i. struct-on (record { item = i; errors = [] })) S)
+              (adv s v (λ _. plain) f rd)) ∙ dropping (d - 1) (P.parse-list StructFields) _ struct-on
+              (λ i. refl) (st-of w x n f (past w x n (s .at) rd) (fore s t)))
+              (λ rd. drops (d - 1) (u .never) (errs-length r (s .reported) (omega arith)) (u .moved .reported)
+              (u .is (past w x n (s .at) rd))))
 
           module _ {e : ℕ} {r′ f′ : List ℕ} {y : Answer} (m16 : t .kind ≡ 16 → ⊥) where
-            pub type-end : t .kind ≡ 0 → unpack e ≡ error-at 12 0 0 0 0 → Raised (raised n (fore s t)) r f (fore s t) e r′ f′ y → Reads node w x n d P.parse-type o r f s o r′ f′ y
+            pub type-end : t .kind ≡ 0 → unpack e ≡ error-at 12 0 0 0 0
+                → Raised (raised n (fore s t)) r f (fore s t) e r′ f′ y
+                → Reads node w x n d P.parse-type o r f s o r′ f′ y
             unfolding go run P.type-rule
-            type-end z i g = down Type' nz (raise-reads (q .asks) v plain g (d - 1) (λ rd. rw (run, no v m1, no v m24, no v m43, no v m16, yes v z) (raise-same (d - 1) (sym i) (adv s v (λ _. plain) f rd))))
+            type-end z i g =
+                down Type' nz (raise-reads (q .asks) v plain g (d - 1)
+                (λ rd. rw (run, no v m1, no v m24, no v m43, no v m16, yes v z)
+                (raise-same (d - 1) (sym i) (adv s v (λ _. plain) f rd))))
 
-            pub type-other : (t .kind ≡ 0 → ⊥) → unpack e ≡ error-at 11 (t .line) (t .column) 0 (t .kind) → Raised (raised n (fore s t)) r f (fore s t) e r′ f′ y → Reads node w x n d P.parse-type o r f s o r′ f′ y
+            pub type-other : (t .kind ≡ 0 → ⊥) → unpack e ≡ error-at 11 (t .line) (t .column) 0 (t .kind)
+                → Raised (raised n (fore s t)) r f (fore s t) e r′ f′ y
+                → Reads node w x n d P.parse-type o r f s o r′ f′ y
             unfolding go run P.type-rule
-            type-other z i g = down Type' nz (raise-reads (q .asks) v plain g (d - 1) (λ rd. rw (run, no v m1, no v m24, no v m43, no v m16, no v z) (raise-same (d - 1) (rw (v .place, v .kind) (sym i)) (adv s v (λ _. plain) f rd))))
+            type-other z i g =
+                down Type' nz (raise-reads (q .asks) v plain g (d - 1)
+                (λ rd. rw (run, no v m1, no v m24, no v m43, no v m16, no v z)
+                (raise-same (d - 1) (rw (v .place, v .kind) (sym i)) (adv s v (λ _. plain) f rd))))
 
 -- ---- `array`, behind `[`, of a type at a line and a column
 
@@ -188,41 +294,73 @@ not-false : (b : Bool) → not b ≡ false → b ≡ true
 not-false true e = refl
 not-false false e = sym e
 
-module _ {w x : List ℕ} {n : ℕ} (line column : ℕ) {o r f : List ℕ} {s : State} {t : Front} (q : Asked w x n o r f s × ((line < 65536) × (column < 65536))) (v : Seen w x n (s .at) t) where
-  pub array-no-integer : {d e : ℕ} {r′ f′ : List ℕ} {y : Answer} → (t .kind ≡ 2 → ⊥) → unpack e ≡ error-at 9 line column 0 0 → Raised (raised n (fore s t)) r f (fore s t) e r′ f′ y → Reads node w x n d (P.parse-array-type (place-at line column)) o r f s o r′ f′ y
+module _ {w x : List ℕ} {n : ℕ} (line column : ℕ) {o r f : List ℕ} {s : State} {t : Front}
+    (q : Asked w x n o r f s × ((line < 65536) × (column < 65536))) (v : Seen w x n (s .at) t) where
+  pub array-no-integer : {d e : ℕ} {r′ f′ : List ℕ} {y : Answer} → (t .kind ≡ 2 → ⊥) → unpack e ≡ error-at 9 line column 0 0
+      → Raised (raised n (fore s t)) r f (fore s t) e r′ f′ y
+      → Reads node w x n d (P.parse-array-type (place-at line column)) o r f s o r′ f′ y
   unfolding go run P.parse-array-type
-  array-no-integer {d} m i g = raise-reads (q .0 .asks) v size g d (λ rd. rw (run, no v m) (raise-same d (sym i) (adv s v (λ _. size) f rd)))
+  array-no-integer {d} m i g =
+      raise-reads (q .0 .asks) v size g d
+      (λ rd. rw (run, no v m) (raise-same d (sym i) (adv s v (λ _. size) f rd)))
 
   module _ {u : Size} (z : t .kind ≡ 2) (k : Valued (take (t .len) (drop (t .start) x)) (t .base) u) where
     -- the size as the definition has it
     fit : unfit (head (rest w x n (s .at)) .base) (head (rest w x n (s .at)) .text) ≡ not (u .fits)
     fit = rw (v .text, v .base) (k .fits)
 
-    pub array-no-size : {d e : ℕ} {r′ f′ : List ℕ} {y : Answer} → not (u .fits) ≡ true → unpack e ≡ error-at 10 line column 0 0 → Raised (raised n (fore s t)) r f (fore s t) e r′ f′ y → Reads node w x n d (P.parse-array-type (place-at line column)) o r f s o r′ f′ y
+    pub array-no-size : {d e : ℕ} {r′ f′ : List ℕ} {y : Answer} → not (u .fits) ≡ true → unpack e ≡ error-at 10 line column 0 0
+        → Raised (raised n (fore s t)) r f (fore s t) e r′ f′ y
+        → Reads node w x n d (P.parse-array-type (place-at line column)) o r f s o r′ f′ y
     unfolding go run P.parse-array-type
-    array-no-size {d} m i g = raise-reads (q .0 .asks) v size g d (λ rd. rw (run, yes v z, fit ∙ m) (raise-same d (sym i) (adv s v (λ _. size) f rd)))
+    array-no-size {d} m i g =
+        raise-reads (q .0 .asks) v size g d
+        (λ rd. rw (run, yes v z, fit ∙ m) (raise-same d (sym i) (adv s v (λ _. size) f rd)))
 
-    module _ {r1 f1 : List ℕ} {a : Answer} (fits : not (u .fits) ≡ false) (e : Expects w x n (λ role. P.expect-as role 44) r f (fore s t) r1 f1 a) where
+    module _ {r1 f1 : List ℕ} {a : Answer} (fits : not (u .fits) ≡ false)
+        (e : Expects w x n (λ role. P.expect-as role 44) r f (fore s t) r1 f1 a) where
       -- behind the type, and behind `]`
       abbrev array-on : Fallible Node → Act (Ans Node)
-      array-on b = wrapped node [] [] 19 (λ _. place-at line column) (λ _. eight (number (head (rest w x n (s .at)) .base) 0 (head (rest w x n (s .at)) .text)) ∷ []) [] b
+      array-on b =
+          wrapped node [] [] 19 (λ _. place-at line column)
+          (λ _. eight (number (head (rest w x n (s .at)) .base) 0 (head (rest w x n (s .at)) .text)) ∷ []) [] b
 
       abbrev bracket-on : Fallible Tok → Act (Ans Node)
       bracket-on _ = P.parse-type >>? array-on
 
-      bracket : (d : ℕ) (rd : List Consumed) → go d (P.parse-array-type (place-at line column)) (st-of w x n f rd s) ≡ after (go d (P.expect 44) (st-of w x n f (past-as size w x n (s .at) rd) (fore s t))) (λ z S. go d (or-return bracket-on z) S)
+      bracket : (d : ℕ) (rd : List Consumed)
+          → go d (P.parse-array-type (place-at line column)) (st-of w x n f rd s)
+          ≡ after (go d (P.expect 44) (st-of w x n f (past-as size w x n (s .at) rd) (fore s t)))
+          (λ z S. go d (or-return bracket-on z) S)
       unfolding go run P.parse-array-type
-      bracket d rd = rw (run, yes v z, fit ∙ fits) (ap (λ (S : St). go d (P.expect 44 >>? bracket-on) S) (adv s v (λ _. size) f rd)) ∙ go-bind d (P.expect 44) (or-return bracket-on) (st-of w x n f (past-as size w x n (s .at) rd) (fore s t))
+      bracket d rd =
+          rw (run, yes v z, fit ∙ fits)
+          (ap (λ (S : St). go d (P.expect 44 >>? bracket-on) S) (adv s v (λ _. size) f rd))
+          ∙ go-bind d (P.expect 44) (or-return bracket-on)
+          (st-of w x n f (past-as size w x n (s .at) rd) (fore s t))
 
       pub array-open : {d : ℕ} → Stopped a → Reads node w x n d (P.parse-array-type (place-at line column)) o r f s o r1 f1 a
-      array-open {d} nd = record { moved = moved-onward (fore-moved (q .0 .asks) v) (e .moved); on = omega (arith, v .kind, v .on, e .moved .at); is = λ rd. say (bracket d rd) (stops d bracket-on _ nd (e .is plain d (past-as size w x n (s .at) rd) o)) }
+      array-open {d} nd =
+          record {
+            moved = moved-onward (fore-moved (q .0 .asks) v) (e .moved);
+            on = omega (arith, v .kind, v .on, e .moved .at);
+            is = λ rd. say (bracket d rd)
+                (stops d bracket-on _ nd (e .is plain d (past-as size w x n (s .at) rd) o));
+          }
 
-      pub array-done : {d : ℕ} {o2 r2 f2 o3 : List ℕ} {b y : Answer} → a .how ≡ Done → Reads node w x n d P.parse-type o r1 f1 (a .state) o2 r2 f2 b → Finished x o2 b (record { tag = 19; line = line; column = column; numbers = Eight (u .number); start = 0; len = 0 }) o3 y
+      pub array-done : {d : ℕ} {o2 r2 f2 o3 : List ℕ} {b y : Answer} → a .how ≡ Done
+          → Reads node w x n d P.parse-type o r1 f1 (a .state) o2 r2 f2 b
+          → Finished x o2 b
+          (record { tag = 19; line = line; column = column; numbers = Eight (u .number); start = 0; len = 0 })
+          o3 y
           → Reads node w x n d (P.parse-array-type (place-at line column)) o r f s o3 r2 f2 y
       array-done {d} {o2} {r2} {f2} {o3} {b} {y} za c F =
-          let g : (rd : List Consumed) → Good _ _ _ [] [] w x n o r1 f1 a (go d (P.expect 44) (st-of w x n f (past-as size w x n (s .at) rd) (fore s t))) = λ rd. good-of za (e .is plain d (past-as size w x n (s .at) rd) o) in
-          record-reads {K = node} (place-at line column) (λ _. eight (number (head (rest w x n (s .at)) .base) 0 (head (rest w x n (s .at)) .text)) ∷ []) [] F
-          (moved-onward (fore-moved (q .0 .asks) v) (moved-onward (e .moved) (c .moved))) (omega (arith, v .kind, v .on, e .moved .at, c .moved .at)) (omega arith)
+          let g : (rd : List Consumed) → Good _ _ _ [] [] w x n o r1 f1 a (go d (P.expect 44) (st-of w x n f (past-as size w x n (s .at) rd) (fore s t))) =
+          λ rd. good-of za (e .is plain d (past-as size w x n (s .at) rd) o) in
+          record-reads {K = node} (place-at line column)
+          (λ _. eight (number (head (rest w x n (s .at)) .base) 0 (head (rest w x n (s .at)) .text)) ∷ []) [] F
+          (moved-onward (fore-moved (q .0 .asks) v) (moved-onward (e .moved) (c .moved)))
+          (omega (arith, v .kind, v .on, e .moved .at, c .moved .at)) (omega arith)
           (λ _ _. rw (v .text, v .base, k .number (not-false (u .fits) fits)))
           (λ rd. go d P.parse-type (st-of w x n f1 (g rd .read) (a .state)))
           (λ rd. bracket d rd ∙ follows d bracket-on (g rd .is) ∙ go-bind d P.parse-type (or-return array-on) _)
@@ -244,10 +382,14 @@ module _ {w x : List ℕ} {n : ℕ} {o r f : List ℕ} {s : State} (q : Asked w 
     pub room-token : Room o x (s .pos) (16 + t .len) (t .start) (t .len)
     room-token = record { room = omega (arith, q .room, v .pays); part = v .part }
 
-    pub star-room : {d : ℕ} {m : Act (Ans Node)} {o1 r1 f1 : List ℕ} {b : Answer} → Reads node w x n d m o r f (fore s t) o1 r1 f1 b → length o1 ≡ length o → Room o1 x (b .state .pos) (16 + 0) 0 0
+    pub star-room : {d : ℕ} {m : Act (Ans Node)} {o1 r1 f1 : List ℕ} {b : Answer}
+        → Reads node w x n d m o r f (fore s t) o1 r1 f1 b → length o1 ≡ length o
+        → Room o1 x (b .state .pos) (16 + 0) 0 0
     star-room u l = room-moved (moved-onward (fore-moved (q .asks) v) (u .moved)) l
 
-    pub struct-room : {d j : ℕ} {o1 r1 f1 : List ℕ} {a b : Answer} → ReadsList w x n d StructFields o r f (fore s t) o1 r1 f1 a → b ≡ silent a j → length o1 ≡ length o → Room o1 x (b .state .pos) (16 + 0) 0 0
+    pub struct-room : {d j : ℕ} {o1 r1 f1 : List ℕ} {a b : Answer}
+        → ReadsList w x n d StructFields o r f (fore s t) o1 r1 f1 a → b ≡ silent a j → length o1 ≡ length o
+        → Room o1 x (b .state .pos) (16 + 0) 0 0
     struct-room u e l = rw e (room-moved (moved-onward (fore-moved (q .asks) v) (u .moved)) l)
 
     pub array-asked : Asked w x n o r f (fore s t) × ((t .line < 65536) × (t .column < 65536))
@@ -260,5 +402,7 @@ module _ {w x : List ℕ} {n : ℕ} {o r f : List ℕ} {s : State} (q : Asked w 
       pub bracket-asked : length r1 ≡ length r → length f1 ≡ length f → Asked w x n o r1 f1 (a .state)
       bracket-asked l g = asked-moved (asked-seen q v) (e .moved) refl l g
 
-      pub array-room : {d : ℕ} {m : Act (Ans Node)} {o2 r2 f2 : List ℕ} {b : Answer} → Reads node w x n d m o r1 f1 (a .state) o2 r2 f2 b → length o2 ≡ length o → Room o2 x (b .state .pos) (16 + 0) 0 0
+      pub array-room : {d : ℕ} {m : Act (Ans Node)} {o2 r2 f2 : List ℕ} {b : Answer}
+          → Reads node w x n d m o r1 f1 (a .state) o2 r2 f2 b → length o2 ≡ length o
+          → Room o2 x (b .state .pos) (16 + 0) 0 0
       array-room u l = room-moved (moved-onward (fore-moved (q .asks) v) (moved-onward (e .moved) (u .moved))) l

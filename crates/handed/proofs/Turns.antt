@@ -20,7 +20,8 @@ use Rattle.records.specs.Push.{spot}
 use Rattle.handed.specs.declared.Former.{Former}
 
 -- an answer that is there if a test passes
-some-chosen : {A : Type 0} (b : Bool) (o : Option A) → is-some {A = A} (elim b as (λ _. Option A) [ true ↦ o | false ↦ none ]) ≡ b && is-some o
+some-chosen : {A : Type 0} (b : Bool) (o : Option A)
+    → is-some {A = A} (elim b as (λ _. Option A) [ true ↦ o | false ↦ none ]) ≡ b && is-some o
 some-chosen true o = refl
 some-chosen false o = refl
 
@@ -41,9 +42,17 @@ tokens-before t none = refl
 tokens-before t (some ts) = refl
 
 -- one record's test, then the test of those behind it
-token-turn : (T X : List ℕ) (p : Place) (e i m : ℕ) (w : TokenWords) → w ≡ words-at T i → is-some (tokens-of T X p e i (suc m)) ≡ (good-alone X w && good-behind p e w) && is-some (tokens-of T X (place-of w) (text-end e w) (suc i) m)
+token-turn : (T X : List ℕ) (p : Place) (e i m : ℕ) (w : TokenWords) → w ≡ words-at T i
+    → is-some (tokens-of T X p e i (suc m))
+    ≡ (good-alone X w && good-behind p e w) && is-some (tokens-of T X (place-of w) (text-end e w) (suc i) m)
 unfolding tokens-of
-token-turn T X p e i m w q = subst (λ (w : TokenWords). is-some (tokens-of T X p e i (suc m)) ≡ (good-alone X w && good-behind p e w) && is-some (tokens-of T X (place-of w) (text-end e w) (suc i) m)) (sym q) (some-chosen (good-alone X v && good-behind p e v) _ ∙ ap (λ (b : Bool). (good-alone X v && good-behind p e v) && b) (tokens-before (token-of X v) (tokens-of T X (place-of v) (text-end e v) (suc i) m)))
+token-turn T X p e i m w q =
+    subst
+    (λ (w : TokenWords). is-some (tokens-of T X p e i (suc m)) ≡ (good-alone X w && good-behind p e w) && is-some
+    (tokens-of T X (place-of w) (text-end e w) (suc i) m)) (sym q)
+    (some-chosen (good-alone X v && good-behind p e v) _
+    ∙ ap (λ (b : Bool). (good-alone X v && good-behind p e v) && b)
+    (tokens-before (token-of X v) (tokens-of T X (place-of v) (text-end e v) (suc i) m)))
   where
     v : TokenWords
     v = words-at T i
@@ -57,17 +66,27 @@ pub tokens-start : (T X : List ℕ) (n : ℕ) → Tokens T X n (record { line = 
 tokens-start T X n = let l : n - 0 ≡ n = omega arith in record { high = omega arith; is = rw l }
 
 module _ {T X : List ℕ} {n : ℕ} {f : Former} {i : ℕ} (q : Tokens T X n f i) where
-  module _ {w : TokenWords} {a b : Bool} (h : i < n) (e : w ≡ words-at T i) (g : a ≡ good-alone X w) (k : b ≡ good-behind (spot (f .line) (f .column)) (f .end) w) where
-    turn : (t : Bool) → (a && b) ≡ t → t && is-some (tokens-of T X (place-of w) (text-end (f .end) w) (i + 1) (n - (i + 1))) ≡ is-some (tokens-of T X nowhere 0 0 n)
+  module _ {w : TokenWords} {a b : Bool} (h : i < n) (e : w ≡ words-at T i) (g : a ≡ good-alone X w)
+      (k : b ≡ good-behind (spot (f .line) (f .column)) (f .end) w) where
+    turn : (t : Bool) → (a && b) ≡ t
+        → t && is-some (tokens-of T X (place-of w) (text-end (f .end) w) (i + 1) (n - (i + 1)))
+        ≡ is-some (tokens-of T X nowhere 0 0 n)
     turn t z =
         let l : suc (n - (i + 1)) ≡ n - i = omega arith in
         ap (λ (t : Bool). t && is-some (tokens-of T X (place-of w) (text-end (f .end) w) (i + 1) (n - (i + 1)))) (sym z ∙ ap₂ _&&_ g k)
-        ∙ ap (λ (j : ℕ). (good-alone X w && good-behind (spot (f .line) (f .column)) (f .end) w) && is-some (tokens-of T X (place-of w) (text-end (f .end) w) j (n - (i + 1)))) (add-one i)
+        ∙ ap (λ (j : ℕ). (good-alone X w && good-behind (spot (f .line) (f .column)) (f .end) w) && is-some
+        (tokens-of T X (place-of w) (text-end (f .end) w) j (n - (i + 1)))) (add-one i)
         ∙ sym (token-turn T X (spot (f .line) (f .column)) (f .end) i (n - (i + 1)) w e)
         ∙ ap (λ (m : ℕ). is-some (tokens-of T X (spot (f .line) (f .column)) (f .end) i m)) l ∙ q .is
 
-    pub token-more : {r : Former} → (a && b) ≡ true → (spot (r .line) (r .column) ≡ place-of w) × (r .end ≡ text-end (f .end) w) → Tokens T X n r (i + 1)
-    token-more z m = record { high = omega arith; is = ap₂ (λ (p : Place) (e : ℕ). is-some (tokens-of T X p e (i + 1) (n - (i + 1)))) (m .0) (m .1) ∙ turn true z }
+    pub token-more : {r : Former} → (a && b) ≡ true
+        → (spot (r .line) (r .column) ≡ place-of w) × (r .end ≡ text-end (f .end) w) → Tokens T X n r (i + 1)
+    token-more z m =
+        record {
+          high = omega arith;
+          is = ap₂ (λ (p : Place) (e : ℕ). is-some (tokens-of T X p e (i + 1) (n - (i + 1)))) (m .0) (m .1)
+              ∙ turn true z;
+        }
 
     pub token-bad : (a && b) ≡ false → false ≡ is-some (tokens-of T X nowhere 0 0 n)
     token-bad z = turn false z
@@ -84,7 +103,10 @@ errors-before x (some es) = refl
 
 error-turn : (E : List ℕ) (i m : ℕ) → is-some (errors-of E i (suc m)) ≡ good-error (error-at E i) && is-some (errors-of E (suc i) m)
 unfolding errors-of
-error-turn E i m = some-chosen (good-error (error-at E i)) _ ∙ ap (λ (b : Bool). good-error (error-at E i) && b) (errors-before (error-of (error-at E i)) (errors-of E (suc i) m))
+error-turn E i m =
+    some-chosen (good-error (error-at E i)) _
+    ∙ ap (λ (b : Bool). good-error (error-at E i) && b)
+    (errors-before (error-of (error-at E i)) (errors-of E (suc i) m))
 
 pub record Errors (E : List ℕ) (n i : ℕ) : Type 0 where
   pub high : i ≤ n
@@ -140,7 +162,9 @@ module _ (T : List ℕ) (n : ℕ) (E : List ℕ) (m : ℕ) (X : List ℕ) where
 
   handed-is : is-some (handed T n E m X) ≡ not many && not short && (is-some (tokens-of T X nowhere 0 0 n) && is-some (errors-of E 0 m))
   unfolding handed
-  handed-is = some-chosen (leb n 2048 && leb m 255 && leb (8 * n) (length T) && leb (4 * m) (length E)) _ ∙ ap₂ _&&_ counts (pair (tokens-of T X nowhere 0 0 n) (errors-of E 0 m))
+  handed-is =
+      some-chosen (leb n 2048 && leb m 255 && leb (8 * n) (length T) && leb (4 * m) (length E)) _
+      ∙ ap₂ _&&_ counts (pair (tokens-of T X nowhere 0 0 n) (errors-of E 0 m))
     where
       pair : (ts : Option (List Tok)) (es : Option (List Err)) → is-some (both ts es) ≡ is-some ts && is-some es
       pair none es = refl
@@ -155,7 +179,9 @@ module _ (T : List ℕ) (n : ℕ) (E : List ℕ) (m : ℕ) (X : List ℕ) where
       tests false b c d = refl
 
       counts : (leb n 2048 && leb m 255 && leb (8 * n) (length T) && leb (4 * m) (length E)) ≡ not many && not short
-      counts = rw (over 2048 n, over 255 m, over (length T) (8 * n), over (length E) (4 * m)) (tests (leb n 2048) (leb m 255) (leb (8 * n) (length T)) (leb (4 * m) (length E)))
+      counts =
+          rw (over 2048 n, over 255 m, over (length T) (8 * n), over (length E) (4 * m))
+          (tests (leb n 2048) (leb m 255) (leb (8 * n) (length T)) (leb (4 * m) (length E)))
 
   pub too-many : many ≡ true → false ≡ is-some (handed T n E m X)
   too-many e = rw (handed-is, e)
@@ -163,5 +189,6 @@ module _ (T : List ℕ) (n : ℕ) (E : List ℕ) (m : ℕ) (X : List ℕ) where
   pub too-short : many ≡ false → short ≡ true → false ≡ is-some (handed T n E m X)
   too-short e f = rw (handed-is, e, f)
 
-  pub both-tested : {a b : Bool} → many ≡ false → short ≡ false → a ≡ is-some (tokens-of T X nowhere 0 0 n) → b ≡ is-some (errors-of E 0 m) → (a && b) ≡ is-some (handed T n E m X)
+  pub both-tested : {a b : Bool} → many ≡ false → short ≡ false → a ≡ is-some (tokens-of T X nowhere 0 0 n)
+      → b ≡ is-some (errors-of E 0 m) → (a && b) ≡ is-some (handed T n E m X)
   both-tested e f g h = rw (handed-is, e, f, g, h)

@@ -55,13 +55,19 @@ module _ {w x : List ℕ} {n distinct internal at : ℕ} {t : Front} (u : Seen w
     end = h;
     room = omega arith;
     read = λ rd. rd;
-    is = λ d rd es. go-loop d (Modifiers (record { distinct = distinct; internal = internal })) (record { left = rest w x n at; read = rd; full = es }) ∙ rw (run, no u m20, no u m21);
+    is =
+        λ d rd es. go-loop d (Modifiers (record { distinct = distinct; internal = internal }))
+        (record { left = rest w x n at; read = rd; full = es }) ∙ rw (run, no u m20, no u m21);
   }
 
   module _ {m : AliasWords} where
     -- a word is passed
     modifiers-on : {distinct′ internal′ : ℕ} → Modified w x n distinct′ internal′ (t .next) m
-        → ((d : ℕ) (rd : List Consumed) (es : List Err) → go d (P.modifiers-turn (record { distinct = distinct; internal = internal })) (record { left = rest w x n at; read = rd; full = es }) ≡ go d (loop (Modifiers (record { distinct = distinct′; internal = internal′ })) done) (record { left = rest w x n (t .next); read = past w x n at rd; full = es }))
+        → ((d : ℕ) (rd : List Consumed) (es : List Err)
+        → go d (P.modifiers-turn (record { distinct = distinct; internal = internal }))
+        (record { left = rest w x n at; read = rd; full = es })
+        ≡ go d (loop (Modifiers (record { distinct = distinct′; internal = internal′ })) done)
+        (record { left = rest w x n (t .next); read = past w x n at rd; full = es }))
         → Modified w x n distinct internal at m
     modifiers-on M step = record {
       words = M .words;
@@ -70,7 +76,10 @@ module _ {w x : List ℕ} {n distinct internal at : ℕ} {t : Front} (u : Seen w
       end = M .end;
       room = omega (arith, M .room, u .pays);
       read = λ rd. M .read (past w x n at rd);
-      is = λ d rd es. go-loop d (Modifiers (record { distinct = distinct; internal = internal })) (record { left = rest w x n at; read = rd; full = es }) ∙ step d rd es ∙ M .is d (past w x n at rd) es;
+      is =
+          λ d rd es. go-loop d (Modifiers (record { distinct = distinct; internal = internal }))
+          (record { left = rest w x n at; read = rd; full = es }) ∙ step d rd es ∙ M .is d (past w x n at rd)
+          es;
     }
 
     pub modifiers-distinct : t .kind ≡ 20 → Modified w x n 1 internal (t .next) m → Modified w x n distinct internal at m
@@ -86,13 +95,23 @@ module _ {w x : List ℕ} {n distinct internal at : ℕ} {t : Front} (u : Seen w
 module _ {w x : List ℕ} {n d k : ℕ} {o r f r1 f1 : List ℕ} {s : State} {a : Answer} {M : Act (Ans Node)} (m : Act (Ans Node)) (X : Expects w x n (λ role. P.expect-as role k) r f s r1 f1 a)
     (step : (rd : List Consumed) → go d M (st-of w x n f rd s) ≡ go d (P.expect k >>? λ _. m) (st-of w x n f rd s)) where
   pub keyword-stops : Stopped a → Reads node w x n d M o r f s o r1 f1 a
-  keyword-stops nd = record { moved = X .moved; on = X .on; is = λ rd. say (step rd ∙ go-bind d (P.expect k) (or-return (λ _. m)) _) (stops d (λ _. m) _ nd (X .is plain d rd o)) }
+  keyword-stops nd =
+      record {
+        moved = X .moved;
+        on = X .on;
+        is = λ rd. say (step rd ∙ go-bind d (P.expect k) (or-return (λ _. m)) _)
+            (stops d (λ _. m) _ nd (X .is plain d rd o));
+      }
 
-  pub keyword-on : {o1 r2 f2 : List ℕ} {y : Answer} → a .how ≡ Done → Reads node w x n d m o r1 f1 (a .state) o1 r2 f2 y → Reads node w x n d M o r f s o1 r2 f2 y
+  pub keyword-on : {o1 r2 f2 : List ℕ} {y : Answer} → a .how ≡ Done → Reads node w x n d m o r1 f1 (a .state) o1 r2 f2 y
+      → Reads node w x n d M o r f s o1 r2 f2 y
   keyword-on z B = record {
     moved = moved-onward (X .moved) (B .moved);
     on = omega (arith, X .on, B .moved .at);
-    is = λ rd. let g = good-of z (X .is plain d rd o) in say (step rd ∙ go-bind d (P.expect k) (or-return (λ _. m)) _ ∙ follows d (λ _. m) (g .is)) (shown-from B (X .pos) (X .kept z .1) (g .read));
+    is =
+        λ rd. let g = good-of z (X .is plain d rd o) in
+        say (step rd ∙ go-bind d (P.expect k) (or-return (λ _. m)) _ ∙ follows d (λ _. m) (g .is))
+        (shown-from B (X .pos) (X .kept z .1) (g .read));
   }
 
 -- ---- a token by which the construct is named: the end is refused, another token is an error
@@ -100,18 +119,33 @@ module _ {w x : List ℕ} {n d k : ℕ} {o r f r1 f1 : List ℕ} {s : State} {a 
 abbrev by : ℕ → ℕ → (Tok → Act (Ans Node)) → Act (Ans Node)
 by k e m = next λ n. if_then_else_ (n is K.End) panic (if_then_else_ (not (n is k)) (P.raise (P.error e (n .place) 0 0)) (m n))
 
-module _ (d k number : ℕ) (m : Tok → Act (Ans Node)) {w x : List ℕ} {n : ℕ} {o r f : List ℕ} {s : State} {t : Front} (q : Asked w x n o r f s) (u : Seen w x n (s .at) t) where
+module _ (d k number : ℕ) (m : Tok → Act (Ans Node)) {w x : List ℕ} {n : ℕ} {o r f : List ℕ} {s : State}
+    {t : Front} (q : Asked w x n o r f s) (u : Seen w x n (s .at) t) where
   by-end : {y : Answer} → t .kind ≡ 0 → y ≡ refused-at n s 11 → Reads node w x n d (by k number m) o r f s o r f y
   unfolding go run
-  by-end h e = rw e (record { moved = refused-moved (q .asks) 11; on = within w x n (s .at) (q .asks .at); is = λ rd. record { told = rw (run, yes u h) } })
+  by-end h e =
+      rw e (record {
+        moved = refused-moved (q .asks) 11;
+        on = within w x n (s .at) (q .asks .at);
+        is = λ rd. record { told = rw (run, yes u h) };
+      })
 
-  by-other : {e : ℕ} {r1 f1 : List ℕ} {y : Answer} → (t .kind ≡ 0 → ⊥) → (t .kind ≡ k → ⊥) → unpack e ≡ error-at number (t .line) (t .column) 0 0 → Raised (raised n (fore s t)) r f (fore s t) e r1 f1 y → Reads node w x n d (by k number m) o r f s o r1 f1 y
+  by-other : {e : ℕ} {r1 f1 : List ℕ} {y : Answer} → (t .kind ≡ 0 → ⊥) → (t .kind ≡ k → ⊥)
+      → unpack e ≡ error-at number (t .line) (t .column) 0 0
+      → Raised (raised n (fore s t)) r f (fore s t) e r1 f1 y
+      → Reads node w x n d (by k number m) o r f s o r1 f1 y
   unfolding go run
-  by-other m0 mk i g = raise-reads (q .asks) u plain g d (λ rd. rw (run, no u m0, no u mk) (raise-same d (rw (u .place) (sym i)) (adv s u (λ _. plain) f rd)))
+  by-other m0 mk i g =
+      raise-reads (q .asks) u plain g d
+      (λ rd. rw (run, no u m0, no u mk) (raise-same d (rw (u .place) (sym i)) (adv s u (λ _. plain) f rd)))
 
-  by-there : 0 < k → t .kind ≡ k → (rd : List Consumed) → go d (by k number m) (st-of w x n f rd s) ≡ go d (m (head (rest w x n (s .at)))) (st-of w x n f (past w x n (s .at) rd) (fore s t))
+  by-there : 0 < k → t .kind ≡ k → (rd : List Consumed)
+      → go d (by k number m) (st-of w x n f rd s)
+      ≡ go d (m (head (rest w x n (s .at)))) (st-of w x n f (past w x n (s .at) rd) (fore s t))
   unfolding go run
-  by-there g h rd = rw (run, no {k = 0} u (λ z. omega (arith, g, h, z)), yes u h) (ap (λ (S : St). go d (m (head (rest w x n (s .at)))) S) (adv s u (λ _. plain) f rd))
+  by-there g h rd =
+      rw (run, no {k = 0} u (λ z. omega (arith, g, h, z)), yes u h)
+      (ap (λ (S : St). go d (m (head (rest w x n (s .at)))) S) (adv s u (λ _. plain) f rd))
 
 -- ---- `alias`
 
@@ -126,9 +160,18 @@ abbrev name-on : ℕ → Place → Tok → Act (Ans Node)
 name-on words p n = P.expect 26 >>? λ _. equals-on words p n
 
 -- what follows the name is paid for by it
-module _ {w x : List ℕ} {n d : ℕ} {o r f r1 f1 o1 r2 f2 : List ℕ} {s : State} {t : Front} {a b : Answer} (q : Asked w x n o r f s) (u : Seen w x n (s .at) t) (X : Expects w x n (λ role. P.expect-as role 26) r f (fore s t) r1 f1 a) (B : Reads node w x n d P.parse-type o r1 f1 (a .state) o1 r2 f2 b) where
+module _ {w x : List ℕ} {n d : ℕ} {o r f r1 f1 o1 r2 f2 : List ℕ} {s : State} {t : Front} {a b : Answer}
+    (q : Asked w x n o r f s) (u : Seen w x n (s .at) t)
+    (X : Expects w x n (λ role. P.expect-as role 26) r f (fore s t) r1 f1 a)
+    (B : Reads node w x n d P.parse-type o r1 f1 (a .state) o1 r2 f2 b) where
   pub alias-follows : a .how ≡ Done → length r2 ≡ length r → length f2 ≡ length f → Follows w x n r2 f2 b (s .pos) (s .reported)
-  alias-follows z lr lf = record { asks = asks-moved (q .asks) (moved-trans (moved-trans (fore-moved (q .asks) u) (X .moved)) (B .moved)) lr lf; pos = omega (arith, B .moved, X .pos); reported = omega (arith, B .moved, X .kept z .0) }
+  alias-follows z lr lf =
+      record {
+        asks = asks-moved (q .asks) (moved-trans (moved-trans (fore-moved (q .asks) u) (X .moved)) (B .moved))
+            lr lf;
+        pos = omega (arith, B .moved, X .pos);
+        reported = omega (arith, B .moved, X .kept z .0);
+      }
 
   module _ {r3 f3 : List ℕ} {c : Answer} (h : t .kind ≡ 1) (C : Expected w x n 50 (s .pos) (s .reported) r2 f2 b r3 f3 c) where
     alias-paid : c .state .pos + budget w x n (c .state .at) + (16 + t .len) ≤ s .pos + budget w x n (s .at)
@@ -137,40 +180,75 @@ module _ {w x : List ℕ} {n d : ℕ} {o r f r1 f1 o1 r2 f2 : List ℕ} {s : Sta
     pub alias-room : length o1 ≡ length o → Room o1 x (c .state .pos) (16 + t .len) (t .start) (t .len)
     alias-room l = record { room = omega (arith, alias-paid, q .room); part = u .part }
 
-module _ (d words line column : ℕ) {w x : List ℕ} {n : ℕ} {o r f : List ℕ} {s : State} {t : Front} (q : Asked w x n o r f s) (u : Seen w x n (s .at) t) where
-  pub alias-end : {y : Answer} → t .kind ≡ 0 → y ≡ refused-at n s 11 → Reads node w x n d (alias-rule words (place-at line column)) o r f s o r f y
+module _ (d words line column : ℕ) {w x : List ℕ} {n : ℕ} {o r f : List ℕ} {s : State} {t : Front}
+    (q : Asked w x n o r f s) (u : Seen w x n (s .at) t) where
+  pub alias-end : {y : Answer} → t .kind ≡ 0 → y ≡ refused-at n s 11
+      → Reads node w x n d (alias-rule words (place-at line column)) o r f s o r f y
   unfolding alias-rule
   alias-end h e = by-end d 1 16 (name-on words (place-at line column)) q u h e
 
-  pub alias-other : {e : ℕ} {r1 f1 : List ℕ} {y : Answer} → (t .kind ≡ 0 → ⊥) → (t .kind ≡ 1 → ⊥) → unpack e ≡ error-at 16 (t .line) (t .column) 0 0 → Raised (raised n (fore s t)) r f (fore s t) e r1 f1 y
+  pub alias-other : {e : ℕ} {r1 f1 : List ℕ} {y : Answer} → (t .kind ≡ 0 → ⊥) → (t .kind ≡ 1 → ⊥)
+      → unpack e ≡ error-at 16 (t .line) (t .column) 0 0 → Raised (raised n (fore s t)) r f (fore s t) e r1 f1 y
       → Reads node w x n d (alias-rule words (place-at line column)) o r f s o r1 f1 y
   unfolding alias-rule
   alias-other m0 m1 i g = by-other d 1 16 (name-on words (place-at line column)) q u m0 m1 i g
 
   module _ {r1 f1 : List ℕ} {a : Answer} (h : t .kind ≡ 1) (X : Expects w x n (λ role. P.expect-as role 26) r f (fore s t) r1 f1 a) where
-    alias-named : (rd : List Consumed) → go d (alias-rule words (place-at line column)) (st-of w x n f rd s) ≡ after (go d (P.expect 26) (st-of w x n f (past w x n (s .at) rd) (fore s t))) (λ z S. go d (or-return (λ _. equals-on words (place-at line column) (head (rest w x n (s .at)))) z) S)
+    alias-named : (rd : List Consumed)
+        → go d (alias-rule words (place-at line column)) (st-of w x n f rd s)
+        ≡ after (go d (P.expect 26) (st-of w x n f (past w x n (s .at) rd) (fore s t)))
+        (λ z S. go d (or-return (λ _. equals-on words (place-at line column) (head (rest w x n (s .at)))) z) S)
     unfolding alias-rule
-    alias-named rd = by-there d 1 16 (name-on words (place-at line column)) q u (omega arith) h rd ∙ go-bind d (P.expect 26) (or-return (λ _. equals-on words (place-at line column) (head (rest w x n (s .at))))) (st-of w x n f (past w x n (s .at) rd) (fore s t))
+    alias-named rd =
+        by-there d 1 16 (name-on words (place-at line column)) q u (omega arith) h rd
+        ∙ go-bind d (P.expect 26)
+        (or-return (λ _. equals-on words (place-at line column) (head (rest w x n (s .at)))))
+        (st-of w x n f (past w x n (s .at) rd) (fore s t))
 
     pub alias-stops : Stopped a → Reads node w x n d (alias-rule words (place-at line column)) o r f s o r1 f1 a
-    alias-stops nd = record { moved = moved-onward (fore-moved (q .asks) u) (X .moved); on = omega (arith, X .moved .at, u .on, u .kind); is = λ rd. say (alias-named rd) (stops d _ _ nd (X .is plain d (past w x n (s .at) rd) o)) }
+    alias-stops nd =
+        record {
+          moved = moved-onward (fore-moved (q .asks) u) (X .moved);
+          on = omega (arith, X .moved .at, u .on, u .kind);
+          is = λ rd. say (alias-named rd) (stops d _ _ nd (X .is plain d (past w x n (s .at) rd) o));
+        }
 
-    pub alias-done : {o1 r2 f2 r3 f3 o2 : List ℕ} {b c y : Answer} → a .how ≡ Done → Reads node w x n d P.parse-type o r1 f1 (a .state) o1 r2 f2 b → length r2 ≡ length r → length f2 ≡ length f → Expected w x n 50 (s .pos) (s .reported) r2 f2 b r3 f3 c
-        → Finished x o1 c (record { tag = 0x51; line = line; column = column; numbers = Byte words; start = t .start; len = t .len }) o2 y → Reads node w x n d (alias-rule words (place-at line column)) o r f s o2 r3 f3 y
+    pub alias-done : {o1 r2 f2 r3 f3 o2 : List ℕ} {b c y : Answer} → a .how ≡ Done
+        → Reads node w x n d P.parse-type o r1 f1 (a .state) o1 r2 f2 b → length r2 ≡ length r
+        → length f2 ≡ length f → Expected w x n 50 (s .pos) (s .reported) r2 f2 b r3 f3 c
+        → Finished x o1 c (record {
+          tag = 0x51;
+          line = line;
+          column = column;
+          numbers = Byte words;
+          start = t .start;
+          len = t .len;
+        }) o2 y
+        → Reads node w x n d (alias-rule words (place-at line column)) o r f s o2 r3 f3 y
     alias-done z B lr lf C F =
-        let g : (rd : List Consumed) → Good _ _ _ [] [] w x n o r1 f1 a (go d (P.expect 26) (st-of w x n f (past w x n (s .at) rd) (fore s t))) = λ rd. good-of z (X .is plain d (past w x n (s .at) rd) o) in
+        let g : (rd : List Consumed) → Good _ _ _ [] [] w x n o r1 f1 a (go d (P.expect 26) (st-of w x n f (past w x n (s .at) rd) (fore s t))) =
+        λ rd. good-of z (X .is plain d (past w x n (s .at) rd) o) in
         let end : Fallible Node → Act (Ans Node) = aliased words (place-at line column) (head (rest w x n (s .at))) in
         record-reads {K = node} (place-at line column) (λ _. byte words ∷ []) (head (rest w x n (s .at)) .text) F
-        (moved-trans (moved-trans (moved-trans (fore-moved (q .asks) u) (X .moved)) (B .moved)) (C .moved)) (omega (arith, C .moved .at, B .moved .at, X .moved .at, u .on, u .kind)) (omega (arith, alias-paid q u X B h C))
+        (moved-trans (moved-trans (moved-trans (fore-moved (q .asks) u) (X .moved)) (B .moved)) (C .moved))
+        (omega (arith, C .moved .at, B .moved .at, X .moved .at, u .on, u .kind))
+        (omega (arith, alias-paid q u X B h C))
         (λ _ _. rw (u .text))
         (λ rd. after (go d P.parse-type (st-of w x n f1 (g rd .read) (a .state))) (λ z S. go d (or-return (expecting plain 50) z) S))
-        (λ rd. alias-named rd ∙ follows d (λ _. equals-on words (place-at line column) (head (rest w x n (s .at)))) (g rd .is) ∙ go-bind d P.parse-type (or-return (λ ty. P.expect 50 >>? λ _. end ty)) (st-of w x n f1 (g rd .read) (a .state)) ∙ expect-seam d plain 50 end (go d P.parse-type (st-of w x n f1 (g rd .read) (a .state))))
-        (λ rd. expects-behind (alias-follows q u X B z lr lf) C plain d (length-take-le (s .pos) o (omega (arith, q .room))) (errs-length r (s .reported) (omega (arith, q .asks))) (shown-from B (X .pos) (X .kept z .1) (g rd .read)))
+        (λ rd. alias-named rd ∙ follows d
+        (λ _. equals-on words (place-at line column) (head (rest w x n (s .at)))) (g rd .is) ∙ go-bind d
+        P.parse-type (or-return (λ ty. P.expect 50 >>? λ _. end ty)) (st-of w x n f1 (g rd .read) (a .state))
+        ∙ expect-seam d plain 50 end (go d P.parse-type (st-of w x n f1 (g rd .read) (a .state))))
+        (λ rd. expects-behind (alias-follows q u X B z lr lf) C plain d
+        (length-take-le (s .pos) o (omega (arith, q .room)))
+        (errs-length r (s .reported) (omega (arith, q .asks)))
+        (shown-from B (X .pos) (X .kept z .1) (g rd .read)))
 
 -- ---- `type_alias`
 
 -- a loop, and what follows it
-loop-bind : {B : Type 0} (d : ℕ) (l : Loop) (k : Left l → Act B) (S : St) → go d (loop l k) S ≡ after (go d (loop l done) S) (λ a T. go d (k a) T)
+loop-bind : {B : Type 0} (d : ℕ) (l : Loop) (k : Left l → Act B) (S : St)
+    → go d (loop l k) S ≡ after (go d (loop l done) S) (λ a T. go d (k a) T)
 unfolding _>>=_
 loop-bind d l k S = go-bind d (loop l done) k S
 
@@ -181,12 +259,27 @@ onto s at = record { at = at; pos = s .pos; reported = s .reported; full = s .fu
 abbrev typed-on : Place → A.Words → Act (Ans Node)
 typed-on p v = P.expect 15 >>? λ _. alias-rule (v .distinct + v .internal) p
 
-module _ {w x : List ℕ} {n : ℕ} {o r f : List ℕ} {s : State} {m : AliasWords} (q : Asked w x n o r f s) (M : Modified w x n 0 0 (s .at) m) where
+module _ {w x : List ℕ} {n : ℕ} {o r f : List ℕ} {s : State} {m : AliasWords} (q : Asked w x n o r f s)
+    (M : Modified w x n 0 0 (s .at) m) where
   pub modified-moved : Moved w x n (s .pos) (s .reported) s (onto s (m .next))
-  modified-moved = record { at = M .up; end = M .end; pos = omega arith; room = omega (arith, M .room); reported = omega arith; less = omega arith; full = omega arith; few = q .asks .few }
+  modified-moved =
+      record {
+        at = M .up;
+        end = M .end;
+        pos = omega arith;
+        room = omega (arith, M .room);
+        reported = omega arith;
+        less = omega arith;
+        full = omega arith;
+        few = q .asks .few;
+      }
 
-module _ (d : ℕ) {w x : List ℕ} {n : ℕ} {o r f : List ℕ} {s : State} {t : Front} {m : AliasWords} (q : Asked w x n o r f s) (u : Seen w x n (s .at) t) (M : Modified w x n 0 0 (s .at) m) where
-  modified-step : (rd : List Consumed) → go d P.parse-type-alias (st-of w x n f rd s) ≡ go d (P.expect 15 >>? λ _. alias-rule (m .words) (place-at (t .line) (t .column))) (st-of w x n f (M .read rd) (onto s (m .next)))
+module _ (d : ℕ) {w x : List ℕ} {n : ℕ} {o r f : List ℕ} {s : State} {t : Front} {m : AliasWords}
+    (q : Asked w x n o r f s) (u : Seen w x n (s .at) t) (M : Modified w x n 0 0 (s .at) m) where
+  modified-step : (rd : List Consumed)
+      → go d P.parse-type-alias (st-of w x n f rd s)
+      ≡ go d (P.expect 15 >>? λ _. alias-rule (m .words) (place-at (t .line) (t .column)))
+      (st-of w x n f (M .read rd) (onto s (m .next)))
   unfolding go run P.parse-type-alias alias-rule
   modified-step rd =
       let p : Place = head (rest w x n (s .at)) .place in
@@ -197,12 +290,19 @@ module _ (d : ℕ) {w x : List ℕ} {n : ℕ} {o r f : List ℕ} {s : State} {t 
       ∙ ap (λ (p : Place). go d (P.expect 15 >>? λ _. alias-rule (m .words) p) S) (u .place)
 
   pub modified-reads : {o1 r1 f1 : List ℕ} {y : Answer} → Reads node w x n d (P.expect 15 >>? λ _. alias-rule (m .words) (place-at (t .line) (t .column))) o r f (onto s (m .next)) o1 r1 f1 y → Reads node w x n d P.parse-type-alias o r f s o1 r1 f1 y
-  modified-reads {y = y} R = record { moved = moved-trans (modified-moved q M) (R .moved); on = passed (ltb (s .at) (m .next)) refl; is = λ rd. say (modified-step rd) (R .is (M .read rd)) }
+  modified-reads {y = y} R =
+      record {
+        moved = moved-trans (modified-moved q M) (R .moved);
+        on = passed (ltb (s .at) (m .next)) refl;
+        is = λ rd. say (modified-step rd) (R .is (M .read rd));
+      }
     where
       -- a token was passed before `type`, or none
       passed : (b : Bool) → ltb (s .at) (m .next) ≡ b → s .at + min (head (rest w x n (s .at)) .kind) 1 ≤ y .state .at
       passed true e = omega (arith, ltb-true (s .at) (m .next) e, R .moved .at)
-      passed false e = let h : m .next ≡ s .at = omega (arith, ltb-false (s .at) (m .next) e, M .up) in omega (arith, R .on, h, ap (λ (i : ℕ). head (rest w x n i) .kind) h)
+      passed false e =
+          let h : m .next ≡ s .at = omega (arith, ltb-false (s .at) (m .next) e, M .up) in
+          omega (arith, R .on, h, ap (λ (i : ℕ). head (rest w x n i) .kind) h)
 
 -- ---- `path`
 
@@ -211,42 +311,57 @@ abbrev string-on : Place → Tok → Act (Ans Node)
 string-on p n = P.expect 50 >>? λ _. P.good (P.node [] 0x52 p [] (n .text)) []
 
 -- what follows the string is paid for by it
-module _ {w x : List ℕ} {n : ℕ} {o r f r1 f1 : List ℕ} {s : State} {t : Front} {a : Answer} (q : Asked w x n o r f s) (u : Seen w x n (s .at) t) (h : t .kind ≡ 3) (X : Expects w x n (λ role. P.expect-as role 50) r f (fore s t) r1 f1 a) where
+module _ {w x : List ℕ} {n : ℕ} {o r f r1 f1 : List ℕ} {s : State} {t : Front} {a : Answer}
+    (q : Asked w x n o r f s) (u : Seen w x n (s .at) t) (h : t .kind ≡ 3)
+    (X : Expects w x n (λ role. P.expect-as role 50) r f (fore s t) r1 f1 a) where
   path-paid : a .state .pos + budget w x n (a .state .at) + (16 + t .len) ≤ s .pos + budget w x n (s .at)
   path-paid = omega (arith, X .moved .room, u .pays, h)
 
   pub path-room : Room o x (a .state .pos) (16 + t .len) (t .start) (t .len)
   path-room = record { room = omega (arith, path-paid, q .room); part = u .part }
 
-module _ (d line column : ℕ) {w x : List ℕ} {n : ℕ} {o r f : List ℕ} {s : State} {t : Front} (q : Asked w x n o r f s) (u : Seen w x n (s .at) t) where
+module _ (d line column : ℕ) {w x : List ℕ} {n : ℕ} {o r f : List ℕ} {s : State} {t : Front}
+    (q : Asked w x n o r f s) (u : Seen w x n (s .at) t) where
   pub path-end : {y : Answer} → t .kind ≡ 0 → y ≡ refused-at n s 11 → Reads node w x n d (path-rule (place-at line column)) o r f s o r f y
   unfolding path-rule
   path-end h e = by-end d 3 17 (string-on (place-at line column)) q u h e
 
-  pub path-other : {e : ℕ} {r1 f1 : List ℕ} {y : Answer} → (t .kind ≡ 0 → ⊥) → (t .kind ≡ 3 → ⊥) → unpack e ≡ error-at 17 (t .line) (t .column) 0 0 → Raised (raised n (fore s t)) r f (fore s t) e r1 f1 y
+  pub path-other : {e : ℕ} {r1 f1 : List ℕ} {y : Answer} → (t .kind ≡ 0 → ⊥) → (t .kind ≡ 3 → ⊥)
+      → unpack e ≡ error-at 17 (t .line) (t .column) 0 0 → Raised (raised n (fore s t)) r f (fore s t) e r1 f1 y
       → Reads node w x n d (path-rule (place-at line column)) o r f s o r1 f1 y
   unfolding path-rule
   path-other m0 m3 i g = by-other d 3 17 (string-on (place-at line column)) q u m0 m3 i g
 
   module _ {r1 f1 : List ℕ} {a : Answer} (h : t .kind ≡ 3) (X : Expects w x n (λ role. P.expect-as role 50) r f (fore s t) r1 f1 a) where
-    pub path-done : {o1 : List ℕ} {y : Answer} → Finished x o a (record { tag = 0x52; line = line; column = column; numbers = None; start = t .start; len = t .len }) o1 y → Reads node w x n d (path-rule (place-at line column)) o r f s o1 r1 f1 y
+    pub path-done : {o1 : List ℕ} {y : Answer}
+        → Finished x o a
+        (record { tag = 0x52; line = line; column = column; numbers = None; start = t .start; len = t .len }) o1
+        y
+        → Reads node w x n d (path-rule (place-at line column)) o r f s o1 r1 f1 y
     unfolding path-rule
     path-done F =
         let text : List ℕ = head (rest w x n (s .at)) .text in
-        let end : Fallible Tok → Act (Ans Node) = wrapped (token (head (rest w x n (t .next)))) [] [] 0x52 (λ _. place-at line column) (λ _. []) text in
-        record-reads (place-at line column) (λ _. []) text F (moved-onward (fore-moved (q .asks) u) (X .moved)) (omega (arith, X .moved .at, u .on, u .kind)) (omega (arith, path-paid q u h X)) (λ _ _. rw (u .text))
+        let end : Fallible Tok → Act (Ans Node) = wrapped (token (head (rest w x n (t .next)))) [] [] 0x52
+        (λ _. place-at line column) (λ _. []) text in
+        record-reads (place-at line column) (λ _. []) text F (moved-onward (fore-moved (q .asks) u) (X .moved))
+        (omega (arith, X .moved .at, u .on, u .kind)) (omega (arith, path-paid q u h X)) (λ _ _. rw (u .text))
         (λ rd. go d (P.expect 50) (st-of w x n f (past w x n (s .at) rd) (fore s t)))
-        (λ rd. by-there d 3 17 (string-on (place-at line column)) q u (omega arith) h rd ∙ clean d 50 end (P.good (P.node [] 0x52 (place-at line column) [] text) []) (λ _. refl) (st-of w x n f (past w x n (s .at) rd) (fore s t)) ∙ go-bind d (P.expect 50) (or-return end) (st-of w x n f (past w x n (s .at) rd) (fore s t)))
+        (λ rd. by-there d 3 17 (string-on (place-at line column)) q u (omega arith) h rd ∙ clean d 50 end
+        (P.good (P.node [] 0x52 (place-at line column) [] text) []) (λ _. refl)
+        (st-of w x n f (past w x n (s .at) rd) (fore s t)) ∙ go-bind d (P.expect 50) (or-return end)
+        (st-of w x n f (past w x n (s .at) rd) (fore s t)))
         (λ rd. X .is plain d (past w x n (s .at) rd) o)
 
 -- ---- `use_path`, `top_level_var_declaration`
 
 module _ (d : ℕ) {w x : List ℕ} {n : ℕ} (f : List ℕ) (s : State) {t : Front} (u : Seen w x n (s .at) t) (rd : List Consumed) where
-  use-step : go d P.parse-use (st-of w x n f rd s) ≡ go d (P.expect 18 >>? λ _. path-rule (place-at (t .line) (t .column))) (st-of w x n f rd s)
+  use-step : go d P.parse-use (st-of w x n f rd s)
+      ≡ go d (P.expect 18 >>? λ _. path-rule (place-at (t .line) (t .column))) (st-of w x n f rd s)
   unfolding go run P.parse-use path-rule
   use-step = ap (λ (p : Place). go d (P.expect 18 >>? λ _. path-rule p) (st-of w x n f rd s)) (u .place)
 
-  var-step : go d P.parse-top-level-var-declaration (st-of w x n f rd s) ≡ go d (P.expect 5 >>? λ _. P.declaration 0x53 (place-at (t .line) (t .column))) (st-of w x n f rd s)
+  var-step : go d P.parse-top-level-var-declaration (st-of w x n f rd s)
+      ≡ go d (P.expect 5 >>? λ _. P.declaration 0x53 (place-at (t .line) (t .column))) (st-of w x n f rd s)
   unfolding go run P.parse-top-level-var-declaration
   var-step = ap (λ (p : Place). go d (P.expect 5 >>? λ _. P.declaration 0x53 p) (st-of w x n f rd s)) (u .place)
 
@@ -255,12 +370,16 @@ module _ {w x : List ℕ} {n d : ℕ} {o r f r1 f1 : List ℕ} {s : State} {t : 
     pub use-stops : Stopped a → Reads node w x n d P.parse-use o r f s o r1 f1 a
     use-stops nd = keyword-stops (path-rule (place-at (t .line) (t .column))) X (use-step d f s u) nd
 
-    pub use-on : {o1 r2 f2 : List ℕ} {y : Answer} → a .how ≡ Done → Reads node w x n d (path-rule (place-at (t .line) (t .column))) o r1 f1 (a .state) o1 r2 f2 y → Reads node w x n d P.parse-use o r f s o1 r2 f2 y
+    pub use-on : {o1 r2 f2 : List ℕ} {y : Answer} → a .how ≡ Done
+        → Reads node w x n d (path-rule (place-at (t .line) (t .column))) o r1 f1 (a .state) o1 r2 f2 y
+        → Reads node w x n d P.parse-use o r f s o1 r2 f2 y
     use-on z B = keyword-on (path-rule (place-at (t .line) (t .column))) X (use-step d f s u) z B
 
   module _ (X : Expects w x n (λ role. P.expect-as role 5) r f s r1 f1 a) where
     pub var-stops : Stopped a → Reads node w x n d P.parse-top-level-var-declaration o r f s o r1 f1 a
     var-stops nd = keyword-stops (P.declaration 0x53 (place-at (t .line) (t .column))) X (var-step d f s u) nd
 
-    pub var-on : {o1 r2 f2 : List ℕ} {y : Answer} → a .how ≡ Done → Reads node w x n d (P.declaration 0x53 (place-at (t .line) (t .column))) o r1 f1 (a .state) o1 r2 f2 y → Reads node w x n d P.parse-top-level-var-declaration o r f s o1 r2 f2 y
+    pub var-on : {o1 r2 f2 : List ℕ} {y : Answer} → a .how ≡ Done
+        → Reads node w x n d (P.declaration 0x53 (place-at (t .line) (t .column))) o r1 f1 (a .state) o1 r2 f2 y
+        → Reads node w x n d P.parse-top-level-var-declaration o r f s o1 r2 f2 y
     var-on z B = keyword-on (P.declaration 0x53 (place-at (t .line) (t .column))) X (var-step d f s u) z B

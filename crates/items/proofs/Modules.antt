@@ -38,54 +38,97 @@ module _ {w x : List ℕ} {n at : ℕ} {t : Front} {c : Bool} (u : Seen w x n at
   either : (i j : ℕ) → (eqb (t .kind) i || eqb (t .kind) j) ≡ c → (head (rest w x n at) is i || head (rest w x n at) is j) ≡ c
   either i j h = rw (u .kind) h
 
-  any : (i j k : ℕ) → ((eqb (t .kind) i || eqb (t .kind) j) || eqb (t .kind) k) ≡ c → ((head (rest w x n at) is i || head (rest w x n at) is j) || head (rest w x n at) is k) ≡ c
+  any : (i j k : ℕ) → ((eqb (t .kind) i || eqb (t .kind) j) || eqb (t .kind) k) ≡ c
+      → ((head (rest w x n at) is i || head (rest w x n at) is j) || head (rest w x n at) is k) ≡ c
   any i j k h = rw (u .kind) h
 
 module _ {w x : List ℕ} {n d : ℕ} {o r f : List ℕ} {s : State} {t : Front} (u : Seen w x n (s .at) t) where
-  pub item-function : {o1 r1 f1 : List ℕ} {y : Answer} → (eqb (t .kind) 4 || eqb (t .kind) 19) ≡ true → Reads node w x n d P.parse-function-definition o r f s o1 r1 f1 y → Reads node w x n d P.parse-top-level-item o r f s o1 r1 f1 y
+  pub item-function : {o1 r1 f1 : List ℕ} {y : Answer} → (eqb (t .kind) 4 || eqb (t .kind) 19) ≡ true
+      → Reads node w x n d P.parse-function-definition o r f s o1 r1 f1 y
+      → Reads node w x n d P.parse-top-level-item o r f s o1 r1 f1 y
   unfolding go run P.parse-top-level-item
   item-function h B = record { moved = B .moved; on = B .on; is = λ rd. say (rw (run, either u 4 19 h)) (B .is rd) }
 
   module _ (mf : (eqb (t .kind) 4 || eqb (t .kind) 19) ≡ false) where
-    pub item-alias : {o1 r1 f1 : List ℕ} {y : Answer} → ((eqb (t .kind) 15 || eqb (t .kind) 20) || eqb (t .kind) 21) ≡ true → Reads node w x n d P.parse-type-alias o r f s o1 r1 f1 y → Reads node w x n d P.parse-top-level-item o r f s o1 r1 f1 y
+    pub item-alias : {o1 r1 f1 : List ℕ} {y : Answer} → ((eqb (t .kind) 15 || eqb (t .kind) 20) || eqb (t .kind) 21) ≡ true
+        → Reads node w x n d P.parse-type-alias o r f s o1 r1 f1 y
+        → Reads node w x n d P.parse-top-level-item o r f s o1 r1 f1 y
     unfolding go run P.parse-top-level-item
     item-alias h B = record { moved = B .moved; on = B .on; is = λ rd. say (rw (run, either u 4 19 mf, any u 15 20 21 h)) (B .is rd) }
 
     module _ (ma : ((eqb (t .kind) 15 || eqb (t .kind) 20) || eqb (t .kind) 21) ≡ false) where
-      pub item-use : {o1 r1 f1 : List ℕ} {y : Answer} → t .kind ≡ 18 → Reads node w x n d P.parse-use o r f s o1 r1 f1 y → Reads node w x n d P.parse-top-level-item o r f s o1 r1 f1 y
+      pub item-use : {o1 r1 f1 : List ℕ} {y : Answer} → t .kind ≡ 18 → Reads node w x n d P.parse-use o r f s o1 r1 f1 y
+          → Reads node w x n d P.parse-top-level-item o r f s o1 r1 f1 y
       unfolding go run P.parse-top-level-item
-      item-use h B = record { moved = B .moved; on = B .on; is = λ rd. say (rw (run, either u 4 19 mf, any u 15 20 21 ma, yes u h)) (B .is rd) }
+      item-use h B =
+          record {
+            moved = B .moved;
+            on = B .on;
+            is = λ rd. say (rw (run, either u 4 19 mf, any u 15 20 21 ma, yes u h)) (B .is rd);
+          }
 
       module _ (m18 : t .kind ≡ 18 → ⊥) where
-        pub item-variable : {o1 r1 f1 : List ℕ} {y : Answer} → t .kind ≡ 5 → Reads node w x n d P.parse-top-level-var-declaration o r f s o1 r1 f1 y → Reads node w x n d P.parse-top-level-item o r f s o1 r1 f1 y
+        pub item-variable : {o1 r1 f1 : List ℕ} {y : Answer} → t .kind ≡ 5
+            → Reads node w x n d P.parse-top-level-var-declaration o r f s o1 r1 f1 y
+            → Reads node w x n d P.parse-top-level-item o r f s o1 r1 f1 y
         unfolding go run P.parse-top-level-item
-        item-variable h B = record { moved = B .moved; on = B .on; is = λ rd. say (rw (run, either u 4 19 mf, any u 15 20 21 ma, no u m18, yes u h)) (B .is rd) }
+        item-variable h B =
+            record {
+              moved = B .moved;
+              on = B .on;
+              is = λ rd. say (rw (run, either u 4 19 mf, any u 15 20 21 ma, no u m18, yes u h)) (B .is rd);
+            }
 
         module _ (m5 : t .kind ≡ 5 → ⊥) (q : Asked w x n o r f s) where
-          pub item-assembly : {o1 : List ℕ} {y : Answer} → t .kind ≡ 54 → Finished x o (there s t) (texted t 0x54 None t) o1 y → Reads node w x n d P.parse-top-level-item o r f s o1 r f y
+          pub item-assembly : {o1 : List ℕ} {y : Answer} → t .kind ≡ 54 → Finished x o (there s t) (texted t 0x54 None t) o1 y
+              → Reads node w x n d P.parse-top-level-item o r f s o1 r f y
           unfolding go run P.parse-top-level-item
-          item-assembly h F = leaf-reads (q .asks) u [] (head (rest w x n (s .at)) .text) F (omega (arith, h)) (rw (u .place, u .text)) d (λ rd. rw (run, either u 4 19 mf, any u 15 20 21 ma, no u m18, no u m5, yes u h))
+          item-assembly h F =
+              leaf-reads (q .asks) u [] (head (rest w x n (s .at)) .text) F (omega (arith, h))
+              (rw (u .place, u .text)) d
+              (λ rd. rw (run, either u 4 19 mf, any u 15 20 21 ma, no u m18, no u m5, yes u h))
 
-          pub item-other : {e : ℕ} {r1 f1 : List ℕ} {y : Answer} → (t .kind ≡ 54 → ⊥) → unpack e ≡ error-at 1 (t .line) (t .column) 0 (t .kind) → Raised (raised n (fore s t)) r f (fore s t) e r1 f1 y → Reads node w x n d P.parse-top-level-item o r f s o r1 f1 y
+          pub item-other : {e : ℕ} {r1 f1 : List ℕ} {y : Answer} → (t .kind ≡ 54 → ⊥)
+              → unpack e ≡ error-at 1 (t .line) (t .column) 0 (t .kind)
+              → Raised (raised n (fore s t)) r f (fore s t) e r1 f1 y
+              → Reads node w x n d P.parse-top-level-item o r f s o r1 f1 y
           unfolding go run P.parse-top-level-item
-          item-other m54 i g = raise-reads (q .asks) u plain g d (λ rd. rw (run, either u 4 19 mf, any u 15 20 21 ma, no u m18, no u m5, no u m54) (raise-same d (rw (u .place, u .kind) (sym i)) (adv s u (λ _. plain) f rd)))
+          item-other m54 i g =
+              raise-reads (q .asks) u plain g d
+              (λ rd. rw (run, either u 4 19 mf, any u 15 20 21 ma, no u m18, no u m5, no u m54)
+              (raise-same d (rw (u .place, u .kind) (sym i)) (adv s u (λ _. plain) f rd)))
 
 -- ---- `module`
 
-module _ {w x : List ℕ} {n d count : ℕ} {o r f : List ℕ} {s : State} {t : Front} (q : Asked w x n o r f s × (count ≤ s .at)) (v : Seen w x n (s .at) t) where
+module _ {w x : List ℕ} {n d count : ℕ} {o r f : List ℕ} {s : State} {t : Front}
+    (q : Asked w x n o r f s × (count ≤ s .at)) (v : Seen w x n (s .at) t) where
   pub module-end : t .kind ≡ 0 → LoopOn items-on w x n d count o r f s o r f (record { how = Done; state = s; line = count; column = 0 })
   unfolding go run P.module-turn
   module-end z = record {
     moved = stays (q .0 .asks);
     never = λ y. let e : _≡_ {A = ℕ} 0 1 = cc in omega arith;
     is = λ rd T E l et ee ec.
-        let step : go d (items-on l) (st-of w x n f rd s) ≡ gives l (st-of w x n f rd s) = go-loop d (Module l) (st-of w x n f rd s) ∙ rw (run, yes v z) in
-        record { told = record { item = l; errors = l .errors; read = rd; is = go-bind d (items-on l) as-answer _ ∙ ap (λ (z : Res Items). after z (λ i S. go d (as-answer i) S)) step; tree = et; rep = ee; holds = ec } };
+        let step : go d (items-on l) (st-of w x n f rd s) ≡ gives l (st-of w x n f rd s) = go-loop d (Module l)
+        (st-of w x n f rd s) ∙ rw (run, yes v z) in
+        record {
+          told = record {
+            item = l;
+            errors = l .errors;
+            read = rd;
+            is = go-bind d (items-on l) as-answer _
+                ∙ ap (λ (z : Res Items). after z (λ i S. go d (as-answer i) S)) step;
+            tree = et;
+            rep = ee;
+            holds = ec;
+          };
+        };
   }
 
   module _ {o1 r1 f1 : List ℕ} {b : Answer} (m0 : t .kind ≡ 0 → ⊥) (u : Reads node w x n d P.parse-top-level-item o r f s o1 r1 f1 b) where
     -- a turn that reads an item
-    item-turn : (rd : List Consumed) (l : Items) → go d (items-on l) (st-of w x n f rd s) ≡ go d (P.parse-top-level-item >>= λ a. items-on (P.integrate l a)) (st-of w x n f rd s)
+    item-turn : (rd : List Consumed) (l : Items)
+        → go d (items-on l) (st-of w x n f rd s)
+        ≡ go d (P.parse-top-level-item >>= λ a. items-on (P.integrate l a)) (st-of w x n f rd s)
     unfolding go run P.module-turn _>>=_
     item-turn rd l = go-loop d (Module l) (st-of w x n f rd s) ∙ rw (run, no v m0)
 
@@ -99,4 +142,11 @@ module _ {w x : List ℕ} {n d count : ℕ} {o r f : List ℕ} {s : State} {t : 
 
 pub module-reads : {w x : List ℕ} {n d : ℕ} {o r f o1 r1 f1 : List ℕ} {a : Answer} → LoopOn items-on w x n d 0 o r f (record { at = 0; pos = 0; reported = 0; full = 0 }) o1 r1 f1 a → ReadsModule w x n d o1 r1 f1 a
 unfolding errs recs-bytes
-module-reads L = record { room = omega (arith, L .moved .room); reported = omega (arith, L .moved .less); few = L .moved .few; never = L .never; is = L .is [] [] [] (P.no-items []) refl refl refl }
+module-reads L =
+    record {
+      room = omega (arith, L .moved .room);
+      reported = omega (arith, L .moved .less);
+      few = L .moved .few;
+      never = L .never;
+      is = L .is [] [] [] (P.no-items []) refl refl refl;
+    }

@@ -25,11 +25,17 @@ use Rattle.steps.proofs.Answers.{errs-take}
 use Rattle.grammar.specs.Post.{as-answer}
 
 -- an act that gives items, and what follows them and their errors
-pub answered : {B : Type 0} (d : ℕ) (m : Act Items) (k : Fallible Items → Act (Ans B)) (S : St) → go d (m >>= λ i. k (record { item = i; errors = i .errors })) S ≡ after (go d (m >>= as-answer) S) (λ z T. go d (or-return k z) T)
+pub answered : {B : Type 0} (d : ℕ) (m : Act Items) (k : Fallible Items → Act (Ans B)) (S : St)
+    → go d (m >>= λ i. k (record { item = i; errors = i .errors })) S
+    ≡ after (go d (m >>= as-answer) S) (λ z T. go d (or-return k z) T)
 unfolding go run
-answered d m k S = go-bind d m (λ i. k (record { item = i; errors = i .errors })) S ∙ one (go d m S) ∙ ap (λ (q : Res (Ans Items)). after q (λ z T. go d (or-return k z) T)) (sym (go-bind d m as-answer S))
+answered d m k S =
+    go-bind d m (λ i. k (record { item = i; errors = i .errors })) S ∙ one (go d m S)
+    ∙ ap (λ (q : Res (Ans Items)). after q (λ z T. go d (or-return k z) T)) (sym (go-bind d m as-answer S))
   where
-    one : (q : Res Items) → after q (λ i T. go d (k (record { item = i; errors = i .errors })) T) ≡ after (after q (λ i T. go d (as-answer i) T)) (λ z T. go d (or-return k z) T)
+    one : (q : Res Items)
+        → after q (λ i T. go d (k (record { item = i; errors = i .errors })) T)
+        ≡ after (after q (λ i T. go d (as-answer i) T)) (λ z T. go d (or-return k z) T)
     one (gives i T) = refl
     one (refused n) = refl
 
@@ -43,7 +49,8 @@ still {r} {r′} {i} {j} {k} {b} {c} v z = one (b .how) (v .is)
     one (Refused n) m = m .0
 
 -- `expect` behind an answer keeps its numbers
-pub expected-line : {w x : List ℕ} {n k i j : ℕ} {r f r′ f′ : List ℕ} {a y : Answer} → Expected w x n k i j r f a r′ f′ y → y .line ≡ a .line
+pub expected-line : {w x : List ℕ} {n k i j : ℕ} {r f r′ f′ : List ℕ} {a y : Answer} → Expected w x n k i j r f a r′ f′ y
+    → y .line ≡ a .line
 expected-line {w} {x} {n} {k} {i} {j} {r} {f} {r′} {f′} {a} {y} v = one (a .how) (v .is)
   where
     one : (h : How) → ExpectedOf h w x n k i j r f a r′ f′ y → y .line ≡ a .line
@@ -52,7 +59,8 @@ expected-line {w} {x} {n} {k} {i} {j} {r} {f} {r′} {f′} {a} {y} v = one (a .
     one (Refused u) m = rw (m .0)
 
 -- the errors of the later part stand before those of the earlier
-pub turned : {r r′ : List ℕ} {j k m : ℕ} (E es fs : List Err) → Exchanged r j k m r′ → j ≤ k → k ≤ m → length E ≡ j → length (E ++ es) ≡ k → errs r m ≡ E ++ (es ++ fs) → errs r′ m ≡ E ++ (fs ++ es)
+pub turned : {r r′ : List ℕ} {j k m : ℕ} (E es fs : List Err) → Exchanged r j k m r′ → j ≤ k → k ≤ m → length E ≡ j
+    → length (E ++ es) ≡ k → errs r m ≡ E ++ (es ++ fs) → errs r′ m ≡ E ++ (fs ++ es)
 turned {r} {r′} {j} {k} {m} E es fs x jk km lj lk e =
     exchange-errs x jk km E es fs
     (errs-take r j m (omega arith) ∙ ap (λ (l : List Err). take j l) e ∙ take-at E (es ++ fs) j lj)
@@ -62,4 +70,6 @@ turned {r} {r′} {j} {k} {m} E es fs x jk km lj lk e =
 -- a token that pays is of some kind
 pub real : {w x : List ℕ} {n : ℕ} (i : ℕ) → Held w x n → 16 ≤ budget w x n i → 0 < head (rest w x n i) .kind
 unfolding spend
-real {w} {x} {n} i q h = elim (decLe n i) [ yes g ↦ let e : budget w x n i ≡ 0 = rw (rest-nil w x n i g) in absurd (omega (arith, e, h)) | no g ↦ alive q (omega (arith, g)) ]
+real {w} {x} {n} i q h =
+    elim (decLe n i)
+    [ yes g ↦ let e : budget w x n i ≡ 0 = rw (rest-nil w x n i g) in absurd (omega (arith, e, h)) | no g ↦ alive q (omega (arith, g)) ]

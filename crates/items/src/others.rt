@@ -17,7 +17,7 @@ use steps::and_expect;
 use steps::expect;
 use steps::finish_text;
 use steps::head;
-ghost use Prim.Native.Nat.{ℕ, _+_, _-_, _≤_};
+ghost use Prim.Native.Nat.{ℕ, _+_, _≤_};
 ghost use Rattle.definition.specs.Parser as P;
 ghost use Rattle.steps.specs.Tokens.{Held};
 ghost use Rattle.grammar.specs.Post.{place-of};

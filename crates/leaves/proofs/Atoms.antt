@@ -35,17 +35,49 @@ use Rattle.leaves.proofs.Errors.{raise-reads}
 
 -- ---- a token alone is a node: the record z is written behind it
 
-module _ {w x : List ℕ} {n : ℕ} {o o′ r f : List ℕ} {s : State} {t : Front} {z : Record} {y : Answer} {m : Act (Ans Node)} (q : Asks w x n r f s) (v : Seen w x n (s .at) t) (ns : List Num) (text : List ℕ) (u : Finished x o (there s t) z o′ y) where
-  pub leaf-reads : size-of z ≤ 16 * min (t .kind) 1 + t .len → rec-of x z ≡ record { tag = z .tag; place = some (head (rest w x n (s .at)) .place); numbers = ns; text = text } → (d : ℕ)
-      → ((rd : List Consumed) → go d m (st-of w x n f rd s) ≡ go d (P.good (P.node [] (z .tag) (head (rest w x n (s .at)) .place) ns text) []) (advance (λ _. plain) (st-of w x n f rd s)))
+module _ {w x : List ℕ} {n : ℕ} {o o′ r f : List ℕ} {s : State} {t : Front} {z : Record} {y : Answer}
+    {m : Act (Ans Node)} (q : Asks w x n r f s) (v : Seen w x n (s .at) t) (ns : List Num) (text : List ℕ)
+    (u : Finished x o (there s t) z o′ y) where
+  pub leaf-reads : size-of z ≤ 16 * min (t .kind) 1 + t .len
+      → rec-of x z
+      ≡ record { tag = z .tag; place = some (head (rest w x n (s .at)) .place); numbers = ns; text = text }
+      → (d : ℕ)
+      → ((rd : List Consumed)
+      → go d m (st-of w x n f rd s)
+      ≡ go d (P.good (P.node [] (z .tag) (head (rest w x n (s .at)) .place) ns text) [])
+      (advance (λ _. plain) (st-of w x n f rd s)))
       → Reads node w x n d m o r f s o′ r f y
   unfolding recs-bytes
   leaf-reads h e d g = record {
-    moved = let b : budget w x n (y .state .at) ≡ budget w x n (t .next) = ap (λ (k : ℕ). budget w x n k) (u .at) in record { at = omega arith; end = omega arith; pos = u .low; room = omega arith; reported = omega arith; less = omega arith; full = omega arith; few = omega arith };
+    moved =
+        let b : budget w x n (y .state .at) ≡ budget w x n (t .next) = ap (λ (k : ℕ). budget w x n k) (u .at) in
+        record {
+          at = omega arith;
+          end = omega arith;
+          pos = u .low;
+          room = omega arith;
+          reported = omega arith;
+          less = omega arith;
+          full = omega arith;
+          few = omega arith;
+        };
     on = omega (arith, v .kind, v .on, u .at);
-    is = λ rd. say (g rd ∙ ap (λ (S : St). go d (P.good (P.node [] (z .tag) (head (rest w x n (s .at)) .place) ns text) []) S) (adv s v (λ _. plain) f rd))
+    is =
+        λ rd. say (g rd
+        ∙ ap (λ (S : St). go d (P.good (P.node [] (z .tag) (head (rest w x n (s .at)) .place) ns text) []) S)
+        (adv s v (λ _. plain) f rd))
         (finishes {K = token (head (rest w x n (s .at)))} {rs = []} {es = []} {q = gives (ok (record { item = head (rest w x n (s .at)); errors = [] })) (st-of w x n f (rd ++ now-read (λ _. plain) (rest w x n (s .at))) (fore s t))} d (λ _. head (rest w x n (s .at)) .place) (λ _. ns) text u (λ _ _. e)
-        (record { told = record { item = head (rest w x n (s .at)); errors = []; read = rd ++ now-read (λ _. plain) (rest w x n (s .at)); is = refl; tree = sym (append-nil (take (s .pos) o)); rep = sym (append-nil (errs r (s .reported))); holds = (refl, v .place) } }));
+        (record {
+          told = record {
+            item = head (rest w x n (s .at));
+            errors = [];
+            read = rd ++ now-read (λ _. plain) (rest w x n (s .at));
+            is = refl;
+            tree = sym (append-nil (take (s .pos) o));
+            rep = sym (append-nil (errs r (s .reported)));
+            holds = (refl, v .place);
+          };
+        }));
   }
 
 -- ---- `literal`
@@ -55,38 +87,61 @@ abbrev pub Atom : List ℕ → List ℕ → ℕ → List ℕ → List ℕ → Li
 Atom w x n o r f s o′ r′ f′ y = (d : ℕ) → Reads node w x n d P.parse-atom o r f s o′ r′ f′ y
 
 module _ {w x : List ℕ} {n : ℕ} {o r f : List ℕ} {s : State} {t : Front} (q : Literal w x n o r f s) (v : Seen w x n (s .at) t) where
-  pub integer-reads : {o′ : List ℕ} {y : Answer} → t .kind ≡ 2 → Finished x o (there s t) (texted t 33 (Byte (t .base % 256)) t) o′ y → Atom w x n o r f s o′ r f y
+  pub integer-reads : {o′ : List ℕ} {y : Answer} → t .kind ≡ 2
+      → Finished x o (there s t) (texted t 33 (Byte (t .base % 256)) t) o′ y → Atom w x n o r f s o′ r f y
   unfolding go run P.parse-atom
-  integer-reads z u d = let b : t .base % 256 ≡ t .base = omega (arith, v .bases) in leaf-reads (q .asked .asks) v (byte (head (rest w x n (s .at)) .base) ∷ []) (head (rest w x n (s .at)) .text) u (omega arith) (rw (v .place, v .text, v .base, b)) d (λ rd. rw (run, yes v z))
+  integer-reads z u d =
+      let b : t .base % 256 ≡ t .base = omega (arith, v .bases) in
+      leaf-reads (q .asked .asks) v (byte (head (rest w x n (s .at)) .base) ∷ [])
+      (head (rest w x n (s .at)) .text) u (omega arith) (rw (v .place, v .text, v .base, b)) d
+      (λ rd. rw (run, yes v z))
 
   module _ (m2 : t .kind ≡ 2 → ⊥) where
     pub name-reads : {o′ : List ℕ} {y : Answer} → t .kind ≡ 1 → Finished x o (there s t) (identifier t) o′ y → Atom w x n o r f s o′ r f y
     unfolding go run P.parse-atom
-    name-reads z u d = leaf-reads (q .asked .asks) v [] (head (rest w x n (s .at)) .text) u (omega arith) (rw (v .place, v .text)) d (λ rd. rw (run, no v m2, yes v z))
+    name-reads z u d =
+        leaf-reads (q .asked .asks) v [] (head (rest w x n (s .at)) .text) u (omega arith)
+        (rw (v .place, v .text)) d (λ rd. rw (run, no v m2, yes v z))
 
     module _ (m1 : t .kind ≡ 1 → ⊥) where
-      pub string-reads : {o′ : List ℕ} {y : Answer} → t .kind ≡ 3 → Finished x o (there s t) (texted t 35 None t) o′ y → Atom w x n o r f s o′ r f y
+      pub string-reads : {o′ : List ℕ} {y : Answer} → t .kind ≡ 3 → Finished x o (there s t) (texted t 35 None t) o′ y
+          → Atom w x n o r f s o′ r f y
       unfolding go run P.parse-atom
-      string-reads z u d = leaf-reads (q .asked .asks) v [] (head (rest w x n (s .at)) .text) u (omega arith) (rw (v .place, v .text)) d (λ rd. rw (run, no v m2, no v m1, yes v z))
+      string-reads z u d =
+          leaf-reads (q .asked .asks) v [] (head (rest w x n (s .at)) .text) u (omega arith)
+          (rw (v .place, v .text)) d (λ rd. rw (run, no v m2, no v m1, yes v z))
 
       module _ (m3 : t .kind ≡ 3 → ⊥) where
-        pub true-reads : {o′ : List ℕ} {y : Answer} → t .kind ≡ 12 → Finished x o (there s t) (untexted t 34 (Byte 1)) o′ y → Atom w x n o r f s o′ r f y
+        pub true-reads : {o′ : List ℕ} {y : Answer} → t .kind ≡ 12 → Finished x o (there s t) (untexted t 34 (Byte 1)) o′ y
+            → Atom w x n o r f s o′ r f y
         unfolding go run P.parse-atom
-        true-reads z u d = leaf-reads (q .asked .asks) v (byte 1 ∷ []) [] u (omega arith) (rw (v .place)) d (λ rd. rw (run, no v m2, no v m1, no v m3, yes v z))
+        true-reads z u d =
+            leaf-reads (q .asked .asks) v (byte 1 ∷ []) [] u (omega arith) (rw (v .place)) d
+            (λ rd. rw (run, no v m2, no v m1, no v m3, yes v z))
 
         module _ (m12 : t .kind ≡ 12 → ⊥) where
-          pub false-reads : {o′ : List ℕ} {y : Answer} → t .kind ≡ 13 → Finished x o (there s t) (untexted t 34 (Byte 0)) o′ y → Atom w x n o r f s o′ r f y
+          pub false-reads : {o′ : List ℕ} {y : Answer} → t .kind ≡ 13 → Finished x o (there s t) (untexted t 34 (Byte 0)) o′ y
+              → Atom w x n o r f s o′ r f y
           unfolding go run P.parse-atom
-          false-reads z u d = leaf-reads (q .asked .asks) v (byte 0 ∷ []) [] u (omega arith) (rw (v .place)) d (λ rd. rw (run, no v m2, no v m1, no v m3, no v m12, yes v z))
+          false-reads z u d =
+              leaf-reads (q .asked .asks) v (byte 0 ∷ []) [] u (omega arith) (rw (v .place)) d
+              (λ rd. rw (run, no v m2, no v m1, no v m3, no v m12, yes v z))
 
-          module _ {e : ℕ} {r′ f′ : List ℕ} {y : Answer} (m13 : t .kind ≡ 13 → ⊥) (g : Raised (raised n (fore s t)) r f (fore s t) e r′ f′ y) where
+          module _ {e : ℕ} {r′ f′ : List ℕ} {y : Answer} (m13 : t .kind ≡ 13 → ⊥)
+              (g : Raised (raised n (fore s t)) r f (fore s t) e r′ f′ y) where
             pub end-reads : t .kind ≡ 0 → unpack e ≡ error-at 8 0 0 0 0 → Atom w x n o r f s o r′ f′ y
             unfolding go run P.parse-atom
-            end-reads z i d = raise-reads (q .asked .asks) v plain g d (λ rd. rw (run, no v m2, no v m1, no v m3, no v m12, no v m13, no v (λ b. q .bare (v .kind ∙ b)), yes v z) (raise-same d (sym i) (adv s v (λ _. plain) f rd)))
+            end-reads z i d =
+                raise-reads (q .asked .asks) v plain g d (λ rd. rw
+                (run, no v m2, no v m1, no v m3, no v m12, no v m13, no v (λ b. q .bare (v .kind ∙ b)), yes v z)
+                (raise-same d (sym i) (adv s v (λ _. plain) f rd)))
 
             pub other-reads : (t .kind ≡ 0 → ⊥) → unpack e ≡ error-at 7 (t .line) (t .column) 0 (t .kind) → Atom w x n o r f s o r′ f′ y
             unfolding go run P.parse-atom
-            other-reads z i d = raise-reads (q .asked .asks) v plain g d (λ rd. rw (run, no v m2, no v m1, no v m3, no v m12, no v m13, no v (λ b. q .bare (v .kind ∙ b)), no v z) (raise-same d (rw (v .place, v .kind) (sym i)) (adv s v (λ _. plain) f rd)))
+            other-reads z i d =
+                raise-reads (q .asked .asks) v plain g d (λ rd. rw
+                (run, no v m2, no v m1, no v m3, no v m12, no v m13, no v (λ b. q .bare (v .kind ∙ b)), no v z)
+                (raise-same d (rw (v .place, v .kind) (sym i)) (adv s v (λ _. plain) f rd)))
 
 -- ---- `close`
 
@@ -109,15 +164,29 @@ if-alive C (Refused m) e p q = absurd (⊎-elim (λ z. omega arith) (λ z. omega
 
 module _ {w x : List ℕ} {n : ℕ} {r f : List ℕ} {a : Answer} (q : Asks w x n r f (a .state)) where
   pub close-ended : Ended a → Closed w x n r f a r f a
-  close-ended h = record { moved = stays q; pos = refl; is = if-ended (λ k. ClosedOf k w x n r f a r f a) (a .how) h (λ m. (refl, (refl, refl))) }
+  close-ended h =
+      record {
+        moved = stays q;
+        pos = refl;
+        is = if-ended (λ k. ClosedOf k w x n r f a r f a) (a .how) h (λ m. (refl, (refl, refl)));
+      }
 
   module _ {r′ f′ : List ℕ} {b : Answer} (l : Alive a) (e : Expects w x n (λ role. P.expect-as role 42) r f (a .state) r′ f′ b) where
     -- what `expect` answers is the rest
     closes : (y : Answer) → y .state ≡ b .state → ClosingOf (b .how) a b y → Closed w x n r f a r′ f′ y
-    closes y z i = record { moved = rw z (e .moved); pos = rw z (e .pos); is = if-alive (λ k. ClosedOf k w x n r f a r′ f′ y) (a .how) l (record { b = b; expects = e; is = i }) (record { b = b; expects = e; is = i }) }
+    closes y z i =
+        record {
+          moved = rw z (e .moved);
+          pos = rw z (e .pos);
+          is = if-alive (λ k. ClosedOf k w x n r f a r′ f′ y) (a .how) l (record { b = b; expects = e; is = i })
+              (record { b = b; expects = e; is = i });
+        }
 
     pub close-refused : Ended b → Closed w x n r f a r′ f′ b
     close-refused h = closes b refl (if-ended (λ k. ClosingOf k a b b) (b .how) h (λ m. refl))
 
     pub close-on : Alive b → Closed w x n r f a r′ f′ (record { how = a .how; state = b .state; line = a .line; column = a .column })
-    close-on h = closes _ refl (if-alive (λ k. ClosingOf k a b (record { how = a .how; state = b .state; line = a .line; column = a .column })) (b .how) h refl refl)
+    close-on h =
+        closes _ refl (if-alive
+        (λ k. ClosingOf k a b (record { how = a .how; state = b .state; line = a .line; column = a .column }))
+        (b .how) h refl refl)

@@ -19,7 +19,8 @@ use Rattle.leaves.specs.Leaves.{level-of, Operator, is-arithmetic, Prefi
 
 -- where a table has the kind k, at r - 1; nowhere where r is 0
 pub record Finds (ops : List P.Op) (k r : ℕ) : Type 0 where
-  pub is : (t : Tok) → t .kind ≡ k → (found : ℕ → Act (Ans Node)) (other : Act (Ans Node)) (d : ℕ) (S : St) → go d (P.find t ops found other) S ≡ go d (elim (eqb r 0) [ true ↦ other | false ↦ found (r - 1) ]) S
+  pub is : (t : Tok) → t .kind ≡ k → (found : ℕ → Act (Ans Node)) (other : Act (Ans Node)) (d : ℕ) (S : St)
+      → go d (P.find t ops found other) S ≡ go d (elim (eqb r 0) [ true ↦ other | false ↦ found (r - 1) ]) S
 
 pub none : {k : ℕ} → Finds [] k 0
 none = record { is = λ t e found other d S. refl }
@@ -27,7 +28,11 @@ none = record { is = λ t e found other d S. refl }
 module _ {k c p : ℕ} {ops : List P.Op} where
   pub hit : k ≡ c → Finds (P.on c p ∷ ops) k (p + 1)
   unfolding go run
-  hit z = record { is = λ t e found other d S. let s : p + 1 - 1 ≡ p = omega arith in rw (run, eq-eqb (t .kind) c (e ∙ z), ne-eqb (p + 1) 0 (λ y. omega arith), s) }
+  hit z =
+      record {
+        is = λ t e found other d S. let s : p + 1 - 1 ≡ p = omega arith in
+            rw (run, eq-eqb (t .kind) c (e ∙ z), ne-eqb (p + 1) 0 (λ y. omega arith), s);
+      }
 
   pub miss : {r : ℕ} → (k ≡ c → ⊥) → Finds ops k r → Finds (P.on c p ∷ ops) k r
   unfolding go run
@@ -37,7 +42,8 @@ pub finds : {ops : List P.Op} {k r : ℕ} → r ≤ 8 → min r 1 ≤ k → Find
 finds h g i = record { small = h; real = g; is = i .is }
 
 -- at the code's level
-pub at-level : {v v′ : Level} {k r : ℕ} → v ≡ v′ → r ≤ 8 → min r 1 ≤ k → Finds (P.mapping (level-of v′)) k r → Operator (P.mapping (level-of v)) k r
+pub at-level : {v v′ : Level} {k r : ℕ} → v ≡ v′ → r ≤ 8 → min r 1 ≤ k → Finds (P.mapping (level-of v′)) k r
+    → Operator (P.mapping (level-of v)) k r
 at-level {v} {v′} {k} {r} e h g i = subst (λ (z : Level). Operator (P.mapping (level-of z)) k r) (sym e) (finds h g i)
 
 -- ---- no operator of any level
@@ -46,7 +52,9 @@ pub neither : (a b : Bool) → (a || b) ≡ false → (a ≡ false) × (b ≡ fa
 neither true b e = clash e
 neither false b e = (refl, e)
 
-module _ {k : ℕ} (bar : k ≡ K.Bar → ⊥) (caret : k ≡ K.Caret → ⊥) (ampersand : k ≡ K.Ampersand → ⊥) (left : k ≡ K.LeftShift → ⊥) (right : k ≡ K.RightShift → ⊥) (plus : k ≡ K.Plus → ⊥) (minus : k ≡ K.Minus → ⊥) (star : k ≡ K.Star → ⊥) where
+module _ {k : ℕ} (bar : k ≡ K.Bar → ⊥) (caret : k ≡ K.Caret → ⊥) (ampersand : k ≡ K.Ampersand → ⊥)
+    (left : k ≡ K.LeftShift → ⊥) (right : k ≡ K.RightShift → ⊥) (plus : k ≡ K.Plus → ⊥)
+    (minus : k ≡ K.Minus → ⊥) (star : k ≡ K.Star → ⊥) where
   nowhere : (l : A.Level) → Finds (P.mapping l) k 0
   nowhere A.BitOr = miss bar none
   nowhere A.BitXor = miss caret none
@@ -65,7 +73,10 @@ no-operator k e l =
     let ampersand = neither _ (eqb k K.Ampersand) (left .0) in
     let caret = neither _ (eqb k K.Caret) (ampersand .0) in
     finds (omega arith) (omega arith)
-    (nowhere (eqb-false k K.Bar (caret .0)) (eqb-false k K.Caret (caret .1)) (eqb-false k K.Ampersand (ampersand .1)) (eqb-false k K.LeftShift (left .1)) (eqb-false k K.RightShift (right .1)) (eqb-false k K.Plus (plus .1)) (eqb-false k K.Minus (minus .1)) (eqb-false k K.Star (star .1)) l)
+    (nowhere (eqb-false k K.Bar (caret .0)) (eqb-false k K.Caret (caret .1))
+    (eqb-false k K.Ampersand (ampersand .1)) (eqb-false k K.LeftShift (left .1))
+    (eqb-false k K.RightShift (right .1)) (eqb-false k K.Plus (plus .1)) (eqb-false k K.Minus (minus .1))
+    (eqb-false k K.Star (star .1)) l)
 
 -- the prefix operators as a table, of their tags
 abbrev pub prefixes : List P.Op
@@ -73,14 +84,23 @@ prefixes = P.on K.Ampersand 0x26 ∷ P.on K.Star 0x27 ∷ P.on K.Tilde 0x29 ∷ 
 
 pub prefixed : {k r : ℕ} → r ≤ 0x2B → min r 1 ≤ k → Finds prefixes k r → Prefix k r
 unfolding go run P.unary-rule
-prefixed {k} {r} h g i = record { small = h; real = g; is = λ d S e. i .is (head (S .left)) e (λ o. P.prefix (o + 1)) P.parse-call d S ∙ one (eqb r 0) refl d S }
+prefixed {k} {r} h g i =
+    record {
+      small = h;
+      real = g;
+      is = λ d S e. i .is (head (S .left)) e (λ o. P.prefix (o + 1)) P.parse-call d S ∙ one (eqb r 0) refl d S;
+    }
   where
-    one : (b : Bool) → eqb r 0 ≡ b → (d : ℕ) (S : St) → go {A = Ans Node} d (elim b [ true ↦ P.parse-call | false ↦ P.prefix (r - 1 + 1) ]) S ≡ go {A = Ans Node} d (elim b [ true ↦ P.parse-call | false ↦ P.prefix r ]) S
+    one : (b : Bool) → eqb r 0 ≡ b → (d : ℕ) (S : St)
+        → go {A = Ans Node} d (elim b [ true ↦ P.parse-call | false ↦ P.prefix (r - 1 + 1) ]) S
+        ≡ go {A = Ans Node} d (elim b [ true ↦ P.parse-call | false ↦ P.prefix r ]) S
     one true e d S = refl
     one false e d S = let z = eqb-false r 0 e in let s : r - 1 + 1 ≡ r = omega arith in rw s
 
 pub no-prefix : {k : ℕ} → k ≡ K.Identifier → Prefix k 0
-no-prefix z = prefixed (omega arith) (omega arith) (miss (λ e. omega arith) (miss (λ e. omega arith) (miss (λ e. omega arith) (miss (λ e. omega arith) none))))
+no-prefix z =
+    prefixed (omega arith) (omega arith)
+    (miss (λ e. omega arith) (miss (λ e. omega arith) (miss (λ e. omega arith) (miss (λ e. omega arith) none))))
 
 -- ---- a name alone
 
@@ -97,7 +117,13 @@ name-alone k next e =
     parts-true _ (not (eqb next K.LBracket)) a λ b bracket.
     parts-true _ (not (eqb next K.DotStar)) b λ c star.
     parts-true (eqb k K.Identifier) (not (eqb next K.Dot)) c λ name dot.
-    record { name = eqb-true k K.Identifier name; dot = other K.Dot dot; star = other K.DotStar star; bracket = other K.LBracket bracket; paren = other K.LParen paren }
+    record {
+      name = eqb-true k K.Identifier name;
+      dot = other K.Dot dot;
+      star = other K.DotStar star;
+      bracket = other K.LBracket bracket;
+      paren = other K.LParen paren;
+    }
   where
     other : (m : ℕ) → not (eqb next m) ≡ true → next ≡ m → ⊥
     other m z = eqb-false next m (not-true _ z)

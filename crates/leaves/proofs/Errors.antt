@@ -27,7 +27,9 @@ use Rattle.steps.proofs.Moves.{asks-fore, fore-moved, making-moved, moved-trans
 use Rattle.steps.proofs.Answers.{say, raise-shows}
 
 -- what holds of both answers holds of the one that is made
-pub made-so : {a : Answer} (h : How) (n : ℕ) (s : State) (C : Answer → Type 0) → a ≡ making h n s → (s .full < 255 → C (record { how = h; state = one-more s; line = 0; column = 0 })) → (255 ≤ s .full → C (refused-at n s 12)) → C a
+pub made-so : {a : Answer} (h : How) (n : ℕ) (s : State) (C : Answer → Type 0) → a ≡ making h n s
+    → (s .full < 255 → C (record { how = h; state = one-more s; line = 0; column = 0 }))
+    → (255 ≤ s .full → C (refused-at n s 12)) → C a
 made-so h n s C e p c = subst C (sym e) (one (ltb (s .full) 255) refl)
   where
     one : (b : Bool) → ltb (s .full) 255 ≡ b → C (pick b (record { how = h; state = one-more s; line = 0; column = 0 }) (refused-at n s 12))
@@ -35,21 +37,30 @@ made-so h n s C e p c = subst C (sym e) (one (ltb (s .full) 255) refl)
     one false l = c (ltb-false _ _ l)
 
 -- the definition makes the error, and goes on or is refused
-module _ {A : Type 0} {w x : List ℕ} {n : ℕ} {r f r′ f′ : List ℕ} {s : State} {e : ℕ} {c a : Answer} (q : Asks w x n r f s) (g : Raised c r f s e r′ f′ a) (d : ℕ) (m : Act A) (rd : List Consumed) where
+module _ {A : Type 0} {w x : List ℕ} {n : ℕ} {r f r′ f′ : List ℕ} {s : State} {e : ℕ} {c a : Answer}
+    (q : Asks w x n r f s) (g : Raised c r f s e r′ f′ a) (d : ℕ) (m : Act A) (rd : List Consumed) where
   few : length (errs f (s .full)) ≡ s .full
   few = errs-length f (s .full) (omega arith)
 
   pub makes : s .full < 255 → go d (make (unpack e) m) (st-of w x n f rd s) ≡ go d m (st-of w x n f′ rd (one-more s))
   unfolding go run
-  makes h = rw (few, lt-ltb (s .full) 255 h, run) (ap (λ (z : List Err). go d m (record { left = rest w x n (s .at); read = rd; full = z })) (sym (g .full h)))
+  makes h =
+      rw (few, lt-ltb (s .full) 255 h, run)
+      (ap (λ (z : List Err). go d m (record { left = rest w x n (s .at); read = rd; full = z }))
+      (sym (g .full h)))
 
   pub makes-none : 255 ≤ s .full → go d (make (unpack e) m) (st-of w x n f rd s) ≡ refused 12
   unfolding go run
   makes-none h = rw (few, le-ltb (s .full) 255 h, run)
 
 -- an error is raised behind a token
-module _ {A : Type 0} {K : View A} {w x : List ℕ} {n : ℕ} {o r f r′ f′ : List ℕ} {s : State} {t : Front} {m : Act (Ans A)} {e : ℕ} {a : Answer} (q : Asks w x n r f s) (v : Seen w x n (s .at) t) (role : Role) (g : Raised (raised n (fore s t)) r f (fore s t) e r′ f′ a) (d : ℕ) where
-  pub raise-reads : ((rd : List Consumed) → go d m (st-of w x n f rd s) ≡ go d (P.raise {A = A} (unpack e)) (st-of w x n f (rd ++ now-read (λ _. role) (rest w x n (s .at))) (fore s t)))
+module _ {A : Type 0} {K : View A} {w x : List ℕ} {n : ℕ} {o r f r′ f′ : List ℕ} {s : State} {t : Front}
+    {m : Act (Ans A)} {e : ℕ} {a : Answer} (q : Asks w x n r f s) (v : Seen w x n (s .at) t) (role : Role)
+    (g : Raised (raised n (fore s t)) r f (fore s t) e r′ f′ a) (d : ℕ) where
+  pub raise-reads : ((rd : List Consumed)
+      → go d m (st-of w x n f rd s)
+      ≡ go d (P.raise {A = A} (unpack e))
+      (st-of w x n f (rd ++ now-read (λ _. role) (rest w x n (s .at))) (fore s t)))
       → Reads K w x n d m o r f s o r′ f′ a
   raise-reads h = record {
     moved = rw (g .is) (moved-trans (fore-moved q v) (making-moved (asks-fore q v) Fatal));

@@ -7,11 +7,12 @@ use native.Mathlib.Nat.{mod-lt, div-add-mod', mul-le-mul-left, mul-le-mul-right,
 use native.Mathlib.Numerals.{add-one}
 use native.Mathlib.Omega.{arith}
 use lib.Dec.{eqb}
-use lib.ListN.{length, take, drop, getD, length-drop}
-use lib.Seq.{drop-cons, drop-length, getD-take, getD-drop, length-take-le}
+use lib.ListN.{length, take, drop, getD}
+use lib.Seq.{drop-cons, drop-length, getD-take, getD-drop}
 use borrow.Author.Tests.{eq-eqb, ne-eqb, lt-ltb, le-ltb, le-leb, lt-leb}
 use Rattle.definition.specs.Token.{digit, number, dashed}
 use Rattle.definition.proofs.Tests.{clash}
+use Rattle.node.proofs.Laws.{part-length}
 use Rattle.leaves.specs.Leaves.{Valued}
 
 -- ---- digits
@@ -34,7 +35,14 @@ not-over : (a b d : ℕ) → d < 256 → a ≤ (18446744073709551615 - d) / b �
 not-over a b d hd h = omega (arith, mul-le-mul-right b h, div-add-mod' (18446744073709551615 - d) b)
 
 over : (a b d : ℕ) → 0 < b → d < 256 → (18446744073709551615 - d) / b < a → 18446744073709551615 < a * b + d
-over a b d hb hd h = omega (arith, mul-le-mul-right b h, suc-mul ((18446744073709551615 - d) / b) b, div-add-mod' (18446744073709551615 - d) b, mod-lt (18446744073709551615 - d) hb)
+over a b d hb hd h =
+    omega (
+      arith,
+      mul-le-mul-right b h,
+      suc-mul ((18446744073709551615 - d) / b) b,
+      div-add-mod' (18446744073709551615 - d) b,
+      mod-lt (18446744073709551615 - d) hb,
+    )
 
 number-ge : (b n : ℕ) (l : List ℕ) → 0 < b → n ≤ number b n l
 unfolding number
@@ -42,9 +50,6 @@ number-ge b n [] h = omega arith
 number-ge b n (c ∷ cs) h = omega (arith, number-ge b (n * b + digit c) cs h, mul-one n, mul-le-mul-left n h)
 
 -- ---- a part of the text slice
-
-part-length : (x : List ℕ) (st len : ℕ) → st + len ≤ length x → length (take len (drop st x)) ≡ len
-part-length x st len h = length-take-le len (drop st x) (simp length-drop (omega arith))
 
 part-at : (x : List ℕ) (st len i : ℕ) → i < len → getD (take len (drop st x)) i 0 ≡ getD x (st + i) 0
 part-at x st len i h = getD-take len (drop st x) i 0 h ∙ getD-drop st x i 0
@@ -80,7 +85,15 @@ module _ (x : List ℕ) (st : ℕ) {len base : ℕ} where
     size-dash m = record { fits = rw (begins x st len h z, eq-eqb (getD x st 0) 45 m); number = λ y. clash (sym y) }
 
     pub size-start : 0 < base → (getD x st 0 ≡ 45 → ⊥) → Numbering x st len base 0 0
-    size-start b m = record { part = h; upto = omega arith; small = omega arith; based = b; plain = begins x st len h z ∙ ne-eqb (getD x st 0) 45 m; is = refl }
+    size-start b m =
+        record {
+          part = h;
+          upto = omega arith;
+          small = omega arith;
+          based = b;
+          plain = begins x st len h z ∙ ne-eqb (getD x st 0) 45 m;
+          is = refl;
+        }
 
 module _ {x : List ℕ} {st len base i a : ℕ} (k : Numbering x st len base i a) where
   pub size-done : len ≤ i → Valued (take len (drop st x)) base (record { fits = true; number = a })
@@ -94,15 +107,29 @@ module _ {x : List ℕ} {st len base i a : ℕ} (k : Numbering x st len base i a
     -- one digit more
     next : number base 0 (take len (drop st x)) ≡ number base (a * base + d) (drop (suc i) (take len (drop st x)))
     unfolding number
-    next = let l = part-length x st len (k .part) in k .is ∙ rw (drop-cons (take len (drop st x)) i 0 (omega arith), part-at x st len i h, e .0)
+    next =
+        let l = part-length x st len (k .part) in
+        k .is ∙ rw (drop-cons (take len (drop st x)) i 0 (omega arith), part-at x st len i h, e .0)
 
     pub size-fits : a ≤ (18446744073709551615 - d) / base → a * base + d ≤ 18446744073709551615
     size-fits g = not-over a base d (e .1) g
 
     pub size-more : a ≤ (18446744073709551615 - d) / base → Numbering x st len base (i + 1) (a * base + d)
-    size-more g = record { part = k .part; upto = omega arith; small = size-fits g; based = k .based; plain = k .plain; is = rw add-one next }
+    size-more g =
+        record {
+          part = k .part;
+          upto = omega arith;
+          small = size-fits g;
+          based = k .based;
+          plain = k .plain;
+          is = rw add-one next;
+        }
 
     pub size-over : (18446744073709551615 - d) / base < a → Valued (take len (drop st x)) base (record { fits = false; number = 0 })
     size-over g =
-        let big : 2 ^ 64 ≤ number base 0 (take len (drop st x)) = rw next (omega (arith, over a base d (k .based) (e .1) g, number-ge base (a * base + d) (drop (suc i) (take len (drop st x))) (k .based))) in
+        let big : 2 ^ 64 ≤ number base 0 (take len (drop st x)) = rw next (omega (
+          arith,
+          over a base d (k .based) (e .1) g,
+          number-ge base (a * base + d) (drop (suc i) (take len (drop st x))) (k .based),
+        )) in
         record { fits = rw (k .plain, le-ltb (number base 0 (take len (drop st x))) (2 ^ 64) big); number = λ y. clash (sym y) }

@@ -17,10 +17,17 @@ grew-one {o} {p} {b} h = record { end = refl; size = refl; is = rw add-one (take
 
 -- some bytes, then some more
 pub then : {o o1 o2 bs cs : List ℕ} {p k m q r : ℕ} → Grew o p bs k o1 q → Grew o1 q cs m o2 r → Grew o p (bs ++ cs) (k + m) o2 r
-then {o} {bs = bs} {cs = cs} {p = p} a b = record { end = omega arith; size = length-append bs cs ∙ omega arith; is = b .is ∙ ap (λ (l : List ℕ). l ++ cs) (a .is) ∙ append-assoc (take p o) bs cs }
+then {o} {bs = bs} {cs = cs} {p = p} a b =
+    record {
+      end = omega arith;
+      size = length-append bs cs ∙ omega arith;
+      is = b .is ∙ ap (λ (l : List ℕ). l ++ cs) (a .is) ∙ append-assoc (take p o) bs cs;
+    }
 
 -- one byte more of a part
-pub copied : (o₀ o x : List ℕ) (p st i : ℕ) → p + i < length o → st + i < length x → take (p + i) o ≡ take p o₀ ++ take i (drop st x) → take (p + (i + 1)) (set o (p + i) (getD x (st + i) 0)) ≡ take p o₀ ++ take (i + 1) (drop st x)
+pub copied : (o₀ o x : List ℕ) (p st i : ℕ) → p + i < length o → st + i < length x
+    → take (p + i) o ≡ take p o₀ ++ take i (drop st x)
+    → take (p + (i + 1)) (set o (p + i) (getD x (st + i) 0)) ≡ take p o₀ ++ take (i + 1) (drop st x)
 copied o₀ o x p st i h g e =
     let s : p + (i + 1) ≡ suc (p + i) = omega arith in
     let d : i < length (drop st x) = simp length-drop (omega arith) in
@@ -34,13 +41,22 @@ part-length x st len h = length-take-le len (drop st x) (simp length-drop (omega
 
 module _ {o₀ o x : List ℕ} {p st len i : ℕ} where
   pub copy-more : Copying o₀ x p st len o i → i < len → Copying o₀ x p st len (set o (p + i) (getD x (st + i) 0)) (i + 1)
-  copy-more k h = record { room = omega arith; part = omega arith; upto = omega arith; same = simp length-set (omega arith); is = copied o₀ o x p st i (omega arith) (omega arith) (k .is) }
+  copy-more k h =
+      record {
+        room = omega arith;
+        part = omega arith;
+        upto = omega arith;
+        same = simp length-set (omega arith);
+        is = copied o₀ o x p st i (omega arith) (omega arith) (k .is);
+      }
 
 pub copy-start : {o x : List ℕ} {p st len : ℕ} → p + len ≤ length o → st + len ≤ length x → Copying o x p st len o 0
 copy-start {o} {p = p} h g = record { room = h; part = g; upto = omega arith; same = refl; is = rw add-zero (sym (append-nil (take p o))) }
 
 pub copy-end : {o₀ o x : List ℕ} {p st len i : ℕ} → Copying o₀ x p st len o i → len ≤ i → Grew o₀ p (take len (drop st x)) len o (p + len)
-copy-end {x = x} {st = st} {len = len} {i = i} k h = let e : i ≡ len = omega arith in record { end = refl; size = part-length x st len (k .part); is = rw e at (k .is) }
+copy-end {x = x} {st = st} {len = len} {i = i} k h =
+    let e : i ≡ len = omega arith in
+    record { end = refl; size = part-length x st len (k .part); is = rw e at (k .is) }
 
 pub nothing : (o : List ℕ) (p : ℕ) → Grew o p [] 0 o p
 nothing o p = record { end = omega arith; size = refl; is = sym (append-nil (take p o)) }
@@ -52,18 +68,27 @@ eight-twos n = rw (div-div-eq-div-mul n 281474976710656 256, div-div-eq-div-mul 
 -- ---- records
 
 module _ {o o1 o2 o3 t : List ℕ} {ns : List Num} {pos k len p q r tag : ℕ} where
-  pub is-record : {line column : ℕ} → Grew o pos (placed tag (4 + k + len) line column) 7 o1 p → Grew o1 p (nums-bytes ns) k o2 q → Grew o2 q t len o3 r
-      → Wrote o pos (record { tag = tag; place = some (record { line = line; column = column }); numbers = ns; text = t }) (7 + k + len) o3 r
+  pub is-record : {line column : ℕ} → Grew o pos (placed tag (4 + k + len) line column) 7 o1 p
+      → Grew o1 p (nums-bytes ns) k o2 q → Grew o2 q t len o3 r
+      → Wrote o pos
+      (record { tag = tag; place = some (record { line = line; column = column }); numbers = ns; text = t })
+      (7 + k + len) o3 r
   unfolding rec-bytes
   is-record a b d = record {
     end = omega arith;
-    is = let e : 4 + k + len ≡ suc (suc (suc (suc (length (nums-bytes ns ++ t))))) = simp length-append (omega (arith, b .size, d .size)) in (rw e at (then a (then b d) .is));
+    is =
+        let e : 4 + k + len ≡ suc (suc (suc (suc (length (nums-bytes ns ++ t))))) = simp length-append
+        (omega (arith, b .size, d .size)) in
+        (rw e at (then a (then b d) .is));
   }
 
-  pub is-bare : {o0 : List ℕ} {u : ℕ} → Grew o pos (tag ∷ []) 1 o0 u → Grew o0 u (u16 (k + len)) 2 o1 p → Grew o1 p (nums-bytes ns) k o2 q → Grew o2 q t len o3 r
+  pub is-bare : {o0 : List ℕ} {u : ℕ} → Grew o pos (tag ∷ []) 1 o0 u → Grew o0 u (u16 (k + len)) 2 o1 p
+      → Grew o1 p (nums-bytes ns) k o2 q → Grew o2 q t len o3 r
       → Wrote o pos (record { tag = tag; place = none; numbers = ns; text = t }) (3 + k + len) o3 r
   unfolding rec-bytes
   is-bare a b d f = record {
     end = omega arith;
-    is = let e : k + len ≡ length (nums-bytes ns ++ t) = simp length-append (omega (arith, d .size, f .size)) in (rw e at (then (then a b) (then d f) .is));
+    is =
+        let e : k + len ≡ length (nums-bytes ns ++ t) = simp length-append (omega (arith, d .size, f .size)) in
+        (rw e at (then (then a b) (then d f) .is));
   }

@@ -18,13 +18,15 @@ use Rattle.fallible.proofs.Grown.{errs-length}
 use Rattle.fields.specs.Errors.{Fielded, TokenFields}
 use Rattle.zeros.specs.Cleared.{Cleared}
 use Rattle.zeros.proofs.Clearing.{cleared-filled}
-use Rattle.handed.proofs.Accepted.{there, faults}
+use Rattle.definition.proofs.Handed.{errors-many}
+use Rattle.handed.proofs.Accepted.{there}
 use Rattle.parser.specs.Answer.{file-of, RestRoom, RestWritten}
 
 -- ---- where the fields end
 
-pub token-end : {o o′ : List ℕ} {p q : ℕ} (E : List ℕ) (m : ℕ) → is-some (errors-of E 0 m) ≡ true → TokenFields o p E m o′ q → q ≡ p + 10 * m
-token-end E m g A = let t = there (errors-of E 0 m) g in omega (arith, A (t .value) (t .is) .end, faults E m 0 (t .value) (t .is) .size)
+pub token-end : {o o′ : List ℕ} {p q : ℕ} (E : List ℕ) (m : ℕ) → is-some (errors-of E 0 m) ≡ true → TokenFields o p E m o′ q
+    → q ≡ p + 10 * m
+token-end E m g A = let t = there (errors-of E 0 m) g in omega (arith, A (t .value) (t .is) .end, errors-many E m 0 (t .value) (t .is))
 
 pub list-end : {o o′ : List ℕ} {p q tag : ℕ} (l : List ℕ) (k : ℕ) → Fielded o p tag (errs l k) o′ q → k ≤ length l → q ≡ p + 10 * k
 list-end l k B h = omega (arith, B .end, errs-length l k h)
@@ -42,7 +44,10 @@ module _ {o o1 o2 o3 o4 E r f : List ℕ} {p p1 p2 p3 p4 count m reported made :
   front : (es : List Err) → errors-of E 0 m ≡ some es → take p4 o4 ≡ file-of (take p o) count es (errs r reported) (errs f made)
   front es e =
       C .is
-      ∙ ap (λ (v : List ℕ). v ++ errs-bytes 0x61 (errs f made)) (B .is ∙ ap (λ (v : List ℕ). v ++ errs-bytes 0x60 (errs r reported)) (A es e .is ∙ ap (λ (v : List ℕ). v ++ errs-bytes 0x62 es) (W .is ∙ ap (λ (v : List ℕ). take p o ++ v) (module-field count))))
+      ∙ ap (λ (v : List ℕ). v ++ errs-bytes 0x61 (errs f made)) (B .is
+      ∙ ap (λ (v : List ℕ). v ++ errs-bytes 0x60 (errs r reported)) (A es e .is
+      ∙ ap (λ (v : List ℕ). v ++ errs-bytes 0x62 es)
+      (W .is ∙ ap (λ (v : List ℕ). take p o ++ v) (module-field count))))
 
   pub end-room : length o4 ≡ length o → p4 ≤ length o4
   end-room l = omega (arith, q .room, W .end, token-end E m (q .good) A, list-end r reported B (q .reps), list-end f made C (q .fulls), l)

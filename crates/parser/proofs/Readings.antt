@@ -64,7 +64,8 @@ number-of (gives y S) = 0
 number-of (refused n) = suc n
 
 -- items as an answer are those items
-gave : (d : ℕ) (q : Res Items) (y : Fallible Items) (T : St) → answered d q ≡ gives (ok y) T → (q ≡ gives (y .item) T) × (y .item .errors ≡ y .errors)
+gave : (d : ℕ) (q : Res Items) (y : Fallible Items) (T : St) → answered d q ≡ gives (ok y) T
+    → (q ≡ gives (y .item) T) × (y .item .errors ≡ y .errors)
 unfolding go run item-of errors-in state-in number-of
 gave d (gives i S) y T e =
     let a : i ≡ y .item = ap item-of e in
@@ -79,7 +80,8 @@ refuses d (refused m) n e = let z : suc m ≡ suc n = ap number-of e in let y : 
 
 module _ {w x : List ℕ} {n : ℕ} {o r f : List ℕ} {a : Answer} (B : ReadsModule w x n 96 o r f a) where
   -- the module's answer, as the parser's
-  parsed : answered 96 (parse-module (rest w x n 0)) ≡ go 96 (items-on (P.no-items []) >>= as-answer) (record { left = rest w x n 0; read = []; full = [] })
+  parsed : answered 96 (parse-module (rest w x n 0))
+      ≡ go 96 (items-on (P.no-items []) >>= as-answer) (record { left = rest w x n 0; read = []; full = [] })
   parsed = sym (go-bind 96 (items-on (P.no-items [])) as-answer _ ∙ ap (λ (q : Res Items). answered 96 q) (go-module (rest w x n 0)))
 
   -- a tree: its items, their records from the file's first byte on, and both lists
@@ -96,10 +98,22 @@ module _ {w x : List ℕ} {n : ℕ} {o r f : List ℕ} {a : Answer} (B : ReadsMo
   tree-of z =
       let g = good-of z (B .is) in
       let e = gave 96 (parse-module (rest w x n 0)) _ _ (parsed ∙ g .is) in
-      record { tree = g .item; state = st-of w x n f (g .read) (a .state); is = e .0; full = refl; recs = g .tree; rep = g .rep ∙ sym (e .1); count = g .holds }
+      record {
+        tree = g .item;
+        state = st-of w x n f (g .read) (a .state);
+        is = e .0;
+        full = refl;
+        recs = g .tree;
+        rep = g .rep ∙ sym (e .1);
+        count = g .holds;
+      }
 
   refused-with : (k : ℕ) → a .how ≡ Refused k → parse-module (rest w x n 0) ≡ refused k
-  refused-with k z = refuses 96 (parse-module (rest w x n 0)) k (parsed ∙ subst (λ (h : How). ShowsOf h items [] [] [] [] w x n o r f a (go 96 (items-on (P.no-items []) >>= as-answer) (record { left = rest w x n 0; read = []; full = [] }))) z (B .is .told))
+  refused-with k z =
+      refuses 96 (parse-module (rest w x n 0)) k (parsed
+      ∙ subst (λ (h : How). ShowsOf h items [] [] [] [] w x n o r f a
+      (go 96 (items-on (P.no-items []) >>= as-answer) (record { left = rest w x n 0; read = []; full = [] }))) z
+      (B .is .told))
 
   pub refused-of : Ended a → parse-module (rest w x n 0) ≡ refused (refusal-number (a .how))
   refused-of e = one (a .how) refl e
@@ -115,7 +129,10 @@ module _ {w x : List ℕ} {n : ℕ} {o r f : List ℕ} {a : Answer} (B : ReadsMo
       one : (h : How) → a .how ≡ h → Alive a → a .how ≡ Done
       one Done e l = e
       one Fatal e l = absurd (B .never e)
-      one (Refused k) e l = absurd (if-alive (λ (h : How). h ≡ Refused k → ⊥) (a .how) l (λ z. let y : _≡_ {A = ℕ} 0 1 = cc in omega arith) (λ z. let y : _≡_ {A = ℕ} 0 1 = cc in omega arith) e)
+      one (Refused k) e l =
+          absurd (if-alive (λ (h : How). h ≡ Refused k → ⊥) (a .how) l
+          (λ z. let y : _≡_ {A = ℕ} 0 1 = cc in omega arith) (λ z. let y : _≡_ {A = ℕ} 0 1 = cc in omega arith)
+          e)
 
 -- ---- the definition's answer for at least one token
 
@@ -129,15 +146,26 @@ unfolding O.read-tokens outcome
 opened o [] es h = absurd (omega arith)
 opened o (t ∷ ts) es h = one (parse-module (t ∷ ts))
   where
-    one : (r : Res Items) → O.written o (elim r as (λ _. O.Outcome) [ gives i S ↦ O.file (file-bytes es i (S .full)) | refused n ↦ O.refused n ]) ≡ O.written o (outcome es r)
+    one : (r : Res Items)
+        → O.written o
+        (elim r as (λ _. O.Outcome) [ gives i S ↦ O.file (file-bytes es i (S .full)) | refused n ↦ O.refused n ])
+        ≡ O.written o (outcome es r)
     one (gives i S) = refl
     one (refused n) = refl
 
-written-of : (o : List ℕ) (ts : List Tok) (es : List Err) (i : Items) (S : St) → 0 < length ts → parse-module ts ≡ gives i S → O.read-handed o ts es ≡ record { number = 0; bytes = length (file-bytes es i (S .full)); file = filled (length o) (file-bytes es i (S .full)) }
+written-of : (o : List ℕ) (ts : List Tok) (es : List Err) (i : Items) (S : St) → 0 < length ts
+    → parse-module ts ≡ gives i S
+    → O.read-handed o ts es
+    ≡ record {
+      number = 0;
+      bytes = length (file-bytes es i (S .full));
+      file = filled (length o) (file-bytes es i (S .full));
+    }
 unfolding outcome
 written-of o ts es i S h e = opened o ts es h ∙ ap (λ (r : Res Items). O.written o (outcome es r)) e
 
-none-of : (o : List ℕ) (ts : List Tok) (es : List Err) (n : ℕ) → 0 < length ts → parse-module ts ≡ refused n → O.read-handed o ts es ≡ record { number = n; bytes = 0; file = filled (length o) [] }
+none-of : (o : List ℕ) (ts : List Tok) (es : List Err) (n : ℕ) → 0 < length ts → parse-module ts ≡ refused n
+    → O.read-handed o ts es ≡ record { number = n; bytes = 0; file = filled (length o) [] }
 unfolding outcome
 none-of o ts es n h e = opened o ts es h ∙ ap (λ (r : Res Items). O.written o (outcome es r)) e
 
@@ -145,7 +173,8 @@ some-tokens : (w x : List ℕ) (n : ℕ) → 0 < n → 0 < length (rest w x n 0)
 some-tokens w x n h = rw (rest-cons w x n 0 h) (omega arith)
 
 -- the file of equal parts
-same-file : {A A′ : List ℕ} {c c′ : ℕ} {r r′ f f′ : List Err} (es : List Err) → A ≡ A′ → c ≡ c′ → r ≡ r′ → f ≡ f′ → file-of A c es r f ≡ file-of A′ c′ es r′ f′
+same-file : {A A′ : List ℕ} {c c′ : ℕ} {r r′ f f′ : List Err} (es : List Err) → A ≡ A′ → c ≡ c′ → r ≡ r′ → f ≡ f′
+    → file-of A c es r f ≡ file-of A′ c′ es r′ f′
 same-file es p q s t = rw (p, q, s, t)
 
 -- ---- `read_tokens`
@@ -158,9 +187,22 @@ module _ (T : List ℕ) (n : ℕ) (E : List ℕ) (m : ℕ) (X : List ℕ) (g : i
   good = tested T n E m X (accepted .value) (accepted .is)
 
   pub module-asked : {o r f : List ℕ} → 65536 ≤ length o → 256 ≤ length r → 256 ≤ length f → Asked T X n o r f (record { at = 0; pos = 0; reported = 0; full = 0 })
-  module-asked lo lr lf = record { asks = record { held = good .held; at = omega arith; reported = omega arith; few = omega arith; reps = lr; fulls = lf }; room = omega (arith, lo, good .room, good .held .few) }
+  module-asked lo lr lf =
+      record {
+        asks = record {
+          held = good .held;
+          at = omega arith;
+          reported = omega arith;
+          few = omega arith;
+          reps = lr;
+          fulls = lf;
+        };
+        room = omega (arith, lo, good .room, good .held .few);
+      }
 
-  pub rest-room : {d : ℕ} {o1 r1 f1 : List ℕ} {a : Answer} → ReadsModule T X n d o1 r1 f1 a → 65536 ≤ length o1 → 256 ≤ length r1 → 256 ≤ length f1 → RestRoom o1 (a .state .pos) E m r1 (a .state .reported) f1 (a .state .full)
+  pub rest-room : {d : ℕ} {o1 r1 f1 : List ℕ} {a : Answer} → ReadsModule T X n d o1 r1 f1 a → 65536 ≤ length o1
+      → 256 ≤ length r1 → 256 ≤ length f1
+      → RestRoom o1 (a .state .pos) E m r1 (a .state .reported) f1 (a .state .full)
   rest-room B lo lr lf = record {
     room = omega (arith, lo, good .room, good .held .few, good .few, B .room, B .reported, B .few);
     words = good .words;
@@ -169,24 +211,33 @@ module _ (T : List ℕ) (n : ℕ) (E : List ℕ) (m : ℕ) (X : List ℕ) (g : i
     fulls = omega (arith, B .few, lf);
   }
 
-module _ (T : List ℕ) (n : ℕ) (E : List ℕ) (m : ℕ) (X o : List ℕ) {o1 r1 f1 : List ℕ} {a : Answer} (B : ReadsModule T X n 96 o1 r1 f1 a) (some-n : 0 < n) (l : length o1 ≡ length o) where
-  pub read-refused : {o2 : List ℕ} {k : ℕ} {y : Written} → Ended a → Cleared o1 0 o2 → k ≡ refusal-number (a .how) → y ≡ refusal-of k → ReadHanded T n E m X o o2 y
+module _ (T : List ℕ) (n : ℕ) (E : List ℕ) (m : ℕ) (X o : List ℕ) {o1 r1 f1 : List ℕ} {a : Answer}
+    (B : ReadsModule T X n 96 o1 r1 f1 a) (some-n : 0 < n) (l : length o1 ≡ length o) where
+  pub read-refused : {o2 : List ℕ} {k : ℕ} {y : Written} → Ended a → Cleared o1 0 o2 → k ≡ refusal-number (a .how)
+      → y ≡ refusal-of k → ReadHanded T n E m X o o2 y
   read-refused {o2} {k} {y} z C u v h e =
       let t = tested T n E m X h e in
-      let p : parse-module (h .tokens) ≡ refused k = ap parse-module (sym (t .tokens)) ∙ refused-of B z ∙ ap (λ (i : ℕ). refused i) (sym u) in
+      let p : parse-module (h .tokens) ≡ refused k = ap parse-module (sym (t .tokens)) ∙ refused-of B z ∙ ap
+      (λ (i : ℕ). refused i) (sym u) in
       let s : 0 < length (h .tokens) = subst (λ (ts : List Tok). 0 < length ts) (t .tokens) (some-tokens T X n some-n) in
-      rw v (ap (λ (f : List ℕ). answer (refusal-of k) f) (cleared-filled o 0 [] C refl l (omega arith)) ∙ sym (none-of o (h .tokens) (h .errors) k s p))
+      rw v (ap (λ (f : List ℕ). answer (refusal-of k) f) (cleared-filled o 0 [] C refl l (omega arith))
+      ∙ sym (none-of o (h .tokens) (h .errors) k s p))
 
-  pub read-done : {o2 : List ℕ} {b : ℕ} → Alive a → RestWritten o1 (a .state .pos) (a .line) E m r1 (a .state .reported) f1 (a .state .full) o2 b → ReadHanded T n E m X o o2 (record { number = 0; bytes = b })
+  pub read-done : {o2 : List ℕ} {b : ℕ} → Alive a
+      → RestWritten o1 (a .state .pos) (a .line) E m r1 (a .state .reported) f1 (a .state .full) o2 b
+      → ReadHanded T n E m X o o2 (record { number = 0; bytes = b })
   unfolding file-bytes
   read-done {o2} {b} z C h e =
       let t = tested T n E m X h e in
       let g = tree-of B (done-of-module B z) in
       let p : parse-module (h .tokens) ≡ gives (g .tree) (g .state) = ap parse-module (sym (t .tokens)) ∙ g .is in
       let s : 0 < length (h .tokens) = subst (λ (ts : List Tok). 0 < length ts) (t .tokens) (some-tokens T X n some-n) in
-      let ws : file-of (take (a .state .pos) o1) (a .line) (h .errors) (errs r1 (a .state .reported)) (errs f1 (a .state .full)) ≡ file-bytes (h .errors) (g .tree) (g .state .full) = same-file (h .errors) (g .recs) (sym (g .count)) (g .rep) (sym (g .full)) in
+      let ws : file-of (take (a .state .pos) o1) (a .line) (h .errors) (errs r1 (a .state .reported)) (errs f1 (a .state .full)) ≡ file-bytes (h .errors) (g .tree) (g .state .full) =
+      same-file (h .errors) (g .recs) (sym (g .count)) (g .rep) (sym (g .full)) in
       let bytes : b ≡ length (file-bytes (h .errors) (g .tree) (g .state .full)) = C .end (h .errors) (t .errors) ∙ ap length ws in
-      let file : o2 ≡ filled (length o) (file-bytes (h .errors) (g .tree) (g .state .full)) = C .is (h .errors) (t .errors) ∙ ap (λ (v : List ℕ). filled (length o1) v) ws ∙ ap (λ (k : ℕ). filled k (file-bytes (h .errors) (g .tree) (g .state .full))) l in
+      let file : o2 ≡ filled (length o) (file-bytes (h .errors) (g .tree) (g .state .full)) = C .is (h .errors)
+      (t .errors) ∙ ap (λ (v : List ℕ). filled (length o1) v) ws ∙ ap
+      (λ (k : ℕ). filled k (file-bytes (h .errors) (g .tree) (g .state .full))) l in
       rw (bytes, file) (sym (written-of o (h .tokens) (h .errors) (g .tree) (g .state) s p))
 
 -- ---- `read`
@@ -202,7 +253,10 @@ module _ (T : List ℕ) (n : ℕ) (E : List ℕ) (m : ℕ) (X o : List ℕ) wher
   unfolding O.read tested-by
   read-is = one (ltb (length o) 65536) (O.handed T n E m X)
     where
-      one : (b : Bool) (x : Option O.Handed) → _≡_ {A = O.Written} (elim b as (λ _. O.Written) [ true ↦ O.kept 3 o | false ↦ elim x as (λ _. O.Written) [ none ↦ O.kept 8 o | some h ↦ O.read-handed o (h .tokens) (h .errors) ] ]) (tested-by b x o)
+      one : (b : Bool) (x : Option O.Handed)
+          → _≡_ {A = O.Written} (elim b as (λ _. O.Written)
+          [ true ↦ O.kept 3 o | false ↦ elim x as (λ _. O.Written) [ none ↦ O.kept 8 o | some h ↦ O.read-handed o (h .tokens) (h .errors) ] ])
+          (tested-by b x o)
       one true x = refl
       one false none = refl
       one false (some h) = refl
@@ -230,4 +284,7 @@ module _ (T : List ℕ) (n : ℕ) (E : List ℕ) (m : ℕ) (X o : List ℕ) wher
       read-good R = let t = there (O.handed T n E m X) g in R (t .value) (t .is) ∙ sym (read-accepted (t .is))
 
       pub read-none : {r : Written} → n ≡ 0 → r ≡ refusal-of 9 → answer r o ≡ O.read T n E m X o
-      read-none z e = read-good (λ v y. let k : v .tokens ≡ [] = sym (tested T n E m X v y .tokens) ∙ rest-nil T X n 0 (omega (arith, z)) in rw (e, k))
+      read-none z e =
+          read-good (λ v y. let k : v .tokens ≡ [] = sym (tested T n E m X v y .tokens) ∙ rest-nil T X n 0
+          (omega (arith, z)) in
+          rw (e, k))

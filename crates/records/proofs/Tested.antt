@@ -34,10 +34,18 @@ digits-start h = record { some = h; high = omega arith; is = refl }
 module _ {p : List ℕ} {from base i : ℕ} (q : Digits p from base i) where
   pub digits-more : i < length p → C.is-digit-of base (getD p i 0) ≡ true → Digits p from base (i + 1)
   unfolding all-digits
-  digits-more h e = record { some = q .some; high = omega arith; is = rw add-one (ap (λ (t : Bool). t && all-digits base (drop (suc i) p)) (sym e) ∙ rw (drop-cons p i 0 h) at (q .is)) }
+  digits-more h e =
+      record {
+        some = q .some;
+        high = omega arith;
+        is = rw add-one
+            (ap (λ (t : Bool). t && all-digits base (drop (suc i) p)) (sym e) ∙ rw (drop-cons p i 0 h) at (q .is));
+      }
 
   whole : some-digits base (drop from p) ≡ all-digits base (drop from p)
-  whole = ap (λ (t : Bool). t && all-digits base (drop from p)) (lt-ltb 0 (length (drop from p)) (omega (arith, length-drop from p, q .some)))
+  whole =
+      ap (λ (t : Bool). t && all-digits base (drop from p))
+      (lt-ltb 0 (length (drop from p)) (omega (arith, length-drop from p, q .some)))
 
   pub digits-fail : i < length p → C.is-digit-of base (getD p i 0) ≡ false → false ≡ some-digits base (drop from p)
   unfolding all-digits
@@ -79,7 +87,10 @@ module _ (text : List ℕ) (w : TokenWords) where
   abbrev end : ℕ
   end = w .start + w .size
 
-  good-is : good-alone text w ≡ (fields && pick (has-text (w .kind)) (part-fits text (w .start) end) (eqb (w .start) 0 && eqb (w .size) 0)) && pick (eqb (w .kind) K.Integer) (integer-text (w .base) (take (end - w .start) (drop (w .start) text))) true
+  good-is : good-alone text w
+      ≡ (fields && pick (has-text (w .kind)) (part-fits text (w .start) end) (eqb (w .start) 0 && eqb (w .size) 0))
+      && pick (eqb (w .kind) K.Integer) (integer-text (w .base) (take (end - w .start) (drop (w .start) text)))
+      true
   unfolding good-alone
   good-is = let z : end - w .start ≡ w .size = omega arith in rw z
 
@@ -93,14 +104,17 @@ module _ (text : List ℕ) (w : TokenWords) where
     pub bad-part : part-fits text (w .start) end ≡ false → false ≡ good-alone text w
     bad-part g = rw (good-is, e, f, g)
 
-    pub good-integer : part-fits text (w .start) end ≡ true → w .kind ≡ K.Integer → integer-text (w .base) (take (end - w .start) (drop (w .start) text)) ≡ good-alone text w
+    pub good-integer : part-fits text (w .start) end ≡ true → w .kind ≡ K.Integer
+        → integer-text (w .base) (take (end - w .start) (drop (w .start) text)) ≡ good-alone text w
     good-integer g h = rw (good-is, e, f, g, eq-eqb _ _ h)
 
     pub good-text : part-fits text (w .start) end ≡ true → (w .kind ≡ K.Integer → ⊥) → true ≡ good-alone text w
     good-text g h = rw (good-is, e, f, g, ne-eqb _ _ h)
 
 pub part-inside : (text : List ℕ) (start end : ℕ) → part-fits text start end ≡ true → end ≤ length text
-part-inside text start end e = leb-true _ _ (right-true (leb end 16384) (leb end (length text)) (left-true (leb end 16384 && leb end (length text)) _ e))
+part-inside text start end e =
+    leb-true _ _
+    (right-true (leb end 16384) (leb end (length text)) (left-true (leb end 16384 && leb end (length text)) _ e))
 
 -- ---- a token's text
 
@@ -119,7 +133,8 @@ module _ (ws text : List ℕ) (i : ℕ) where
   text-short h = rw (text-is, lt-leb (8 * i + 8) (length ws) (omega arith))
 
   -- the record as the code has it, and its two tests
-  module _ {w : TokenWords} {h g : Bool} (k : i < length ws / 8) (e : w ≡ words-at ws i) (f : h ≡ has-text (w .kind)) (p : g ≡ good-alone text w) where
+  module _ {w : TokenWords} {h g : Bool} (k : i < length ws / 8) (e : w ≡ words-at ws i)
+      (f : h ≡ has-text (w .kind)) (p : g ≡ good-alone text w) where
     there-is : (t : Bool) → (h && g) ≡ t → text-of ws text i ≡ pick t (part text w) []
     there-is t q =
         let r : there ≡ t = sym (ap (λ (x : TokenWords). has-text (x .kind) && good-alone text x) e) ∙ rw (sym f, sym p) q in
@@ -133,9 +148,12 @@ module _ (ws text : List ℕ) (i : ℕ) where
     text-some q = let z : w .start + w .size - w .start ≡ w .size = omega arith in rw z (sym (there-is true (not-false _ q)))
 
 -- a good record's text is within the slice
-pub text-inside : (text : List ℕ) (w : TokenWords) {h g : Bool} → h ≡ has-text (w .kind) → g ≡ good-alone text w → not (h && g) ≡ false → w .start + w .size ≤ length text
+pub text-inside : (text : List ℕ) (w : TokenWords) {h g : Bool} → h ≡ has-text (w .kind) → g ≡ good-alone text w
+    → not (h && g) ≡ false → w .start + w .size ≤ length text
 text-inside text w {h} {g} e f n =
     let a = sym e ∙ left-true h g (not-false _ n) in
     let b = sym (good-is text w) ∙ sym f ∙ right-true h g (not-false _ n) in
-    let d = left-true (fields text w && pick (has-text (w .kind)) (part-fits text (w .start) (w .start + w .size)) (eqb (w .start) 0 && eqb (w .size) 0)) _ b in
+    let d = left-true
+    (fields text w && pick (has-text (w .kind)) (part-fits text (w .start) (w .start + w .size))
+    (eqb (w .start) 0 && eqb (w .size) 0)) _ b in
     part-inside text (w .start) (w .start + w .size) (rw a at (right-true (fields text w) _ d))

@@ -28,7 +28,8 @@ pick-small false x y p q = q
 lead-small : (b : ℕ) → Small (lead b)
 unfolding lead first
 lead-small b =
-    pick-small (ltb b 128) _ _ tt (pick-small (ltb b 194) _ _ tt (pick-small (ltb b 224) _ _ (omega arith) (pick-small (eqb b 224) _ _ (omega arith)
+    pick-small (ltb b 128) _ _ tt
+    (pick-small (ltb b 194) _ _ tt (pick-small (ltb b 224) _ _ (omega arith) (pick-small (eqb b 224) _ _ (omega arith)
     (pick-small (eqb b 237) _ _ (omega arith) (pick-small (ltb b 240) _ _ (omega arith) (pick-small (eqb b 240) _ _ (omega arith) (pick-small (ltb b 244) _ _ (omega arith)
     (pick-small (eqb b 244) _ _ (omega arith) tt))))))))
 
@@ -44,7 +45,9 @@ ok-bad [] = refl
 ok-bad (b ∷ bs) = ok-bad bs
 
 abbrev after-lead : Place → ℕ → List ℕ → Lead → Option (List Ch)
-after-lead p b bs x = elim x [ single ↦ and-then (record { byte = b; more = []; place = p }) (decode fresh (after b p) bs) | with-more n lo hi ↦ decode (within b [] n lo hi) p bs | wrong ↦ none ]
+after-lead p b bs x =
+    elim x
+    [ single ↦ and-then (record { byte = b; more = []; place = p }) (decode fresh (after b p) bs) | with-more n lo hi ↦ decode (within b [] n lo hi) p bs | wrong ↦ none ]
 
 abbrev after-more : ℕ → List ℕ → ℕ → Place → ℕ → List ℕ → Bool → Bool → Option (List Ch)
 after-more l m n p b bs t u =
@@ -65,7 +68,8 @@ more-need n lo hi b h k = rw (ne-eqb n 9 (λ e. omega arith), ne-eqb n 0 (λ e. 
 
 record Ok (bs : List ℕ) : Type 0 where
   fr : (p : Place) → eqb (ran-need start bs .missing) 0 ≡ is-some (decode fresh p bs)
-  wi : (l : ℕ) (m : List ℕ) (n lo hi : ℕ) (p : Place) → 1 ≤ n → n ≤ 3 → eqb (ran-need (needed n lo hi) bs .missing) 0 ≡ is-some (decode (within l m n lo hi) p bs)
+  wi : (l : ℕ) (m : List ℕ) (n lo hi : ℕ) (p : Place) → 1 ≤ n → n ≤ 3
+      → eqb (ran-need (needed n lo hi) bs .missing) 0 ≡ is-some (decode (within l m n lo hi) p bs)
 
 module _ (bs : List ℕ) (ok : Ok bs) where
   ok-lead : (p : Place) (b : ℕ) (x : Lead) → Small x → eqb (ran-need (need-of x) bs .missing) 0 ≡ is-some (after-lead p b bs x)
@@ -73,23 +77,33 @@ module _ (bs : List ℕ) (ok : Ok bs) where
   ok-lead p b (with-more n lo hi) h = ok .wi b [] n lo hi p (h .0) (h .1)
   ok-lead p b wrong h = ok-bad bs
 
-  ok-tests : (l : ℕ) (m : List ℕ) (n lo hi : ℕ) (p : Place) (b : ℕ) → 1 ≤ n → n ≤ 3 → (t : Bool) → ltb b lo ≡ t → (u : Bool) → ltb hi b ≡ u → (v : Bool) → eqb n 1 ≡ v →
+  ok-tests : (l : ℕ) (m : List ℕ) (n lo hi : ℕ) (p : Place) (b : ℕ) → 1 ≤ n → n ≤ 3 → (t : Bool) → ltb b lo ≡ t
+      → (u : Bool) → ltb hi b ≡ u → (v : Bool) → eqb n 1 ≡ v →
       eqb (ran-need (need-more n t u) bs .missing) 0 ≡ is-some (after-more l m n p b bs (leb lo b && leb b hi) (leb n 1))
   ok-tests l m n lo hi p b h k true e u f v g = ok-bad bs ∙ rw (lt-leb lo b (ltb-true _ _ e))
   ok-tests l m n lo hi p b h k false e true f v g = ok-bad bs ∙ rw (le-leb lo b (ltb-false _ _ e), lt-leb b hi (ltb-true _ _ f))
   ok-tests l m n lo hi p b h k false e false f true g =
       let z : n - 1 ≡ 0 = omega (arith, eqb-true n 1 g) in
-      rw (z, le-leb lo b (ltb-false _ _ e), le-leb b hi (ltb-false _ _ f), le-leb n 1 (omega (arith, eqb-true n 1 g))) (ok .fr (after l p) ∙ sym (and-some (record { byte = l; more = m ++ (b ∷ []); place = p }) (decode fresh (after l p) bs)))
+      rw (
+        z,
+        le-leb lo b (ltb-false _ _ e),
+        le-leb b hi (ltb-false _ _ f),
+        le-leb n 1 (omega (arith, eqb-true n 1 g)),
+      ) (ok .fr (after l p)
+      ∙ sym (and-some (record { byte = l; more = m ++ (b ∷ []); place = p }) (decode fresh (after l p) bs)))
   ok-tests l m n lo hi p b h k false e false f false g =
       let q : 1 < n = omega (arith, eqb-false n 1 g) in
-      rw (le-leb lo b (ltb-false _ _ e), le-leb b hi (ltb-false _ _ f), lt-leb n 1 q, sub-one) (ok .wi l (m ++ (b ∷ [])) (pred n) 128 191 p (omega (arith, sub-one n)) (omega (arith, sub-one n)))
+      rw (le-leb lo b (ltb-false _ _ e), le-leb b hi (ltb-false _ _ f), lt-leb n 1 q, sub-one)
+      (ok .wi l (m ++ (b ∷ [])) (pred n) 128 191 p (omega (arith, sub-one n)) (omega (arith, sub-one n)))
 
 oks : (bs : List ℕ) → Ok bs
 unfolding ran-need decode
 oks [] = record { fr = λ p. refl; wi = λ l m n lo hi p h k. ne-eqb n 0 (λ e. omega arith) }
 oks (b ∷ bs) = record {
   fr = λ p. ok-lead bs (oks bs) p b (lead b) (lead-small b);
-  wi = λ l m n lo hi p h k. ap (λ (x : Need). eqb (ran-need x bs .missing) 0) (more-need n lo hi b h k) ∙ ok-tests bs (oks bs) l m n lo hi p b h k (ltb b lo) refl (ltb hi b) refl (eqb n 1) refl;
+  wi =
+      λ l m n lo hi p h k. ap (λ (x : Need). eqb (ran-need x bs .missing) 0) (more-need n lo hi b h k)
+      ∙ ok-tests bs (oks bs) l m n lo hi p b h k (ltb b lo) refl (ltb hi b) refl (eqb n 1) refl;
 }
 
 -- the loop of `valid`: what is left runs from here as the whole from the start
@@ -102,7 +116,11 @@ ran-start = record { inside = omega arith; same = refl }
 
 pub ran-more : {s : List ℕ} {n r : Need} {i : ℕ} → Ran s n i → i < length s → r ≡ next-need n (getD s i 0) → Ran s r (i + 1)
 unfolding ran-need
-ran-more {s} {n} {r} {i} e h q = record { inside = omega arith; same = rw (q, add-one) (sym (ap (ran-need n) (drop-cons s i 0 h)) ∙ e .same) }
+ran-more {s} {n} {r} {i} e h q =
+    record {
+      inside = omega arith;
+      same = rw (q, add-one) (sym (ap (ran-need n) (drop-cons s i 0 h)) ∙ e .same);
+    }
 
 pub ran-end : {s : List ℕ} {n : Need} {i : ℕ} → Ran s n i → length s ≤ i → eqb (n .missing) 0 ≡ utf8 s
 unfolding ran-need utf8 characters
@@ -127,13 +145,23 @@ and-then-tail c none cs e = none-some {x = none} refl e
 and-then-tail c (some xs) cs e = refl
 
 Within : List ℕ → Type 0
-Within bs = (l : ℕ) (m : List ℕ) (n lo hi : ℕ) (p : Place) (cs : List Ch) → 1 ≤ n → decode (within l m n lo hi) p bs ≡ some cs → Ended bs n (record { byte = l; more = m ++ take n bs; place = p }) (after l p) cs
+Within bs =
+    (l : ℕ) (m : List ℕ) (n lo hi : ℕ) (p : Place) (cs : List Ch) → 1 ≤ n
+    → decode (within l m n lo hi) p bs ≡ some cs
+    → Ended bs n (record { byte = l; more = m ++ take n bs; place = p }) (after l p) cs
 
-within-tests : (b : ℕ) (bs : List ℕ) → Within bs → (l : ℕ) (m : List ℕ) (k : ℕ) (p : Place) (cs : List Ch) (t u : Bool) → leb (suc k) 1 ≡ u → after-more l m (suc k) p b bs t u ≡ some cs →
+within-tests : (b : ℕ) (bs : List ℕ) → Within bs → (l : ℕ) (m : List ℕ) (k : ℕ) (p : Place) (cs : List Ch) (t u : Bool)
+    → leb (suc k) 1 ≡ u → after-more l m (suc k) p b bs t u ≡ some cs →
     Ended (b ∷ bs) (suc k) (record { byte = l; more = m ++ take (suc k) (b ∷ bs); place = p }) (after l p) cs
 unfolding Within
 within-tests b bs ih l m k p cs false u e f = none-some {x = none} refl f
-within-tests b bs ih l m zero p cs true true e f = record { fits = omega arith; head = and-then-head _ (decode fresh (after l p) bs) _ f; tail = and-then-tail (record { byte = l; more = m ++ (b ∷ []); place = p }) (decode fresh (after l p) bs) _ f }
+within-tests b bs ih l m zero p cs true true e f =
+    record {
+      fits = omega arith;
+      head = and-then-head _ (decode fresh (after l p) bs) _ f;
+      tail = and-then-tail (record { byte = l; more = m ++ (b ∷ []); place = p }) (decode fresh (after l p) bs)
+          _ f;
+    }
 within-tests b bs ih l m (suc j) p cs true true e f = absurd (omega (arith, leb-true (suc (suc j)) 1 e))
 within-tests b bs ih l m k p cs true false e f =
     let g = ih l (m ++ (b ∷ [])) k 128 191 p cs (omega (arith, leb-false (suc k) 1 e)) f in
@@ -145,13 +173,20 @@ within-law [] l m n lo hi p cs h e = none-some {x = none} refl e
 within-law (b ∷ bs) l m zero lo hi p cs h e = absurd (omega arith)
 within-law (b ∷ bs) l m (suc k) lo hi p cs h e = within-tests b bs (within-law bs) l m k p cs (leb lo b && leb b hi) (leb (suc k) 1) refl e
 
-fresh-lead : (b : ℕ) (bs : List ℕ) (p : Place) (cs : List Ch) (x : Lead) → Small x → after-lead p b bs x ≡ some cs → Ended bs (more x) (record { byte = b; more = take (more x) bs; place = p }) (after b p) cs
+fresh-lead : (b : ℕ) (bs : List ℕ) (p : Place) (cs : List Ch) (x : Lead) → Small x → after-lead p b bs x ≡ some cs
+    → Ended bs (more x) (record { byte = b; more = take (more x) bs; place = p }) (after b p) cs
 unfolding Within
-fresh-lead b bs p cs single h e = record { fits = omega arith; head = and-then-head _ (decode fresh (after b p) bs) _ e; tail = and-then-tail (record { byte = b; more = []; place = p }) (decode fresh (after b p) bs) _ e }
+fresh-lead b bs p cs single h e =
+    record {
+      fits = omega arith;
+      head = and-then-head _ (decode fresh (after b p) bs) _ e;
+      tail = and-then-tail (record { byte = b; more = []; place = p }) (decode fresh (after b p) bs) _ e;
+    }
 fresh-lead b bs p cs (with-more n lo hi) h e = within-law bs b [] n lo hi p cs (h .0) e
 fresh-lead b bs p cs wrong h e = none-some {x = none} refl e
 
-decode-step : (b : ℕ) (bs : List ℕ) (p : Place) (cs : List Ch) → decode fresh p (b ∷ bs) ≡ some cs → Ended bs (more (lead b)) (record { byte = b; more = take (more (lead b)) bs; place = p }) (after b p) cs
+decode-step : (b : ℕ) (bs : List ℕ) (p : Place) (cs : List Ch) → decode fresh p (b ∷ bs) ≡ some cs
+    → Ended bs (more (lead b)) (record { byte = b; more = take (more (lead b)) bs; place = p }) (after b p) cs
 unfolding decode
 decode-step b bs p cs e = fresh-lead b bs p cs (lead b) (lead-small b) e
 
@@ -160,25 +195,37 @@ module _ {s : List ℕ} {c : Cursor} (z : Stands s c) (h : c .at < length s) whe
   here = rw add-one (decode-step _ _ _ _ (rw (drop-cons s (c .at) 0 h) at (z .is)))
 
   -- what stands here begins with the character here
-  pub rest-head : rest s c ≡ char s c ∷ or-none (decode fresh (after (getD s (c .at) 0) (placed c)) (drop (more (lead (getD s (c .at) 0))) (drop (c .at + 1) s)))
+  pub rest-head : rest s c
+      ≡ char s c ∷ or-none (decode fresh (after (getD s (c .at) 0) (placed c))
+      (drop (more (lead (getD s (c .at) 0))) (drop (c .at + 1) s)))
   rest-head = here .head
 
   pub step-inside : c .at + (more (lead (getD s (c .at) 0)) + 1) ≤ length s
   step-inside = omega (arith, here .fits, length-drop (c .at + 1) s)
 
-  pub step-law : {r : Cursor} → r .at ≡ c .at + (more (lead (getD s (c .at) 0)) + 1) → placed r ≡ after (getD s (c .at) 0) (placed c) → r .line ≤ c .line + 1 → r .column ≤ c .column + 1 → Stepped s c r
+  pub step-law : {r : Cursor} → r .at ≡ c .at + (more (lead (getD s (c .at) 0)) + 1)
+      → placed r ≡ after (getD s (c .at) 0) (placed c) → r .line ≤ c .line + 1 → r .column ≤ c .column + 1
+      → Stepped s c r
   unfolding rest
   step-law {r} e f g k =
       let q : c .at + 1 + more (lead (getD s (c .at) 0)) ≡ r .at = omega arith in
-      let d : drop (more (lead (getD s (c .at) 0))) (drop (c .at + 1) s) ≡ drop (r .at) s = drop-drop (more (lead (getD s (c .at) 0))) (c .at + 1) s ∙ ap (λ (n : ℕ). drop n s) q in
+      let d : drop (more (lead (getD s (c .at) 0))) (drop (c .at + 1) s) ≡ drop (r .at) s = drop-drop
+      (more (lead (getD s (c .at) 0))) (c .at + 1) s ∙ ap (λ (n : ℕ). drop n s) q in
       record {
         chars = rw (d, sym f) at (here .head);
-        stands = record { is = rw (d, sym f) at (here .tail); inside = omega (arith, step-inside); lined = omega (arith, z .lined); columned = omega (arith, z .columned) };
+        stands =
+            record {
+              is = rw (d, sym f) at (here .tail);
+              inside = omega (arith, step-inside);
+              lined = omega (arith, z .lined);
+              columned = omega (arith, z .columned);
+            };
         wide = omega arith;
       }
 
 -- a character of one byte that is no newline
-pub along-law : {s : List ℕ} {c r : Cursor} → Stands s c → c .at < length s → getD s (c .at) 0 < 128 → (getD s (c .at) 0 ≡ 10 → ⊥) → r ≡ along-line c → Stepped s c r
+pub along-law : {s : List ℕ} {c r : Cursor} → Stands s c → c .at < length s → getD s (c .at) 0 < 128
+    → (getD s (c .at) 0 ≡ 10 → ⊥) → r ≡ along-line c → Stepped s c r
 unfolding lead first
 along-law {s} {c} {r} z h l n e =
     let w : more (lead (getD s (c .at) 0)) ≡ 0 = rw (lt-ltb (getD s (c .at) 0) 128 l) in

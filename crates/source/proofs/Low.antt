@@ -22,7 +22,8 @@ high-start = record { inside = omega arith; same = omega arith }
 pub high-more : {s : List ℕ} {h k i : ℕ} → High s h i → i < length s → k ≡ max h (getD s i 0) → High s k (i + 1)
 unfolding highest-of
 high-more {s} {h} {k} {i} e l q =
-    let t : highest-of (drop i s) ≡ max (getD s i 0) (highest-of (drop (i + 1) s)) = ap highest-of (drop-cons s i 0 l) ∙ rw (add-one) refl in
+    let t : highest-of (drop i s) ≡ max (getD s i 0) (highest-of (drop (i + 1) s)) = ap highest-of
+    (drop-cons s i 0 l) ∙ rw (add-one) refl in
     record { inside = omega arith; same = omega (arith, q, t, e .same) }
 
 pub high-end : {s : List ℕ} {h i : ℕ} → High s h i → length s ≤ i → h ≡ highest-of s

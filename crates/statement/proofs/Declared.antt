@@ -53,10 +53,22 @@ module _ {w x : List ℕ} {n d : ℕ} {o r f o1 r1 f1 o2 : List ℕ} {s : State}
   values-reads =
       let e : budget w x n (y .state .at) ≡ budget w x n (b .state .at) = ap (λ (k : ℕ). budget w x n k) (F .at) in
       record {
-        moved = record { at = omega (arith, F .at, B .moved); end = omega (arith, F .at, B .moved); pos = omega (arith, F .low, B .moved); room = omega (arith, F .high, B .spare, q .kind, opens k); reported = omega (arith, F .reported, B .moved); less = omega (arith, F .reported, F .full, B .moved); full = omega (arith, F .full, B .moved); few = omega (arith, F .full, B .moved) };
+        moved =
+            record {
+              at = omega (arith, F .at, B .moved);
+              end = omega (arith, F .at, B .moved);
+              pos = omega (arith, F .low, B .moved);
+              room = omega (arith, F .high, B .spare, q .kind, opens k);
+              reported = omega (arith, F .reported, B .moved);
+              less = omega (arith, F .reported, F .full, B .moved);
+              full = omega (arith, F .full, B .moved);
+              few = omega (arith, F .full, B .moved);
+            };
         on = omega (arith, F .at, B .on);
         is = λ rd.
-            say (through d (P.parse-list k) _ (wrapped items [] [] tag (λ _. place-at line column) (λ i. two (i .count) ∷ []) []) (λ i. refl) (st-of w x n f rd s))
+            say (through d (P.parse-list k) _
+            (wrapped items [] [] tag (λ _. place-at line column) (λ i. two (i .count) ∷ []) []) (λ i. refl)
+            (st-of w x n f rd s))
             (finishes d (λ _. place-at line column) (λ i. two (i .count) ∷ []) [] F (λ i e. rw e) (B .is rd));
       }
 
@@ -67,78 +79,159 @@ abbrev pub hashed : Act (Ans Node)
 hashed =
     peek λ t.
     if_then_else_ (eqb (t .kind) 0) (P.raise (P.error 18 nowhere 0 0))
-    (if_then_else_ (eqb (t .kind) 43) (values-rule A.ArrayValues 0x30 (t .place)) (if_then_else_ (eqb (t .kind) 39) (values-rule A.StructValues 0x31 (t .place)) (P.raise (P.error 19 (t .place) 0 (t .kind)))))
+    (if_then_else_ (eqb (t .kind) 43) (values-rule A.ArrayValues 0x30 (t .place))
+    (if_then_else_ (eqb (t .kind) 39) (values-rule A.StructValues 0x31 (t .place))
+    (P.raise (P.error 19 (t .place) 0 (t .kind)))))
 
-module _ {w x : List ℕ} {n d : ℕ} {o r f r1 f1 : List ℕ} {s : State} {a : Answer} (X : Expects w x n (λ role. P.expect-as role 38) r f s r1 f1 a) where
+module _ {w x : List ℕ} {n d : ℕ} {o r f r1 f1 : List ℕ} {s : State} {a : Answer}
+    (X : Expects w x n (λ role. P.expect-as role 38) r f s r1 f1 a) where
   pub compound-stops : Stopped a → Reads node w x n d P.parse-compound o r f s o r1 f1 a
   unfolding P.parse-compound
-  compound-stops nd = record { moved = X .moved; on = X .on; is = λ rd. say (go-bind d (P.expect 38) (or-return (λ _. hashed)) _) (stops d (λ _. hashed) _ nd (X .is plain d rd o)) }
+  compound-stops nd =
+      record {
+        moved = X .moved;
+        on = X .on;
+        is = λ rd. say (go-bind d (P.expect 38) (or-return (λ _. hashed)) _)
+            (stops d (λ _. hashed) _ nd (X .is plain d rd o));
+      }
 
   module _ (z : a .how ≡ Done) where
     -- what follows `#` is read by m
-    compound-on : {o1 r2 f2 : List ℕ} {y : Answer} (m : Act (Ans Node)) → ((rd : List Consumed) → go d hashed (st-of w x n f1 rd (a .state)) ≡ go d m (st-of w x n f1 rd (a .state))) → Moved w x n (a .state .pos) (a .state .reported) (a .state) (y .state)
-        → ((rd : List Consumed) → Shows node (take (a .state .pos) o) (errs r1 (a .state .reported)) [] [] w x n o1 r2 f2 y (go d m (st-of w x n f1 rd (a .state)))) → Reads node w x n d P.parse-compound o r f s o1 r2 f2 y
+    compound-on : {o1 r2 f2 : List ℕ} {y : Answer} (m : Act (Ans Node))
+        → ((rd : List Consumed)
+        → go d hashed (st-of w x n f1 rd (a .state)) ≡ go d m (st-of w x n f1 rd (a .state)))
+        → Moved w x n (a .state .pos) (a .state .reported) (a .state) (y .state)
+        → ((rd : List Consumed)
+        → Shows node (take (a .state .pos) o) (errs r1 (a .state .reported)) [] [] w x n o1 r2 f2 y
+        (go d m (st-of w x n f1 rd (a .state))))
+        → Reads node w x n d P.parse-compound o r f s o1 r2 f2 y
     unfolding P.parse-compound
     compound-on {o1} {r2} {f2} {y} m step M shown =
         let kept = X .kept z in
         record {
-          moved = record { at = omega (arith, X .moved, M); end = M .end; pos = omega (arith, X .pos, M); room = omega (arith, X .moved, M); reported = omega (arith, kept .0, M); less = omega (arith, X .moved, M); full = omega (arith, X .moved, M); few = M .few };
+          moved =
+              record {
+                at = omega (arith, X .moved, M);
+                end = M .end;
+                pos = omega (arith, X .pos, M);
+                room = omega (arith, X .moved, M);
+                reported = omega (arith, kept .0, M);
+                less = omega (arith, X .moved, M);
+                full = omega (arith, X .moved, M);
+                few = M .few;
+              };
           on = omega (arith, X .on, M .at);
           is = λ rd.
               let g = good-of z (X .is plain d rd o) in
               say (go-bind d (P.expect 38) (or-return (λ _. hashed)) _ ∙ follows d (λ _. hashed) (g .is) ∙ step (g .read))
               (subst (λ (T : List ℕ). Shows node T (errs r (s .reported)) [] [] w x n o1 r2 f2 y (go d m (st-of w x n f1 (g .read) (a .state)))) (ap (λ (k : ℕ). take k o) (X .pos))
-              (subst (λ (E : List Err). Shows node (take (a .state .pos) o) E [] [] w x n o1 r2 f2 y (go d m (st-of w x n f1 (g .read) (a .state)))) (kept .1) (shown (g .read))));
+              (subst (λ (E : List Err). Shows node (take (a .state .pos) o) E [] [] w x n o1 r2 f2 y
+              (go d m (st-of w x n f1 (g .read) (a .state)))) (kept .1) (shown (g .read))));
         }
 
     module _ {t : Front} (u : Seen w x n (a .state .at) t) where
-      pub compound-array : {o1 r2 f2 : List ℕ} {y : Answer} → t .kind ≡ 43 → Reads node w x n d (values-rule A.ArrayValues 0x30 (place-at (t .line) (t .column))) o r1 f1 (a .state) o1 r2 f2 y → Reads node w x n d P.parse-compound o r f s o1 r2 f2 y
+      pub compound-array : {o1 r2 f2 : List ℕ} {y : Answer} → t .kind ≡ 43
+          → Reads node w x n d (values-rule A.ArrayValues 0x30 (place-at (t .line) (t .column))) o r1 f1
+          (a .state) o1 r2 f2 y
+          → Reads node w x n d P.parse-compound o r f s o1 r2 f2 y
       unfolding go run
-      compound-array h B = compound-on (values-rule A.ArrayValues 0x30 (place-at (t .line) (t .column))) (λ rd. rw (run, no {k = 0} u (λ e. omega (arith, h)), yes u h) (ap (λ (p : Place). go d (values-rule A.ArrayValues 0x30 p) (st-of w x n f1 rd (a .state))) (u .place))) (B .moved) (B .is)
+      compound-array h B =
+          compound-on (values-rule A.ArrayValues 0x30 (place-at (t .line) (t .column)))
+          (λ rd. rw (run, no {k = 0} u (λ e. omega (arith, h)), yes u h)
+          (ap (λ (p : Place). go d (values-rule A.ArrayValues 0x30 p) (st-of w x n f1 rd (a .state))) (u .place)))
+          (B .moved) (B .is)
 
-      pub compound-struct : {o1 r2 f2 : List ℕ} {y : Answer} → t .kind ≡ 39 → Reads node w x n d (values-rule A.StructValues 0x31 (place-at (t .line) (t .column))) o r1 f1 (a .state) o1 r2 f2 y → Reads node w x n d P.parse-compound o r f s o1 r2 f2 y
+      pub compound-struct : {o1 r2 f2 : List ℕ} {y : Answer} → t .kind ≡ 39
+          → Reads node w x n d (values-rule A.StructValues 0x31 (place-at (t .line) (t .column))) o r1 f1
+          (a .state) o1 r2 f2 y
+          → Reads node w x n d P.parse-compound o r f s o1 r2 f2 y
       unfolding go run
-      compound-struct h B = compound-on (values-rule A.StructValues 0x31 (place-at (t .line) (t .column))) (λ rd. rw (run, no {k = 0} u (λ e. omega (arith, h)), no {k = 43} u (λ e. omega (arith, h)), yes u h) (ap (λ (p : Place). go d (values-rule A.StructValues 0x31 p) (st-of w x n f1 rd (a .state))) (u .place))) (B .moved) (B .is)
+      compound-struct h B =
+          compound-on (values-rule A.StructValues 0x31 (place-at (t .line) (t .column)))
+          (λ rd. rw (run, no {k = 0} u (λ e. omega (arith, h)), no {k = 43} u (λ e. omega (arith, h)), yes u h)
+          (ap (λ (p : Place). go d (values-rule A.StructValues 0x31 p) (st-of w x n f1 rd (a .state))) (u .place)))
+          (B .moved) (B .is)
 
-      module _ {e : ℕ} {r2 f2 : List ℕ} {y : Answer} (q : Asks w x n r1 f1 (a .state)) (g : Raised (raised n (a .state)) r1 f1 (a .state) e r2 f2 y) where
-        failed : ((rd : List Consumed) → go d hashed (st-of w x n f1 rd (a .state)) ≡ go d (P.raise (unpack e)) (st-of w x n f1 rd (a .state))) → Reads node w x n d P.parse-compound o r f s o r2 f2 y
+      module _ {e : ℕ} {r2 f2 : List ℕ} {y : Answer} (q : Asks w x n r1 f1 (a .state))
+          (g : Raised (raised n (a .state)) r1 f1 (a .state) e r2 f2 y) where
+        failed : ((rd : List Consumed)
+            → go d hashed (st-of w x n f1 rd (a .state))
+            ≡ go d (P.raise (unpack e)) (st-of w x n f1 rd (a .state)))
+            → Reads node w x n d P.parse-compound o r f s o r2 f2 y
         failed step = compound-on (P.raise (unpack e)) step (rw (g .is) (making-moved q Fatal)) (λ rd. raise-shows node q g d rd o)
 
         pub compound-end : t .kind ≡ 0 → unpack e ≡ error-at 18 0 0 0 0 → Reads node w x n d P.parse-compound o r f s o r2 f2 y
         unfolding go run
         compound-end z i = failed (λ rd. rw (run, yes u z) (raise-same d {S = st-of w x n f1 rd (a .state)} (sym i) refl))
 
-        pub compound-other : (t .kind ≡ 0 → ⊥) → (t .kind ≡ 43 → ⊥) → (t .kind ≡ 39 → ⊥) → unpack e ≡ error-at 19 (t .line) (t .column) 0 (t .kind) → Reads node w x n d P.parse-compound o r f s o r2 f2 y
+        pub compound-other : (t .kind ≡ 0 → ⊥) → (t .kind ≡ 43 → ⊥) → (t .kind ≡ 39 → ⊥)
+            → unpack e ≡ error-at 19 (t .line) (t .column) 0 (t .kind)
+            → Reads node w x n d P.parse-compound o r f s o r2 f2 y
         unfolding go run
-        compound-other m0 m43 m39 i = failed (λ rd. rw (run, no u m0, no u m43, no u m39) (raise-same d {S = st-of w x n f1 rd (a .state)} (rw (u .place, u .kind) (sym i)) refl))
+        compound-other m0 m43 m39 i =
+            failed (λ rd. rw (run, no u m0, no u m43, no u m39)
+            (raise-same d {S = st-of w x n f1 rd (a .state)} (rw (u .place, u .kind) (sym i)) refl))
 
 -- ---- `named`
 
-pub named-stops : {w x : List ℕ} {n : ℕ} {o : List ℕ} {a : Answer} {tag line column p : ℕ} → Stopped a → Named w x n o a tag line column p o a
-named-stops {w} {x} {n} {o} {a} {tag} {line} {column} {p} nd = record { at = refl; reported = refl; full = refl; low = omega arith; high = omega arith; is = one (a .how) (not-done (a .how) nd) }
+pub named-stops : {w x : List ℕ} {n : ℕ} {o : List ℕ} {a : Answer} {tag line column p : ℕ} → Stopped a
+    → Named w x n o a tag line column p o a
+named-stops {w} {x} {n} {o} {a} {tag} {line} {column} {p} nd =
+    record {
+      at = refl;
+      reported = refl;
+      full = refl;
+      low = omega arith;
+      high = omega arith;
+      is = one (a .how) (not-done (a .how) nd);
+    }
   where
     one : (h : How) → done-of h ≡ 0 → NamedOf h w x n o a tag line column p o a
     one Done z = absurd (omega arith)
     one Fatal z = (refl, refl)
     one (Refused m) z = (refl, refl)
 
-module _ {w x : List ℕ} {n : ℕ} {o o2 : List ℕ} {a y : Answer} {tag line column p : ℕ} {t : Front} (z : a .how ≡ Done) (u : Seen w x n p t) where
+module _ {w x : List ℕ} {n : ℕ} {o o2 : List ℕ} {a y : Answer} {tag line column p : ℕ} {t : Front}
+    (z : a .how ≡ Done) (u : Seen w x n p t) where
   -- the record has the name
-  named-so : (X : List ℕ) (start len : ℕ) → name-of (head (rest w x n p)) ≡ take len (drop start X) → length (name-of (head (rest w x n p))) ≡ len → len ≤ 3 + length (head (rest w x n p) .text) → Finished X o a (record { tag = tag; line = line; column = column; numbers = None; start = start; len = len }) o2 y → Named w x n o a tag line column p o2 y
+  named-so : (X : List ℕ) (start len : ℕ) → name-of (head (rest w x n p)) ≡ take len (drop start X)
+      → length (name-of (head (rest w x n p))) ≡ len → len ≤ 3 + length (head (rest w x n p) .text)
+      → Finished X o a
+      (record { tag = tag; line = line; column = column; numbers = None; start = start; len = len }) o2 y
+      → Named w x n o a tag line column p o2 y
   named-so X start len e l h F =
       let one : done-of (a .how) ≡ 1 = rw z in
-      let m = subst (λ (k : How). FinishedOf k X o a (record { tag = tag; line = line; column = column; numbers = None; start = start; len = len }) o2 y) z (F .is) in
-      record { at = F .at; reported = F .reported; full = F .full; low = F .low; high = omega (arith, F .high, one, h); is = subst (λ (k : How). NamedOf k w x n o a tag line column p o2 y) (sym z) (m .0, (rw (l, e) (m .1 .0), (m .1 .1 .0, m .1 .1 .1))) }
+      let m = subst (λ (k : How). FinishedOf k X o a
+      (record { tag = tag; line = line; column = column; numbers = None; start = start; len = len }) o2 y) z
+      (F .is) in
+      record {
+        at = F .at;
+        reported = F .reported;
+        full = F .full;
+        low = F .low;
+        high = omega (arith, F .high, one, h);
+        is = subst (λ (k : How). NamedOf k w x n o a tag line column p o2 y) (sym z)
+            (m .0, (rw (l, e) (m .1 .0), (m .1 .1 .0, m .1 .1 .1)));
+      }
 
-  pub named-there : t .kind ≡ 1 → Finished x o a (record { tag = tag; line = line; column = column; numbers = None; start = t .start; len = t .len }) o2 y → Named w x n o a tag line column p o2 y
+  pub named-there : t .kind ≡ 1
+      → Finished x o a
+      (record { tag = tag; line = line; column = column; numbers = None; start = t .start; len = t .len }) o2 y
+      → Named w x n o a tag line column p o2 y
   named-there h F =
       let i : name-of (head (rest w x n p)) ≡ head (rest w x n p) .text = rw (yes u h) in
-      let l : length (take (t .len) (drop (t .start) x)) ≡ t .len = length-take-le (t .len) (drop (t .start) x) (simp length-drop (omega (arith, u .part))) in
+      let l : length (take (t .len) (drop (t .start) x)) ≡ t .len = length-take-le (t .len) (drop (t .start) x)
+      (simp length-drop (omega (arith, u .part))) in
       named-so x (t .start) (t .len) (i ∙ u .text) (ap length (i ∙ u .text) ∙ l) (omega (arith, ap length (u .text) ∙ l)) F
 
-  pub named-none : (t .kind ≡ 1 → ⊥) → Finished (60 ∷ 63 ∷ 62 ∷ []) o a (record { tag = tag; line = line; column = column; numbers = None; start = 0; len = 3 }) o2 y → Named w x n o a tag line column p o2 y
+  pub named-none : (t .kind ≡ 1 → ⊥)
+      → Finished (60 ∷ 63 ∷ 62 ∷ []) o a
+      (record { tag = tag; line = line; column = column; numbers = None; start = 0; len = 3 }) o2 y
+      → Named w x n o a tag line column p o2 y
   unfolding ascii
-  named-none h F = named-so (60 ∷ 63 ∷ 62 ∷ []) 0 3 (rw (no u h)) (ap length (let i : name-of (head (rest w x n p)) ≡ 60 ∷ 63 ∷ 62 ∷ [] = rw (no u h) in i)) (omega arith) F
+  named-none h F =
+      named-so (60 ∷ 63 ∷ 62 ∷ []) 0 3 (rw (no u h))
+      (ap length (let i : name-of (head (rest w x n p)) ≡ 60 ∷ 63 ∷ 62 ∷ [] = rw (no u h) in i)) (omega arith) F
 
 -- ---- `declaration`
 
@@ -146,18 +239,41 @@ module _ {w x : List ℕ} {n : ℕ} {o o2 : List ℕ} {a y : Answer} {tag line c
 abbrev declares : ℕ → Place → Fallible P.Typed → Act (Ans Node)
 declares tag p x = P.good (P.node (x .item .type) tag p [] (x .item .name)) (x .errors)
 
-names : {T : List ℕ} {E : List Err} {w x : List ℕ} {n : ℕ} {o o′ r f : List ℕ} {b y : Answer} {tag line column at : ℕ} {q : Res (Ans P.Typed)} (d : ℕ) → Named w x n o b tag line column at o′ y → Shows (typed (name-of (head (rest w x n at)))) T E [] [] w x n o r f b q
+names : {T : List ℕ} {E : List Err} {w x : List ℕ} {n : ℕ} {o o′ r f : List ℕ} {b y : Answer}
+    {tag line column at : ℕ} {q : Res (Ans P.Typed)} (d : ℕ)
+    → Named w x n o b tag line column at o′ y
+    → Shows (typed (name-of (head (rest w x n at)))) T E [] [] w x n o r f b q
     → Shows node T E [] [] w x n o′ r f y (after q (λ z S. go d (or-return (declares tag (place-at line column)) z) S))
 unfolding go run
-names {T} {E} {w} {x} {n} {o} {o′} {r} {f} {b} {y} {tag} {line} {column} {at} {q} d N v = record { told = one (b .how) refl (N .is) (v .told) }
+names {T} {E} {w} {x} {n} {o} {o′} {r} {f} {b} {y} {tag} {line} {column} {at} {q} d N v =
+    record { told = one (b .how) refl (N .is) (v .told) }
   where
-    one : (h : How) → b .how ≡ h → NamedOf h w x n o b tag line column at o′ y → ShowsOf h (typed (name-of (head (rest w x n at)))) T E [] [] w x n o r f b q → ShowsOf (y .how) node T E [] [] w x n o′ r f y (after q (λ z S. go d (or-return (declares tag (place-at line column)) z) S))
-    one Done z m g = rw (m .0) (record { item = P.node (g .item .type) tag (place-at line column) [] (g .item .name); errors = g .errors; read = g .read; is = rw (g .is, N .at, N .full); tree = wrote T (g .item .type) (m .1 .0) (g .tree) (ap (named-of tag line column) (g .holds)); rep = ap (λ (k : ℕ). errs r k) (N .reported) ∙ g .rep; holds = sym (rw (m .1 .1 .0, m .1 .1 .1)) })
+    one : (h : How) → b .how ≡ h → NamedOf h w x n o b tag line column at o′ y
+        → ShowsOf h (typed (name-of (head (rest w x n at)))) T E [] [] w x n o r f b q
+        → ShowsOf (y .how) node T E [] [] w x n o′ r f y
+        (after q (λ z S. go d (or-return (declares tag (place-at line column)) z) S))
+    one Done z m g =
+        rw (m .0) (record {
+          item = P.node (g .item .type) tag (place-at line column) [] (g .item .name);
+          errors = g .errors;
+          read = g .read;
+          is = rw (g .is, N .at, N .full);
+          tree = wrote T (g .item .type) (m .1 .0) (g .tree) (ap (named-of tag line column) (g .holds));
+          rep = ap (λ (k : ℕ). errs r k) (N .reported) ∙ g .rep;
+          holds = sym (rw (m .1 .1 .0, m .1 .1 .1));
+        })
     one Fatal z m g = rw (m .0, m .1, z) (record { errors = g .errors; read = g .read; is = rw (g .is); tree = g .tree; rep = g .rep })
     one (Refused k) z m g = rw (m .0, z, g)
 
-pub declaration-room : {w x : List ℕ} {n d i j : ℕ} {o r f o1 r1 f1 r2 f2 : List ℕ} {s : State} {a b : Answer} → Asked w x n o r f s → ReadsDeclared w x n d o r f s o1 r1 f1 a → Expected w x n 50 i j r1 f1 a r2 f2 b → length o1 ≡ length o → NameRoom w x n o1 b (s .at)
-declaration-room {b = b} q D X l = record { held = q .asks .held; within = q .asks .at; room = omega (arith, q .room, D .spare, X .high, X .pays, done-le (b .how)) }
+pub declaration-room : {w x : List ℕ} {n d i j : ℕ} {o r f o1 r1 f1 r2 f2 : List ℕ} {s : State} {a b : Answer}
+    → Asked w x n o r f s → ReadsDeclared w x n d o r f s o1 r1 f1 a → Expected w x n 50 i j r1 f1 a r2 f2 b
+    → length o1 ≡ length o → NameRoom w x n o1 b (s .at)
+declaration-room {b = b} q D X l =
+    record {
+      held = q .asks .held;
+      within = q .asks .at;
+      room = omega (arith, q .room, D .spare, X .high, X .pays, done-le (b .how));
+    }
 
 module _ {w x : List ℕ} {n d : ℕ} {o r f o1 r1 f1 r2 f2 o2 : List ℕ} {s : State} {a b y : Answer} {tag line column : ℕ} (q : Asked w x n o r f s) (D : ReadsDeclared w x n d o r f s o1 r1 f1 a) (lr : length r1 ≡ length r) (lf : length f1 ≡ length f)
     (X : Expected w x n 50 (s .pos) (s .reported) r1 f1 a r2 f2 b) (N : Named w x n o1 b tag line column (s .at) o2 y) where
@@ -166,9 +282,27 @@ module _ {w x : List ℕ} {n d : ℕ} {o r f o1 r1 f1 r2 f2 o2 : List ℕ} {s : 
   declaration-reads =
       let e : budget w x n (y .state .at) ≡ budget w x n (b .state .at) = ap (λ (k : ℕ). budget w x n k) (N .at) in
       record {
-        moved = record { at = omega (arith, N .at, X .moved, D .moved); end = omega (arith, N .at, X .moved); pos = omega (arith, N .low, X .moved); room = omega (arith, N .high, X .moved, X .high, X .pays, D .spare, D .moved); reported = omega (arith, N .reported, X .moved); less = omega (arith, N .reported, N .full, X .moved, D .moved); full = omega (arith, N .full, X .moved, D .moved); few = omega (arith, N .full, X .moved) };
+        moved =
+            record {
+              at = omega (arith, N .at, X .moved, D .moved);
+              end = omega (arith, N .at, X .moved);
+              pos = omega (arith, N .low, X .moved);
+              room = omega (arith, N .high, X .moved, X .high, X .pays, D .spare, D .moved);
+              reported = omega (arith, N .reported, X .moved);
+              less = omega (arith, N .reported, N .full, X .moved, D .moved);
+              full = omega (arith, N .full, X .moved, D .moved);
+              few = omega (arith, N .full, X .moved);
+            };
         on = omega (arith, N .at, X .moved .at, D .on);
         is = λ rd.
-            say (go-bind d P.parse-var-like-declaration (or-return (λ x. P.expect 50 >>? λ _. declares tag (place-at line column) x)) _ ∙ expect-seam d plain 50 (declares tag (place-at line column)) (go d P.parse-var-like-declaration (st-of w x n f rd s)))
-            (names d N (expects-behind (record { asks = asks-moved (q .asks) (D .moved) lr lf; pos = D .moved .pos; reported = D .moved .reported }) X plain d (length-take-le (s .pos) o (omega (arith, q .room))) (errs-length r (s .reported) (omega (arith, q .asks))) (D .is rd)));
+            say (go-bind d P.parse-var-like-declaration
+            (or-return (λ x. P.expect 50 >>? λ _. declares tag (place-at line column) x)) _
+            ∙ expect-seam d plain 50 (declares tag (place-at line column))
+            (go d P.parse-var-like-declaration (st-of w x n f rd s)))
+            (names d N (expects-behind (record {
+              asks = asks-moved (q .asks) (D .moved) lr lf;
+              pos = D .moved .pos;
+              reported = D .moved .reported;
+            }) X plain d (length-take-le (s .pos) o (omega (arith, q .room)))
+            (errs-length r (s .reported) (omega (arith, q .asks))) (D .is rd)));
       }

@@ -24,7 +24,8 @@ use Rattle.steps.specs.Shows.{Asked, Good, Reads, Expects, done-of, node}
 use Rattle.steps.proofs.Answers.{good-of}
 
 -- what the definition says of it
-spared : (n : ℕ) (s : St) (x : Fallible Node) (s′ : St) → parse n Expression s ≡ gives (ok x) s′ → Z.weight (x .item .recs) + 8 + Z.budget (s′ .left) ≤ Z.budget (s .left)
+spared : (n : ℕ) (s : St) (x : Fallible Node) (s′ : St) → parse n Expression s ≡ gives (ok x) s′
+    → Z.weight (x .item .recs) + 8 + Z.budget (s′ .left) ≤ Z.budget (s .left)
 spared n s x s′ e = subst (After _) e (Z.goal-size (λ _. 1) n Expression s) .1 .0
 
 -- what the tokens pay, as the definition's laws and as the steps have it
@@ -33,14 +34,28 @@ unfolding spend
 spends [] = refl
 spends (t ∷ ts) = omega (arith, spends ts)
 
-module _ {w x : List ℕ} {n d : ℕ} {o r f o′ r′ f′ : List ℕ} {s : State} {a : Answer} (q : Asked w x n o r f s) (u : Reads node w x n d P.parse-expression o r f s o′ r′ f′ a) where
-  pub expression-spares : length o′ ≡ length o → a .how ≡ Done → a .state .pos + budget w x n (a .state .at) + 8 ≤ s .pos + budget w x n (s .at)
+module _ {w x : List ℕ} {n d : ℕ} {o r f o′ r′ f′ : List ℕ} {s : State} {a : Answer} (q : Asked w x n o r f s)
+    (u : Reads node w x n d P.parse-expression o r f s o′ r′ f′ a) where
+  pub expression-spares : length o′ ≡ length o → a .how ≡ Done
+      → a .state .pos + budget w x n (a .state .at) + 8 ≤ s .pos + budget w x n (s .at)
   expression-spares l z =
       let g : Good node (take (s .pos) o) _ [] [] w x n o′ r′ f′ a _ = good-of z (u .is []) in
-      let e : a .state .pos ≡ s .pos + length (recs-bytes (g .item .recs)) = sym (length-take-le (a .state .pos) o′ (omega (arith, u .moved .room, q .room))) ∙ ap length (g .tree) ∙ length-append (take (s .pos) o) _ ∙ ap (λ (k : ℕ). k + length (recs-bytes (g .item .recs))) (length-take-le (s .pos) o (omega (arith, q .room))) in
-      omega (arith, e, recs-length (g .item .recs), spared d _ _ _ (sym (go-call d Expression _) ∙ g .is), spends (rest w x n (s .at)), spends (rest w x n (a .state .at)))
+      let e : a .state .pos ≡ s .pos + length (recs-bytes (g .item .recs)) = sym
+      (length-take-le (a .state .pos) o′ (omega (arith, u .moved .room, q .room))) ∙ ap length (g .tree)
+      ∙ length-append (take (s .pos) o) _ ∙ ap (λ (k : ℕ). k + length (recs-bytes (g .item .recs)))
+      (length-take-le (s .pos) o (omega (arith, q .room))) in
+      omega (
+        arith,
+        e,
+        recs-length (g .item .recs),
+        spared d _ _ _ (sym (go-call d Expression _) ∙ g .is),
+        spends (rest w x n (s .at)),
+        spends (rest w x n (a .state .at)),
+      )
 
-pub passed : {w x : List ℕ} {n : ℕ} {m : Role → Act (Ans Tok)} {r f r′ f′ : List ℕ} {s : State} {a : Answer} → Expects w x n m r f s r′ f′ a → a .how ≡ Done → s .at < a .state .at
+pub passed : {w x : List ℕ} {n : ℕ} {m : Role → Act (Ans Tok)} {r f r′ f′ : List ℕ} {s : State} {a : Answer}
+    → Expects w x n m r f s r′ f′ a → a .how ≡ Done → s .at < a .state .at
 passed {w} {x} {n} {s = s} {a = a} e z =
     let one : done-of (a .how) ≡ 1 = rw z in
-    elim (decLe (a .state .at) (s .at)) [ yes g ↦ let same : a .state .at ≡ s .at = omega (arith, g, e .moved .at) in absurd (omega (arith, e .pays, one, ap (λ (k : ℕ). budget w x n k) same)) | no g ↦ omega (arith, g) ]
+    elim (decLe (a .state .at) (s .at))
+    [ yes g ↦ let same : a .state .at ≡ s .at = omega (arith, g, e .moved .at) in absurd (omega (arith, e .pays, one, ap (λ (k : ℕ). budget w x n k) same)) | no g ↦ omega (arith, g) ]

@@ -31,9 +31,15 @@ within w x n i h = elim (decLe n i) [ yes g ↦ rw (rest-nil w x n i g) (omega a
 module _ {w x : List ℕ} {n d : ℕ} {o r f : List ℕ} {s : State} (g : Goal) where
   pub deep : {a : Answer} → Asks w x n r f s → d ≡ 0 → a ≡ refused-at n s 10 → Reads node w x n d (call g done) o r f s o r f a
   unfolding parse
-  deep q z e = rw e (record { moved = refused-moved q 10; on = within w x n (s .at) (q .at); is = λ rd. record { told = rw z (go-call 0 g _) } })
+  deep q z e =
+      rw e (record {
+        moved = refused-moved q 10;
+        on = within w x n (s .at) (q .at);
+        is = λ rd. record { told = rw z (go-call 0 g _) };
+      })
 
-  pub down : {o′ r′ f′ : List ℕ} {a : Answer} → (d ≡ 0 → ⊥) → Reads node w x n (d - 1) (rule g) o r f s o′ r′ f′ a → Reads node w x n d (call g done) o r f s o′ r′ f′ a
+  pub down : {o′ r′ f′ : List ℕ} {a : Answer} → (d ≡ 0 → ⊥) → Reads node w x n (d - 1) (rule g) o r f s o′ r′ f′ a
+      → Reads node w x n d (call g done) o r f s o′ r′ f′ a
   down z u = record { moved = u .moved; on = u .on; is = λ rd. say (one d z _) (u .is rd) }
     where
       one : (d : ℕ) → (d ≡ 0 → ⊥) → (S : St) → go d (call g done) S ≡ go (d - 1) (rule g) S
@@ -43,18 +49,30 @@ module _ {w x : List ℕ} {n d : ℕ} {o r f : List ℕ} {s : State} (g : Goal) 
 -- ---- what follows an answer
 
 -- a part and what follows it: two ways to say it
-pub seam : {A B C : Type 0} (d : ℕ) (f : Fallible A → Act (Ans B)) (g : Fallible B → Act (Ans C)) (h : Fallible A → Fallible B) → ((e : Fallible A) → f e ≡ done (ok (h e))) → (q : Res (Ans A))
+pub seam : {A B C : Type 0} (d : ℕ) (f : Fallible A → Act (Ans B)) (g : Fallible B → Act (Ans C))
+    (h : Fallible A → Fallible B)
+    → ((e : Fallible A) → f e ≡ done (ok (h e))) → (q : Res (Ans A))
     → after q (λ z S. go d (or-return (λ e. g (h e)) z) S) ≡ after (after q (λ z S. go d (or-return f z) S)) (λ z S. go d (or-return g z) S)
 unfolding go run
 seam d f g h e (gives (ok y) S) = sym (rw (e y))
 seam d f g h e (gives (fatal es) S) = refl
 seam d f g h e (refused n) = refl
 
-module _ {A B : Type 0} {K : View A} {L : View B} {w x : List ℕ} {n d : ℕ} {m : Act (Ans A)} (k : Fallible A → Act (Ans B)) {o r f o′ r′ f′ : List ℕ} {s : State} {a : Answer} (u : Reads K w x n d m o r f s o′ r′ f′ a) where
+module _ {A B : Type 0} {K : View A} {L : View B} {w x : List ℕ} {n d : ℕ} {m : Act (Ans A)}
+    (k : Fallible A → Act (Ans B)) {o r f o′ r′ f′ : List ℕ} {s : State} {a : Answer}
+    (u : Reads K w x n d m o r f s o′ r′ f′ a) where
   -- it is returned by `?`
   pub then-stops : Stopped a → Reads L w x n d (m >>? k) o r f s o′ r′ f′ a
   then-stops nd = record { moved = u .moved; on = u .on; is = λ rd. say (go-bind d m (or-return k) _) (stops d k _ nd (u .is rd)) }
 
   -- a function goes on from it
-  pub then-goes : {o″ r″ f″ : List ℕ} {y : Answer} → s .pos ≤ length o → s .reported ≤ length r → Goes K L w x n d k (s .pos) (s .reported) o′ r′ f′ a o″ r″ f″ y → Reads L w x n d (m >>? k) o r f s o″ r″ f″ y
-  then-goes h g v = record { moved = omega (arith, u .moved, v .moved); on = omega (arith, u .on, v .moved .at); is = λ rd. say (go-bind d m (or-return k) _) (v .is _ _ _ (length-take-le (s .pos) o h) (errs-length r (s .reported) g) (u .is rd)) }
+  pub then-goes : {o″ r″ f″ : List ℕ} {y : Answer} → s .pos ≤ length o → s .reported ≤ length r
+      → Goes K L w x n d k (s .pos) (s .reported) o′ r′ f′ a o″ r″ f″ y
+      → Reads L w x n d (m >>? k) o r f s o″ r″ f″ y
+  then-goes h g v =
+      record {
+        moved = omega (arith, u .moved, v .moved);
+        on = omega (arith, u .on, v .moved .at);
+        is = λ rd. say (go-bind d m (or-return k) _)
+            (v .is _ _ _ (length-take-le (s .pos) o h) (errs-length r (s .reported) g) (u .is rd));
+      }

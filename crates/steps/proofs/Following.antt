@@ -25,35 +25,82 @@ use Rattle.steps.proofs.Answers.{abandons, follows}
 abbrev pub expecting : {A : Type 0} → Role → ℕ → Fallible A → Act (Ans A)
 expecting role k e = P.expect-as role k >>? λ _. done (ok e)
 
-module _ {A : Type 0} {K : View A} {w x : List ℕ} {n k i j : ℕ} {r f r′ f′ : List ℕ} {a y : Answer} (p : Follows w x n r f a i j) (u : Expected w x n k i j r f a r′ f′ y) (role : Role) (d : ℕ) {T : List ℕ} {E : List Err} {rs : List Rec} {es : List Err} {o : List ℕ} {q : Res (Ans A)} (li : length T ≡ i) (lj : length E ≡ j) where
+module _ {A : Type 0} {K : View A} {w x : List ℕ} {n k i j : ℕ} {r f r′ f′ : List ℕ} {a y : Answer}
+    (p : Follows w x n r f a i j) (u : Expected w x n k i j r f a r′ f′ y) (role : Role) (d : ℕ) {T : List ℕ}
+    {E : List Err} {rs : List Rec} {es : List Err} {o : List ℕ} {q : Res (Ans A)} (li : length T ≡ i)
+    (lj : length E ≡ j) where
   -- the answer was there
-  there : a .how ≡ Done → Good K T E rs es w x n o r f a q → Followed w x n k i j r f a r′ f′ y → Shows K T E rs es w x n o r′ f′ y (after q (λ z S. go d (or-return (expecting role k) z) S))
+  there : a .how ≡ Done → Good K T E rs es w x n o r f a q → Followed w x n k i j r f a r′ f′ y
+      → Shows K T E rs es w x n o r′ f′ y (after q (λ z S. go d (or-return (expecting role k) z) S))
   unfolding go run
-  there z g v = subst (λ (a′ : Answer). Shows K T E rs es w x n o r′ f′ a′ (after q (λ z S. go d (or-return (expecting role k) z) S))) (sym (v .is)) (record { told = one (v .b .how) refl (v .abandoned .is) (v .expects .is role d (g .read) o .told) })
+  there z g v =
+      subst (λ (a′ : Answer). Shows K T E rs es w x n o r′ f′ a′
+      (after q (λ z S. go d (or-return (expecting role k) z) S))) (sym (v .is))
+      (record { told = one (v .b .how) refl (v .abandoned .is) (v .expects .is role d (g .read) o .told) })
     where
       S : St
       S = st-of w x n f (g .read) (a .state)
 
-      step : after q (λ z S. go d (or-return (expecting role k) z) S) ≡ after (go d (P.expect-as role k) S) (λ z S. go d (or-return (λ _. done (ok (record { item = g .item; errors = g .errors }))) z) S)
-      step = follows d (expecting role k) (g .is) ∙ go-bind d (P.expect-as role k) (or-return (λ _. done (ok (record { item = g .item; errors = g .errors })))) S
+      step : after q (λ z S. go d (or-return (expecting role k) z) S)
+          ≡ after (go d (P.expect-as role k) S)
+          (λ z S. go d (or-return (λ _. done (ok (record { item = g .item; errors = g .errors }))) z) S)
+      step =
+          follows d (expecting role k) (g .is)
+          ∙ go-bind d (P.expect-as role k)
+          (or-return (λ _. done (ok (record { item = g .item; errors = g .errors })))) S
 
-      lost : Bad T E w x n o r′ f′ (v .c) (go d (P.expect-as role k) S) → Bad T E w x n o r′ f′ (record { how = v .c .how; state = v .c .state; line = a .line; column = a .column }) (after q (λ z S. go d (or-return (expecting role k) z) S))
+      lost : Bad T E w x n o r′ f′ (v .c) (go d (P.expect-as role k) S)
+          → Bad T E w x n o r′ f′
+          (record { how = v .c .how; state = v .c .state; line = a .line; column = a .column })
+          (after q (λ z S. go d (or-return (expecting role k) z) S))
       lost c = record { errors = c .errors; read = c .read; is = step ∙ rw (c .is); tree = c .tree; rep = c .rep }
 
-      one : (h : How) → v .b .how ≡ h → AbandonedOf h (v .between) (v .b) i j (a .state .reported) r′ (v .c) → ShowsOf h (token (head (rest w x n (a .state .at)))) (take (a .state .pos) o) (errs r (a .state .reported)) [] [] w x n o (v .between) f′ (v .b) (go d (P.expect-as role k) S)
-          → ShowsOf (v .c .how) K T E rs es w x n o r′ f′ (record { how = v .c .how; state = v .c .state; line = a .line; column = a .column }) (after q (λ z S. go d (or-return (expecting role k) z) S))
-      one Done h m t = rw (m .0, h) (record { item = g .item; errors = g .errors; read = t .read; is = step ∙ rw (t .is); tree = ap (λ (l : ℕ). take l o) (v .expects .pos) ∙ g .tree; rep = rw (m .1) (v .expects .kept h .1) ∙ g .rep; holds = g .holds })
+      one : (h : How) → v .b .how ≡ h → AbandonedOf h (v .between) (v .b) i j (a .state .reported) r′ (v .c)
+          → ShowsOf h (token (head (rest w x n (a .state .at)))) (take (a .state .pos) o)
+          (errs r (a .state .reported)) [] [] w x n o (v .between) f′ (v .b) (go d (P.expect-as role k) S)
+          → ShowsOf (v .c .how) K T E rs es w x n o r′ f′
+          (record { how = v .c .how; state = v .c .state; line = a .line; column = a .column })
+          (after q (λ z S. go d (or-return (expecting role k) z) S))
+      one Done h m t =
+          rw (m .0, h) (record {
+            item = g .item;
+            errors = g .errors;
+            read = t .read;
+            is = step ∙ rw (t .is);
+            tree = ap (λ (l : ℕ). take l o) (v .expects .pos) ∙ g .tree;
+            rep = rw (m .1) (v .expects .kept h .1) ∙ g .rep;
+            holds = g .holds;
+          })
       one Fatal h m t =
-          let b : Shows (token (head (rest w x n (a .state .at)))) T E (rs ++ K .recs (g .item)) (es ++ g .errors) w x n o r′ f′ (v .c) (go d (P.expect-as role k) S) = abandons {T = T} {E = E} (g .tree) (g .rep) li lj (errs-length r (a .state .reported) (omega arith)) (v .abandoned) (omega (arith, p .pos, v .expects .pos)) (omega (arith, p .reported, v .expects .moved .reported)) (record { told = subst (λ (h : How). ShowsOf h (token (head (rest w x n (a .state .at)))) (take (a .state .pos) o) (errs r (a .state .reported)) [] [] w x n o (v .between) f′ (v .b) (go d (P.expect-as role k) S)) (sym h) t }) in
-          let c : Bad T E w x n o r′ f′ (v .c) (go d (P.expect-as role k) S) = subst (λ (h : How). ShowsOf h (token (head (rest w x n (a .state .at)))) T E (rs ++ K .recs (g .item)) (es ++ g .errors) w x n o r′ f′ (v .c) (go d (P.expect-as role k) S)) (m .how) (b .told) in
-          subst (λ (h : How). ShowsOf h K T E rs es w x n o r′ f′ (record { how = v .c .how; state = v .c .state; line = a .line; column = a .column }) (after q (λ z S. go d (or-return (expecting role k) z) S))) (sym (m .how)) (lost c)
+          let b : Shows (token (head (rest w x n (a .state .at)))) T E (rs ++ K .recs (g .item)) (es ++ g .errors) w x n o r′ f′ (v .c) (go d (P.expect-as role k) S) =
+          abandons {T = T} {E = E} (g .tree) (g .rep) li lj (errs-length r (a .state .reported) (omega arith))
+          (v .abandoned) (omega (arith, p .pos, v .expects .pos))
+          (omega (arith, p .reported, v .expects .moved .reported)) (record {
+            told = subst
+                (λ (h : How). ShowsOf h (token (head (rest w x n (a .state .at)))) (take (a .state .pos) o)
+                (errs r (a .state .reported)) [] [] w x n o (v .between) f′ (v .b) (go d (P.expect-as role k) S))
+                (sym h) t;
+          }) in
+          let c : Bad T E w x n o r′ f′ (v .c) (go d (P.expect-as role k) S) = subst
+          (λ (h : How). ShowsOf h (token (head (rest w x n (a .state .at)))) T E (rs ++ K .recs (g .item))
+          (es ++ g .errors) w x n o r′ f′ (v .c) (go d (P.expect-as role k) S)) (m .how) (b .told) in
+          subst (λ (h : How). ShowsOf h K T E rs es w x n o r′ f′
+          (record { how = v .c .how; state = v .c .state; line = a .line; column = a .column })
+          (after q (λ z S. go d (or-return (expecting role k) z) S))) (sym (m .how)) (lost c)
       one (Refused u) h m t = rw (m .0, h) (step ∙ rw t)
 
-  pub expects-behind : Shows K T E rs es w x n o r f a q → Shows K T E rs es w x n o r′ f′ y (after q (λ z S. go d (or-return (expecting role k) z) S))
+  pub expects-behind : Shows K T E rs es w x n o r f a q
+      → Shows K T E rs es w x n o r′ f′ y (after q (λ z S. go d (or-return (expecting role k) z) S))
   unfolding go run
   expects-behind v = one (a .how) refl (u .is) (v .told)
     where
-      one : (h : How) → a .how ≡ h → ExpectedOf h w x n k i j r f a r′ f′ y → ShowsOf h K T E rs es w x n o r f a q → Shows K T E rs es w x n o r′ f′ y (after q (λ z S. go d (or-return (expecting role k) z) S))
+      one : (h : How) → a .how ≡ h → ExpectedOf h w x n k i j r f a r′ f′ y
+          → ShowsOf h K T E rs es w x n o r f a q
+          → Shows K T E rs es w x n o r′ f′ y (after q (λ z S. go d (or-return (expecting role k) z) S))
       one Done z m g = there z g m
-      one Fatal z m g = rw (m .0, m .1 .0, m .1 .1) (record { told = rw z (record { errors = g .errors; read = g .read; is = rw (g .is); tree = g .tree; rep = g .rep }) })
+      one Fatal z m g =
+          rw (m .0, m .1 .0, m .1 .1) (record {
+            told = rw z
+                (record { errors = g .errors; read = g .read; is = rw (g .is); tree = g .tree; rep = g .rep });
+          })
       one (Refused u) z m g = rw (m .0, m .1 .0, m .1 .1) (record { told = rw (z, g) })

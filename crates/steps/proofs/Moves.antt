@@ -24,17 +24,50 @@ spent w x n = rw (rest-nil w x n n (omega arith))
 
 module _ {w x : List ℕ} {n : ℕ} {r f : List ℕ} {s : State} (q : Asks w x n r f s) where
   pub stays : Moved w x n (s .pos) (s .reported) s s
-  stays = record { at = omega arith; end = q .at; pos = omega arith; room = omega arith; reported = omega arith; less = omega arith; full = omega arith; few = q .few }
+  stays =
+      record {
+        at = omega arith;
+        end = q .at;
+        pos = omega arith;
+        room = omega arith;
+        reported = omega arith;
+        less = omega arith;
+        full = omega arith;
+        few = q .few;
+      }
 
   pub refused-moved : (m : ℕ) → Moved w x n (s .pos) (s .reported) s (refused-at n s m .state)
-  refused-moved m = record { at = q .at; end = omega arith; pos = omega arith; room = omega (arith, spent w x n); reported = omega arith; less = omega arith; full = omega arith; few = q .few }
+  refused-moved m =
+      record {
+        at = q .at;
+        end = omega arith;
+        pos = omega arith;
+        room = omega (arith, spent w x n);
+        reported = omega arith;
+        less = omega arith;
+        full = omega arith;
+        few = q .few;
+      }
 
   -- an error is made, or one too many
   pub making-moved : (h : How) → Moved w x n (s .pos) (s .reported) s (making h n s .state)
   making-moved h = go (ltb (s .full) 255) (λ e. ltb-true _ _ e) refl
     where
-      go : (b : Bool) → (b ≡ true → s .full < 255) → ltb (s .full) 255 ≡ b → Moved w x n (s .pos) (s .reported) s (pick b (record { how = h; state = one-more s; line = 0; column = 0 }) (refused-at n s 12) .state)
-      go true g e = let l = g refl in record { at = omega arith; end = q .at; pos = omega arith; room = omega arith; reported = omega arith; less = omega arith; full = omega arith; few = omega arith }
+      go : (b : Bool) → (b ≡ true → s .full < 255) → ltb (s .full) 255 ≡ b
+          → Moved w x n (s .pos) (s .reported) s
+          (pick b (record { how = h; state = one-more s; line = 0; column = 0 }) (refused-at n s 12) .state)
+      go true g e =
+          let l = g refl in
+          record {
+            at = omega arith;
+            end = q .at;
+            pos = omega arith;
+            room = omega arith;
+            reported = omega arith;
+            less = omega arith;
+            full = omega arith;
+            few = omega arith;
+          }
       go false g e = refused-moved 12
 
   module _ {t : Front} (v : Seen w x n (s .at) t) where
@@ -42,17 +75,49 @@ module _ {w x : List ℕ} {n : ℕ} {r f : List ℕ} {s : State} (q : Asks w x n
     asks-fore = record { held = q .held; at = v .end; reported = q .reported; few = q .few; reps = q .reps; fulls = q .fulls }
 
     pub fore-moved : Moved w x n (s .pos) (s .reported) s (fore s t)
-    fore-moved = record { at = v .up; end = v .end; pos = omega arith; room = omega arith; reported = omega arith; less = omega arith; full = omega arith; few = q .few }
+    fore-moved =
+        record {
+          at = v .up;
+          end = v .end;
+          pos = omega arith;
+          room = omega arith;
+          reported = omega arith;
+          less = omega arith;
+          full = omega arith;
+          few = q .few;
+        }
 
 pub moved-trans : {w x : List ℕ} {n i j i′ j′ : ℕ} {s t u : State} → Moved w x n i j s t → Moved w x n i′ j′ t u → Moved w x n i′ j′ s u
-moved-trans p q = record { at = omega arith; end = q .end; pos = q .pos; room = omega arith; reported = q .reported; less = omega arith; full = omega arith; few = q .few }
+moved-trans p q =
+    record {
+      at = omega arith;
+      end = q .end;
+      pos = q .pos;
+      room = omega arith;
+      reported = q .reported;
+      less = omega arith;
+      full = omega arith;
+      few = q .few;
+    }
 
 -- what a later state asks is met
-pub asks-moved : {w x : List ℕ} {n i j : ℕ} {r f r′ f′ : List ℕ} {s t : State} → Asks w x n r f s → Moved w x n i j s t → length r′ ≡ length r → length f′ ≡ length f → Asks w x n r′ f′ t
+pub asks-moved : {w x : List ℕ} {n i j : ℕ} {r f r′ f′ : List ℕ} {s t : State} → Asks w x n r f s → Moved w x n i j s t
+    → length r′ ≡ length r → length f′ ≡ length f → Asks w x n r′ f′ t
 asks-moved q m h g = record { held = q .held; at = m .end; reported = omega arith; few = m .few; reps = omega arith; fulls = omega arith }
 
-pub abandoned-moved : {w x : List ℕ} {n i j k : ℕ} {r r′ : List ℕ} {s : State} {b c : Answer} → Moved w x n (s .pos) (s .reported) s (b .state) → Abandoned r b i j k r′ c → Moved w x n i j s (c .state)
-abandoned-moved {w} {x} {n} m v = record { at = omega arith; end = omega arith; pos = v .low; room = omega (arith, ap (λ (k : ℕ). budget w x n k) (v .at)); reported = v .first; less = omega arith; full = omega arith; few = omega arith }
+pub abandoned-moved : {w x : List ℕ} {n i j k : ℕ} {r r′ : List ℕ} {s : State} {b c : Answer}
+    → Moved w x n (s .pos) (s .reported) s (b .state) → Abandoned r b i j k r′ c → Moved w x n i j s (c .state)
+abandoned-moved {w} {x} {n} m v =
+    record {
+      at = omega arith;
+      end = omega arith;
+      pos = v .low;
+      room = omega (arith, ap (λ (k : ℕ). budget w x n k) (v .at));
+      reported = v .first;
+      less = omega arith;
+      full = omega arith;
+      few = omega arith;
+    }
 
 module _ {w x : List ℕ} {n : ℕ} {o r f : List ℕ} {s : State} (q : Asked w x n o r f s) where
   -- behind a token
@@ -60,5 +125,6 @@ module _ {w x : List ℕ} {n : ℕ} {o r f : List ℕ} {s : State} (q : Asked w 
   asked-seen v = record { asks = asks-fore (q .asks) v; room = omega arith }
 
   -- at a later state, in slices as long
-  pub asked-moved : {i j : ℕ} {o′ r′ f′ : List ℕ} {t : State} → Moved w x n i j s t → length o′ ≡ length o → length r′ ≡ length r → length f′ ≡ length f → Asked w x n o′ r′ f′ t
+  pub asked-moved : {i j : ℕ} {o′ r′ f′ : List ℕ} {t : State} → Moved w x n i j s t → length o′ ≡ length o
+      → length r′ ≡ length r → length f′ ≡ length f → Asked w x n o′ r′ f′ t
   asked-moved m a b c = record { asks = asks-moved (q .asks) m b c; room = omega arith }

@@ -51,7 +51,10 @@ raised-pos n s = go (ltb (s .full) 255)
 module _ {w x : List ℕ} {n : ℕ} {r f : List ℕ} {s : State} {t : Front} (q : Asks w x n r f s) (v : Seen w x n (s .at) t) where
   -- the token is there
   there : {m : Role → Act (Ans Tok)} {k : ℕ} (of : Role → Role) → 0 < k → t .kind ≡ k
-      → ((role : Role) (d : ℕ) (rd : List Consumed) → go d (m role) (st-of w x n f rd s) ≡ go d (P.good (head (rest w x n (s .at))) []) (st-of w x n f (rd ++ now-read (λ _. of role) (rest w x n (s .at))) (fore s t)))
+      → ((role : Role) (d : ℕ) (rd : List Consumed)
+      → go d (m role) (st-of w x n f rd s)
+      ≡ go d (P.good (head (rest w x n (s .at))) [])
+      (st-of w x n f (rd ++ now-read (λ _. of role) (rest w x n (s .at))) (fore s t)))
       → Expects w x n m r f s r f (record { how = Done; state = fore s t; line = t .line; column = t .column })
   unfolding go run recs-bytes
   there of g z h = record {
@@ -60,15 +63,31 @@ module _ {w x : List ℕ} {n : ℕ} {r f : List ℕ} {s : State} {t : Front} (q 
     on = omega (arith, v .kind);
     pays = omega arith;
     kept = λ _. (refl, refl);
-    is = λ role d rd o. say (h role d rd) (record { told = record { item = head (rest w x n (s .at)); errors = []; read = rd ++ now-read (λ _. of role) (rest w x n (s .at)); is = refl; tree = sym (append-nil (take (s .pos) o)); rep = sym (append-nil (errs r (s .reported))); holds = (refl, v .place) } });
+    is =
+        λ role d rd o. say (h role d rd) (record {
+          told = record {
+            item = head (rest w x n (s .at));
+            errors = [];
+            read = rd ++ now-read (λ _. of role) (rest w x n (s .at));
+            is = refl;
+            tree = sym (append-nil (take (s .pos) o));
+            rep = sym (append-nil (errs r (s .reported)));
+            holds = (refl, v .place);
+          };
+        });
   }
 
   -- an error is raised behind the token
-  missing : {m : Role → Act (Ans Tok)} {e : ℕ} {r′ f′ : List ℕ} {a : Answer} (of : Role → Role) → Raised (raised n (fore s t)) r f (fore s t) e r′ f′ a
-      → ((role : Role) (d : ℕ) (rd : List Consumed) → go d (m role) (st-of w x n f rd s) ≡ go d (P.raise {A = Tok} (unpack e)) (st-of w x n f (rd ++ now-read (λ _. of role) (rest w x n (s .at))) (fore s t)))
+  missing : {m : Role → Act (Ans Tok)} {e : ℕ} {r′ f′ : List ℕ} {a : Answer} (of : Role → Role)
+      → Raised (raised n (fore s t)) r f (fore s t) e r′ f′ a
+      → ((role : Role) (d : ℕ) (rd : List Consumed)
+      → go d (m role) (st-of w x n f rd s)
+      ≡ go d (P.raise {A = Tok} (unpack e))
+      (st-of w x n f (rd ++ now-read (λ _. of role) (rest w x n (s .at))) (fore s t)))
       → Expects w x n m r f s r′ f′ a
   missing {m} {e} {r′} {f′} {a} of g h =
-      let mv : Moved w x n (s .pos) (s .reported) s (a .state) = rw (g .is) (moved-trans (fore-moved q v) (making-moved (asks-fore q v) Fatal)) in
+      let mv : Moved w x n (s .pos) (s .reported) s (a .state) = rw (g .is)
+      (moved-trans (fore-moved q v) (making-moved (asks-fore q v) Fatal)) in
       let nd : done-of (a .how) ≡ 0 = rw (g .is) (raised-how n (fore s t)) in
       let ps : a .state .pos ≡ s .pos = rw (g .is) (raised-pos n (fore s t)) in
       let up : t .next ≤ a .state .at = rw (g .is) (making-moved (asks-fore q v) Fatal .at) in
@@ -78,12 +97,17 @@ module _ {w x : List ℕ} {n : ℕ} {r f : List ℕ} {s : State} {t : Front} (q 
         on = omega (arith, v .kind);
         pays = omega arith;
         kept = λ z. absurd (omega (arith, nd, ap done-of z));
-        is = λ role d rd o. say (h role d rd) (raise-shows (token (head (rest w x n (s .at)))) (asks-fore q v) g d (rd ++ now-read (λ _. of role) (rest w x n (s .at))) o);
+        is =
+            λ role d rd o. say (h role d rd)
+            (raise-shows (token (head (rest w x n (s .at)))) (asks-fore q v) g d
+            (rd ++ now-read (λ _. of role) (rest w x n (s .at))) o);
       }
 
   -- ---- `expect`
 
-  pub expect-there : {k : ℕ} → 0 < k → t .kind ≡ k → Expects w x n (λ role. P.expect-as role k) r f s r f (record { how = Done; state = fore s t; line = t .line; column = t .column })
+  pub expect-there : {k : ℕ} → 0 < k → t .kind ≡ k
+      → Expects w x n (λ role. P.expect-as role k) r f s r f
+      (record { how = Done; state = fore s t; line = t .line; column = t .column })
   unfolding go run
   expect-there {k} g z = there (λ role. role) g z (λ role d rd. rw (run, yes v z, v .tail))
 
@@ -92,31 +116,51 @@ module _ {w x : List ℕ} {n : ℕ} {r f : List ℕ} {s : State} {t : Front} (q 
     unfolding go run
     expect-end z i = missing (λ role. role) g (λ role d rd. rw (run, no v m, yes v z) (raise-same d (sym i) (adv s v (λ _. role) f rd)))
 
-    pub expect-other : (t .kind ≡ 0 → ⊥) → unpack e ≡ error-at 2 (t .line) (t .column) k (t .kind) → Expects w x n (λ role. P.expect-as role k) r f s r′ f′ a
+    pub expect-other : (t .kind ≡ 0 → ⊥) → unpack e ≡ error-at 2 (t .line) (t .column) k (t .kind)
+        → Expects w x n (λ role. P.expect-as role k) r f s r′ f′ a
     unfolding go run
-    expect-other z i = missing (λ role. role) g (λ role d rd. rw (run, no v m, no v z) (raise-same d (rw (v .place, v .kind) (sym i)) (adv s v (λ _. role) f rd)))
+    expect-other z i =
+        missing (λ role. role) g (λ role d rd. rw (run, no v m, no v z)
+        (raise-same d (rw (v .place, v .kind) (sym i)) (adv s v (λ _. role) f rd)))
 
   -- ---- `expect_identifier`
 
-  pub identifier-there : t .kind ≡ 1 → Expects w x n (λ role. P.expect-identifier) r f s r f (record { how = Done; state = fore s t; line = t .line; column = t .column })
+  pub identifier-there : t .kind ≡ 1
+      → Expects w x n (λ role. P.expect-identifier) r f s r f
+      (record { how = Done; state = fore s t; line = t .line; column = t .column })
   unfolding go run
   identifier-there z = there (λ role. plain) (omega arith) z (λ role d rd. rw (run, yes v z, v .tail))
 
   module _ {e : ℕ} {r′ f′ : List ℕ} {a : Answer} (m : t .kind ≡ 1 → ⊥) (g : Raised (raised n (fore s t)) r f (fore s t) e r′ f′ a) where
     pub identifier-end : t .kind ≡ 0 → unpack e ≡ error-at 5 0 0 0 0 → Expects w x n (λ role. P.expect-identifier) r f s r′ f′ a
     unfolding go run
-    identifier-end z i = missing (λ role. plain) g (λ role d rd. rw (run, no v m, yes v z) (raise-same d (sym i) (adv s v (λ _. plain) f rd)))
+    identifier-end z i =
+        missing (λ role. plain) g
+        (λ role d rd. rw (run, no v m, yes v z) (raise-same d (sym i) (adv s v (λ _. plain) f rd)))
 
-    pub identifier-other : (t .kind ≡ 0 → ⊥) → unpack e ≡ error-at 4 (t .line) (t .column) 0 0 → Expects w x n (λ role. P.expect-identifier) r f s r′ f′ a
+    pub identifier-other : (t .kind ≡ 0 → ⊥) → unpack e ≡ error-at 4 (t .line) (t .column) 0 0
+        → Expects w x n (λ role. P.expect-identifier) r f s r′ f′ a
     unfolding go run
-    identifier-other z i = missing (λ role. plain) g (λ role d rd. rw (run, no v m, no v z) (raise-same d (rw (v .place) (sym i)) (adv s v (λ _. plain) f rd)))
+    identifier-other z i =
+        missing (λ role. plain) g
+        (λ role d rd. rw (run, no v m, no v z) (raise-same d (rw (v .place) (sym i)) (adv s v (λ _. plain) f rd)))
 
 -- ---- `expect` behind an answer
 
 module _ {w x : List ℕ} {n k i j : ℕ} {r f : List ℕ} {a : Answer} (q : Follows w x n r f a i j) where
   pub expected-stop : Stopped a → Expected w x n k i j r f a r f a
   expected-stop nd = record {
-    moved = record { at = omega arith; end = q .asks .at; pos = q .pos; room = omega arith; reported = q .reported; less = omega arith; full = omega arith; few = q .asks .few };
+    moved =
+        record {
+          at = omega arith;
+          end = q .asks .at;
+          pos = q .pos;
+          room = omega arith;
+          reported = q .reported;
+          less = omega arith;
+          full = omega arith;
+          few = q .asks .few;
+        };
     high = omega arith;
     pays = omega (arith, not-done (a .how) nd);
     is = one (a .how) nd;
@@ -127,7 +171,9 @@ module _ {w x : List ℕ} {n k i j : ℕ} {r f : List ℕ} {a : Answer} (q : Fol
       one Fatal nd = (refl, (refl, refl))
       one (Refused m) nd = (refl, (refl, refl))
 
-  pub expected-on : {r1 r′ f′ : List ℕ} {b c : Answer} → a .how ≡ Done → Expects w x n (λ role. P.expect-as role k) r f (a .state) r1 f′ b → Abandoned r1 b i j (a .state .reported) r′ c
+  pub expected-on : {r1 r′ f′ : List ℕ} {b c : Answer} → a .how ≡ Done
+      → Expects w x n (λ role. P.expect-as role k) r f (a .state) r1 f′ b
+      → Abandoned r1 b i j (a .state .reported) r′ c
       → Expected w x n k i j r f a r′ f′ (record { how = c .how; state = c .state; line = a .line; column = a .column })
   expected-on {r1} {r′} {f′} {b} {c} z e v =
       let at : budget w x n (c .state .at) ≡ budget w x n (b .state .at) = ap (λ (k : ℕ). budget w x n k) (v .at) in
@@ -136,7 +182,10 @@ module _ {w x : List ℕ} {n k i j : ℕ} {r f : List ℕ} {a : Answer} (q : Fol
         moved = abandoned-moved (e .moved) v;
         high = omega (arith, e .pos, v .high);
         pays = omega (arith, e .pays);
-        is = subst (λ (h : How). ExpectedOf h w x n k i j r f a r′ f′ (record { how = c .how; state = c .state; line = a .line; column = a .column })) (sym z) (record { b = b; c = c; between = r1; expects = e; abandoned = v; is = refl });
+        is =
+            subst (λ (h : How). ExpectedOf h w x n k i j r f a r′ f′
+            (record { how = c .how; state = c .state; line = a .line; column = a .column })) (sym z)
+            (record { b = b; c = c; between = r1; expects = e; abandoned = v; is = refl });
       }
     where
       fewer : (h : How) → b .how ≡ h → AbandonedOf h r1 b i j (a .state .reported) r′ c → done-of (c .how) ≤ done-of (b .how)
@@ -156,5 +205,18 @@ module _ {x o : List ℕ} {a : Answer} {v : Record} where
       one (Refused m) nd = (refl, refl)
 
   pub finish-on : {o′ : List ℕ} {p : ℕ} → a .how ≡ Done → Wrote o (a .state .pos) (rec-of x v) (size-of v) o′ p
-      → Finished x o a v o′ (record { how = a .how; state = record { at = a .state .at; pos = p; reported = a .state .reported; full = a .state .full }; line = v .line; column = v .column })
-  finish-on z u = record { at = refl; reported = refl; full = refl; low = omega (arith, u .end); high = omega (arith, u .end); is = rw z (refl, (u, (refl, refl))) }
+      → Finished x o a v o′ (record {
+        how = a .how;
+        state = record { at = a .state .at; pos = p; reported = a .state .reported; full = a .state .full };
+        line = v .line;
+        column = v .column;
+      })
+  finish-on z u =
+      record {
+        at = refl;
+        reported = refl;
+        full = refl;
+        low = omega (arith, u .end);
+        high = omega (arith, u .end);
+        is = rw z (refl, (u, (refl, refl)));
+      }

@@ -24,23 +24,68 @@ pub rest-nil : (w x : List ℕ) (n at : ℕ) → n ≤ at → rest w x n at ≡ 
 unfolding rest from
 rest-nil w x n at h = let e : n - at ≡ 0 = omega arith in rw e
 
-pub seen-there : {w x : List ℕ} {n at : ℕ} → Held w x n → at < n → Seen w x n at (record { kind = getD w (8 * at) 0; line = getD w (8 * at + 1) 0; column = getD w (8 * at + 2) 0; start = getD w (8 * at + 3) 0; len = getD w (8 * at + 4) 0; base = getD w (8 * at + 5) 0; next = at + 1 })
+pub seen-there : {w x : List ℕ} {n at : ℕ} → Held w x n → at < n
+    → Seen w x n at (record {
+      kind = getD w (8 * at) 0;
+      line = getD w (8 * at + 1) 0;
+      column = getD w (8 * at + 2) 0;
+      start = getD w (8 * at + 3) 0;
+      len = getD w (8 * at + 4) 0;
+      base = getD w (8 * at + 5) 0;
+      next = at + 1;
+    })
 unfolding spend
 seen-there {w} {x} {n} {at} q h =
     let s = q .each at h in
     let e = rest-cons w x n at h in
-    let l : length (take (getD w (8 * at + 4) 0) (drop (getD w (8 * at + 3) 0) x)) ≡ getD w (8 * at + 4) 0 = length-take-le _ _ (simp length-drop (omega arith)) in
-    record { kind = rw e; place = rw e; text = rw e; base = rw e; tail = rw e; pays = rw e (omega arith); on = omega arith; up = omega arith; end = omega arith; part = s .part; kinds = s .kind; lines = s .line; columns = s .column; bases = s .base; based = s .based }
+    let l : length (take (getD w (8 * at + 4) 0) (drop (getD w (8 * at + 3) 0) x)) ≡ getD w (8 * at + 4) 0 =
+    length-take-le _ _ (simp length-drop (omega arith)) in
+    record {
+      kind = rw e;
+      place = rw e;
+      text = rw e;
+      base = rw e;
+      tail = rw e;
+      pays = rw e (omega arith);
+      on = omega arith;
+      up = omega arith;
+      end = omega arith;
+      part = s .part;
+      kinds = s .kind;
+      lines = s .line;
+      columns = s .column;
+      bases = s .base;
+      based = s .based;
+    }
 
-pub seen-wide : {w x : List ℕ} {n at l c b e u : ℕ} → Held w x n → at < n → l ≡ getD w (8 * at + 1) 0 → c ≡ getD w (8 * at + 2) 0 → b ≡ getD w (8 * at + 3) 0 → e ≡ getD w (8 * at + 4) 0 → u ≡ getD w (8 * at + 5) 0
+pub seen-wide : {w x : List ℕ} {n at l c b e u : ℕ} → Held w x n → at < n → l ≡ getD w (8 * at + 1) 0
+    → c ≡ getD w (8 * at + 2) 0 → b ≡ getD w (8 * at + 3) 0 → e ≡ getD w (8 * at + 4) 0
+    → u ≡ getD w (8 * at + 5) 0
     → Seen w x n at (record { kind = getD w (8 * at) 0; line = l; column = c; start = b; len = e; base = u; next = at + 1 })
 seen-wide q h i j k m o = rw (i, j, k, m, o) (seen-there q h)
 
-pub seen-end : {w x : List ℕ} {n at : ℕ} → at ≤ n → n ≤ at → Seen w x n at (record { kind = 0; line = 0; column = 0; start = 0; len = 0; base = 0; next = at })
+pub seen-end : {w x : List ℕ} {n at : ℕ} → at ≤ n → n ≤ at
+    → Seen w x n at (record { kind = 0; line = 0; column = 0; start = 0; len = 0; base = 0; next = at })
 unfolding spend
 seen-end {w} {x} {n} {at} g h =
     let e = rest-nil w x n at h in
-    record { kind = rw e; place = rw e; text = rw e; base = rw e; tail = rw e; pays = omega arith; on = omega arith; up = omega arith; end = omega arith; part = omega arith; kinds = omega arith; lines = omega arith; columns = omega arith; bases = omega arith; based = λ z. omega arith }
+    record {
+      kind = rw e;
+      place = rw e;
+      text = rw e;
+      base = rw e;
+      tail = rw e;
+      pays = omega arith;
+      on = omega arith;
+      up = omega arith;
+      end = omega arith;
+      part = omega arith;
+      kinds = omega arith;
+      lines = omega arith;
+      columns = omega arith;
+      bases = omega arith;
+      based = λ z. omega arith;
+    }
 
 -- a token that is there is of some kind
 pub alive : {w x : List ℕ} {n at : ℕ} → Held w x n → at < n → 0 < head (rest w x n at) .kind
@@ -58,5 +103,7 @@ abbrev pub fore : State → Front → State
 fore s t = record { at = t .next; pos = s .pos; reported = s .reported; full = s .full }
 
 -- a token is read
-pub adv : {w x : List ℕ} {n : ℕ} {t : Front} (s : State) → Seen w x n (s .at) t → (role : Tok → Role) (f : List ℕ) (rd : List Consumed) → advance role (st-of w x n f rd s) ≡ st-of w x n f (rd ++ now-read role (rest w x n (s .at))) (fore s t)
+pub adv : {w x : List ℕ} {n : ℕ} {t : Front} (s : State) → Seen w x n (s .at) t
+    → (role : Tok → Role) (f : List ℕ) (rd : List Consumed)
+    → advance role (st-of w x n f rd s) ≡ st-of w x n f (rd ++ now-read role (rest w x n (s .at))) (fore s t)
 adv s v role f rd = rw (v .tail)

@@ -33,8 +33,10 @@ words-append : (x : ℕ) (a b : List Tok) → tokens-words x (a ++ b) ≡ tokens
 unfolding tokens-words tokens-text
 words-append x [] b = ap (λ (n : ℕ). tokens-words n b) (let z : x ≡ x + 0 = omega arith in z)
 words-append x (t ∷ a) b =
-    let z : x + length (t .text) + length (tokens-text a) ≡ x + length (t .text ++ tokens-text a) = omega (arith, length-append (t .text) (tokens-text a)) in
-    ap (λ (l : List ℕ). token-words x t ++ l) (words-append (x + length (t .text)) a b ∙ ap (λ (n : ℕ). tokens-words (x + length (t .text)) a ++ tokens-words n b) z)
+    let z : x + length (t .text) + length (tokens-text a) ≡ x + length (t .text ++ tokens-text a) = omega
+    (arith, length-append (t .text) (tokens-text a)) in
+    ap (λ (l : List ℕ). token-words x t ++ l) (words-append (x + length (t .text)) a b
+    ∙ ap (λ (n : ℕ). tokens-words (x + length (t .text)) a ++ tokens-words n b) z)
 
 -- ---- the definition's loop, turn by turn
 
@@ -48,23 +50,33 @@ module _ (most n : ℕ) (ts : List Tok) (es : List Err) where
   from-end = refl
 
   abbrev tests : List Ch → List Err → List Tok → Bool → Bool → Z.Tokens
-  tests cs fs us t u = elim t as (λ _. Z.Tokens) [ false ↦ Z.refused 7 | true ↦ elim u as (λ _. Z.Tokens) [ false ↦ Z.refused 6 | true ↦ Z.tokenize-from most n cs (ts ++ us) (es ++ fs) ] ]
+  tests cs fs us t u =
+      elim t as (λ _. Z.Tokens)
+      [ false ↦ Z.refused 7 | true ↦ elim u as (λ _. Z.Tokens) [ false ↦ Z.refused 6 | true ↦ Z.tokenize-from most n cs (ts ++ us) (es ++ fs) ] ]
 
-  tests-next : (cs : List Ch) (fs : List Err) (us : List Tok) (t u : Bool) → tests cs fs us t u ≡ next most n ts es (pick t (pick u (goes cs fs us) (refused 6)) (refused 7))
+  tests-next : (cs : List Ch) (fs : List Err) (us : List Tok) (t u : Bool)
+      → tests cs fs us t u ≡ next most n ts es (pick t (pick u (goes cs fs us) (refused 6)) (refused 7))
   tests-next cs fs us false u = refl
   tests-next cs fs us true false = refl
   tests-next cs fs us true true = refl
 
-  from-cons : (c : Ch) (cs : List Ch) → Z.tokenize-from most (suc n) (c ∷ cs) ts es ≡ next most n ts es (bounded most (length es) (length ts) (Z.turn c cs))
+  from-cons : (c : Ch) (cs : List Ch)
+      → Z.tokenize-from most (suc n) (c ∷ cs) ts es
+      ≡ next most n ts es (bounded most (length es) (length ts) (Z.turn c cs))
   unfolding Z.tokenize-from
   from-cons c cs = go (Z.turn c cs)
     where
-      go : (t : Turn) → (elim t as (λ _. Z.Tokens) [ refused k ↦ Z.refused k | goes cs′ fs us ↦ tests cs′ fs us (leb (length es + length fs) 255) (leb (length ts + length us) most) ]) ≡ next most n ts es (bounded most (length es) (length ts) t)
+      go : (t : Turn)
+          → (elim t as (λ _. Z.Tokens)
+          [ refused k ↦ Z.refused k | goes cs′ fs us ↦ tests cs′ fs us (leb (length es + length fs) 255) (leb (length ts + length us) most) ])
+          ≡ next most n ts es (bounded most (length es) (length ts) t)
       go (refused k) = refl
       go (goes cs′ fs us) = tests-next cs′ fs us (leb (length es + length fs) 255) (leb (length ts + length us) most)
 
-within-bounds : (most e k : ℕ) {t : Turn} {cs : List Ch} {fs : List Err} {us : List Tok} → t ≡ goes cs fs us → e + length fs ≤ 255 → k + length us ≤ most → bounded most e k t ≡ goes cs fs us
-within-bounds most e k {fs = fs} {us = us} q h l = ap (bounded most e k) q ∙ rw (le-leb (e + length fs) 255 h, le-leb (k + length us) most l)
+within-bounds : (most e k : ℕ) {t : Turn} {cs : List Ch} {fs : List Err} {us : List Tok} → t ≡ goes cs fs us
+    → e + length fs ≤ 255 → k + length us ≤ most → bounded most e k t ≡ goes cs fs us
+within-bounds most e k {fs = fs} {us = us} q h l =
+    ap (bounded most e k) q ∙ rw (le-leb (e + length fs) 255 h, le-leb (k + length us) most l)
 
 -- ---- the code's loop
 
@@ -81,10 +93,17 @@ pub record Looping (most : ℕ) (s T₀ E₀ X₀ T E X : List ℕ) (f : State) 
   pub enough : length (rest s (f .cursor)) ≤ n
   pub is : Z.tokenize-from most (suc n) (rest s (f .cursor)) ts es ≡ Z.tokenize-within most (rest s origin)
 
-pub loop-start : {most : ℕ} {s T E X : List ℕ} → Stands s origin × (length s ≤ 16384) × (8 * most ≤ length T) × (1024 ≤ length E) × (16384 ≤ length X) → Looping most s T E X T E X (record { cursor = origin; tokens = 0; errors = 0; text = 0; how = 0 })
+pub loop-start : {most : ℕ} {s T E X : List ℕ}
+    → Stands s origin × (length s ≤ 16384) × (8 * most ≤ length T) × (1024 ≤ length E) × (16384 ≤ length X)
+    → Looping most s T E X T E X (record { cursor = origin; tokens = 0; errors = 0; text = 0; how = 0 })
 unfolding tokens-words tokens-text errors-words Z.tokenize-within
 loop-start {s = s} p = record {
-  ready = record { asks = record { stands = p .0; small = p .1; room = omega arith; wide = p .4 }; few = record { tokens = omega arith; errors = omega arith; how = refl }; wide = p .2 };
+  ready =
+      record {
+        asks = record { stands = p .0; small = p .1; room = omega arith; wide = p .4 };
+        few = record { tokens = omega arith; errors = omega arith; how = refl };
+        wide = p .2;
+      };
   wide = p .3;
   size-tokens = refl;
   size-errors = refl;
@@ -99,29 +118,61 @@ loop-start {s = s} p = record {
 
 module _ {most : ℕ} {s T₀ E₀ X₀ T E X : List ℕ} {f : State} (q : Looping most s T₀ E₀ X₀ T E X f) where
   pub loop-end : length s ≤ f .cursor .at → Ran most (rest s origin) T E X f
-  loop-end h = inl (record { ts = q .ts; es = q .es; is = sym (q .is) ∙ ap (λ (cs : List Ch). Z.tokenize-from most (suc (q .n)) cs (q .ts) (q .es)) (rest-end s (f .cursor) h) ∙ from-end most (q .n) (q .ts) (q .es); holds = q .holds; few = q .ready .few; room = omega (arith, q .ready .asks .room, q .ready .asks .stands .inside, q .ready .asks .small) })
+  loop-end h =
+      inl (record {
+        ts = q .ts;
+        es = q .es;
+        is = sym (q .is)
+            ∙ ap (λ (cs : List Ch). Z.tokenize-from most (suc (q .n)) cs (q .ts) (q .es)) (rest-end s (f .cursor) h)
+            ∙ from-end most (q .n) (q .ts) (q .es);
+        holds = q .holds;
+        few = q .ready .few;
+        room = omega (arith, q .ready .asks .room, q .ready .asks .stands .inside, q .ready .asks .small);
+      })
 
   module _ (h : f .cursor .at < length s) where
     -- the definition at this turn
-    at-turn : Z.tokenize-within most (rest s origin) ≡ next most (q .n) (q .ts) (q .es) (bounded most (length (q .es)) (length (q .ts)) (turn-of (rest s (f .cursor))))
+    at-turn : Z.tokenize-within most (rest s origin)
+        ≡ next most (q .n) (q .ts) (q .es)
+        (bounded most (length (q .es)) (length (q .ts)) (turn-of (rest s (f .cursor))))
     at-turn = sym (q .is) ∙ rw (rest-head (q .ready .asks .stands) h) (from-cons most (q .n) (q .ts) (q .es) (char s (f .cursor)) _)
 
-    pub loop-stop : {r : State} {T′ E′ X′ : List ℕ} → Taken most (turn-of (rest s (f .cursor))) s f T E X r T′ E′ X′ → (r .how ≡ 0 → ⊥) → Ran most (rest s origin) T′ E′ X′ r
+    pub loop-stop : {r : State} {T′ E′ X′ : List ℕ} → Taken most (turn-of (rest s (f .cursor))) s f T E X r T′ E′ X′
+        → (r .how ≡ 0 → ⊥) → Ran most (rest s origin) T′ E′ X′ r
     loop-stop (inl x) z = absurd (z (x .went .few .how))
-    loop-stop (inr x) z = inr (record { is = at-turn ∙ ap (next most (q .n) (q .ts) (q .es)) (rw (q .holds .errors, q .holds .tokens) at (x .is)); how = x .how })
+    loop-stop (inr x) z =
+        inr (record {
+          is = at-turn
+              ∙ ap (next most (q .n) (q .ts) (q .es)) (rw (q .holds .errors, q .holds .tokens) at (x .is));
+          how = x .how;
+        })
 
-    pub onward : {r : State} {T′ E′ X′ : List ℕ} → Taken most (turn-of (rest s (f .cursor))) s f T E X r T′ E′ X′ → r .how ≡ 0 → Onward most (turn-of (rest s (f .cursor))) s f T E X r T′ E′ X′
+    pub onward : {r : State} {T′ E′ X′ : List ℕ} → Taken most (turn-of (rest s (f .cursor))) s f T E X r T′ E′ X′
+        → r .how ≡ 0 → Onward most (turn-of (rest s (f .cursor))) s f T E X r T′ E′ X′
     onward (inl x) z = x
     onward (inr x) z = absurd (omega (arith, x .how, z))
 
-    loop-next : {r : State} {T′ E′ X′ : List ℕ} → Onward most (turn-of (rest s (f .cursor))) s f T E X r T′ E′ X′ → (m : ℕ) → m ≡ q .n → Looping most s T₀ E₀ X₀ T′ E′ X′ r
+    loop-next : {r : State} {T′ E′ X′ : List ℕ} → Onward most (turn-of (rest s (f .cursor))) s f T E X r T′ E′ X′
+        → (m : ℕ) → m ≡ q .n → Looping most s T₀ E₀ X₀ T′ E′ X′ r
     loop-next x zero e = absurd (omega (arith, x .less, q .enough, e))
     loop-next {r} x (suc m) e =
         let w = x .went in
         let y : 0 + length (tokens-text (q .ts)) ≡ f .text = omega (arith, q .holds .bytes) in
-        let b = within-bounds most (length (q .es)) (length (q .ts)) (w .is) (omega (arith, w .errors, q .holds .errors, w .few .errors)) (omega (arith, w .tokens, q .holds .tokens, w .few .tokens)) in
+        let b = within-bounds most (length (q .es)) (length (q .ts)) (w .is)
+        (omega (arith, w .errors, q .holds .errors, w .few .errors))
+        (omega (arith, w .tokens, q .holds .tokens, w .few .tokens)) in
         record {
-          ready = record { asks = record { stands = w .stands; small = q .ready .asks .small; room = w .room; wide = omega (arith, w .text .size, q .ready .asks .wide) }; few = w .few; wide = omega (arith, w .toks .size, q .ready .wide) };
+          ready =
+              record {
+                asks = record {
+                  stands = w .stands;
+                  small = q .ready .asks .small;
+                  room = w .room;
+                  wide = omega (arith, w .text .size, q .ready .asks .wide);
+                };
+                few = w .few;
+                wide = omega (arith, w .toks .size, q .ready .wide);
+              };
           wide = omega (arith, w .errs .size, q .wide);
           size-tokens = w .toks .size ∙ q .size-tokens;
           size-errors = w .errs .size ∙ q .size-errors;
@@ -129,17 +180,32 @@ module _ {most : ℕ} {s T₀ E₀ X₀ T E X : List ℕ} {f : State} (q : Loopi
           ts = q .ts ++ w .ts;
           es = q .es ++ w .es;
           holds = record {
-            toks = w .toks .put ∙ ap (λ (l : List ℕ). l ++ tokens-words (f .text) (w .ts)) (q .holds .toks) ∙ ap (λ (i : ℕ). tokens-words 0 (q .ts) ++ tokens-words i (w .ts)) (sym y) ∙ sym (words-append 0 (q .ts) (w .ts));
-            errs = w .errs .put ∙ ap (λ (l : List ℕ). l ++ errors-words (w .es)) (q .holds .errs) ∙ sym (errors-words-append (q .es) (w .es));
+            toks =
+                w .toks .put ∙ ap (λ (l : List ℕ). l ++ tokens-words (f .text) (w .ts)) (q .holds .toks)
+                ∙ ap (λ (i : ℕ). tokens-words 0 (q .ts) ++ tokens-words i (w .ts)) (sym y)
+                ∙ sym (words-append 0 (q .ts) (w .ts));
+            errs =
+                w .errs .put ∙ ap (λ (l : List ℕ). l ++ errors-words (w .es)) (q .holds .errs)
+                ∙ sym (errors-words-append (q .es) (w .es));
             text = w .text .put ∙ ap (λ (l : List ℕ). l ++ tokens-text (w .ts)) (q .holds .text) ∙ sym (text-append (q .ts) (w .ts));
             tokens = omega (arith, w .tokens, q .holds .tokens, length-append (q .ts) (w .ts));
             errors = omega (arith, w .errors, q .holds .errors, length-append (q .es) (w .es));
-            bytes = omega (arith, w .text .count, q .holds .bytes, ap length (text-append (q .ts) (w .ts)), length-append (tokens-text (q .ts)) (tokens-text (w .ts)));
+            bytes =
+                omega (
+                  arith,
+                  w .text .count,
+                  q .holds .bytes,
+                  ap length (text-append (q .ts) (w .ts)),
+                  length-append (tokens-text (q .ts)) (tokens-text (w .ts)),
+                );
           };
           n = m;
           enough = omega (arith, x .less, q .enough, e);
-          is = ap (λ (i : ℕ). Z.tokenize-from most i (rest s (r .cursor)) (q .ts ++ w .ts) (q .es ++ w .es)) e ∙ sym (at-turn ∙ ap (next most (q .n) (q .ts) (q .es)) b);
+          is =
+              ap (λ (i : ℕ). Z.tokenize-from most i (rest s (r .cursor)) (q .ts ++ w .ts) (q .es ++ w .es)) e
+              ∙ sym (at-turn ∙ ap (next most (q .n) (q .ts) (q .es)) b);
         }
 
-    pub loop-more : {r : State} {T′ E′ X′ : List ℕ} → Taken most (turn-of (rest s (f .cursor))) s f T E X r T′ E′ X′ → r .how ≡ 0 → Looping most s T₀ E₀ X₀ T′ E′ X′ r
+    pub loop-more : {r : State} {T′ E′ X′ : List ℕ} → Taken most (turn-of (rest s (f .cursor))) s f T E X r T′ E′ X′
+        → r .how ≡ 0 → Looping most s T₀ E₀ X₀ T′ E′ X′ r
     loop-more g z = loop-next (onward g z) (q .n) refl

@@ -43,14 +43,20 @@ unfolding Z.turn
 turn-class c cs = refl
 
 -- the character is passed, the byte behind it is d, and the two begin x
-module _ {s : List ℕ} (st : State) {c : Cursor} {d : ℕ} {k : Class} (x : Class) (told : k ≡ x) (z : Stepped s (st .cursor) c) (h : d ≡ Z.look (rest s c)) (e : class-of k ≡ Z.class (getD s (st .cursor .at) 0) d) where
+module _ {s : List ℕ} (st : State) {c : Cursor} {d : ℕ} {k : Class} (x : Class) (told : k ≡ x)
+    (z : Stepped s (st .cursor) c) (h : d ≡ Z.look (rest s c))
+    (e : class-of k ≡ Z.class (getD s (st .cursor .at) 0) d) where
   abbrev begun : Turn
   begun = of-class (char s (st .cursor)) (rest s c) (class-of x)
 
   of-turn : turn-of (rest s (st .cursor)) ≡ begun
-  of-turn = ap turn-of (z .chars) ∙ turn-class (char s (st .cursor)) (rest s c) ∙ ap (of-class (char s (st .cursor)) (rest s c)) (ap (Z.class (getD s (st .cursor .at) 0)) (sym h) ∙ sym e ∙ ap class-of told)
+  of-turn =
+      ap turn-of (z .chars) ∙ turn-class (char s (st .cursor)) (rest s c)
+      ∙ ap (of-class (char s (st .cursor)) (rest s c))
+      (ap (Z.class (getD s (st .cursor .at) 0)) (sym h) ∙ sym e ∙ ap class-of told)
 
-  pub taken : {most : ℕ} {T E X : List ℕ} {r : State} {T′ E′ X′ : List ℕ} → Turned most begun s st c T E X r T′ E′ X′ → Taken most (turn-of (rest s (st .cursor))) s st T E X r T′ E′ X′
+  pub taken : {most : ℕ} {T E X : List ℕ} {r : State} {T′ E′ X′ : List ℕ} → Turned most begun s st c T E X r T′ E′ X′
+      → Taken most (turn-of (rest s (st .cursor))) s st T E X r T′ E′ X′
   taken (inl g) = inl (record {
     went = record {
       es = g .es;
@@ -76,11 +82,18 @@ module _ {s : List ℕ} (st : State) {c : Cursor} {d : ℕ} {k : Class} (x : Cla
     room : st .text ≤ c .at
     room = omega (arith, a .asks .room, z .wide)
 
-    pub taken-nothing : {E : List ℕ} {cs : List Ch} {q : Cursor} {r : State} → r ≡ at-cursor st q → Passed s c cs q → begun ≡ Z.nothing cs → Taken most (turn-of (rest s (st .cursor))) s st T E X r T E X
+    pub taken-nothing : {E : List ℕ} {cs : List Ch} {q : Cursor} {r : State} → r ≡ at-cursor st q → Passed s c cs q
+        → begun ≡ Z.nothing cs → Taken most (turn-of (rest s (st .cursor))) s st T E X r T E X
     taken-nothing f p g = rw f (taken (end-nothing (a .few) (on-text (a .few) p wrote-none (omega (arith, room, p .forward))) g))
 
-    pub taken-plain : {E : List ℕ} {cs : List Ch} {q : Cursor} {y : ℕ} {r : State} {T′ : List ℕ} → Passed s c cs q → begun ≡ Z.token cs y (placed (st .cursor)) → has-text y ≡ false → TokenPushed most T (at-cursor st q) (y ∷ st .cursor .line ∷ st .cursor .column ∷ 0 ∷ 0 ∷ 0 ∷ 0 ∷ 0 ∷ []) T′ r → Taken most (turn-of (rest s (st .cursor))) s st T E X r T′ E X
+    pub taken-plain : {E : List ℕ} {cs : List Ch} {q : Cursor} {y : ℕ} {r : State} {T′ : List ℕ} → Passed s c cs q
+        → begun ≡ Z.token cs y (placed (st .cursor)) → has-text y ≡ false
+        → TokenPushed most T (at-cursor st q) (y ∷ st .cursor .line ∷ st .cursor .column ∷ 0 ∷ 0 ∷ 0 ∷ 0 ∷ 0 ∷ [])
+        T′ r
+        → Taken most (turn-of (rest s (st .cursor))) s st T E X r T′ E X
     taken-plain p f g w = taken (end-plain (a .few) room p f g w)
 
-    pub taken-error : {E E′ : List ℕ} {r : State} → begun ≡ goes (rest s c) (Z.token-error 4 (placed (st .cursor)) ∷ []) [] → ErrorsPushed E (at-cursor st c) (replicate 1 (Z.token-error 4 (placed (st .cursor)))) E′ r → Taken most (turn-of (rest s (st .cursor))) s st T E X r T E′ X
+    pub taken-error : {E E′ : List ℕ} {r : State} → begun ≡ goes (rest s c) (Z.token-error 4 (placed (st .cursor)) ∷ []) []
+        → ErrorsPushed E (at-cursor st c) (replicate 1 (Z.token-error 4 (placed (st .cursor)))) E′ r
+        → Taken most (turn-of (rest s (st .cursor))) s st T E X r T E′ X
     taken-error f g = taken (end-errors {es = []} (a .few) (on-text (a .few) (passed-none (z .stands)) wrote-none room) f g)

@@ -22,11 +22,16 @@ use Rattle.records.specs.Push.{ErrorsWent, ErrorsPushed, TokenPushed}
 use Rattle.turns.specs.Turn.{at-text, at-cursor, Few, Ready, bounded, Turned}
 use Rattle.turns.proofs.Turned.{end-token, end-errors, with-words, wrote-back}
 
-string-closed : (p : Place) (q : Z.Quoted) → q .closed ≡ true → Z.string-turn p q ≡ goes (q .rest) (replicate (q .unknown) (Z.token-error 1 p)) (record { kind = K.String; place = p; text = q .text; base = 0 } ∷ [])
+string-closed : (p : Place) (q : Z.Quoted) → q .closed ≡ true
+    → Z.string-turn p q
+    ≡ goes (q .rest) (replicate (q .unknown) (Z.token-error 1 p))
+    (record { kind = K.String; place = p; text = q .text; base = 0 } ∷ [])
 unfolding Z.string-turn
 string-closed p q e = rw (e, Z.string-turn)
 
-string-open : (p : Place) (q : Z.Quoted) → q .closed ≡ false → Z.string-turn p q ≡ goes (q .rest) (replicate (q .unknown) (Z.token-error 1 p) ++ (Z.token-error 2 p ∷ [])) []
+string-open : (p : Place) (q : Z.Quoted) → q .closed ≡ false
+    → Z.string-turn p q
+    ≡ goes (q .rest) (replicate (q .unknown) (Z.token-error 1 p) ++ (Z.token-error 2 p ∷ [])) []
 unfolding Z.string-turn
 string-open p q e = rw (e, Z.string-turn)
 
@@ -37,9 +42,14 @@ body s c = Z.quoted false (rest s c)
 abbrev escapes : ℕ → Place → List Err
 escapes n p = replicate n (Z.token-error 1 p)
 
-module _ {most : ℕ} {s : List ℕ} {st : State} {c : Cursor} {T E X X₁ E₁ : List ℕ} {q : Body} {e : State} (p : Place) (a : Ready most s T X st c) (u : QuotedAs s c X (st .text) (body s c) X₁ q) (g : ErrorsPushed E (at-cursor st (q .cursor)) (escapes (q .unknown) p) E₁ e) where
-  too-many : 255 < st .errors + length (escapes (body s c .unknown) p) → (t : Bool) → body s c .closed ≡ t → bounded most (st .errors) (st .tokens) (Z.string-turn p (body s c)) ≡ refused 7
-  too-many h true f = ap (bounded most (st .errors) (st .tokens)) (string-closed p (body s c) f) ∙ rw (lt-leb (st .errors + length (escapes (body s c .unknown) p)) 255 h)
+module _ {most : ℕ} {s : List ℕ} {st : State} {c : Cursor} {T E X X₁ E₁ : List ℕ} {q : Body} {e : State}
+    (p : Place) (a : Ready most s T X st c) (u : QuotedAs s c X (st .text) (body s c) X₁ q)
+    (g : ErrorsPushed E (at-cursor st (q .cursor)) (escapes (q .unknown) p) E₁ e) where
+  too-many : 255 < st .errors + length (escapes (body s c .unknown) p) → (t : Bool) → body s c .closed ≡ t
+      → bounded most (st .errors) (st .tokens) (Z.string-turn p (body s c)) ≡ refused 7
+  too-many h true f =
+      ap (bounded most (st .errors) (st .tokens)) (string-closed p (body s c) f)
+      ∙ rw (lt-leb (st .errors + length (escapes (body s c .unknown) p)) 255 h)
   too-many h false f =
       let x = escapes (body s c .unknown) p ++ (Z.token-error 2 p ∷ []) in
       let k : 255 < st .errors + length x = omega (arith, h, length-append (escapes (body s c .unknown) p) (Z.token-error 2 p ∷ [])) in
@@ -48,31 +58,69 @@ module _ {most : ℕ} {s : List ℕ} {st : State} {c : Cursor} {T E X X₁ E₁ 
   pub string-full-law : {T′ E′ X′ : List ℕ} → (e .how ≡ 0 → ⊥) → Turned most (Z.string-turn p (body s c)) s st c T E X e T′ E′ X′
   string-full-law {T′} {E′} {X′} h = go g
     where
-      go : ErrorsPushed E (at-cursor st (q .cursor)) (escapes (q .unknown) p) E₁ e → Turned most (Z.string-turn p (body s c)) s st c T E X e T′ E′ X′
+      go : ErrorsPushed E (at-cursor st (q .cursor)) (escapes (q .unknown) p) E₁ e
+          → Turned most (Z.string-turn p (body s c)) s st c T E X e T′ E′ X′
       go (inl x) = absurd (h (x .how ∙ a .few .how))
-      go (inr x) = inr (record { is = too-many (rw (u .unknown) at (x .many)) (body s c .closed) refl ∙ ap refused (sym (x .how)); how = omega (arith, x .how) })
+      go (inr x) =
+          inr (record {
+            is = too-many (rw (u .unknown) at (x .many)) (body s c .closed) refl ∙ ap refused (sym (x .how));
+            how = omega (arith, x .how);
+          })
 
   module _ (h : e .how ≡ 0) where
     pub escapes-went : ErrorsWent E (at-cursor st (q .cursor)) (escapes (q .unknown) p) E₁ e
     escapes-went = go g
       where
-        go : ErrorsPushed E (at-cursor st (q .cursor)) (escapes (q .unknown) p) E₁ e → ErrorsWent E (at-cursor st (q .cursor)) (escapes (q .unknown) p) E₁ e
+        go : ErrorsPushed E (at-cursor st (q .cursor)) (escapes (q .unknown) p) E₁ e
+            → ErrorsWent E (at-cursor st (q .cursor)) (escapes (q .unknown) p) E₁ e
         go (inl x) = x
         go (inr x) = absurd (omega (arith, x .how, h))
 
     pub escapes-few : Few most e
-    escapes-few = record { tokens = omega (arith, escapes-went .tokens, a .few .tokens); errors = omega (arith, escapes-went .errors, escapes-went .few); how = h }
+    escapes-few =
+        record {
+          tokens = omega (arith, escapes-went .tokens, a .few .tokens);
+          errors = omega (arith, escapes-went .errors, escapes-went .few);
+          how = h;
+        }
 
-    pub string-closed-law : {T′ : List ℕ} {r : State} → q .closed ≡ true → TokenPushed most T (at-text e (q .cursor) (q .n)) (K.String ∷ p .line ∷ p .column ∷ e .text ∷ (q .n - e .text) ∷ 0 ∷ 0 ∷ 0 ∷ []) T′ r → Turned most (Z.string-turn p (body s c)) s st c T E X r T′ E₁ X₁
+    pub string-closed-law : {T′ : List ℕ} {r : State} → q .closed ≡ true
+        → TokenPushed most T (at-text e (q .cursor) (q .n))
+        (K.String ∷ p .line ∷ p .column ∷ e .text ∷ (q .n - e .text) ∷ 0 ∷ 0 ∷ 0 ∷ []) T′ r
+        → Turned most (Z.string-turn p (body s c)) s st c T E X r T′ E₁ X₁
     string-closed-law f x =
         let z = escapes-went in
         let k : Tok = record { kind = K.String; place = p; text = body s c .text; base = 0 } in
-        end-token (a .few) (record { passed = u .passed; tokens = z .tokens; errors = z .errors; few = omega (arith, z .errors, z .few); how = h; room = u .room; errs = z .wrote; text = u .wrote })
-        (string-closed p _ (sym (u .closed) ∙ f) ∙ ap (λ (v : ℕ). goes (body s c .rest) (escapes v p) (k ∷ [])) (sym (u .unknown))) (with-words k refl (z .text) (omega (arith, u .wrote .count, z .text)) x)
+        end-token (a .few) (record {
+          passed = u .passed;
+          tokens = z .tokens;
+          errors = z .errors;
+          few = omega (arith, z .errors, z .few);
+          how = h;
+          room = u .room;
+          errs = z .wrote;
+          text = u .wrote;
+        })
+        (string-closed p _ (sym (u .closed) ∙ f)
+        ∙ ap (λ (v : ℕ). goes (body s c .rest) (escapes v p) (k ∷ [])) (sym (u .unknown)))
+        (with-words k refl (z .text) (omega (arith, u .wrote .count, z .text)) x)
 
-    pub string-open-law : {E₂ : List ℕ} {r : State} → q .closed ≡ false → ErrorsPushed E₁ (at-text e (q .cursor) (st .text)) (replicate 1 (Z.token-error 2 p)) E₂ r → Turned most (Z.string-turn p (body s c)) s st c T E X r T E₂ X₁
+    pub string-open-law : {E₂ : List ℕ} {r : State} → q .closed ≡ false
+        → ErrorsPushed E₁ (at-text e (q .cursor) (st .text)) (replicate 1 (Z.token-error 2 p)) E₂ r
+        → Turned most (Z.string-turn p (body s c)) s st c T E X r T E₂ X₁
     string-open-law f x =
         let z = escapes-went in
         let l : st .text ≤ length X = omega (arith, a .asks .room, a .asks .wide, a .asks .small, a .asks .stands .inside) in
-        end-errors (a .few) (record { passed = u .passed; tokens = z .tokens; errors = z .errors; few = omega (arith, z .errors, z .few); how = h; room = omega (arith, a .asks .room, u .passed .forward); errs = z .wrote; text = wrote-back l (u .wrote) })
-        (string-open p _ (sym (u .closed) ∙ f) ∙ ap (λ (v : ℕ). goes (body s c .rest) (escapes v p ++ (Z.token-error 2 p ∷ [])) []) (sym (u .unknown))) x
+        end-errors (a .few) (record {
+          passed = u .passed;
+          tokens = z .tokens;
+          errors = z .errors;
+          few = omega (arith, z .errors, z .few);
+          how = h;
+          room = omega (arith, a .asks .room, u .passed .forward);
+          errs = z .wrote;
+          text = wrote-back l (u .wrote);
+        })
+        (string-open p _ (sym (u .closed) ∙ f)
+        ∙ ap (λ (v : ℕ). goes (body s c .rest) (escapes v p ++ (Z.token-error 2 p ∷ [])) []) (sym (u .unknown)))
+        x

@@ -32,13 +32,41 @@ pub passed-none : {s : List ℕ} {c : Cursor} → Stands s c → Passed s c (res
 passed-none z = record { stands = z; is = refl; forward = omega arith; shorter = omega arith }
 
 pub passed-trans : {s : List ℕ} {c d e : Cursor} {cs ds : List Ch} → Passed s c cs d → Passed s d ds e → Passed s c ds e
-passed-trans a b = record { stands = b .stands; is = b .is; forward = omega (arith, a .forward, b .forward); shorter = omega (arith, a .shorter, b .shorter) }
+passed-trans a b =
+    record {
+      stands = b .stands;
+      is = b .is;
+      forward = omega (arith, a .forward, b .forward);
+      shorter = omega (arith, a .shorter, b .shorter);
+    }
 
-pub ready-on : {most : ℕ} {s T X : List ℕ} {f : State} {c d : Cursor} {cs : List Ch} → Ready most s T X f c → Passed s c cs d → Ready most s T X f d
-ready-on a p = record { asks = record { stands = p .stands; small = a .asks .small; room = omega (arith, a .asks .room, p .forward); wide = a .asks .wide }; few = a .few; wide = a .wide }
+pub ready-on : {most : ℕ} {s T X : List ℕ} {f : State} {c d : Cursor} {cs : List Ch} → Ready most s T X f c
+    → Passed s c cs d → Ready most s T X f d
+ready-on a p =
+    record {
+      asks = record {
+        stands = p .stands;
+        small = a .asks .small;
+        room = omega (arith, a .asks .room, p .forward);
+        wide = a .asks .wide;
+      };
+      few = a .few;
+      wide = a .wide;
+    }
 
-pub ready-wrote : {most : ℕ} {s T X : List ℕ} {f : State} {c : Cursor} {n : ℕ} {t X′ : List ℕ} {m : ℕ} → Ready most s T X f c → Wrote X n t X′ m → Ready most s T X′ f c
-ready-wrote a w = record { asks = record { stands = a .asks .stands; small = a .asks .small; room = a .asks .room; wide = omega (arith, a .asks .wide, w .size) }; few = a .few; wide = a .wide }
+pub ready-wrote : {most : ℕ} {s T X : List ℕ} {f : State} {c : Cursor} {n : ℕ} {t X′ : List ℕ} {m : ℕ} → Ready most s T X f c
+    → Wrote X n t X′ m → Ready most s T X′ f c
+ready-wrote a w =
+    record {
+      asks = record {
+        stands = a .asks .stands;
+        small = a .asks .small;
+        room = a .asks .room;
+        wide = omega (arith, a .asks .wide, w .size);
+      };
+      few = a .few;
+      wide = a .wide;
+    }
 
 -- ---- records
 
@@ -61,7 +89,12 @@ pub wrote-back : {X : List ℕ} {n : ℕ} {t X′ : List ℕ} {m : ℕ} → n �
 wrote-back {X} {n} {t} {X′} {m} h w =
     let l : n ≤ length (take n X) = omega (arith, length-take-le n X h) in
     let a : n ≤ m = omega (arith, w .count) in
-    record { put = sym (take-take n m X′ a) ∙ ap (take n) (w .put) ∙ take-append-le n (take n X) t l ∙ take-take n n X (omega arith) ∙ sym (append-nil (take n X)); count = omega arith; size = w .size }
+    record {
+      put = sym (take-take n m X′ a) ∙ ap (take n) (w .put) ∙ take-append-le n (take n X) t l
+          ∙ take-take n n X (omega arith) ∙ sym (append-nil (take n X));
+      count = omega arith;
+      size = w .size;
+    }
 
 -- the part that was written
 pub part-of : {X : List ℕ} {n : ℕ} {t X′ : List ℕ} {m : ℕ} → n ≤ length X → Wrote X n t X′ m → m ≤ length X → take (m - n) (drop n X′) ≡ t
@@ -69,7 +102,8 @@ part-of {X} {n} {t} {X′} {m} h w k =
     let a : m ≡ n + (m - n) = omega (arith, w .count) in
     let b : length (take n X′) ≡ n = length-take-le n X′ (omega (arith, w .size)) in
     let c : length (take n X) ≡ n = length-take-le n X h in
-    let e : take n X′ ++ take (m - n) (drop n X′) ≡ take n X ++ t = sym (take-add n (m - n) X′) ∙ sym (ap (λ (i : ℕ). take i X′) a) ∙ w .put in
+    let e : take n X′ ++ take (m - n) (drop n X′) ≡ take n X ++ t = sym (take-add n (m - n) X′) ∙ sym
+    (ap (λ (i : ℕ). take i X′) a) ∙ w .put in
     sym (drop-at (take n X′) (take (m - n) (drop n X′)) n b) ∙ ap (drop n) e ∙ drop-at (take n X) t n c
 
 -- ---- the ends of a turn
@@ -86,12 +120,28 @@ pub record On (s : List ℕ) (st : State) (c : Cursor) (E X : List ℕ) (cs : Li
   pub text : Wrote X (st .text) t X′ (f .text)
 
 -- no error, and a text
-pub on-text : {most : ℕ} {s : List ℕ} {st : State} {c : Cursor} {E X : List ℕ} {cs : List Ch} {t X′ : List ℕ} {d : Cursor} {n : ℕ} → Few most st → Passed s c cs d → Wrote X (st .text) t X′ n → n ≤ d .at → On s st c E X cs [] t (at-text st d n) E X′
+pub on-text : {most : ℕ} {s : List ℕ} {st : State} {c : Cursor} {E X : List ℕ} {cs : List Ch} {t X′ : List ℕ} {d : Cursor}
+    {n : ℕ}
+    → Few most st → Passed s c cs d → Wrote X (st .text) t X′ n → n ≤ d .at
+    → On s st c E X cs [] t (at-text st d n) E X′
 unfolding errors-words
-on-text {st = st} w p x r = record { passed = p; tokens = refl; errors = omega arith; few = w .errors; how = w .how; room = r; errs = wrote-none; text = x }
+on-text {st = st} w p x r =
+    record {
+      passed = p;
+      tokens = refl;
+      errors = omega arith;
+      few = w .errors;
+      how = w .how;
+      room = r;
+      errs = wrote-none;
+      text = x;
+    }
 
-module _ {most : ℕ} {t : Turn} {s : List ℕ} {st : State} {c : Cursor} {T E X : List ℕ} {cs : List Ch} {es : List Err} (w : Few most st) where
-  pub end-token : {k : Tok} {f : State} {E′ X′ T′ : List ℕ} {r : State} → On s st c E X cs es (k .text) f E′ X′ → t ≡ goes cs es (k ∷ []) → TokenPushed most T f (token-words (st .text) k) T′ r → Turned most t s st c T E X r T′ E′ X′
+module _ {most : ℕ} {t : Turn} {s : List ℕ} {st : State} {c : Cursor} {T E X : List ℕ} {cs : List Ch}
+    {es : List Err} (w : Few most st) where
+  pub end-token : {k : Tok} {f : State} {E′ X′ T′ : List ℕ} {r : State} → On s st c E X cs es (k .text) f E′ X′
+      → t ≡ goes cs es (k ∷ []) → TokenPushed most T f (token-words (st .text) k) T′ r
+      → Turned most t s st c T E X r T′ E′ X′
   end-token {k} {f} {E′} {X′} {T′} {r} o e (inl p) =
       let q : f .cursor ≡ r .cursor = sym (p .cursor) in
       let a : f .errors ≡ r .errors = sym (p .errors) in
@@ -110,14 +160,23 @@ module _ {most : ℕ} {t : Turn} {s : List ℕ} {st : State} {c : Cursor} {T E X
         tokens = omega (arith, p .tokens, o .tokens);
         errors = omega (arith, p .errors, o .errors);
         room = rw (q, b) at (o .room);
-        few = record { tokens = omega (arith, p .tokens, p .few, o .tokens); errors = omega (arith, p .errors, o .few); how = p .how ∙ o .how };
+        few =
+            record {
+              tokens = omega (arith, p .tokens, p .few, o .tokens);
+              errors = omega (arith, p .errors, o .few);
+              how = p .how ∙ o .how;
+            };
       })
   end-token {k} {f} {r = r} o e (inr p) =
       let x : leb (st .errors + length es) 255 ≡ true = le-leb (st .errors + length es) 255 (omega (arith, o .errors, o .few)) in
       let y : leb (st .tokens + 1) most ≡ false = lt-leb (st .tokens + 1) most (omega (arith, p .many, o .tokens)) in
-      inr (record { is = ap (bounded most (st .errors) (st .tokens)) e ∙ rw (x, y) (ap refused (sym (p .how))); how = omega (arith, p .how) })
+      inr (record {
+        is = ap (bounded most (st .errors) (st .tokens)) e ∙ rw (x, y) (ap refused (sym (p .how)));
+        how = omega (arith, p .how);
+      })
 
-  pub end-errors : {fs : List Err} {f : State} {E′ X′ E″ : List ℕ} {r : State} → On s st c E X cs es [] f E′ X′ → t ≡ goes cs (es ++ fs) [] → ErrorsPushed E′ f fs E″ r → Turned most t s st c T E X r T E″ X′
+  pub end-errors : {fs : List Err} {f : State} {E′ X′ E″ : List ℕ} {r : State} → On s st c E X cs es [] f E′ X′
+      → t ≡ goes cs (es ++ fs) [] → ErrorsPushed E′ f fs E″ r → Turned most t s st c T E X r T E″ X′
   unfolding tokens-words tokens-text
   end-errors {fs} {f} {E′} {X′} {E″} {r} o e (inl p) =
       let q : f .cursor ≡ r .cursor = sym (p .cursor) in
@@ -136,10 +195,16 @@ module _ {most : ℕ} {t : Turn} {s : List ℕ} {st : State} {c : Cursor} {T E X
         tokens = omega (arith, p .tokens, o .tokens);
         errors = omega (arith, p .errors, o .errors, length-append es fs);
         room = rw (q, b) at (o .room);
-        few = record { tokens = omega (arith, p .tokens, o .tokens, w .tokens); errors = omega (arith, p .errors, p .few); how = p .how ∙ o .how };
+        few =
+            record {
+              tokens = omega (arith, p .tokens, o .tokens, w .tokens);
+              errors = omega (arith, p .errors, p .few);
+              how = p .how ∙ o .how;
+            };
       })
   end-errors {fs} {f} {r = r} o e (inr p) =
-      let x : leb (st .errors + length (es ++ fs)) 255 ≡ false = lt-leb (st .errors + length (es ++ fs)) 255 (omega (arith, o .errors, p .many, length-append es fs)) in
+      let x : leb (st .errors + length (es ++ fs)) 255 ≡ false = lt-leb (st .errors + length (es ++ fs)) 255
+      (omega (arith, o .errors, p .many, length-append es fs)) in
       inr (record { is = ap (bounded most (st .errors) (st .tokens)) e ∙ rw x (ap refused (sym (p .how))); how = omega (arith, p .how) })
 
   pub end-nothing : {f : State} {E′ X′ : List ℕ} → On s st c E X cs es [] f E′ X′ → t ≡ goes cs es [] → Turned most t s st c T E X f T E′ X′
@@ -162,25 +227,40 @@ module _ {most : ℕ} {t : Turn} {s : List ℕ} {st : State} {c : Cursor} {T E X
         few = record { tokens = omega (arith, o .tokens, w .tokens); errors = o .few; how = o .how };
       })
 
-pub end-refused : {most : ℕ} {t : Turn} {s : List ℕ} {st : State} {c : Cursor} {T E X : List ℕ} {r : State} {T′ E′ X′ : List ℕ} {k : ℕ} → t ≡ refused k → r .how ≡ k → 4 ≤ k → Turned most t s st c T E X r T′ E′ X′
-end-refused {most} {st = st} e h l = inr (record { is = ap (bounded most (st .errors) (st .tokens)) e ∙ ap refused (sym h); how = omega (arith, h) })
+pub end-refused : {most : ℕ} {t : Turn} {s : List ℕ} {st : State} {c : Cursor} {T E X : List ℕ} {r : State}
+    {T′ E′ X′ : List ℕ} {k : ℕ}
+    → t ≡ refused k → r .how ≡ k → 4 ≤ k → Turned most t s st c T E X r T′ E′ X′
+end-refused {most} {st = st} e h l =
+    inr
+    (record { is = ap (bounded most (st .errors) (st .tokens)) e ∙ ap refused (sym h); how = omega (arith, h) })
 
 -- ---- the words of a token
 
-pub with-words : {most : ℕ} {T : List ℕ} {f : State} {T′ : List ℕ} {r : State} (k : Tok) {x y z : ℕ} → has-text (k .kind) ≡ true → y ≡ x → z ≡ length (k .text) → TokenPushed most T f (k .kind ∷ k .place .line ∷ k .place .column ∷ y ∷ z ∷ k .base ∷ 0 ∷ 0 ∷ []) T′ r → TokenPushed most T f (token-words x k) T′ r
+pub with-words : {most : ℕ} {T : List ℕ} {f : State} {T′ : List ℕ} {r : State} (k : Tok) {x y z : ℕ}
+    → has-text (k .kind) ≡ true → y ≡ x → z ≡ length (k .text)
+    → TokenPushed most T f (k .kind ∷ k .place .line ∷ k .place .column ∷ y ∷ z ∷ k .base ∷ 0 ∷ 0 ∷ []) T′ r
+    → TokenPushed most T f (token-words x k) T′ r
 with-words k {x} e f g p = rw (e, sym f, sym g) p
 
 -- a token with no text, at a place further on
-pub end-plain : {most : ℕ} {t : Turn} {s : List ℕ} {st : State} {c : Cursor} {T E X : List ℕ} {cs : List Ch} {d : Cursor} {k : ℕ} {p : Place} {T′ : List ℕ} {r : State} → Few most st → st .text ≤ c .at → Passed s c cs d → t ≡ Z.token cs k p → has-text k ≡ false → TokenPushed most T (at-cursor st d) (k ∷ p .line ∷ p .column ∷ 0 ∷ 0 ∷ 0 ∷ 0 ∷ 0 ∷ []) T′ r → Turned most t s st c T E X r T′ E X
+pub end-plain : {most : ℕ} {t : Turn} {s : List ℕ} {st : State} {c : Cursor} {T E X : List ℕ} {cs : List Ch} {d : Cursor}
+    {k : ℕ} {p : Place} {T′ : List ℕ} {r : State}
+    → Few most st → st .text ≤ c .at → Passed s c cs d → t ≡ Z.token cs k p → has-text k ≡ false
+    → TokenPushed most T (at-cursor st d) (k ∷ p .line ∷ p .column ∷ 0 ∷ 0 ∷ 0 ∷ 0 ∷ 0 ∷ []) T′ r
+    → Turned most t s st c T E X r T′ E X
 end-plain w h q e f g = end-token w (on-text w q wrote-none (omega (arith, q .forward))) e (rw f g)
 
 -- ---- a turn that another goes on with
 
-pub turned-same : {most : ℕ} {t t′ : Turn} {s : List ℕ} {st : State} {c : Cursor} {T E X : List ℕ} {r : State} {T′ E′ X′ : List ℕ} → t ≡ t′ → Turned most t′ s st c T E X r T′ E′ X′ → Turned most t s st c T E X r T′ E′ X′
+pub turned-same : {most : ℕ} {t t′ : Turn} {s : List ℕ} {st : State} {c : Cursor} {T E X : List ℕ} {r : State}
+    {T′ E′ X′ : List ℕ}
+    → t ≡ t′ → Turned most t′ s st c T E X r T′ E′ X′ → Turned most t s st c T E X r T′ E′ X′
 turned-same e g = rw e g
 
 -- from a place further on
-pub turned-on : {most : ℕ} {t t′ : Turn} {s : List ℕ} {st : State} {c d : Cursor} {T E X : List ℕ} {cs : List Ch} {r : State} {T′ E′ X′ : List ℕ} → t ≡ t′ → Passed s c cs d → Turned most t′ s st d T E X r T′ E′ X′ → Turned most t s st c T E X r T′ E′ X′
+pub turned-on : {most : ℕ} {t t′ : Turn} {s : List ℕ} {st : State} {c d : Cursor} {T E X : List ℕ} {cs : List Ch}
+    {r : State} {T′ E′ X′ : List ℕ}
+    → t ≡ t′ → Passed s c cs d → Turned most t′ s st d T E X r T′ E′ X′ → Turned most t s st c T E X r T′ E′ X′
 turned-on e p (inl g) = inl (record {
   es = g .es;
   ts = g .ts;
@@ -199,7 +279,10 @@ turned-on e p (inl g) = inl (record {
 turned-on {most} {st = st} e p (inr g) = inr (record { is = ap (bounded most (st .errors) (st .tokens)) e ∙ g .is; how = g .how })
 
 -- after a text that is taken back
-pub turned-back : {most : ℕ} {t : Turn} {s : List ℕ} {st : State} {c : Cursor} {T E X X₁ : List ℕ} {u : List ℕ} {m : ℕ} {r : State} {T′ E′ X′ : List ℕ} → st .text ≤ length X → Wrote X (st .text) u X₁ m → Turned most t s st c T E X₁ r T′ E′ X′ → Turned most t s st c T E X r T′ E′ X′
+pub turned-back : {most : ℕ} {t : Turn} {s : List ℕ} {st : State} {c : Cursor} {T E X X₁ : List ℕ} {u : List ℕ} {m : ℕ}
+    {r : State} {T′ E′ X′ : List ℕ}
+    → st .text ≤ length X → Wrote X (st .text) u X₁ m → Turned most t s st c T E X₁ r T′ E′ X′
+    → Turned most t s st c T E X r T′ E′ X′
 turned-back h w (inl g) = inl (record {
   es = g .es;
   ts = g .ts;

@@ -34,16 +34,28 @@ above-white : (b : ℕ) → 127 < b → C.is-white b ≡ false
 above-white b h = simp (le-leb 9 b (omega arith), lt-leb b 13 (omega arith), ne-eqb b 32 (λ e. omega arith))
 
 above-word : (b : ℕ) → 127 < b → C.is-word b ≡ false
-above-word b h = simp (le-leb 65 b (omega arith), lt-leb b 90 (omega arith), le-leb 97 b (omega arith), lt-leb b 122 (omega arith), ne-eqb b 95 (λ e. omega arith), le-leb 48 b (omega arith), lt-leb b 57 (omega arith))
+above-word b h =
+    simp (
+      le-leb 65 b (omega arith),
+      lt-leb b 90 (omega arith),
+      le-leb 97 b (omega arith),
+      lt-leb b 122 (omega arith),
+      ne-eqb b 95 (λ e. omega arith),
+      le-leb 48 b (omega arith),
+      lt-leb b 57 (omega arith),
+    )
 
 white-runs : (cs : List Ch) → Z.white cs ≡ run-of (ltb 127 (Z.look (blanks cs))) (record { text = []; rest = blanks cs })
 unfolding Z.white blanks
 white-runs [] = refl
 white-runs (c ∷ cs) = go (white-runs cs) (ltb 127 (c .byte)) refl (C.is-white (c .byte)) refl
   where
-    go : Z.white cs ≡ run-of (ltb 127 (Z.look (blanks cs))) (record { text = []; rest = blanks cs }) → (t : Bool) → ltb 127 (c .byte) ≡ t → (u : Bool) → C.is-white (c .byte) ≡ u →
-        (elim t as (λ _. Z.Run) [ true ↦ Z.foreign | false ↦ elim u as (λ _. Z.Run) [ true ↦ Z.white cs | false ↦ Z.ends (record { text = []; rest = c ∷ cs }) ] ])
-        ≡ run-of (ltb 127 (Z.look (elim u as (λ _. List Ch) [ true ↦ blanks cs | false ↦ c ∷ cs ]))) (record { text = []; rest = elim u as (λ _. List Ch) [ true ↦ blanks cs | false ↦ c ∷ cs ] })
+    go : Z.white cs ≡ run-of (ltb 127 (Z.look (blanks cs))) (record { text = []; rest = blanks cs }) → (t : Bool)
+        → ltb 127 (c .byte) ≡ t → (u : Bool) → C.is-white (c .byte) ≡ u →
+        (elim t as (λ _. Z.Run)
+        [ true ↦ Z.foreign | false ↦ elim u as (λ _. Z.Run) [ true ↦ Z.white cs | false ↦ Z.ends (record { text = []; rest = c ∷ cs }) ] ])
+        ≡ run-of (ltb 127 (Z.look (elim u as (λ _. List Ch) [ true ↦ blanks cs | false ↦ c ∷ cs ])))
+        (record { text = []; rest = elim u as (λ _. List Ch) [ true ↦ blanks cs | false ↦ c ∷ cs ] })
     go ih true e true f = never-both f (above-white (c .byte) (ltb-true _ _ e))
     go ih true e false f = rw e
     go ih false e true f = ih
@@ -61,8 +73,10 @@ word-runs (c ∷ cs) = go (word-runs cs) (ltb 127 (c .byte)) refl (C.is-word (c 
     sp : Bool → Span
     sp u = elim u as (λ _. Span) [ true ↦ Z.ahead (c .byte ∷ []) (letters cs) | false ↦ record { text = []; rest = c ∷ cs } ]
 
-    go : Z.word cs ≡ run-of (ltb 127 (Z.look (letters cs .rest))) (letters cs) → (t : Bool) → ltb 127 (c .byte) ≡ t → (u : Bool) → C.is-word (c .byte) ≡ u →
-        (elim t as (λ _. Z.Run) [ true ↦ Z.foreign | false ↦ elim u as (λ _. Z.Run) [ true ↦ Z.run-ahead (c .byte ∷ []) (Z.word cs) | false ↦ Z.ends (record { text = []; rest = c ∷ cs }) ] ])
+    go : Z.word cs ≡ run-of (ltb 127 (Z.look (letters cs .rest))) (letters cs) → (t : Bool)
+        → ltb 127 (c .byte) ≡ t → (u : Bool) → C.is-word (c .byte) ≡ u →
+        (elim t as (λ _. Z.Run)
+        [ true ↦ Z.foreign | false ↦ elim u as (λ _. Z.Run) [ true ↦ Z.run-ahead (c .byte ∷ []) (Z.word cs) | false ↦ Z.ends (record { text = []; rest = c ∷ cs }) ] ])
         ≡ run-of (ltb 127 (Z.look (sp u .rest))) (sp u)
     go ih true e true f = never-both f (above-word (c .byte) (ltb-true _ _ e))
     go ih true e false f = rw e
@@ -75,31 +89,48 @@ asm-foreign : (p : Place) → Z.assembly-turn p Z.foreign ≡ refused 4
 unfolding Z.assembly-turn
 asm-foreign p = refl
 
-asm-open : (p : Place) (s : Span) → Z.look (s .rest) ≡ 123 → Z.assembly-turn p (Z.ends s) ≡ Z.token-text (Z.assembly (Z.drop-one (s .rest)) .rest) K.InlineAssemblyFragment p (Z.assembly (Z.drop-one (s .rest)) .text) 0
+asm-open : (p : Place) (s : Span) → Z.look (s .rest) ≡ 123
+    → Z.assembly-turn p (Z.ends s)
+    ≡ Z.token-text (Z.assembly (Z.drop-one (s .rest)) .rest) K.InlineAssemblyFragment p
+    (Z.assembly (Z.drop-one (s .rest)) .text) 0
 unfolding Z.assembly-turn
 asm-open p s e = rw (eq-eqb _ _ e, Z.assembly-turn)
 
-asm-other : (p : Place) (s : Span) → (Z.look (s .rest) ≡ 123 → ⊥) → Z.assembly-turn p (Z.ends s) ≡ goes (Z.drop-one (s .rest)) (Z.token-error 3 p ∷ []) []
+asm-other : (p : Place) (s : Span) → (Z.look (s .rest) ≡ 123 → ⊥)
+    → Z.assembly-turn p (Z.ends s) ≡ goes (Z.drop-one (s .rest)) (Z.token-error 3 p ∷ []) []
 unfolding Z.assembly-turn
 asm-other p s e = rw (ne-eqb _ _ e, Z.assembly-turn)
 
-asm-run : (s : List ℕ) (w : Cursor) {b : ℕ} (cs : List Ch) → rest s w ≡ blanks cs → b ≡ Z.look (rest s w) → (t : Bool) → ltb 127 b ≡ t → Z.white cs ≡ run-of t (record { text = []; rest = rest s w })
-asm-run s w cs p k t e = white-runs cs ∙ ap (λ (q : List Ch). run-of (ltb 127 (Z.look q)) (record { text = []; rest = q })) (sym p) ∙ ap (λ (u : Bool). run-of u (record { text = []; rest = rest s w })) (ap (ltb 127) (sym k) ∙ e)
+asm-run : (s : List ℕ) (w : Cursor) {b : ℕ} (cs : List Ch) → rest s w ≡ blanks cs → b ≡ Z.look (rest s w) → (t : Bool)
+    → ltb 127 b ≡ t → Z.white cs ≡ run-of t (record { text = []; rest = rest s w })
+asm-run s w cs p k t e =
+    white-runs cs ∙ ap (λ (q : List Ch). run-of (ltb 127 (Z.look q)) (record { text = []; rest = q })) (sym p)
+    ∙ ap (λ (u : Bool). run-of u (record { text = []; rest = rest s w })) (ap (ltb 127) (sym k) ∙ e)
 
-module _ {most : ℕ} {s : List ℕ} {st : State} {c w : Cursor} {b : ℕ} (p : Place) (pw : Passed s c (blanks (rest s c)) w) (k : b ≡ Z.look (rest s w)) where
-  pub asm-foreign-law : {T E X : List ℕ} {r : State} {T′ E′ X′ : List ℕ} → 127 < b → r .how ≡ 4 → Turned most (Z.assembly-turn p (Z.white (rest s c))) s st c T E X r T′ E′ X′
+module _ {most : ℕ} {s : List ℕ} {st : State} {c w : Cursor} {b : ℕ} (p : Place)
+    (pw : Passed s c (blanks (rest s c)) w) (k : b ≡ Z.look (rest s w)) where
+  pub asm-foreign-law : {T E X : List ℕ} {r : State} {T′ E′ X′ : List ℕ} → 127 < b → r .how ≡ 4
+      → Turned most (Z.assembly-turn p (Z.white (rest s c))) s st c T E X r T′ E′ X′
   asm-foreign-law h e = end-refused (ap (Z.assembly-turn p) (asm-run s w _ (pw .is) k true (lt-ltb _ _ h)) ∙ asm-foreign p) e (omega arith)
 
   module _ {T X : List ℕ} (a : Ready most s T X st c) (h : b ≤ 127) {d : Cursor} (pd : Passed s w (Z.drop-one (rest s w)) d) where
-    pub asm-open-law : {E X₁ : List ℕ} {n : Scan} {r : State} {T′ : List ℕ} → b ≡ 123 → Spanned s d X (st .text) (Z.assembly (rest s d)) X₁ n →
-        TokenPushed most T (at-text st (n .cursor) (n .n)) (K.InlineAssemblyFragment ∷ p .line ∷ p .column ∷ st .text ∷ (n .n - st .text) ∷ 0 ∷ 0 ∷ 0 ∷ []) T′ r → Turned most (Z.assembly-turn p (Z.white (rest s c))) s st c T E X r T′ E X₁
+    pub asm-open-law : {E X₁ : List ℕ} {n : Scan} {r : State} {T′ : List ℕ} → b ≡ 123
+        → Spanned s d X (st .text) (Z.assembly (rest s d)) X₁ n →
+        TokenPushed most T (at-text st (n .cursor) (n .n))
+        (K.InlineAssemblyFragment ∷ p .line ∷ p .column ∷ st .text ∷ (n .n - st .text) ∷ 0 ∷ 0 ∷ 0 ∷ []) T′ r
+        → Turned most (Z.assembly-turn p (Z.white (rest s c))) s st c T E X r T′ E X₁
     asm-open-law e sp g =
         let z : Z.assembly (rest s d) ≡ Z.assembly (Z.drop-one (rest s w)) = ap Z.assembly (pd .is) in
         end-token (a .few) (on-text (a .few) (passed-trans (passed-trans pw pd) (sp .passed)) (sp .wrote) (sp .room))
-        (ap (Z.assembly-turn p) (asm-run s w _ (pw .is) k false (le-ltb _ _ h)) ∙ asm-open p _ (sym k ∙ e) ∙ ap (λ (q : Span). Z.token-text (q .rest) K.InlineAssemblyFragment p (q .text) 0) (sym z))
-        (with-words (record { kind = K.InlineAssemblyFragment; place = p; text = Z.assembly (rest s d) .text; base = 0 }) refl refl (omega (arith, sp .wrote .count)) g)
+        (ap (Z.assembly-turn p) (asm-run s w _ (pw .is) k false (le-ltb _ _ h)) ∙ asm-open p _ (sym k ∙ e)
+        ∙ ap (λ (q : Span). Z.token-text (q .rest) K.InlineAssemblyFragment p (q .text) 0) (sym z))
+        (with-words
+        (record { kind = K.InlineAssemblyFragment; place = p; text = Z.assembly (rest s d) .text; base = 0 })
+        refl refl (omega (arith, sp .wrote .count)) g)
 
-    pub asm-other-law : {E E′ : List ℕ} {r : State} → (b ≡ 123 → ⊥) → ErrorsPushed E (at-cursor st d) (replicate 1 (Z.token-error 3 p)) E′ r → Turned most (Z.assembly-turn p (Z.white (rest s c))) s st c T E X r T E′ X
+    pub asm-other-law : {E E′ : List ℕ} {r : State} → (b ≡ 123 → ⊥)
+        → ErrorsPushed E (at-cursor st d) (replicate 1 (Z.token-error 3 p)) E′ r
+        → Turned most (Z.assembly-turn p (Z.white (rest s c))) s st c T E X r T E′ X
     asm-other-law e g =
         end-errors (a .few) (on-text (a .few) (passed-trans pw pd) wrote-none (omega (arith, pw .forward, pd .forward, a .asks .room)))
         (ap (Z.assembly-turn p) (asm-run s w _ (pw .is) k false (le-ltb _ _ h)) ∙ asm-other p _ (λ q. e (k ∙ q))) g
@@ -127,8 +158,14 @@ word-keyword : (p : Place) (s : Span) (k : ℕ) → (k ≡ 0 → ⊥) → word-k
 word-keyword p s zero e = absurd (e refl)
 word-keyword p s (suc k) e = refl
 
-word-run : (s : List ℕ) (w : Cursor) {b : ℕ} (cs : List Ch) (first : ℕ) → rest s w ≡ letters cs .rest → b ≡ Z.look (rest s w) → (t : Bool) → ltb 127 b ≡ t → Z.run-ahead (first ∷ []) (Z.word cs) ≡ run-of t (Z.ahead (first ∷ []) (letters cs))
-word-run s w cs first p k t e = ap (Z.run-ahead (first ∷ [])) (word-runs cs) ∙ ahead-runs (ltb 127 (Z.look (letters cs .rest))) (first ∷ []) (letters cs) ∙ ap (λ (u : Bool). run-of u (Z.ahead (first ∷ []) (letters cs))) (ap (λ (q : List Ch). ltb 127 (Z.look q)) (sym p) ∙ ap (ltb 127) (sym k) ∙ e)
+word-run : (s : List ℕ) (w : Cursor) {b : ℕ} (cs : List Ch) (first : ℕ) → rest s w ≡ letters cs .rest
+    → b ≡ Z.look (rest s w) → (t : Bool) → ltb 127 b ≡ t
+    → Z.run-ahead (first ∷ []) (Z.word cs) ≡ run-of t (Z.ahead (first ∷ []) (letters cs))
+word-run s w cs first p k t e =
+    ap (Z.run-ahead (first ∷ [])) (word-runs cs)
+    ∙ ahead-runs (ltb 127 (Z.look (letters cs .rest))) (first ∷ []) (letters cs)
+    ∙ ap (λ (u : Bool). run-of u (Z.ahead (first ∷ []) (letters cs)))
+    (ap (λ (q : List Ch). ltb 127 (Z.look q)) (sym p) ∙ ap (ltb 127) (sym k) ∙ e)
 
 -- the word as the code takes it, and as the definition does
 abbrev taken : State → Scan → List ℕ → List ℕ
@@ -140,7 +177,9 @@ spelled first cs = Z.ahead (first ∷ []) (letters cs)
 abbrev turn-at : Place → ℕ → List Ch → Turn
 turn-at p first cs = Z.word-turn p (Z.run-ahead (first ∷ []) (Z.word cs))
 
-module _ {most : ℕ} {s : List ℕ} {st : State} {c : Cursor} {T X X₁ X₂ : List ℕ} {first n b : ℕ} {w : Scan} (p : Place) (a : Ready most s T X st c) (q : Wrote X (st .text) (first ∷ []) X₁ n) (sp : Spanned s c X₁ n (letters (rest s c)) X₂ w) (k : b ≡ Z.look (rest s (w .cursor))) where
+module _ {most : ℕ} {s : List ℕ} {st : State} {c : Cursor} {T X X₁ X₂ : List ℕ} {first n b : ℕ} {w : Scan}
+    (p : Place) (a : Ready most s T X st c) (q : Wrote X (st .text) (first ∷ []) X₁ n)
+    (sp : Spanned s c X₁ n (letters (rest s c)) X₂ w) (k : b ≡ Z.look (rest s (w .cursor))) where
   within : st .text ≤ length X
   within = omega (arith, a .asks .room, a .asks .wide, a .asks .small, a .asks .stands .inside)
 
@@ -150,25 +189,47 @@ module _ {most : ℕ} {s : List ℕ} {st : State} {c : Cursor} {T X X₁ X₂ : 
   taken-is : taken st w X₂ ≡ first ∷ letters (rest s c) .text
   taken-is = part-of within written (omega (arith, sp .room, sp .passed .stands .inside, a .asks .wide, a .asks .small))
 
-  pub word-foreign-law : {E : List ℕ} {r : State} {T′ E′ X′ : List ℕ} → 127 < b → r .how ≡ 4 → Turned most (turn-at p first (rest s c)) s st c T E X r T′ E′ X′
-  word-foreign-law h e = end-refused (ap (Z.word-turn p) (word-run s (w .cursor) _ first (sp .passed .is) k true (lt-ltb _ _ h)) ∙ word-foreign p) e (omega arith)
+  pub word-foreign-law : {E : List ℕ} {r : State} {T′ E′ X′ : List ℕ} → 127 < b → r .how ≡ 4
+      → Turned most (turn-at p first (rest s c)) s st c T E X r T′ E′ X′
+  word-foreign-law h e =
+      end-refused (ap (Z.word-turn p) (word-run s (w .cursor) _ first (sp .passed .is) k true (lt-ltb _ _ h))
+      ∙ word-foreign p) e (omega arith)
 
   module _ (h : b ≤ 127) {v : Bool} (e : v ≡ Z.same (taken st w X₂) asm) where
     turn-body : (t : Bool) → v ≡ t → turn-at p first (rest s c) ≡ word-body p (spelled first (rest s c)) t (Z.keyword (taken st w X₂))
     turn-body t f =
-        ap (Z.word-turn p) (word-run s (w .cursor) _ first (sp .passed .is) k false (le-ltb _ _ h)) ∙ word-ends p _ ∙ ap (λ (l : List ℕ). word-body p (spelled first (rest s c)) (Z.same l asm) (Z.keyword l)) (sym taken-is)
+        ap (Z.word-turn p) (word-run s (w .cursor) _ first (sp .passed .is) k false (le-ltb _ _ h))
+        ∙ word-ends p _
+        ∙ ap (λ (l : List ℕ). word-body p (spelled first (rest s c)) (Z.same l asm) (Z.keyword l)) (sym taken-is)
         ∙ ap (λ (u : Bool). word-body p (spelled first (rest s c)) u (Z.keyword (taken st w X₂))) (sym e ∙ f)
 
-    pub word-asm-law : {E : List ℕ} {r : State} {T′ E′ X′ : List ℕ} → v ≡ true → Turned most (Z.assembly-turn p (Z.white (rest s (w .cursor)))) s st (w .cursor) T E X₂ r T′ E′ X′ → Turned most (turn-at p first (rest s c)) s st c T E X r T′ E′ X′
-    word-asm-law f g = turned-back within written (turned-on (turn-body true f ∙ ap (λ (l : List Ch). Z.assembly-turn p (Z.white l)) (sym (sp .passed .is))) (sp .passed) g)
+    pub word-asm-law : {E : List ℕ} {r : State} {T′ E′ X′ : List ℕ} → v ≡ true
+        → Turned most (Z.assembly-turn p (Z.white (rest s (w .cursor)))) s st (w .cursor) T E X₂ r T′ E′ X′
+        → Turned most (turn-at p first (rest s c)) s st c T E X r T′ E′ X′
+    word-asm-law f g =
+        turned-back within written (turned-on
+        (turn-body true f ∙ ap (λ (l : List Ch). Z.assembly-turn p (Z.white l)) (sym (sp .passed .is)))
+        (sp .passed) g)
 
     module _ {y : ℕ} (f : v ≡ false) (g : y ≡ Z.keyword (taken st w X₂)) where
       turn-kind : turn-at p first (rest s c) ≡ word-kind p (spelled first (rest s c)) y
       turn-kind = turn-body false f ∙ ap (word-kind p (spelled first (rest s c))) (sym g)
 
-      pub word-identifier-law : {E T′ : List ℕ} {r : State} → y ≡ 0 → TokenPushed most T (at-text st (w .cursor) (w .n)) (K.Identifier ∷ p .line ∷ p .column ∷ st .text ∷ (w .n - st .text) ∷ 0 ∷ 0 ∷ 0 ∷ []) T′ r → Turned most (turn-at p first (rest s c)) s st c T E X r T′ E X₂
-      word-identifier-law z x = end-token (a .few) (on-text (a .few) (sp .passed) written (sp .room)) (turn-kind ∙ ap (word-kind p (spelled first (rest s c))) z)
-          (with-words (record { kind = K.Identifier; place = p; text = first ∷ letters (rest s c) .text; base = 0 }) refl refl (omega (arith, written .count)) x)
+      pub word-identifier-law : {E T′ : List ℕ} {r : State} → y ≡ 0
+          → TokenPushed most T (at-text st (w .cursor) (w .n))
+          (K.Identifier ∷ p .line ∷ p .column ∷ st .text ∷ (w .n - st .text) ∷ 0 ∷ 0 ∷ 0 ∷ []) T′ r
+          → Turned most (turn-at p first (rest s c)) s st c T E X r T′ E X₂
+      word-identifier-law z x =
+          end-token (a .few) (on-text (a .few) (sp .passed) written (sp .room))
+          (turn-kind ∙ ap (word-kind p (spelled first (rest s c))) z)
+          (with-words
+          (record { kind = K.Identifier; place = p; text = first ∷ letters (rest s c) .text; base = 0 }) refl
+          refl (omega (arith, written .count)) x)
 
-      pub word-keyword-law : {E T′ : List ℕ} {r : State} → (y ≡ 0 → ⊥) → TokenPushed most T (at-cursor st (w .cursor)) (y ∷ p .line ∷ p .column ∷ 0 ∷ 0 ∷ 0 ∷ 0 ∷ 0 ∷ []) T′ r → Turned most (turn-at p first (rest s c)) s st c T E X r T′ E X₂
-      word-keyword-law z x = turned-back within written (end-plain (a .few) (a .asks .room) (sp .passed) (turn-kind ∙ word-keyword _ _ _ z) (rw g (plain-textless _ (keyword-plain (taken st w X₂)))) x)
+      pub word-keyword-law : {E T′ : List ℕ} {r : State} → (y ≡ 0 → ⊥)
+          → TokenPushed most T (at-cursor st (w .cursor)) (y ∷ p .line ∷ p .column ∷ 0 ∷ 0 ∷ 0 ∷ 0 ∷ 0 ∷ []) T′ r
+          → Turned most (turn-at p first (rest s c)) s st c T E X r T′ E X₂
+      word-keyword-law z x =
+          turned-back within written
+          (end-plain (a .few) (a .asks .room) (sp .passed) (turn-kind ∙ word-keyword _ _ _ z)
+          (rw g (plain-textless _ (keyword-plain (taken st w X₂)))) x)

@@ -36,7 +36,11 @@ symbol-requires c κs = search needs
 returns-6 : tie.Need-returns-6
 returns-6 c = rw class-is (search (no, is, not, some-kind, no-kind, le-ltb) depth 7)
 
-past-symbols : (c : tie.Else6) → {r : Z.Class} → r ≡ alone (c .before .before .before .before .before .before .before .before .before .before .args .c) → r ≡ Z.class (c .before .before .before .before .before .before .before .before .before .before .args .c) (c .before .before .before .before .before .before .before .before .before .before .args .d)
+past-symbols : (c : tie.Else6) → {r : Z.Class}
+    → r ≡ alone (c .before .before .before .before .before .before .before .before .before .before .args .c)
+    → r
+    ≡ Z.class (c .before .before .before .before .before .before .before .before .before .before .args .c)
+    (c .before .before .before .before .before .before .before .before .before .before .args .d)
 past-symbols c e = search no-symbol
 
 returns-7 : tie.Need-returns-7

@@ -3,34 +3,70 @@ use borrow.Author.Needs.{needs}
 use Rattle.expression.proofs.bare_name.Statement.{statement}
 use Rattle.expression.proofs.bare_name.Tie as tie
 
+enum-told : tie.Need-enum-told
+enum-told c = search needs
+
+returns : tie.Need-returns
+returns c =
+    let start = c .before .before .before .before in
+    bare-stops (start .pre) (c .match .keys2)
+
+head-requires : tie.Need-head-requires
+head-requires c κs = search needs
+
+write-bare-requires : tie.Need-write-bare-requires
+write-bare-requires c κs =
+    let at-head = c .before .before .before in
+    let at-enum-told = at-head .before .before in
+    let start = at-enum-told .before .before .before .before .before in
+    bare-room (start .pre) (at-enum-told .enum-told .given .1) (at-head .head .ensures)
+
+same-length : tie.Need-same-length
+same-length c = search needs
+
+returns-2 : tie.Need-returns-2
+returns-2 c =
+    let at-write-bare = c .before .before in
+    let at-if1 = at-write-bare .before .before in
+    let at-head = at-if1 .before .before in
+    let at-enum-told = at-head .before .before in
+    let start = at-enum-told .before .before .before .before .before in
+    bare-name (start .pre) (at-enum-told .enum-told .given .1) (at-head .head .ensures) (at-if1 .if1 .taken)
+    (at-write-bare .write-bare .ensures)
+
+slice-aggregate-write-bare : tie.Need-slice-aggregate-write-bare
+slice-aggregate-write-bare c = search needs
+
+write-bare-requires-2 : tie.Need-write-bare-requires-2
+write-bare-requires-2 c κs =
+    let at-enum-told = c .before .before .before .before .before .before in
+    let start = at-enum-told .before .before .before .before .before in
+    unknown-room (start .pre) (at-enum-told .enum-told .given .1)
+
+same-length-2 : tie.Need-same-length-2
+same-length-2 c = search needs
+
+returns-3 : tie.Need-returns-3
+returns-3 c =
+    let at-write-bare2 = c .before .before in
+    let at-if1 = at-write-bare2 .before .before .before in
+    let at-head = at-if1 .before .before in
+    let at-enum-told = at-head .before .before in
+    let start = at-enum-told .before .before .before .before .before in
+    bare-unknown (start .pre) (at-enum-told .enum-told .given .1) (at-head .head .ensures)
+    (at-if1 .if1 .left) (at-write-bare2 .write-bare2 .ensures)
+
 pub bare-name-spec : {M : Type 1} → statement M
 bare-name-spec =
     tie.close
     (tie.spec
-    (λ c. search needs)
-    (λ c. bare-stops (c .before .before .before .before .pre) (c .match .keys2))
-    (λ c κs. search needs)
-    (λ c κs.
-    let at-head = c .before .before .before in
-    let at-enum-told = at-head .before .before in
-    let start = at-enum-told .before .before .before .before .before in
-    bare-room (start .pre) (at-enum-told .enum-told .given .1) (at-head .head .ensures))
-    (λ c. search needs)
-    (λ c.
-    let at-if1 = c .before .before .before .before in
-    let at-head = at-if1 .before .before in
-    let at-enum-told = at-head .before .before in
-    let start = at-enum-told .before .before .before .before .before in
-    bare-name (start .pre) (at-enum-told .enum-told .given .1) (at-head .head .ensures) (at-if1 .if1 .taken) (c .before .before .write-bare .ensures))
-    (λ c. search needs)
-    (λ c κs.
-    let at-enum-told = c .before .before .before .before .before .before in
-    let start = at-enum-told .before .before .before .before .before in
-    unknown-room (start .pre) (at-enum-told .enum-told .given .1))
-    (λ c. search needs)
-    (λ c.
-    let at-if1 = c .before .before .before .before .before in
-    let at-head = at-if1 .before .before in
-    let at-enum-told = at-head .before .before in
-    let start = at-enum-told .before .before .before .before .before in
-    bare-unknown (start .pre) (at-enum-told .enum-told .given .1) (at-head .head .ensures) (at-if1 .if1 .left) (c .before .before .write-bare2 .ensures)))
+    enum-told
+    returns
+    head-requires
+    write-bare-requires
+    same-length
+    returns-2
+    slice-aggregate-write-bare
+    write-bare-requires-2
+    same-length-2
+    returns-3)

@@ -15,7 +15,37 @@ abbrev μ-loop : tie.MeasureT-loop
 
 loop-holds : tie.Need-loop-holds Inv-loop μ-loop
 unfolding errs
-loop-holds c = fields-none refl (c .before .before .pre .0)
+loop-holds c =
+    let start = c .before .before in
+    fields-none refl (start .pre .0)
+
+mul-error-field : tie.Need-mul-error-field Inv-loop μ-loop
+mul-error-field c = search needs
+
+shared-slice-read-error-field : tie.Need-shared-slice-read-error-field Inv-loop μ-loop
+shared-slice-read-error-field c = search needs
+
+error-field-requires : tie.Need-error-field-requires Inv-loop μ-loop
+error-field-requires c κs = search needs
+
+add-i : tie.Need-add-i Inv-loop μ-loop
+add-i c = search needs
+
+loop-less : tie.Need-loop-less Inv-loop μ-loop
+loop-less c = search needs
+
+loop-again : tie.Need-loop-again Inv-loop μ-loop
+loop-again c =
+    let at-error-field = c .before .before in
+    let at-loop = at-error-field .before .before .before .before in
+    fields-more (at-loop .loop .inv) (omega arith) (errs-next _ _ (omega arith))
+    (at-error-field .error-field .ensures) (omega (arith, at-error-field .error-field .kept))
+
+same-length : tie.Need-same-length Inv-loop μ-loop
+same-length c = c .before .loop .inv .size
+
+returns : tie.Need-returns Inv-loop μ-loop
+returns c = fields-done (c .before .loop .inv) (omega arith)
 
 pub error-fields-spec : {M : Type 1} → statement M
 error-fields-spec =
@@ -24,13 +54,11 @@ error-fields-spec =
     Inv-loop
     μ-loop
     loop-holds
-    (λ c. search needs)
-    (λ c. search needs)
-    (λ c κs. search needs)
-    (λ c. search needs)
-    (λ c. search needs)
-    (λ c.
-    let at-loop = c .before .before .before .before .before .before in
-    fields-more (at-loop .loop .inv) (omega arith) (errs-next _ _ (omega arith)) (c .before .before .error-field .ensures) (omega (arith, c .before .before .error-field .kept)))
-    (λ c. c .before .loop .inv .size)
-    (λ c. fields-done (c .before .loop .inv) (omega arith)))
+    mul-error-field
+    shared-slice-read-error-field
+    error-field-requires
+    add-i
+    loop-less
+    loop-again
+    same-length
+    returns)

@@ -10,28 +10,63 @@ Inv-loop tokens count text f₀ i₀ f i = Tokens tokens text count f i
 abbrev μ-loop : tie.MeasureT-loop
 μ-loop tokens count text f₀ i₀ f i = count - i
 
+loop-holds : tie.Need-loop-holds Inv-loop μ-loop
+loop-holds c = tokens-start _ _ _
+
+words-at-requires : tie.Need-words-at-requires Inv-loop μ-loop
+words-at-requires c κs = search needs
+
+good-alone-requires : tie.Need-good-alone-requires Inv-loop μ-loop
+good-alone-requires c κs = search needs
+
+good-behind-requires : tie.Need-good-behind-requires Inv-loop μ-loop
+good-behind-requires c κs = search needs
+
+remember-requires : tie.Need-remember-requires Inv-loop μ-loop
+remember-requires c κs = search needs
+
+add-i : tie.Need-add-i Inv-loop μ-loop
+add-i c = search needs
+
+loop-less : tie.Need-loop-less Inv-loop μ-loop
+loop-less c = search needs
+
+loop-again : tie.Need-loop-again Inv-loop μ-loop
+loop-again c =
+    let at-good-behind = c .before .before in
+    let at-good-alone = at-good-behind .before in
+    let at-words-at = at-good-alone .before in
+    let at-loop-test = at-words-at .before in
+    let at-loop = at-loop-test .before in
+    token-more (at-loop .loop .inv) (at-loop-test .loop-test .taken) (at-words-at .words-at .ensures)
+    (at-good-alone .good-alone .ensures) (at-good-behind .good-behind .ensures) (c .before .if1 .taken)
+    (c .remember .ensures)
+
+returns : tie.Need-returns Inv-loop μ-loop
+returns c =
+    let at-good-alone = c .before .before in
+    let at-words-at = at-good-alone .before in
+    let at-loop-test = at-words-at .before in
+    let at-loop = at-loop-test .before in
+    token-bad (at-loop .loop .inv) (at-loop-test .loop-test .taken) (at-words-at .words-at .ensures)
+    (at-good-alone .good-alone .ensures) (c .before .good-behind .ensures) (c .if1 .left)
+
+returns-2 : tie.Need-returns-2 Inv-loop μ-loop
+returns-2 c = tokens-end (c .before .loop .inv) (c .loop-test .left)
+
 pub good-tokens-spec : {M : Type 1} → statement M
 good-tokens-spec =
     tie.close
     (tie.spec
     Inv-loop
     μ-loop
-    (λ c. tokens-start _ _ _)
-    (λ c κs. search needs)
-    (λ c κs. search needs)
-    (λ c κs. search needs)
-    (λ c κs. search needs)
-    (λ c. search needs)
-    (λ c. search needs)
-    (λ c.
-    let at-good-alone = c .before .before .before in
-    let at-words-at = at-good-alone .before in
-    let at-loop-test = at-words-at .before in
-    let at-loop = at-loop-test .before in
-    token-more (at-loop .loop .inv) (at-loop-test .loop-test .taken) (at-words-at .words-at .ensures) (at-good-alone .good-alone .ensures) (c .before .before .good-behind .ensures) (c .before .if1 .taken) (c .remember .ensures))
-    (λ c.
-    let at-words-at = c .before .before .before in
-    let at-loop-test = at-words-at .before in
-    let at-loop = at-loop-test .before in
-    token-bad (at-loop .loop .inv) (at-loop-test .loop-test .taken) (at-words-at .words-at .ensures) (c .before .before .good-alone .ensures) (c .before .good-behind .ensures) (c .if1 .left))
-    (λ c. tokens-end (c .before .loop .inv) (c .loop-test .left)))
+    loop-holds
+    words-at-requires
+    good-alone-requires
+    good-behind-requires
+    remember-requires
+    add-i
+    loop-less
+    loop-again
+    returns
+    returns-2)

@@ -3,26 +3,44 @@ use borrow.Author.Needs.{needs}
 use Rattle.leaves.proofs.comma.Statement.{statement}
 use Rattle.leaves.proofs.comma.Tie as tie
 
-pub comma-spec : {M : Type 1} → statement M
-comma-spec =
-    tie.close
-    (tie.spec
-    (λ c κs. search needs)
-    (λ c. comma-there (c .before .before .before .before .before .before .before .pre) (c .before .before .head .ensures) (c .if1 .taken))
-    (λ c.
-    let at-head = c .before .before .before .before in
+head-requires : tie.Need-head-requires
+head-requires c κs = search needs
+
+returns : tie.Need-returns
+returns c =
+    let at-head = c .before .before in
     let start = at-head .before .before .before .before .before in
-    comma-close (start .pre) (at-head .head .ensures) (c .before .before .if1 .left) (c .if2 .taken))
-    (λ c.
-    let at-if1 = c .before .before .before .before in
+    comma-there (start .pre) (at-head .head .ensures) (c .if1 .taken)
+
+returns-2 : tie.Need-returns-2
+returns-2 c =
+    let at-if1 = c .before .before in
     let at-head = at-if1 .before .before in
     let start = at-head .before .before .before .before .before in
-    comma-end (start .pre) (at-head .head .ensures) (at-if1 .if1 .left) (c .before .before .if2 .left) (c .if3 .taken))
-    (λ c κs. search needs)
-    (λ c κs. search needs)
-    (λ c. search needs)
-    (λ c. search needs)
-    (λ c.
+    comma-close (start .pre) (at-head .head .ensures) (at-if1 .if1 .left) (c .if2 .taken)
+
+returns-3 : tie.Need-returns-3
+returns-3 c =
+    let at-if2 = c .before .before in
+    let at-if1 = at-if2 .before .before in
+    let at-head = at-if1 .before .before in
+    let start = at-head .before .before .before .before .before in
+    comma-end (start .pre) (at-head .head .ensures) (at-if1 .if1 .left) (at-if2 .if2 .left) (c .if3 .taken)
+
+entry-requires : tie.Need-entry-requires
+entry-requires c κs = search needs
+
+note-requires : tie.Need-note-requires
+note-requires c κs = search needs
+
+same-length : tie.Need-same-length
+same-length c = search needs
+
+same-length-2 : tie.Need-same-length-2
+same-length-2 c = search needs
+
+returns-4 : tie.Need-returns-4
+returns-4 c =
     let at-note = c .before .before .before .before in
     let at-entry = at-note .before .before .before in
     let at-if3 = at-entry .before in
@@ -30,4 +48,19 @@ comma-spec =
     let at-if1 = at-if2 .before .before in
     let at-head = at-if1 .before .before in
     let start = at-head .before .before .before .before .before in
-    comma-other (start .pre) (at-head .head .ensures) (at-if1 .if1 .left) (at-if2 .if2 .left) (at-if3 .if3 .left) (at-entry .entry .ensures) (at-note .note .ensures)))
+    comma-other (start .pre) (at-head .head .ensures) (at-if1 .if1 .left) (at-if2 .if2 .left)
+    (at-if3 .if3 .left) (at-entry .entry .ensures) (at-note .note .ensures)
+
+pub comma-spec : {M : Type 1} → statement M
+comma-spec =
+    tie.close
+    (tie.spec
+    head-requires
+    returns
+    returns-2
+    returns-3
+    entry-requires
+    note-requires
+    same-length
+    same-length-2
+    returns-4)

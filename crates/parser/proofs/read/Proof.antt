@@ -6,29 +6,75 @@ use borrow.Author.Needs.{needs}
 use Rattle.parser.proofs.read.Statement.{statement}
 use Rattle.parser.proofs.read.Tie as tie
 
+refused-requires : tie.Need-refused-requires
+refused-requires c κs = search needs
+
+returns : tie.Need-returns
+returns c = read-short _ _ _ _ _ _ (c .before .if1 .taken) (c .refused .ensures)
+
+handed-requires : tie.Need-handed-requires
+handed-requires c κs = search needs
+
+refused-requires-2 : tie.Need-refused-requires-2
+refused-requires-2 c κs = search needs
+
+returns-2 : tie.Need-returns-2
+returns-2 c =
+    let at-handed = c .before .before in
+    let at-if1 = at-handed .before in
+    read-bad _ _ _ _ _ _ (omega (arith, at-if1 .if1 .left))
+    (sym (at-handed .handed .ensures) ∙ not-true _ (c .before .if2 .taken)) (c .refused2 .ensures)
+
+refused-requires-3 : tie.Need-refused-requires-3
+refused-requires-3 c κs = search needs
+
+returns-3 : tie.Need-returns-3
+returns-3 c =
+    let at-if2 = c .before .before in
+    let at-handed = at-if2 .before in
+    let at-if1 = at-handed .before in
+    read-none _ _ _ _ _ _ (omega (arith, at-if1 .if1 .left))
+    (sym (at-handed .handed .ensures) ∙ not-false _ (at-if2 .if2 .left)) (c .before .if3 .taken)
+    (c .refused3 .ensures)
+
+read-tokens-requires : tie.Need-read-tokens-requires
+read-tokens-requires c κs =
+    let at-if2 = c .before .before in
+    let at-handed = at-if2 .before in
+    let at-if1 = at-handed .before in (
+      omega (arith, at-if1 .if1 .left),
+      (
+        omega (arith, c .before .if3 .left),
+        sym (at-handed .handed .ensures) ∙ not-false _ (at-if2 .if2 .left),
+      ),
+    )
+
+same-length : tie.Need-same-length
+same-length c =
+    let at-read-tokens = c .before .before in
+    omega (arith, at-read-tokens .read-tokens .kept)
+
+returns-4 : tie.Need-returns-4
+returns-4 c =
+    let at-read-tokens = c .before .before in
+    let at-if2 = at-read-tokens .before .before .before in
+    let at-handed = at-if2 .before in
+    let at-if1 = at-handed .before in
+    read-good _ _ _ _ _ _ (omega (arith, at-if1 .if1 .left))
+    (sym (at-handed .handed .ensures) ∙ not-false _ (at-if2 .if2 .left))
+    (at-read-tokens .read-tokens .ensures)
+
 pub read-spec : {M : Type 1} → statement M
 read-spec =
     tie.close
     (tie.spec
-    (λ c κs. search needs)
-    (λ c. read-short _ _ _ _ _ _ (c .before .if1 .taken) (c .refused .ensures))
-    (λ c κs. search needs)
-    (λ c κs. search needs)
-    (λ c.
-    let at-if1 = c .before .before .before in
-    read-bad _ _ _ _ _ _ (omega (arith, at-if1 .if1 .left)) (sym (c .before .before .handed .ensures) ∙ not-true _ (c .before .if2 .taken)) (c .refused2 .ensures))
-    (λ c κs. search needs)
-    (λ c.
-    let at-handed = c .before .before .before in
-    let at-if1 = at-handed .before in
-    read-none _ _ _ _ _ _ (omega (arith, at-if1 .if1 .left)) (sym (at-handed .handed .ensures) ∙ not-false _ (c .before .before .if2 .left)) (c .before .if3 .taken) (c .refused3 .ensures))
-    (λ c κs.
-    let at-handed = c .before .before .before in
-    let at-if1 = at-handed .before in
-    (omega (arith, at-if1 .if1 .left), (omega (arith, c .before .if3 .left), sym (at-handed .handed .ensures) ∙ not-false _ (c .before .before .if2 .left))))
-    (λ c. omega (arith, c .before .before .read-tokens .kept))
-    (λ c.
-    let at-if2 = c .before .before .before .before .before in
-    let at-handed = at-if2 .before in
-    let at-if1 = at-handed .before in
-    read-good _ _ _ _ _ _ (omega (arith, at-if1 .if1 .left)) (sym (at-handed .handed .ensures) ∙ not-false _ (at-if2 .if2 .left)) (c .before .before .read-tokens .ensures)))
+    refused-requires
+    returns
+    handed-requires
+    refused-requires-2
+    returns-2
+    refused-requires-3
+    returns-3
+    read-tokens-requires
+    same-length
+    returns-4)

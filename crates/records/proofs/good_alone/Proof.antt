@@ -44,7 +44,8 @@ part-integer-text-start c = search needs
 part-integer-text-end : tie.Need-part-integer-text-end
 part-integer-text-end c =
     let start = c .before .before .before .before .before .before .before .before .before .before .before in
-    part-inside (start .args .text .now) (start .args .w .start) (start .args .w .start + start .args .w .size) (search holds)
+    part-inside (start .args .text .now) (start .args .w .start)
+    (start .args .w .start + start .args .w .size) (search holds)
 
 integer-text-requires : tie.Need-integer-text-requires
 integer-text-requires c κs = search needs
@@ -52,7 +53,8 @@ integer-text-requires c κs = search needs
 returns-4 : tie.Need-returns-4
 returns-4 c =
     let start = c .before .before .before .before .before .before .before .before .before .before .before .before .before in
-    c .integer-text .ensures ∙ good-integer (start .args .text .now) (words-of (start .args .w)) (search holds) (search holds) (search holds) (search)
+    c .integer-text .ensures ∙ good-integer (start .args .text .now) (words-of (start .args .w))
+    (search holds) (search holds) (search holds) (search)
 
 returns-5 : tie.Need-returns-5
 returns-5 c = search (good-text, holds, c .if4 .left)

@@ -11,13 +11,17 @@ some-digits-requires : tie.Need-some-digits-requires
 some-digits-requires c κs = search needs
 
 returns : tie.Need-returns
-returns c = rw (sym (c .before .before .dashed .ensures), c .before .if1 .taken) (c .some-digits .ensures)
+returns c =
+    let at-dashed = c .before .before in
+    rw (sym (at-dashed .dashed .ensures), c .before .if1 .taken) (c .some-digits .ensures)
 
 some-digits-requires-2 : tie.Need-some-digits-requires-2
 some-digits-requires-2 c κs = search needs
 
 returns-2 : tie.Need-returns-2
-returns-2 c = rw (sym (c .before .before .dashed .ensures), c .before .if1 .left) (c .some-digits2 .ensures)
+returns-2 c =
+    let at-dashed = c .before .before in
+    rw (sym (at-dashed .dashed .ensures), c .before .if1 .left) (c .some-digits2 .ensures)
 
 pub integer-text-spec : {M : Type 1} → statement M
 integer-text-spec =

@@ -8,7 +8,8 @@ use Rattle.records.proofs.push_errors.Statement.{statement}
 use Rattle.records.proofs.push_errors.Tie as tie
 
 abbrev Inv-loop : tie.InvT-loop
-Inv-loop errors₀ st count number line column total i₀ errors i = Pushing errors₀ st count (Z.token-error number (spot line column)) total errors i
+Inv-loop errors₀ st count number line column total i₀ errors i =
+    Pushing errors₀ st count (Z.token-error number (spot line column)) total errors i
 
 abbrev μ-loop : tie.MeasureT-loop
 μ-loop errors₀ st count number line column total i₀ errors i = total - i
@@ -36,12 +37,15 @@ loop-less c = search needs
 
 loop-again : tie.Need-loop-again Inv-loop μ-loop
 loop-again c =
-    let at-loop-test = c .before .before .before .before in
+    let at-put-four = c .before .before in
+    let at-loop-test = at-put-four .before .before in
     let at-loop = at-loop-test .before in
-    pushing-more (at-loop .loop .inv) (at-loop-test .loop-test .taken) (c .before .before .put-four .ensures)
+    pushing-more (at-loop .loop .inv) (at-loop-test .loop-test .taken) (at-put-four .put-four .ensures)
 
 same-length : tie.Need-same-length Inv-loop μ-loop
-same-length c = c .before .before .loop .inv .wrote .size
+same-length c =
+    let at-loop = c .before .before in
+    at-loop .loop .inv .wrote .size
 
 returns-2 : tie.Need-returns-2 Inv-loop μ-loop
 returns-2 c = search (pushing-end, needs)

@@ -13,7 +13,10 @@ same-length : tie.Need-same-length
 same-length c = search needs
 
 returns : tie.Need-returns
-returns c = wrote-trans (c .before .before .before .before .before .before .put-four .ensures) (c .before .before .put-four2 .ensures)
+returns c =
+    let at-put-four2 = c .before .before in
+    let at-put-four = at-put-four2 .before .before .before .before in
+    wrote-trans (at-put-four .put-four .ensures) (at-put-four2 .put-four2 .ensures)
 
 pub put-token-spec : {M : Type 1} → statement M
 put-token-spec = tie.close (tie.spec put-four-requires put-four-requires-2 same-length returns)

@@ -34,13 +34,15 @@ loop-again : tie.Need-loop-again Inv-loop μ-loop
 loop-again c =
     let at-loop-test = c .before .before .before in
     let at-loop = at-loop-test .before in
-    digits-more (at-loop .loop .inv) (at-loop-test .loop-test .taken) (sym (c .before .is-digit-of .ensures) ∙ c .if2 .taken)
+    digits-more (at-loop .loop .inv) (at-loop-test .loop-test .taken)
+    (sym (c .before .is-digit-of .ensures) ∙ c .if2 .taken)
 
 returns-2 : tie.Need-returns-2 Inv-loop μ-loop
 returns-2 c =
     let at-loop-test = c .before .before .before in
     let at-loop = at-loop-test .before in
-    digits-fail (at-loop .loop .inv) (at-loop-test .loop-test .taken) (sym (c .before .is-digit-of .ensures) ∙ c .if2 .left)
+    digits-fail (at-loop .loop .inv) (at-loop-test .loop-test .taken)
+    (sym (c .before .is-digit-of .ensures) ∙ c .if2 .left)
 
 returns-3 : tie.Need-returns-3 Inv-loop μ-loop
 returns-3 c = search (digits-end, needs)

@@ -58,7 +58,8 @@ part-result-end-3 c =
     let at-has-text = at-good-alone .before in
     let at-words-at = at-has-text .before in
     let start = at-words-at .before .before .before .before in
-    text-inside (start .args .text .now) (words-of (at-words-at .words-at .result)) (at-has-text .has-text .ensures) (at-good-alone .good-alone .ensures) (search)
+    text-inside (start .args .text .now) (words-of (at-words-at .words-at .result))
+    (at-has-text .has-text .ensures) (at-good-alone .good-alone .ensures) (search)
 
 returns-3 : tie.Need-returns-3
 returns-3 c =
@@ -66,7 +67,9 @@ returns-3 c =
     let at-has-text = at-good-alone .before in
     let at-words-at = at-has-text .before in
     let start = at-words-at .before .before .before .before in
-    text-some (start .args .tokens .now) (start .args .text .now) (start .args .at) (search) (at-words-at .words-at .ensures) (at-has-text .has-text .ensures) (at-good-alone .good-alone .ensures) (search)
+    text-some (start .args .tokens .now) (start .args .text .now) (start .args .at) (search)
+    (at-words-at .words-at .ensures) (at-has-text .has-text .ensures) (at-good-alone .good-alone .ensures)
+    (search)
 
 pub token-text-spec : {M : Type 1} → statement M
 token-text-spec =

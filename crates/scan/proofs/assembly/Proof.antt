@@ -26,13 +26,17 @@ shared-slice-read-b : tie.Need-shared-slice-read-b Inv-loop μ-loop
 shared-slice-read-b c = search needs
 
 step-requires : tie.Need-step-requires Inv-loop μ-loop
-step-requires c κs = (c .before .before .loop .inv .asks .stands, omega arith, omega arith)
+step-requires c κs =
+    let at-loop = c .before .before in
+    (at-loop .loop .inv .asks .stands, omega arith, omega arith)
 
 same-length-2 : tie.Need-same-length-2 Inv-loop μ-loop
 same-length-2 c = search needs
 
 returns-2 : tie.Need-returns-2 Inv-loop μ-loop
-returns-2 c = spanning-past (c .before .before .before .before .loop .inv) (c .before .step .ensures) (asm-stop _ _ (c .if2 .taken))
+returns-2 c =
+    let at-loop = c .before .before .before .before in
+    spanning-past (at-loop .loop .inv) (c .before .step .ensures) (asm-stop _ _ (c .if2 .taken))
 
 copy-requires : tie.Need-copy-requires Inv-loop μ-loop
 copy-requires c κs = search needs
@@ -42,11 +46,14 @@ loop-less c = search needs
 
 loop-again : tie.Need-loop-again Inv-loop μ-loop
 loop-again c =
-    let at-if2 = c .before .before .before .before in
+    let at-copy = c .before .before in
+    let at-if2 = at-copy .before .before in
     let at-step = at-if2 .before in
     let at-if1 = at-step .before .before in
     let at-loop = at-if1 .before in
-    spanning-more (at-loop .loop .inv) (at-step .step .ensures) (asm-go _ _ (at-if2 .if2 .left)) (char-copied (at-step .step .ensures) (at-if1 .if1 .left) (c .before .before .copy .ensures)) (copied-room (at-step .step .ensures) (c .before .before .copy .ensures) (at-loop .loop .inv .asks .room))
+    spanning-more (at-loop .loop .inv) (at-step .step .ensures) (asm-go _ _ (at-if2 .if2 .left))
+    (char-copied (at-step .step .ensures) (at-if1 .if1 .left) (at-copy .copy .ensures))
+    (copied-room (at-step .step .ensures) (at-copy .copy .ensures) (at-loop .loop .inv .asks .room))
 
 pub assembly-spec : {M : Type 1} → statement M
 assembly-spec =

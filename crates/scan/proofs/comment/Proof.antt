@@ -23,10 +23,14 @@ shared-slice-read-b : tie.Need-shared-slice-read-b Inv-loop μ-loop
 shared-slice-read-b c = search needs
 
 step-requires : tie.Need-step-requires Inv-loop μ-loop
-step-requires c κs = (c .before .before .loop .inv .stands, omega arith, omega arith)
+step-requires c κs =
+    let at-loop = c .before .before in
+    (at-loop .loop .inv .stands, omega arith, omega arith)
 
 returns-2 : tie.Need-returns-2 Inv-loop μ-loop
-returns-2 c = passing-past (c .before .before .before .before .loop .inv) (c .before .step .ensures) (comment-stop _ _ (c .if2 .taken))
+returns-2 c =
+    let at-loop = c .before .before .before .before in
+    passing-past (at-loop .loop .inv) (c .before .step .ensures) (comment-stop _ _ (c .if2 .taken))
 
 loop-less : tie.Need-loop-less Inv-loop μ-loop
 loop-less c = search needs

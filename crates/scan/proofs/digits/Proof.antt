@@ -42,8 +42,14 @@ loop-less c = omega (arith, ap (λ (y : Cursor). y .at) (c .along .ensures))
 
 loop-again : tie.Need-loop-again Inv-loop μ-loop
 loop-again c =
-    let t = sym (c .before .before .before .before .before .before .is-digit-of .ensures) ∙ c .before .before .before .before .before .if2 .taken in
-    spanning-along (c .before .before .before .before .before .before .before .before .before .loop .inv) (omega arith) (digit-bounds (c .before .before .before .before .before .before .before .before .before .before .before .before .args .base) _ t) (c .along .ensures) (λ cs. digits-go _ _ cs t) (c .before .before .before .put8 .ensures)
+    let at-put8 = c .before .before .before in
+    let at-if2 = at-put8 .before .before in
+    let at-is-digit-of = at-if2 .before in
+    let at-loop = at-is-digit-of .before .before .before in
+    let start = at-loop .before .before .before in
+    let t = sym (at-is-digit-of .is-digit-of .ensures) ∙ at-if2 .if2 .taken in
+    spanning-along (at-loop .loop .inv) (omega arith) (digit-bounds (start .args .base) _ t)
+    (c .along .ensures) (λ cs. digits-go _ _ cs t) (at-put8 .put8 .ensures)
 
 same-length-2 : tie.Need-same-length-2 Inv-loop μ-loop
 same-length-2 c = search needs
@@ -52,7 +58,8 @@ returns-2 : tie.Need-returns-2 Inv-loop μ-loop
 returns-2 c =
     let at-if1 = c .before .before .before in
     let at-loop = at-if1 .before in
-    spanning-stop (at-loop .loop .inv) (at-if1 .if1 .left) (λ cs. digits-stop _ _ _ (sym (c .before .is-digit-of .ensures) ∙ c .if2 .left))
+    spanning-stop (at-loop .loop .inv) (at-if1 .if1 .left)
+    (λ cs. digits-stop _ _ _ (sym (c .before .is-digit-of .ensures) ∙ c .if2 .left))
 
 pub digits-spec : {M : Type 1} → statement M
 digits-spec =

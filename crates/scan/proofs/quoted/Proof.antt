@@ -25,7 +25,9 @@ shared-slice-read-b : tie.Need-shared-slice-read-b Inv-loop μ-loop
 shared-slice-read-b c = search needs
 
 step-requires : tie.Need-step-requires Inv-loop μ-loop
-step-requires c κs = (c .before .before .loop .inv .asks .stands, omega arith, omega arith)
+step-requires c κs =
+    let at-loop = c .before .before in
+    (at-loop .loop .inv .asks .stands, omega arith, omega arith)
 
 same-length-2 : tie.Need-same-length-2 Inv-loop μ-loop
 same-length-2 c = search needs
@@ -58,7 +60,9 @@ escape-requires : tie.Need-escape-requires Inv-loop μ-loop
 escape-requires c κs = search needs
 
 step-requires-2 : tie.Need-step-requires-2 Inv-loop μ-loop
-step-requires-2 c κs = (c .before .before .before .before .before .step .ensures .stands, omega arith, omega arith)
+step-requires-2 c κs =
+    let at-step = c .before .before .before .before .before in
+    (at-step .step .ensures .stands, omega arith, omega arith)
 
 add-unknown : tie.Need-add-unknown Inv-loop μ-loop
 add-unknown c = search needs

@@ -27,7 +27,9 @@ is-white-requires : tie.Need-is-white-requires Inv-loop μ-loop
 is-white-requires c κs = search needs
 
 step-requires : tie.Need-step-requires Inv-loop μ-loop
-step-requires c κs = (c .before .before .before .before .loop .inv .stands, omega arith, omega arith)
+step-requires c κs =
+    let at-loop = c .before .before .before .before in
+    (at-loop .loop .inv .stands, omega arith, omega arith)
 
 loop-less : tie.Need-loop-less Inv-loop μ-loop
 loop-less c = search needs
@@ -39,7 +41,8 @@ returns-2 : tie.Need-returns-2 Inv-loop μ-loop
 returns-2 c =
     let at-if1 = c .before .before .before in
     let at-loop = at-if1 .before in
-    passing-stop (at-loop .loop .inv) (at-if1 .if1 .left) (λ cs. blanks-stop _ _ (sym (c .before .is-white .ensures) ∙ c .if2 .left))
+    passing-stop (at-loop .loop .inv) (at-if1 .if1 .left)
+    (λ cs. blanks-stop _ _ (sym (c .before .is-white .ensures) ∙ c .if2 .left))
 
 pub white-spec : {M : Type 1} → statement M
 white-spec =

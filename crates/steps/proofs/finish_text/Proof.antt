@@ -3,6 +3,29 @@ use borrow.Author.Needs.{needs}
 use Rattle.steps.proofs.finish_text.Statement.{statement}
 use Rattle.steps.proofs.finish_text.Tie as tie
 
+enum-told : tie.Need-enum-told
+enum-told c = search needs
+
+returns : tie.Need-returns
+returns c = finish-stop (c .match .keys2)
+
+write-record-requires : tie.Need-write-record-requires
+write-record-requires c κs = search needs
+
+same-length : tie.Need-same-length
+same-length c = search needs
+
+returns-2 : tie.Need-returns-2
+returns-2 c =
+    let at-write-record = c .before .before in
+    let at-enum-told = at-write-record .before .before .before in
+    finish-on (at-enum-told .enum-told .given .1) (at-write-record .write-record .ensures)
+
 pub finish-text-spec : {M : Type 1} → statement M
 finish-text-spec =
-    tie.close (tie.spec (λ c. search needs) (λ c. finish-stop (c .match .keys2)) (λ c κs. search needs) (λ c. search needs) (λ c. finish-on (c .before .before .before .before .before .enum-told .given .1) (c .before .before .write-record .ensures)))
+    tie.close (tie.spec
+    enum-told
+    returns
+    write-record-requires
+    same-length
+    returns-2)

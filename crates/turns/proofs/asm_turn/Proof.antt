@@ -25,8 +25,17 @@ assembly-requires c κs = search needs
 with-text-requires : tie.Need-with-text-requires
 with-text-requires c κs =
     let at-assembly = c .before .before .before .before in
-    let start = at-assembly .before .before .before .before .before .before .before .before .before .before .before .before in
-    (start .pre .0 .few, omega (arith, start .pre .0 .wide), omega (arith, at-assembly .assembly .ensures .wrote .count), omega (arith, at-assembly .assembly .ensures .room, at-assembly .assembly .ensures .passed .stands .inside, start .pre .0 .asks .small))
+    let start = at-assembly .before .before .before .before .before .before .before .before .before .before .before .before in (
+      start .pre .0 .few,
+      omega (arith, start .pre .0 .wide),
+      omega (arith, at-assembly .assembly .ensures .wrote .count),
+      omega (
+        arith,
+        at-assembly .assembly .ensures .room,
+        at-assembly .assembly .ensures .passed .stands .inside,
+        start .pre .0 .asks .small,
+      ),
+    )
 
 same-length : tie.Need-same-length
 same-length c = search needs
@@ -36,14 +45,17 @@ same-length-2 c = search needs
 
 returns-2 : tie.Need-returns-2
 returns-2 c =
-    let at-assembly = c .before .before .before .before .before .before .before in
+    let at-with-text = c .before .before in
+    let at-assembly = at-with-text .before .before .before .before .before in
     let at-if2 = at-assembly .before .before in
     let at-skip = at-if2 .before in
     let at-if1 = at-skip .before in
     let at-look = at-if1 .before in
     let at-white = at-look .before in
     let start = at-white .before .before .before .before .before .before in
-    asm-open-law _ (at-white .white .ensures) (at-look .look .ensures) (start .pre .0) (at-if1 .if1 .left) (at-skip .skip .ensures) (at-if2 .if2 .taken) (at-assembly .assembly .ensures) (c .before .before .with-text .ensures)
+    asm-open-law _ (at-white .white .ensures) (at-look .look .ensures) (start .pre .0) (at-if1 .if1 .left)
+    (at-skip .skip .ensures) (at-if2 .if2 .taken) (at-assembly .assembly .ensures)
+    (at-with-text .with-text .ensures)
 
 with-errors-requires : tie.Need-with-errors-requires
 with-errors-requires c κs = search needs

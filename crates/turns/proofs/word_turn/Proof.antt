@@ -42,8 +42,12 @@ asm-turn-requires : tie.Need-asm-turn-requires
 asm-turn-requires c κs =
     let at-word = c .before .before .before .before .before .before .before .before .before .before .before .before .before in
     let at-put8 = at-word .before .before .before .before in
-    let start = at-put8 .before .before .before .before .before .before .before in
-    (ready-on (ready-wrote (ready-wrote (start .pre .0) (at-put8 .put8 .ensures)) (at-word .word .ensures .wrote)) (at-word .word .ensures .passed), omega arith)
+    let start = at-put8 .before .before .before .before .before .before .before in (
+      ready-on
+          (ready-wrote (ready-wrote (start .pre .0) (at-put8 .put8 .ensures)) (at-word .word .ensures .wrote))
+          (at-word .word .ensures .passed),
+      omega arith,
+    )
 
 same-length-2 : tie.Need-same-length-2
 same-length-2 c = search needs
@@ -64,7 +68,9 @@ returns-2 c =
     let at-word = at-look .before .before .before .before in
     let at-put8 = at-word .before .before .before .before in
     let start = at-put8 .before .before .before .before .before .before .before in
-    word-asm-law _ (start .pre .0) (at-put8 .put8 .ensures) (at-word .word .ensures) (at-look .look .ensures) (at-if1 .if1 .left) (at-same .same .ensures) (at-if2 .if2 .taken) (at-asm-turn .asm-turn .ensures)
+    word-asm-law _ (start .pre .0) (at-put8 .put8 .ensures) (at-word .word .ensures)
+    (at-look .look .ensures) (at-if1 .if1 .left) (at-same .same .ensures) (at-if2 .if2 .taken)
+    (at-asm-turn .asm-turn .ensures)
 
 sub-keyword : tie.Need-sub-keyword
 sub-keyword c = search needs
@@ -82,8 +88,17 @@ with-text-requires : tie.Need-with-text-requires
 with-text-requires c κs =
     let at-word = c .before .before .before .before .before .before .before .before .before .before .before .before .before .before .before in
     let at-put8 = at-word .before .before .before .before in
-    let start = at-put8 .before .before .before .before .before .before .before in
-    (start .pre .0 .few, omega (arith, start .pre .0 .wide), omega (arith, at-put8 .put8 .ensures .count, at-word .word .ensures .wrote .count), omega (arith, at-word .word .ensures .room, at-word .word .ensures .passed .stands .inside, start .pre .0 .asks .small))
+    let start = at-put8 .before .before .before .before .before .before .before in (
+      start .pre .0 .few,
+      omega (arith, start .pre .0 .wide),
+      omega (arith, at-put8 .put8 .ensures .count, at-word .word .ensures .wrote .count),
+      omega (
+        arith,
+        at-word .word .ensures .room,
+        at-word .word .ensures .passed .stands .inside,
+        start .pre .0 .asks .small,
+      ),
+    )
 
 same-length-5 : tie.Need-same-length-5
 same-length-5 c = search needs
@@ -93,7 +108,8 @@ same-length-6 c = search needs
 
 returns-3 : tie.Need-returns-3
 returns-3 c =
-    let at-if3 = c .before .before .before .before in
+    let at-with-text = c .before .before in
+    let at-if3 = at-with-text .before .before in
     let at-keyword = at-if3 .before in
     let at-if2 = at-keyword .before .before .before in
     let at-same = at-if2 .before in
@@ -102,7 +118,9 @@ returns-3 c =
     let at-word = at-look .before .before .before .before in
     let at-put8 = at-word .before .before .before .before in
     let start = at-put8 .before .before .before .before .before .before .before in
-    word-identifier-law _ (start .pre .0) (at-put8 .put8 .ensures) (at-word .word .ensures) (at-look .look .ensures) (at-if1 .if1 .left) (at-same .same .ensures) (at-if2 .if2 .left) (at-keyword .keyword .ensures) (at-if3 .if3 .taken) (c .before .before .with-text .ensures)
+    word-identifier-law _ (start .pre .0) (at-put8 .put8 .ensures) (at-word .word .ensures)
+    (at-look .look .ensures) (at-if1 .if1 .left) (at-same .same .ensures) (at-if2 .if2 .left)
+    (at-keyword .keyword .ensures) (at-if3 .if3 .taken) (at-with-text .with-text .ensures)
 
 plain-requires : tie.Need-plain-requires
 plain-requires c κs =
@@ -117,7 +135,8 @@ same-length-8 c = search needs
 
 returns-4 : tie.Need-returns-4
 returns-4 c =
-    let at-if3 = c .before .before .before .before in
+    let at-plain = c .before .before in
+    let at-if3 = at-plain .before .before in
     let at-keyword = at-if3 .before in
     let at-if2 = at-keyword .before .before .before in
     let at-same = at-if2 .before in
@@ -126,7 +145,9 @@ returns-4 c =
     let at-word = at-look .before .before .before .before in
     let at-put8 = at-word .before .before .before .before in
     let start = at-put8 .before .before .before .before .before .before .before in
-    word-keyword-law _ (start .pre .0) (at-put8 .put8 .ensures) (at-word .word .ensures) (at-look .look .ensures) (at-if1 .if1 .left) (at-same .same .ensures) (at-if2 .if2 .left) (at-keyword .keyword .ensures) (at-if3 .if3 .left) (c .before .before .plain .ensures)
+    word-keyword-law _ (start .pre .0) (at-put8 .put8 .ensures) (at-word .word .ensures)
+    (at-look .look .ensures) (at-if1 .if1 .left) (at-same .same .ensures) (at-if2 .if2 .left)
+    (at-keyword .keyword .ensures) (at-if3 .if3 .left) (at-plain .plain .ensures)
 
 pub word-turn-spec : {M : Type 1} → statement M
 word-turn-spec =

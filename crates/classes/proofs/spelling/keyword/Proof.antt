@@ -10,7 +10,10 @@ use Rattle.classes.proofs.spelling.keyword.Statement.{statement}
 use Rattle.classes.proofs.spelling.keyword.Tie as tie
 
 abbrev Inv-loop : tie.InvT-loop
-Inv-loop w spelled lengths i₀ i = Searching (λ k. Z.same w (take (8 * k + getD lengths k 0 - 8 * k) (drop (8 * k) spelled))) (λ k. 4 + k) 18 (Z.keyword w) i × (i ≤ 18) × (length spelled ≡ 144) × (length lengths ≡ 18) × ((k : ℕ) → getD lengths k 0 ≤ 8)
+Inv-loop w spelled lengths i₀ i =
+    Searching (λ k. Z.same w (take (8 * k + getD lengths k 0 - 8 * k) (drop (8 * k) spelled))) (λ k. 4 + k) 18
+    (Z.keyword w) i × (i ≤ 18) × (length spelled ≡ 144) × (length lengths ≡ 18)
+    × ((k : ℕ) → getD lengths k 0 ≤ 8)
 
 abbrev μ-loop : tie.MeasureT-loop
 μ-loop w spelled lengths i₀ i = 18 - i
@@ -20,7 +23,13 @@ slice-aggregate-spelled c = search needs
 
 loop-holds : tie.Need-loop-holds Inv-loop μ-loop
 unfolding Z.keyword found small
-loop-holds c = (searching refl, omega arith, refl, refl, at-most 8 (2 ∷ 3 ∷ 6 ∷ 4 ∷ 5 ∷ 5 ∷ 2 ∷ 4 ∷ 4 ∷ 5 ∷ 2 ∷ 4 ∷ 6 ∷ 6 ∷ 3 ∷ 6 ∷ 8 ∷ 8 ∷ []) refl)
+loop-holds c = (
+  searching refl,
+  omega arith,
+  refl,
+  refl,
+  at-most 8 (2 ∷ 3 ∷ 6 ∷ 4 ∷ 5 ∷ 5 ∷ 2 ∷ 4 ∷ 4 ∷ 5 ∷ 2 ∷ 4 ∷ 6 ∷ 6 ∷ 3 ∷ 6 ∷ 8 ∷ 8 ∷ []) refl,
+)
 
 mul-start : tie.Need-mul-start Inv-loop μ-loop
 mul-start c = search needs
@@ -53,7 +62,9 @@ add-result : tie.Need-add-result Inv-loop μ-loop
 add-result c = search needs
 
 returns : tie.Need-returns Inv-loop μ-loop
-returns c = search-found (c .before .before .before .before .loop .inv .0) (search needs) (sym (c .before .same .ensures) ∙ c .if1 .taken)
+returns c =
+    let at-loop = c .before .before .before .before in
+    search-found (at-loop .loop .inv .0) (search needs) (sym (c .before .same .ensures) ∙ c .if1 .taken)
 
 add-i : tie.Need-add-i Inv-loop μ-loop
 add-i c = search needs
@@ -63,8 +74,13 @@ loop-less c = search needs
 
 loop-again : tie.Need-loop-again Inv-loop μ-loop
 loop-again c =
-    let at-loop = c .before .before .before .before in
-    (search-more (at-loop .loop .inv .0) (search needs) (sym (c .before .same .ensures) ∙ c .if1 .left), search needs, search needs, search needs, search needs)
+    let at-loop = c .before .before .before .before in (
+      search-more (at-loop .loop .inv .0) (search needs) (sym (c .before .same .ensures) ∙ c .if1 .left),
+      search needs,
+      search needs,
+      search needs,
+      search needs,
+    )
 
 returns-2 : tie.Need-returns-2 Inv-loop μ-loop
 returns-2 c = search (search-end, needs)

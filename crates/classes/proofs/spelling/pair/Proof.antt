@@ -11,7 +11,9 @@ use Rattle.classes.proofs.spelling.pair.Statement.{statement}
 use Rattle.classes.proofs.spelling.pair.Tie as tie
 
 abbrev Inv-loop : tie.InvT-loop
-Inv-loop c d firsts seconds kinds i₀ i = Searching (λ k. eqb c (getD firsts k 0) && eqb d (getD seconds k 0)) (λ k. getD kinds k 0) 8 (Z.pair c d) i × (i ≤ 8) × (length firsts ≡ 8) × (length seconds ≡ 8) × (length kinds ≡ 8)
+Inv-loop c d firsts seconds kinds i₀ i =
+    Searching (λ k. eqb c (getD firsts k 0) && eqb d (getD seconds k 0)) (λ k. getD kinds k 0) 8 (Z.pair c d) i
+    × (i ≤ 8) × (length firsts ≡ 8) × (length seconds ≡ 8) × (length kinds ≡ 8)
 
 abbrev μ-loop : tie.MeasureT-loop
 μ-loop c d firsts seconds kinds i₀ i = 8 - i
@@ -33,7 +35,9 @@ array-read-result : tie.Need-array-read-result Inv-loop μ-loop
 array-read-result c = search needs
 
 returns : tie.Need-returns Inv-loop μ-loop
-returns c = search-found (c .before .before .before .before .loop .inv .0) (search needs) (search needs)
+returns c =
+    let at-loop = c .before .before .before .before in
+    search-found (at-loop .loop .inv .0) (search needs) (search needs)
 
 add-i : tie.Need-add-i Inv-loop μ-loop
 add-i c = search needs

@@ -11,7 +11,9 @@ use Rattle.classes.proofs.spelling.symbol.Statement.{statement}
 use Rattle.classes.proofs.spelling.symbol.Tie as tie
 
 abbrev Inv-loop : tie.InvT-loop
-Inv-loop c spelled kinds i₀ i = Searching (λ k. eqb c (getD spelled k 0)) (λ k. getD kinds k 0) 22 (Z.symbol c) i × (i ≤ 22) × (length spelled ≡ 22) × (length kinds ≡ 22)
+Inv-loop c spelled kinds i₀ i =
+    Searching (λ k. eqb c (getD spelled k 0)) (λ k. getD kinds k 0) 22 (Z.symbol c) i × (i ≤ 22)
+    × (length spelled ≡ 22) × (length kinds ≡ 22)
 
 abbrev μ-loop : tie.MeasureT-loop
 μ-loop c spelled kinds i₀ i = 22 - i
@@ -30,7 +32,9 @@ array-read-result : tie.Need-array-read-result Inv-loop μ-loop
 array-read-result c = search needs
 
 returns : tie.Need-returns Inv-loop μ-loop
-returns c = search-found (c .before .before .before .loop .inv .0) (search needs) (search (eq-eqb, needs))
+returns c =
+    let at-loop = c .before .before .before in
+    search-found (at-loop .loop .inv .0) (search needs) (search (eq-eqb, needs))
 
 add-i : tie.Need-add-i Inv-loop μ-loop
 add-i c = search needs

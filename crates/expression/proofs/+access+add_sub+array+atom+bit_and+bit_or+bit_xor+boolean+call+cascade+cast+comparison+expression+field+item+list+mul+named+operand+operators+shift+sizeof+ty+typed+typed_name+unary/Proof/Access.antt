@@ -31,7 +31,28 @@ abbrev pub μ-loop : lts.MeasureT-loop
 
 module _ (t : ℕ) where
   abbrev pub given : lts.Claims
-  given = (atom-below t, atom.Post, head-reads.Asked, head-reads.Learnt, refuse-reads.Asked, refuse-reads.Learnt, entry-reads.Asked, entry-reads.Learnt, note-reads.Asked, note-reads.Learnt, finish-text-reads.Asked, finish-text-reads.Learnt, finish-reads.Asked, finish-reads.Learnt, expression-below t, expression.Post, abandon-reads.Asked, abandon-reads.Learnt, and-expect-reads.Asked, and-expect-reads.Learnt)
+  given = (
+    atom-below t,
+    atom.Post,
+    head-reads.Asked,
+    head-reads.Learnt,
+    refuse-reads.Asked,
+    refuse-reads.Learnt,
+    entry-reads.Asked,
+    entry-reads.Learnt,
+    note-reads.Asked,
+    note-reads.Learnt,
+    finish-text-reads.Asked,
+    finish-text-reads.Learnt,
+    finish-reads.Asked,
+    finish-reads.Learnt,
+    expression-below t,
+    expression.Post,
+    abandon-reads.Asked,
+    abandon-reads.Learnt,
+    and-expect-reads.Asked,
+    and-expect-reads.Learnt,
+  )
 
   pub atom-requires : lts.Need-atom-requires given (access-at t) access.Post Inv-loop μ-loop
   atom-requires c κs =
@@ -41,35 +62,48 @@ module _ (t : ℕ) where
   pub loop-holds : lts.Need-loop-holds given (access-at t) access.Post Inv-loop μ-loop
   loop-holds c =
       let at-atom = c .before .before .before .before .before .before in
-      let start = at-atom .before .before .before .before .before .before .before .before .before in
-      (goes-on (start .pre .1) (at-atom .atom .ensures) (omega (arith, at-atom .atom .kept)) (omega (arith, at-atom .atom .kept)) (omega (arith, at-atom .atom .kept)), at-start)
+      let start = at-atom .before .before .before .before .before .before .before .before .before in (
+        goes-on (start .pre .1) (at-atom .atom .ensures) (omega (arith, at-atom .atom .kept))
+            (omega (arith, at-atom .atom .kept)) (omega (arith, at-atom .atom .kept)),
+        at-start,
+      )
 
   pub enum-told : lts.Need-enum-told given (access-at t) access.Post Inv-loop μ-loop
   enum-told c = search needs
 
   pub same-length : lts.Need-same-length given (access-at t) access.Post Inv-loop μ-loop
-  same-length c = omega (arith, c .before .loop .inv .1, c .before .before .before .before .before .before .before .before .atom .kept)
+  same-length c =
+      let at-atom = c .before .before .before .before .before .before .before .before in
+      omega (arith, c .before .loop .inv .1, at-atom .atom .kept)
 
   pub same-length-2 : lts.Need-same-length-2 given (access-at t) access.Post Inv-loop μ-loop
-  same-length-2 c = omega (arith, c .before .loop .inv .1, c .before .before .before .before .before .before .before .before .atom .kept)
+  same-length-2 c =
+      let at-atom = c .before .before .before .before .before .before .before .before in
+      omega (arith, c .before .loop .inv .1, at-atom .atom .kept)
 
   pub same-length-3 : lts.Need-same-length-3 given (access-at t) access.Post Inv-loop μ-loop
-  same-length-3 c = omega (arith, c .before .loop .inv .1, c .before .before .before .before .before .before .before .before .atom .kept)
+  same-length-3 c =
+      let at-atom = c .before .before .before .before .before .before .before .before in
+      omega (arith, c .before .loop .inv .1, at-atom .atom .kept)
 
   pub returns : lts.Need-returns given (access-at t) access.Post Inv-loop μ-loop
   unfolding P.parse-field-access-or-index
   returns c =
       let at-atom = c .before .before .before .before .before .before .before .before in
       let start = at-atom .before .before .before .before .before .before .before .before .before in
-      then-asked suffixes-on (start .pre .1) (at-atom .atom .ensures) (c .before .loop .inv .1 .rest (goes-stops (c .before .loop .inv .0) (c .match .keys2)))
+      then-asked suffixes-on (start .pre .1) (at-atom .atom .ensures)
+      (c .before .loop .inv .1 .rest (goes-stops (c .before .loop .inv .0) (c .match .keys2)))
 
   pub head-requires : lts.Need-head-requires given (access-at t) access.Post Inv-loop μ-loop
-  head-requires c κs = (c .before .before .before .loop .inv .0 .asked .asks .held, c .before .before .before .loop .inv .0 .asked .asks .at)
+  head-requires c κs =
+      let at-loop = c .before .before .before in
+      (at-loop .loop .inv .0 .asked .asks .held, at-loop .loop .inv .0 .asked .asks .at)
 
   pub head-requires-2 : lts.Need-head-requires-2 given (access-at t) access.Post Inv-loop μ-loop
   head-requires-2 c κs =
-      let at-loop = c .before .before .before .before .before .before in
-      (at-loop .loop .inv .0 .asked .asks .held, omega (arith, c .before .before .head .ensures .end))
+      let at-head = c .before .before in
+      let at-loop = at-head .before .before .before .before in
+      (at-loop .loop .inv .0 .asked .asks .held, omega (arith, at-head .head .ensures .end))
 
   pub refuse-requires : lts.Need-refuse-requires given (access-at t) access.Post Inv-loop μ-loop
   refuse-requires c κs = search needs
@@ -102,10 +136,15 @@ module _ (t : ℕ) where
       let at-loop = at-enum-told .before .before in
       let at-atom = at-loop .before .before .before .before .before .before .before in
       let start = at-atom .before .before .before .before .before .before .before .before .before in
-      then-asked suffixes-on (start .pre .1) (at-atom .atom .ensures) (at-loop .loop .inv .1 .rest (dot-end (at-loop .loop .inv .0) (at-enum-told .enum-told .given .1) (at-head .head .ensures) (at-if1 .if1 .taken) (at-head2 .head2 .ensures) (c .before .if2 .taken) (c .refuse .ensures)))
+      then-asked suffixes-on (start .pre .1) (at-atom .atom .ensures)
+      (at-loop .loop .inv .1 .rest
+      (dot-end (at-loop .loop .inv .0) (at-enum-told .enum-told .given .1) (at-head .head .ensures)
+      (at-if1 .if1 .taken) (at-head2 .head2 .ensures) (c .before .if2 .taken) (c .refuse .ensures)))
 
   pub entry-requires : lts.Need-entry-requires given (access-at t) access.Post Inv-loop μ-loop
-  entry-requires c κs = omega (arith, c .before .before .before .before .head2 .ensures)
+  entry-requires c κs =
+      let at-head2 = c .before .before .before .before in
+      omega (arith, at-head2 .head2 .ensures)
 
   pub note-requires : lts.Need-note-requires given (access-at t) access.Post Inv-loop μ-loop
   note-requires c κs =
@@ -146,33 +185,63 @@ module _ (t : ℕ) where
       let at-loop = at-enum-told .before .before in
       let at-atom = at-loop .before .before .before .before .before .before .before in
       let start = at-atom .before .before .before .before .before .before .before .before .before in
-      then-asked suffixes-on (start .pre .1) (at-atom .atom .ensures) (at-loop .loop .inv .1 .rest (dot-other (at-loop .loop .inv .0) (at-enum-told .enum-told .given .1) (at-head .head .ensures) (at-if1 .if1 .taken) (at-head2 .head2 .ensures) (at-if2 .if2 .left) (at-if3 .if3 .taken) (at-entry .entry .ensures) (at-note .note .ensures)))
+      then-asked suffixes-on (start .pre .1) (at-atom .atom .ensures)
+      (at-loop .loop .inv .1 .rest
+      (dot-other (at-loop .loop .inv .0) (at-enum-told .enum-told .given .1) (at-head .head .ensures)
+      (at-if1 .if1 .taken) (at-head2 .head2 .ensures) (at-if2 .if2 .left) (at-if3 .if3 .taken)
+      (at-entry .entry .ensures) (at-note .note .ensures)))
 
   pub finish-text-requires : lts.Need-finish-text-requires given (access-at t) access.Post Inv-loop μ-loop
   finish-text-requires c κs =
       let at-head2 = c .before .before .before .before .before in
       let at-head = at-head2 .before .before .before in
       let at-loop = at-head .before .before .before .before in
-      record { room = omega (arith, at-loop .loop .inv .0 .asked .room, at-head .head .ensures .pays, at-head2 .head2 .ensures .pays); part = at-head2 .head2 .ensures .part }
+      record {
+        room = omega (
+          arith,
+          at-loop .loop .inv .0 .asked .room,
+          at-head .head .ensures .pays,
+          at-head2 .head2 .ensures .pays,
+        );
+        part = at-head2 .head2 .ensures .part;
+      }
 
   pub loop-less : lts.Need-loop-less given (access-at t) access.Post Inv-loop μ-loop
   loop-less c =
-      let at-head2 = c .before .before .before .before .before .before .before .before in
+      let at-finish-text = c .before .before in
+      let at-head2 = at-finish-text .before .before .before .before .before .before in
       let at-if1 = at-head2 .before in
       let at-head = at-if1 .before .before in
       let at-loop = at-head .before .before .before .before in
-      omega (arith, at-loop .loop .inv .0 .asked .asks .at, at-head .head .ensures, at-if1 .if1 .taken, at-head2 .head2 .ensures, c .before .before .finish-text .ensures .at)
+      omega (
+        arith,
+        at-loop .loop .inv .0 .asked .asks .at,
+        at-head .head .ensures,
+        at-if1 .if1 .taken,
+        at-head2 .head2 .ensures,
+        at-finish-text .finish-text .ensures .at,
+      )
 
   pub loop-again : lts.Need-loop-again given (access-at t) access.Post Inv-loop μ-loop
   loop-again c =
-      let at-if3 = c .before .before .before .before in
+      let at-finish-text = c .before .before in
+      let at-if3 = at-finish-text .before .before in
       let at-if2 = at-if3 .before .before in
       let at-head2 = at-if2 .before .before in
       let at-if1 = at-head2 .before in
       let at-head = at-if1 .before .before in
       let at-enum-told = at-head .before .before in
-      let at-loop = at-enum-told .before .before in
-      (turn-on (at-loop .loop .inv .0) (dot-moved (at-loop .loop .inv .0) (at-head .head .ensures) (at-head2 .head2 .ensures) (at-if3 .if3 .left) (c .before .before .finish-text .ensures)) (omega (arith, c .before .before .finish-text .kept)) refl refl, one-turn (at-loop .loop .inv .1) (omega (arith, c .before .before .finish-text .kept)) refl refl (omega (arith, at-head .head .ensures .up, at-head2 .head2 .ensures .up, c .before .before .finish-text .ensures .at)) (λ _ _ _ _ g. dot-name (at-loop .loop .inv .0) (at-enum-told .enum-told .given .1) (at-head .head .ensures) (at-if1 .if1 .taken) (at-head2 .head2 .ensures) (at-if2 .if2 .left) (at-if3 .if3 .left) (c .before .before .finish-text .ensures) g))
+      let at-loop = at-enum-told .before .before in (
+        turn-on (at-loop .loop .inv .0)
+            (dot-moved (at-loop .loop .inv .0) (at-head .head .ensures) (at-head2 .head2 .ensures)
+            (at-if3 .if3 .left) (at-finish-text .finish-text .ensures))
+            (omega (arith, at-finish-text .finish-text .kept)) refl refl,
+        one-turn (at-loop .loop .inv .1) (omega (arith, at-finish-text .finish-text .kept)) refl refl
+            (omega (arith, at-head .head .ensures .up, at-head2 .head2 .ensures .up, at-finish-text .finish-text .ensures .at))
+            (λ _ _ _ _ g. dot-name (at-loop .loop .inv .0) (at-enum-told .enum-told .given .1)
+            (at-head .head .ensures) (at-if1 .if1 .taken) (at-head2 .head2 .ensures) (at-if2 .if2 .left)
+            (at-if3 .if3 .left) (at-finish-text .finish-text .ensures) g),
+      )
 
   pub finish-requires : lts.Need-finish-requires given (access-at t) access.Post Inv-loop μ-loop
   finish-requires c κs =
@@ -181,19 +250,34 @@ module _ (t : ℕ) where
 
   pub loop-less-2 : lts.Need-loop-less-2 given (access-at t) access.Post Inv-loop μ-loop
   loop-less-2 c =
-      let at-if4 = c .before .before .before .before in
+      let at-finish = c .before .before in
+      let at-if4 = at-finish .before .before in
       let at-head = at-if4 .before .before .before .before in
       let at-loop = at-head .before .before .before .before in
-      omega (arith, at-loop .loop .inv .0 .asked .asks .at, at-head .head .ensures, at-if4 .if4 .taken, c .before .before .finish .ensures .at)
+      omega (
+        arith,
+        at-loop .loop .inv .0 .asked .asks .at,
+        at-head .head .ensures,
+        at-if4 .if4 .taken,
+        at-finish .finish .ensures .at,
+      )
 
   pub loop-again-2 : lts.Need-loop-again-2 given (access-at t) access.Post Inv-loop μ-loop
   loop-again-2 c =
-      let at-if4 = c .before .before .before .before in
+      let at-finish = c .before .before in
+      let at-if4 = at-finish .before .before in
       let at-if1 = at-if4 .before .before in
       let at-head = at-if1 .before .before in
       let at-enum-told = at-head .before .before in
-      let at-loop = at-enum-told .before .before in
-      (turn-on (at-loop .loop .inv .0) (star-moved (at-loop .loop .inv .0) (at-head .head .ensures) (at-if4 .if4 .taken) (c .before .before .finish .ensures)) (omega (arith, c .before .before .finish .kept)) refl refl, one-turn (at-loop .loop .inv .1) (omega (arith, c .before .before .finish .kept)) refl refl (omega (arith, at-head .head .ensures .up, c .before .before .finish .ensures .at)) (λ _ _ _ _ g. suffix-star (at-loop .loop .inv .0) (at-enum-told .enum-told .given .1) (at-head .head .ensures) (at-if1 .if1 .left) (at-if4 .if4 .taken) (c .before .before .finish .ensures) g))
+      let at-loop = at-enum-told .before .before in (
+        turn-on (at-loop .loop .inv .0)
+            (star-moved (at-loop .loop .inv .0) (at-head .head .ensures) (at-if4 .if4 .taken) (at-finish .finish .ensures))
+            (omega (arith, at-finish .finish .kept)) refl refl,
+        one-turn (at-loop .loop .inv .1) (omega (arith, at-finish .finish .kept)) refl refl
+            (omega (arith, at-head .head .ensures .up, at-finish .finish .ensures .at))
+            (λ _ _ _ _ g. suffix-star (at-loop .loop .inv .0) (at-enum-told .enum-told .given .1)
+            (at-head .head .ensures) (at-if1 .if1 .left) (at-if4 .if4 .taken) (at-finish .finish .ensures) g),
+      )
 
   pub same-length-10 : lts.Need-same-length-10 given (access-at t) access.Post Inv-loop μ-loop
   same-length-10 c =
@@ -216,13 +300,17 @@ module _ (t : ℕ) where
   pub returns-4 : lts.Need-returns-4 given (access-at t) access.Post Inv-loop μ-loop
   unfolding P.parse-field-access-or-index
   returns-4 c =
-      let at-if1 = c .before .before .before .before in
+      let at-if4 = c .before .before in
+      let at-if1 = at-if4 .before .before in
       let at-head = at-if1 .before .before in
       let at-enum-told = at-head .before .before in
       let at-loop = at-enum-told .before .before in
       let at-atom = at-loop .before .before .before .before .before .before .before in
       let start = at-atom .before .before .before .before .before .before .before .before .before in
-      then-asked suffixes-on (start .pre .1) (at-atom .atom .ensures) (at-loop .loop .inv .1 .rest (suffix-none (at-loop .loop .inv .0) (at-enum-told .enum-told .given .1) (at-head .head .ensures) (at-if1 .if1 .left) (c .before .before .if4 .left) (c .if5 .taken)))
+      then-asked suffixes-on (start .pre .1) (at-atom .atom .ensures)
+      (at-loop .loop .inv .1 .rest
+      (suffix-none (at-loop .loop .inv .0) (at-enum-told .enum-told .given .1) (at-head .head .ensures)
+      (at-if1 .if1 .left) (at-if4 .if4 .left) (c .if5 .taken)))
 
   pub expression-requires : lts.Need-expression-requires given (access-at t) access.Post Inv-loop μ-loop
   expression-requires c κs =
@@ -230,15 +318,26 @@ module _ (t : ℕ) where
       let at-head = at-if5 .before .before .before .before .before .before in
       let at-loop = at-head .before .before .before .before in
       let at-atom = at-loop .before .before .before .before .before .before .before in
-      let start = at-atom .before .before .before .before .before .before .before .before .before in
-      (omega (arith, start .pre .0, at-atom .atom .ensures .moved .at, at-loop .loop .inv .1 .on, at-loop .loop .inv .0 .asked .asks .at, at-head .head .ensures, at-if5 .if5 .left), asked-seen (at-loop .loop .inv .0 .asked) (at-head .head .ensures))
+      let start = at-atom .before .before .before .before .before .before .before .before .before in (
+        omega (
+          arith,
+          start .pre .0,
+          at-atom .atom .ensures .moved .at,
+          at-loop .loop .inv .1 .on,
+          at-loop .loop .inv .0 .asked .asks .at,
+          at-head .head .ensures,
+          at-if5 .if5 .left,
+        ),
+        asked-seen (at-loop .loop .inv .0 .asked) (at-head .head .ensures),
+      )
 
   pub abandon-requires : lts.Need-abandon-requires given (access-at t) access.Post Inv-loop μ-loop
   abandon-requires c κs =
       let at-expression = c .before .before .before .before .before .before .before in
       let at-head = at-expression .before .before .before .before .before .before .before .before .before .before in
       let at-loop = at-head .before .before .before .before in
-      join-cuts (at-loop .loop .inv .0) (at-head .head .ensures) (at-expression .expression .ensures) (omega (arith, at-expression .expression .kept))
+      join-cuts (at-loop .loop .inv .0) (at-head .head .ensures) (at-expression .expression .ensures)
+      (omega (arith, at-expression .expression .kept))
 
   pub and-expect-requires : lts.Need-and-expect-requires given (access-at t) access.Post Inv-loop μ-loop
   and-expect-requires c κs =
@@ -246,8 +345,13 @@ module _ (t : ℕ) where
       let at-expression = at-abandon .before .before .before .before .before .before .before .before in
       let at-head = at-expression .before .before .before .before .before .before .before .before .before .before in
       let at-enum-told = at-head .before .before in
-      let at-loop = at-enum-told .before .before in
-      (index-asks (at-loop .loop .inv .0) (at-enum-told .enum-told .given .1) (at-head .head .ensures) (at-expression .expression .ensures) (at-abandon .abandon .ensures) (omega (arith, at-abandon .abandon .kept, at-expression .expression .kept)) (omega (arith, at-expression .expression .kept)), (omega arith, omega arith))
+      let at-loop = at-enum-told .before .before in (
+        index-asks (at-loop .loop .inv .0) (at-enum-told .enum-told .given .1) (at-head .head .ensures)
+            (at-expression .expression .ensures) (at-abandon .abandon .ensures)
+            (omega (arith, at-abandon .abandon .kept, at-expression .expression .kept))
+            (omega (arith, at-expression .expression .kept)),
+        (omega arith, omega arith),
+      )
 
   pub finish-requires-2 : lts.Need-finish-requires-2 given (access-at t) access.Post Inv-loop μ-loop
   finish-requires-2 c κs =
@@ -256,21 +360,43 @@ module _ (t : ℕ) where
       let at-expression = at-abandon .before .before .before .before .before .before .before .before in
       let at-head = at-expression .before .before .before .before .before .before .before .before .before .before in
       let at-loop = at-head .before .before .before .before in
-      record { room = omega (arith, at-loop .loop .inv .0 .asked .room, at-head .head .ensures .pays, at-expression .expression .ensures .moved .room, at-abandon .abandon .ensures .high, at-and-expect .and-expect .ensures .high, at-expression .expression .kept); part = omega arith }
+      record {
+        room = omega (
+          arith,
+          at-loop .loop .inv .0 .asked .room,
+          at-head .head .ensures .pays,
+          at-expression .expression .ensures .moved .room,
+          at-abandon .abandon .ensures .high,
+          at-and-expect .and-expect .ensures .high,
+          at-expression .expression .kept,
+        );
+        part = omega arith;
+      }
 
   pub loop-less-3 : lts.Need-loop-less-3 given (access-at t) access.Post Inv-loop μ-loop
   loop-less-3 c =
-      let at-and-expect = c .before .before .before .before .before .before .before .before in
+      let at-finish2 = c .before .before in
+      let at-and-expect = at-finish2 .before .before .before .before .before .before in
       let at-abandon = at-and-expect .before .before .before .before .before in
       let at-expression = at-abandon .before .before .before .before .before .before .before .before in
       let at-if5 = at-expression .before .before .before .before in
       let at-head = at-if5 .before .before .before .before .before .before in
       let at-loop = at-head .before .before .before .before in
-      omega (arith, at-loop .loop .inv .0 .asked .asks .at, at-head .head .ensures, at-if5 .if5 .left, at-expression .expression .ensures .moved, at-abandon .abandon .ensures .at, at-and-expect .and-expect .ensures .moved, c .before .before .finish2 .ensures .at)
+      omega (
+        arith,
+        at-loop .loop .inv .0 .asked .asks .at,
+        at-head .head .ensures,
+        at-if5 .if5 .left,
+        at-expression .expression .ensures .moved,
+        at-abandon .abandon .ensures .at,
+        at-and-expect .and-expect .ensures .moved,
+        at-finish2 .finish2 .ensures .at,
+      )
 
   pub loop-again-3 : lts.Need-loop-again-3 given (access-at t) access.Post Inv-loop μ-loop
   loop-again-3 c =
-      let at-and-expect = c .before .before .before .before .before .before .before .before in
+      let at-finish2 = c .before .before in
+      let at-and-expect = at-finish2 .before .before .before .before .before .before in
       let at-abandon = at-and-expect .before .before .before .before .before in
       let at-expression = at-abandon .before .before .before .before .before .before .before .before in
       let at-if5 = at-expression .before .before .before .before in
@@ -278,5 +404,32 @@ module _ (t : ℕ) where
       let at-if1 = at-if4 .before .before in
       let at-head = at-if1 .before .before in
       let at-enum-told = at-head .before .before in
-      let at-loop = at-enum-told .before .before in
-      (turn-on (at-loop .loop .inv .0) (index-moved (at-loop .loop .inv .0) (at-enum-told .enum-told .given .1) (at-head .head .ensures) (at-if5 .if5 .left) (at-expression .expression .ensures) (at-abandon .abandon .ensures) (omega (arith, at-abandon .abandon .kept, at-expression .expression .kept)) (omega (arith, at-expression .expression .kept)) (at-and-expect .and-expect .ensures) (c .before .before .finish2 .ensures)) (omega (arith, c .before .before .finish2 .kept, at-expression .expression .kept)) (omega (arith, at-and-expect .and-expect .kept, at-abandon .abandon .kept, at-expression .expression .kept)) (omega (arith, at-and-expect .and-expect .kept, at-expression .expression .kept)), one-turn (at-loop .loop .inv .1) (omega (arith, c .before .before .finish2 .kept, at-expression .expression .kept)) (omega (arith, at-and-expect .and-expect .kept, at-abandon .abandon .kept, at-expression .expression .kept)) (omega (arith, at-and-expect .and-expect .kept, at-expression .expression .kept)) (omega (arith, at-head .head .ensures .up, at-expression .expression .ensures .moved, at-abandon .abandon .ensures .at, at-and-expect .and-expect .ensures .moved, c .before .before .finish2 .ensures .at)) (λ _ _ _ _ g. suffix-index (at-loop .loop .inv .0) (at-enum-told .enum-told .given .1) (at-head .head .ensures) (at-if5 .if5 .left) (at-expression .expression .ensures) (at-abandon .abandon .ensures) (omega (arith, at-abandon .abandon .kept, at-expression .expression .kept)) (omega (arith, at-expression .expression .kept)) (at-and-expect .and-expect .ensures) (c .before .before .finish2 .ensures) (at-if1 .if1 .left) (at-if4 .if4 .left) g))
+      let at-loop = at-enum-told .before .before in (
+        turn-on (at-loop .loop .inv .0)
+            (index-moved (at-loop .loop .inv .0) (at-enum-told .enum-told .given .1) (at-head .head .ensures)
+            (at-if5 .if5 .left) (at-expression .expression .ensures) (at-abandon .abandon .ensures)
+            (omega (arith, at-abandon .abandon .kept, at-expression .expression .kept))
+            (omega (arith, at-expression .expression .kept)) (at-and-expect .and-expect .ensures)
+            (at-finish2 .finish2 .ensures))
+            (omega (arith, at-finish2 .finish2 .kept, at-expression .expression .kept))
+            (omega (arith, at-and-expect .and-expect .kept, at-abandon .abandon .kept, at-expression .expression .kept))
+            (omega (arith, at-and-expect .and-expect .kept, at-expression .expression .kept)),
+        one-turn (at-loop .loop .inv .1)
+            (omega (arith, at-finish2 .finish2 .kept, at-expression .expression .kept))
+            (omega (arith, at-and-expect .and-expect .kept, at-abandon .abandon .kept, at-expression .expression .kept))
+            (omega (arith, at-and-expect .and-expect .kept, at-expression .expression .kept))
+            (omega (
+              arith,
+              at-head .head .ensures .up,
+              at-expression .expression .ensures .moved,
+              at-abandon .abandon .ensures .at,
+              at-and-expect .and-expect .ensures .moved,
+              at-finish2 .finish2 .ensures .at,
+            ))
+            (λ _ _ _ _ g. suffix-index (at-loop .loop .inv .0) (at-enum-told .enum-told .given .1)
+            (at-head .head .ensures) (at-if5 .if5 .left) (at-expression .expression .ensures)
+            (at-abandon .abandon .ensures)
+            (omega (arith, at-abandon .abandon .kept, at-expression .expression .kept))
+            (omega (arith, at-expression .expression .kept)) (at-and-expect .and-expect .ensures)
+            (at-finish2 .finish2 .ensures) (at-if1 .if1 .left) (at-if4 .if4 .left) g),
+      )

@@ -23,8 +23,11 @@ module _ (t : ℕ) where
   pub operators-requires : lts.Need-operators-requires given (add-sub-at t) add-sub.Post
   operators-requires c κs =
       let at-mul = c .before .before .before .before .before .before .before .before .before in
-      let start = at-mul .before .before .before .before .before .before .before .before .before in
-      (omega (arith, start .pre .0, start .pre .1 .asks .at, at-mul .mul .ensures .moved .at), goes-on (start .pre .1) (at-mul .mul .ensures) (omega (arith, at-mul .mul .kept)) (omega (arith, at-mul .mul .kept)) (omega (arith, at-mul .mul .kept)))
+      let start = at-mul .before .before .before .before .before .before .before .before .before in (
+        omega (arith, start .pre .0, start .pre .1 .asks .at, at-mul .mul .ensures .moved .at),
+        goes-on (start .pre .1) (at-mul .mul .ensures) (omega (arith, at-mul .mul .kept))
+            (omega (arith, at-mul .mul .kept)) (omega (arith, at-mul .mul .kept)),
+      )
 
   pub same-length : lts.Need-same-length given (add-sub-at t) add-sub.Post
   same-length c =
@@ -50,4 +53,5 @@ module _ (t : ℕ) where
       let at-operators = c .before .before .before .before .before .before in
       let at-mul = at-operators .before .before .before .before .before .before .before .before .before .before in
       let start = at-mul .before .before .before .before .before .before .before .before .before in
-      then-asked (operators-on AddSub) (start .pre .1) (at-mul .mul .ensures) (at-operators .operators .ensures)
+      then-asked (operators-on AddSub) (start .pre .1) (at-mul .mul .ensures)
+      (at-operators .operators .ensures)

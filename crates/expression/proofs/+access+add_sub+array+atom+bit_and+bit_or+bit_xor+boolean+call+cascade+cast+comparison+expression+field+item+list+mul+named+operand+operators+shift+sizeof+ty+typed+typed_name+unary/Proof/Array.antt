@@ -17,13 +17,32 @@ use Rattle.expression.proofs.+access+add_sub+array+atom+bit_and+bit_or+
 
 module _ (t : ℕ) where
   abbrev pub given : lts.Claims
-  given = (head-reads.Asked, head-reads.Learnt, entry-reads.Asked, entry-reads.Learnt, raise-reads.Asked, raise-reads.Learnt, array-size-reads.Asked, array-size-reads.Learnt, expect-reads.Asked, expect-reads.Learnt, ty-below t, ty.Post, finish-reads.Asked, finish-reads.Learnt)
+  given = (
+    head-reads.Asked,
+    head-reads.Learnt,
+    entry-reads.Asked,
+    entry-reads.Learnt,
+    raise-reads.Asked,
+    raise-reads.Learnt,
+    array-size-reads.Asked,
+    array-size-reads.Learnt,
+    expect-reads.Asked,
+    expect-reads.Learnt,
+    ty-below t,
+    ty.Post,
+    finish-reads.Asked,
+    finish-reads.Learnt,
+  )
 
   pub head-requires : lts.Need-head-requires given (array-at t) array.Post
-  head-requires c κs = (c .before .before .before .before .before .pre .1 .0 .asks .held, c .before .before .before .before .before .pre .1 .0 .asks .at)
+  head-requires c κs =
+      let start = c .before .before .before .before .before in
+      (start .pre .1 .0 .asks .held, start .pre .1 .0 .asks .at)
 
   pub entry-requires : lts.Need-entry-requires given (array-at t) array.Post
-  entry-requires c κs = omega (arith, c .before .before .before .before .before .before .before .before .pre .1 .1)
+  entry-requires c κs =
+      let start = c .before .before .before .before .before .before .before .before in
+      omega (arith, start .pre .1 .1)
 
   pub raise-requires : lts.Need-raise-requires given (array-at t) array.Post
   raise-requires c κs =
@@ -32,10 +51,14 @@ module _ (t : ℕ) where
       raise-asked (asked-seen (start .pre .1 .0) (at-head .head .ensures))
 
   pub same-length : lts.Need-same-length given (array-at t) array.Post
-  same-length c = omega (arith, c .before .before .before .before .raise .kept)
+  same-length c =
+      let at-raise = c .before .before .before .before in
+      omega (arith, at-raise .raise .kept)
 
   pub same-length-2 : lts.Need-same-length-2 given (array-at t) array.Post
-  same-length-2 c = omega (arith, c .before .before .before .before .raise .kept)
+  same-length-2 c =
+      let at-raise = c .before .before .before .before in
+      omega (arith, at-raise .raise .kept)
 
   pub returns : lts.Need-returns given (array-at t) array.Post
   returns c =
@@ -44,15 +67,19 @@ module _ (t : ℕ) where
       let at-if1 = at-entry .before in
       let at-head = at-if1 .before .before in
       let start = at-head .before .before .before .before .before .before in
-      array-no-integer (start .args .lead .line) (start .args .lead .column) (start .pre .1) (at-head .head .ensures) (at-if1 .if1 .taken) (at-entry .entry .ensures) (at-raise .raise .ensures)
+      array-no-integer (start .args .lead .line) (start .args .lead .column) (start .pre .1)
+      (at-head .head .ensures) (at-if1 .if1 .taken) (at-entry .entry .ensures) (at-raise .raise .ensures)
 
   pub array-size-requires : lts.Need-array-size-requires given (array-at t) array.Post
   array-size-requires c κs =
-      let start = c .before .before .before .before .before .before .before .before in
-      size-asked (start .pre .1 .0) (c .before .before .head .ensures) (c .if1 .left)
+      let at-head = c .before .before in
+      let start = at-head .before .before .before .before .before .before in
+      size-asked (start .pre .1 .0) (at-head .head .ensures) (c .if1 .left)
 
   pub entry-requires-2 : lts.Need-entry-requires-2 given (array-at t) array.Post
-  entry-requires-2 c κs = omega (arith, c .before .before .before .before .before .before .before .before .before .before .before .pre .1 .1)
+  entry-requires-2 c κs =
+      let start = c .before .before .before .before .before .before .before .before .before .before .before in
+      omega (arith, start .pre .1 .1)
 
   pub raise-requires-2 : lts.Need-raise-requires-2 given (array-at t) array.Post
   raise-requires-2 c κs =
@@ -61,10 +88,14 @@ module _ (t : ℕ) where
       raise-asked (asked-seen (start .pre .1 .0) (at-head .head .ensures))
 
   pub same-length-3 : lts.Need-same-length-3 given (array-at t) array.Post
-  same-length-3 c = omega (arith, c .before .before .before .before .raise2 .kept)
+  same-length-3 c =
+      let at-raise2 = c .before .before .before .before in
+      omega (arith, at-raise2 .raise2 .kept)
 
   pub same-length-4 : lts.Need-same-length-4 given (array-at t) array.Post
-  same-length-4 c = omega (arith, c .before .before .before .before .raise2 .kept)
+  same-length-4 c =
+      let at-raise2 = c .before .before .before .before in
+      omega (arith, at-raise2 .raise2 .kept)
 
   pub returns-2 : lts.Need-returns-2 given (array-at t) array.Post
   returns-2 c =
@@ -75,7 +106,9 @@ module _ (t : ℕ) where
       let at-if1 = at-array-size .before in
       let at-head = at-if1 .before .before in
       let start = at-head .before .before .before .before .before .before in
-      array-no-size (start .args .lead .line) (start .args .lead .column) (start .pre .1) (at-head .head .ensures) (at-if1 .if1 .left) (at-array-size .array-size .ensures) (at-if2 .if2 .taken) (at-entry2 .entry2 .ensures) (at-raise2 .raise2 .ensures)
+      array-no-size (start .args .lead .line) (start .args .lead .column) (start .pre .1)
+      (at-head .head .ensures) (at-if1 .if1 .left) (at-array-size .array-size .ensures) (at-if2 .if2 .taken)
+      (at-entry2 .entry2 .ensures) (at-raise2 .raise2 .ensures)
 
   pub expect-requires : lts.Need-expect-requires given (array-at t) array.Post
   expect-requires c κs =
@@ -87,10 +120,14 @@ module _ (t : ℕ) where
   enum-told c = search needs
 
   pub same-length-5 : lts.Need-same-length-5 given (array-at t) array.Post
-  same-length-5 c = omega (arith, c .before .before .before .before .before .expect .kept)
+  same-length-5 c =
+      let at-expect = c .before .before .before .before .before in
+      omega (arith, at-expect .expect .kept)
 
   pub same-length-6 : lts.Need-same-length-6 given (array-at t) array.Post
-  same-length-6 c = omega (arith, c .before .before .before .before .before .expect .kept)
+  same-length-6 c =
+      let at-expect = c .before .before .before .before .before in
+      omega (arith, at-expect .expect .kept)
 
   pub returns-3 : lts.Need-returns-3 given (array-at t) array.Post
   returns-3 c =
@@ -100,14 +137,19 @@ module _ (t : ℕ) where
       let at-if1 = at-array-size .before in
       let at-head = at-if1 .before .before in
       let start = at-head .before .before .before .before .before .before in
-      array-open (start .args .lead .line) (start .args .lead .column) (start .pre .1) (at-head .head .ensures) (at-if1 .if1 .left) (at-array-size .array-size .ensures) (at-if2 .if2 .left) (at-expect .expect .ensures) (c .match .keys2)
+      array-open (start .args .lead .line) (start .args .lead .column) (start .pre .1)
+      (at-head .head .ensures) (at-if1 .if1 .left) (at-array-size .array-size .ensures) (at-if2 .if2 .left)
+      (at-expect .expect .ensures) (c .match .keys2)
 
   pub ty-requires : lts.Need-ty-requires given (array-at t) array.Post
   ty-requires c κs =
       let at-expect = c .before .before .before .before .before .before .before .before .before .before in
       let at-head = at-expect .before .before .before .before .before .before .before .before in
-      let start = at-head .before .before .before .before .before .before in
-      (omega (arith, start .pre .0, at-head .head .ensures, at-expect .expect .ensures .moved), bracket-asked (start .pre .1 .0) (at-head .head .ensures) (at-expect .expect .ensures) (omega (arith, at-expect .expect .kept)) (omega (arith, at-expect .expect .kept)))
+      let start = at-head .before .before .before .before .before .before in (
+        omega (arith, start .pre .0, at-head .head .ensures, at-expect .expect .ensures .moved),
+        bracket-asked (start .pre .1 .0) (at-head .head .ensures) (at-expect .expect .ensures)
+            (omega (arith, at-expect .expect .kept)) (omega (arith, at-expect .expect .kept)),
+      )
 
   pub finish-requires : lts.Need-finish-requires given (array-at t) array.Post
   finish-requires c κs =
@@ -115,13 +157,15 @@ module _ (t : ℕ) where
       let at-expect = at-ty .before .before .before .before .before .before .before .before .before .before .before in
       let at-head = at-expect .before .before .before .before .before .before .before .before in
       let start = at-head .before .before .before .before .before .before in
-      array-room (start .pre .1 .0) (at-head .head .ensures) (at-expect .expect .ensures) (at-ty .ty .ensures) (omega (arith, at-ty .ty .kept))
+      array-room (start .pre .1 .0) (at-head .head .ensures) (at-expect .expect .ensures)
+      (at-ty .ty .ensures) (omega (arith, at-ty .ty .kept))
 
   pub same-length-7 : lts.Need-same-length-7 given (array-at t) array.Post
   same-length-7 c =
-      let at-ty = c .before .before .before .before .before .before .before .before .before .before in
+      let at-finish = c .before .before in
+      let at-ty = at-finish .before .before .before .before .before .before .before .before in
       let at-expect = at-ty .before .before .before .before .before .before .before .before .before .before .before in
-      omega (arith, c .before .before .finish .kept, at-ty .ty .kept, at-expect .expect .kept)
+      omega (arith, at-finish .finish .kept, at-ty .ty .kept, at-expect .expect .kept)
 
   pub same-length-8 : lts.Need-same-length-8 given (array-at t) array.Post
   same-length-8 c =
@@ -137,7 +181,8 @@ module _ (t : ℕ) where
 
   pub returns-4 : lts.Need-returns-4 given (array-at t) array.Post
   returns-4 c =
-      let at-ty = c .before .before .before .before .before .before .before .before .before .before in
+      let at-finish = c .before .before in
+      let at-ty = at-finish .before .before .before .before .before .before .before .before in
       let at-enum-told = at-ty .before .before .before .before .before in
       let at-expect = at-enum-told .before .before .before .before .before .before in
       let at-if2 = at-expect .before .before .before in
@@ -145,4 +190,7 @@ module _ (t : ℕ) where
       let at-if1 = at-array-size .before in
       let at-head = at-if1 .before .before in
       let start = at-head .before .before .before .before .before .before in
-      array-done (start .args .lead .line) (start .args .lead .column) (start .pre .1) (at-head .head .ensures) (at-if1 .if1 .left) (at-array-size .array-size .ensures) (at-if2 .if2 .left) (at-expect .expect .ensures) (at-enum-told .enum-told .given .1) (at-ty .ty .ensures) (c .before .before .finish .ensures)
+      array-done (start .args .lead .line) (start .args .lead .column) (start .pre .1)
+      (at-head .head .ensures) (at-if1 .if1 .left) (at-array-size .array-size .ensures) (at-if2 .if2 .left)
+      (at-expect .expect .ensures) (at-enum-told .enum-told .given .1) (at-ty .ty .ensures)
+      (at-finish .finish .ensures)

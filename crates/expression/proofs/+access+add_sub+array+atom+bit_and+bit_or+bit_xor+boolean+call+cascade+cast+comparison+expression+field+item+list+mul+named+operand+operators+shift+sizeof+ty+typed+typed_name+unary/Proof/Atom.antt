@@ -15,10 +15,21 @@ use Rattle.expression.proofs.+access+add_sub+array+atom+bit_and+bit_or+
 
 module _ (t : ℕ) where
   abbrev pub given : lts.Claims
-  given = (head-reads.Asked, head-reads.Learnt, literal-reads.Asked, literal-reads.Learnt, expression-below t, expression.Post, close-reads.Asked, close-reads.Learnt)
+  given = (
+    head-reads.Asked,
+    head-reads.Learnt,
+    literal-reads.Asked,
+    literal-reads.Learnt,
+    expression-below t,
+    expression.Post,
+    close-reads.Asked,
+    close-reads.Learnt,
+  )
 
   pub head-requires : lts.Need-head-requires given (atom-at t) atom.Post
-  head-requires c κs = (c .before .before .before .before .before .pre .1 .asks .held, c .before .before .before .before .before .pre .1 .asks .at)
+  head-requires c κs =
+      let start = c .before .before .before .before .before in
+      (start .pre .1 .asks .held, start .pre .1 .asks .at)
 
   pub literal-requires : lts.Need-literal-requires given (atom-at t) atom.Post
   literal-requires c κs =
@@ -28,30 +39,42 @@ module _ (t : ℕ) where
       record { asked = start .pre .1; bare = λ e. at-if1 .if1 .taken (sym (at-head .head .ensures .kind) ∙ e) }
 
   pub same-length : lts.Need-same-length given (atom-at t) atom.Post
-  same-length c = omega (arith, c .before .before .before .before .before .before .literal .kept)
+  same-length c =
+      let at-literal = c .before .before .before .before .before .before in
+      omega (arith, at-literal .literal .kept)
 
   pub same-length-2 : lts.Need-same-length-2 given (atom-at t) atom.Post
-  same-length-2 c = omega (arith, c .before .before .before .before .before .before .literal .kept)
+  same-length-2 c =
+      let at-literal = c .before .before .before .before .before .before in
+      omega (arith, at-literal .literal .kept)
 
   pub same-length-3 : lts.Need-same-length-3 given (atom-at t) atom.Post
-  same-length-3 c = omega (arith, c .before .before .before .before .before .before .literal .kept)
+  same-length-3 c =
+      let at-literal = c .before .before .before .before .before .before in
+      omega (arith, at-literal .literal .kept)
 
   pub returns : lts.Need-returns given (atom-at t) atom.Post
-  returns c = c .before .before .before .before .before .before .literal .ensures _
+  returns c =
+      let at-literal = c .before .before .before .before .before .before in
+      at-literal .literal .ensures _
 
   pub expression-requires : lts.Need-expression-requires given (atom-at t) atom.Post
   expression-requires c κs =
       let at-if1 = c .before .before .before in
       let at-head = at-if1 .before .before in
-      let start = at-head .before .before .before .before .before .before in
-      (omega (arith, start .pre .0, start .pre .1 .asks .at, at-head .head .ensures, at-if1 .if1 .left), asked-seen (start .pre .1) (at-head .head .ensures))
+      let start = at-head .before .before .before .before .before .before in (
+        omega (arith, start .pre .0, start .pre .1 .asks .at, at-head .head .ensures, at-if1 .if1 .left),
+        asked-seen (start .pre .1) (at-head .head .ensures),
+      )
 
   pub close-requires : lts.Need-close-requires given (atom-at t) atom.Post
   close-requires c κs =
       let at-expression = c .before .before .before .before .before .before .before .before in
       let at-head = at-expression .before .before .before .before .before .before in
       let start = at-head .before .before .before .before .before .before in
-      asks-moved (start .pre .1 .asks) (moved-trans (fore-moved (start .pre .1 .asks) (at-head .head .ensures)) (at-expression .expression .ensures .moved)) (omega (arith, at-expression .expression .kept)) (omega (arith, at-expression .expression .kept))
+      asks-moved (start .pre .1 .asks)
+      (moved-trans (fore-moved (start .pre .1 .asks) (at-head .head .ensures)) (at-expression .expression .ensures .moved))
+      (omega (arith, at-expression .expression .kept)) (omega (arith, at-expression .expression .kept))
 
   pub same-length-4 : lts.Need-same-length-4 given (atom-at t) atom.Post
   same-length-4 c =
@@ -78,4 +101,5 @@ module _ (t : ℕ) where
       let at-if1 = at-expression .before .before .before .before in
       let at-head = at-if1 .before .before in
       let start = at-head .before .before .before .before .before .before in
-      atom-group (start .pre .1) (at-head .head .ensures) (at-if1 .if1 .left) (at-expression .expression .ensures) (at-close .close .ensures)
+      atom-group (start .pre .1) (at-head .head .ensures) (at-if1 .if1 .left)
+      (at-expression .expression .ensures) (at-close .close .ensures)

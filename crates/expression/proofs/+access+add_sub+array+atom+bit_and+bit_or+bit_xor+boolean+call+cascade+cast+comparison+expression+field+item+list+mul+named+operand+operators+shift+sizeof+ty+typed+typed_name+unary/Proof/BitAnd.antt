@@ -23,8 +23,11 @@ module _ (t : ℕ) where
   pub operators-requires : lts.Need-operators-requires given (bit-and-at t) bit-and.Post
   operators-requires c κs =
       let at-shift = c .before .before .before .before .before .before .before .before .before in
-      let start = at-shift .before .before .before .before .before .before .before .before .before in
-      (omega (arith, start .pre .0, start .pre .1 .asks .at, at-shift .shift .ensures .moved .at), goes-on (start .pre .1) (at-shift .shift .ensures) (omega (arith, at-shift .shift .kept)) (omega (arith, at-shift .shift .kept)) (omega (arith, at-shift .shift .kept)))
+      let start = at-shift .before .before .before .before .before .before .before .before .before in (
+        omega (arith, start .pre .0, start .pre .1 .asks .at, at-shift .shift .ensures .moved .at),
+        goes-on (start .pre .1) (at-shift .shift .ensures) (omega (arith, at-shift .shift .kept))
+            (omega (arith, at-shift .shift .kept)) (omega (arith, at-shift .shift .kept)),
+      )
 
   pub same-length : lts.Need-same-length given (bit-and-at t) bit-and.Post
   same-length c =
@@ -50,4 +53,5 @@ module _ (t : ℕ) where
       let at-operators = c .before .before .before .before .before .before in
       let at-shift = at-operators .before .before .before .before .before .before .before .before .before .before in
       let start = at-shift .before .before .before .before .before .before .before .before .before in
-      then-asked (operators-on BitAnd) (start .pre .1) (at-shift .shift .ensures) (at-operators .operators .ensures)
+      then-asked (operators-on BitAnd) (start .pre .1) (at-shift .shift .ensures)
+      (at-operators .operators .ensures)

@@ -24,7 +24,18 @@ abbrev pub μ-loop : lts.MeasureT-loop
 
 module _ (t : ℕ) where
   abbrev pub given : lts.Claims
-  given = (cast-below t, cast.Post, head-reads.Asked, head-reads.Learnt, arithmetic-reads.Asked, arithmetic-reads.Learnt, level-at-reads.Asked, level-at-reads.Learnt, operators-below t, operators.Post)
+  given = (
+    cast-below t,
+    cast.Post,
+    head-reads.Asked,
+    head-reads.Learnt,
+    arithmetic-reads.Asked,
+    arithmetic-reads.Learnt,
+    level-at-reads.Asked,
+    level-at-reads.Learnt,
+    operators-below t,
+    operators.Post,
+  )
 
   pub cast-requires : lts.Need-cast-requires given (bit-or-at t) bit-or.Post Inv-loop μ-loop
   cast-requires c κs =
@@ -35,28 +46,42 @@ module _ (t : ℕ) where
   enum-told c = search needs
 
   pub same-length : lts.Need-same-length given (bit-or-at t) bit-or.Post Inv-loop μ-loop
-  same-length c = omega (arith, c .before .before .before .before .before .before .before .cast .kept)
+  same-length c =
+      let at-cast = c .before .before .before .before .before .before .before in
+      omega (arith, at-cast .cast .kept)
 
   pub same-length-2 : lts.Need-same-length-2 given (bit-or-at t) bit-or.Post Inv-loop μ-loop
-  same-length-2 c = omega (arith, c .before .before .before .before .before .before .before .cast .kept)
+  same-length-2 c =
+      let at-cast = c .before .before .before .before .before .before .before in
+      omega (arith, at-cast .cast .kept)
 
   pub same-length-3 : lts.Need-same-length-3 given (bit-or-at t) bit-or.Post Inv-loop μ-loop
-  same-length-3 c = omega (arith, c .before .before .before .before .before .before .before .cast .kept)
+  same-length-3 c =
+      let at-cast = c .before .before .before .before .before .before .before in
+      omega (arith, at-cast .cast .kept)
 
   pub same-length-4 : lts.Need-same-length-4 given (bit-or-at t) bit-or.Post Inv-loop μ-loop
-  same-length-4 c = omega (arith, c .before .before .before .before .before .before .before .before .before .before .before .before .cast .kept)
+  same-length-4 c =
+      let at-cast = c .before .before .before .before .before .before .before .before .before .before .before .before in
+      omega (arith, at-cast .cast .kept)
 
   pub same-length-5 : lts.Need-same-length-5 given (bit-or-at t) bit-or.Post Inv-loop μ-loop
-  same-length-5 c = omega (arith, c .before .before .before .before .before .before .before .before .before .before .before .before .cast .kept)
+  same-length-5 c =
+      let at-cast = c .before .before .before .before .before .before .before .before .before .before .before .before in
+      omega (arith, at-cast .cast .kept)
 
   pub same-length-6 : lts.Need-same-length-6 given (bit-or-at t) bit-or.Post Inv-loop μ-loop
-  same-length-6 c = omega (arith, c .before .before .before .before .before .before .before .before .before .before .before .before .cast .kept)
+  same-length-6 c =
+      let at-cast = c .before .before .before .before .before .before .before .before .before .before .before .before in
+      omega (arith, at-cast .cast .kept)
 
   pub returns : lts.Need-returns given (bit-or-at t) bit-or.Post Inv-loop μ-loop
   returns c =
       let at-cast = c .before .before .before .before .before .before .before in
       let start = at-cast .before .before .before .before .before .before .before .before .before in
-      levels-pass (start .pre .1) (at-cast .cast .ensures) (λ l. goes-stops (goes-on (start .pre .1) (at-cast .cast .ensures) (omega (arith, at-cast .cast .kept)) (omega (arith, at-cast .cast .kept)) (omega (arith, at-cast .cast .kept))) (c .match .keys2))
+      levels-pass (start .pre .1) (at-cast .cast .ensures)
+      (λ l. goes-stops (goes-on (start .pre .1) (at-cast .cast .ensures) (omega (arith, at-cast .cast .kept))
+      (omega (arith, at-cast .cast .kept)) (omega (arith, at-cast .cast .kept))) (c .match .keys2))
 
   pub head-requires : lts.Need-head-requires given (bit-or-at t) bit-or.Post Inv-loop μ-loop
   head-requires c κs =
@@ -69,16 +94,23 @@ module _ (t : ℕ) where
 
   pub returns-2 : lts.Need-returns-2 given (bit-or-at t) bit-or.Post Inv-loop μ-loop
   returns-2 c =
-      let at-enum-told = c .before .before .before .before in
+      let at-head = c .before .before in
+      let at-enum-told = at-head .before .before in
       let at-cast = at-enum-told .before .before .before .before .before .before .before .before in
       let start = at-cast .before .before .before .before .before .before .before .before .before in
-      levels-pass (start .pre .1) (at-cast .cast .ensures) (λ l. operators-none (goes-on (start .pre .1) (at-cast .cast .ensures) (omega (arith, at-cast .cast .kept)) (omega (arith, at-cast .cast .kept)) (omega (arith, at-cast .cast .kept))) (at-enum-told .enum-told .given .1) (c .before .before .head .ensures) l (no-operator _ (sym (c .before .arithmetic .ensures) ∙ not-true _ (c .if1 .taken)) l) refl)
+      levels-pass (start .pre .1) (at-cast .cast .ensures)
+      (λ l. operators-none (goes-on (start .pre .1) (at-cast .cast .ensures) (omega (arith, at-cast .cast .kept))
+      (omega (arith, at-cast .cast .kept)) (omega (arith, at-cast .cast .kept)))
+      (at-enum-told .enum-told .given .1) (at-head .head .ensures) l
+      (no-operator _ (sym (c .before .arithmetic .ensures) ∙ not-true _ (c .if1 .taken)) l) refl)
 
   pub loop-holds : lts.Need-loop-holds given (bit-or-at t) bit-or.Post Inv-loop μ-loop
   loop-holds c =
       let at-cast = c .before .before .before .before .before .before .before .before .before .before .before .before in
       let start = at-cast .before .before .before .before .before .before .before .before .before in
-      levels-start (at-cast .cast .ensures .moved .at) (goes-on (start .pre .1) (at-cast .cast .ensures) (omega (arith, at-cast .cast .kept)) (omega (arith, at-cast .cast .kept)) (omega (arith, at-cast .cast .kept)))
+      levels-start (at-cast .cast .ensures .moved .at)
+      (goes-on (start .pre .1) (at-cast .cast .ensures) (omega (arith, at-cast .cast .kept))
+      (omega (arith, at-cast .cast .kept)) (omega (arith, at-cast .cast .kept)))
 
   pub level-at-requires : lts.Need-level-at-requires given (bit-or-at t) bit-or.Post Inv-loop μ-loop
   level-at-requires c κs = search needs
@@ -86,8 +118,10 @@ module _ (t : ℕ) where
   pub operators-requires : lts.Need-operators-requires given (bit-or-at t) bit-or.Post Inv-loop μ-loop
   operators-requires c κs =
       let at-loop = c .before .before .before .before .before in
-      let start = at-loop .before .before .before .before .before .before .before .before .before .before .before .before .before .before .before .before .before .before .before .before .before .before in
-      (omega (arith, start .pre .0, start .pre .1 .asks .at, at-loop .loop .inv .forward), at-loop .loop .inv .on)
+      let start = at-loop .before .before .before .before .before .before .before .before .before .before .before .before .before .before .before .before .before .before .before .before .before .before in (
+        omega (arith, start .pre .0, start .pre .1 .asks .at, at-loop .loop .inv .forward),
+        at-loop .loop .inv .on,
+      )
 
   pub add-k : lts.Need-add-k given (bit-or-at t) bit-or.Post Inv-loop μ-loop
   add-k c = search needs
@@ -101,7 +135,9 @@ module _ (t : ℕ) where
       let at-level-at = at-operators .before .before .before .before in
       let at-loop-test = at-level-at .before in
       let at-loop = at-loop-test .before in
-      levels-more (at-loop .loop .inv) (at-loop-test .loop-test .taken) (at-level-at .level-at .ensures) (at-operators .operators .ensures) (omega (arith, at-operators .operators .kept)) (omega (arith, at-operators .operators .kept)) (omega (arith, at-operators .operators .kept))
+      levels-more (at-loop .loop .inv) (at-loop-test .loop-test .taken) (at-level-at .level-at .ensures)
+      (at-operators .operators .ensures) (omega (arith, at-operators .operators .kept))
+      (omega (arith, at-operators .operators .kept)) (omega (arith, at-operators .operators .kept))
 
   pub same-length-7 : lts.Need-same-length-7 given (bit-or-at t) bit-or.Post Inv-loop μ-loop
   same-length-7 c =

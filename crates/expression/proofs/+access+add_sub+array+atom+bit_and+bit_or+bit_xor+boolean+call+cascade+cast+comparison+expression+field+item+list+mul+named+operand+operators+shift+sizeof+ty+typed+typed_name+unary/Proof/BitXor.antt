@@ -23,8 +23,11 @@ module _ (t : ℕ) where
   pub operators-requires : lts.Need-operators-requires given (bit-xor-at t) bit-xor.Post
   operators-requires c κs =
       let at-bit-and = c .before .before .before .before .before .before .before .before .before in
-      let start = at-bit-and .before .before .before .before .before .before .before .before .before in
-      (omega (arith, start .pre .0, start .pre .1 .asks .at, at-bit-and .bit-and .ensures .moved .at), goes-on (start .pre .1) (at-bit-and .bit-and .ensures) (omega (arith, at-bit-and .bit-and .kept)) (omega (arith, at-bit-and .bit-and .kept)) (omega (arith, at-bit-and .bit-and .kept)))
+      let start = at-bit-and .before .before .before .before .before .before .before .before .before in (
+        omega (arith, start .pre .0, start .pre .1 .asks .at, at-bit-and .bit-and .ensures .moved .at),
+        goes-on (start .pre .1) (at-bit-and .bit-and .ensures) (omega (arith, at-bit-and .bit-and .kept))
+            (omega (arith, at-bit-and .bit-and .kept)) (omega (arith, at-bit-and .bit-and .kept)),
+      )
 
   pub same-length : lts.Need-same-length given (bit-xor-at t) bit-xor.Post
   same-length c =
@@ -50,4 +53,5 @@ module _ (t : ℕ) where
       let at-operators = c .before .before .before .before .before .before in
       let at-bit-and = at-operators .before .before .before .before .before .before .before .before .before .before in
       let start = at-bit-and .before .before .before .before .before .before .before .before .before in
-      then-asked (operators-on BitXor) (start .pre .1) (at-bit-and .bit-and .ensures) (at-operators .operators .ensures)
+      then-asked (operators-on BitXor) (start .pre .1) (at-bit-and .bit-and .ensures)
+      (at-operators .operators .ensures)

@@ -17,7 +17,16 @@ use Rattle.expression.proofs.+access+add_sub+array+atom+bit_and+bit_or+
 
 module _ (t : ℕ) where
   abbrev pub given : lts.Claims
-  given = (comparison-below t, comparison.Post, head-reads.Asked, head-reads.Learnt, abandon-reads.Asked, abandon-reads.Learnt, finish-reads.Asked, finish-reads.Learnt)
+  given = (
+    comparison-below t,
+    comparison.Post,
+    head-reads.Asked,
+    head-reads.Learnt,
+    abandon-reads.Asked,
+    abandon-reads.Learnt,
+    finish-reads.Asked,
+    finish-reads.Learnt,
+  )
 
   pub comparison-requires : lts.Need-comparison-requires given (boolean-at t) boolean.Post
   comparison-requires c κs =
@@ -28,17 +37,25 @@ module _ (t : ℕ) where
   enum-told c = search needs
 
   pub same-length : lts.Need-same-length given (boolean-at t) boolean.Post
-  same-length c = omega (arith, c .before .before .before .before .before .before .before .comparison .kept)
+  same-length c =
+      let at-comparison = c .before .before .before .before .before .before .before in
+      omega (arith, at-comparison .comparison .kept)
 
   pub same-length-2 : lts.Need-same-length-2 given (boolean-at t) boolean.Post
-  same-length-2 c = omega (arith, c .before .before .before .before .before .before .before .comparison .kept)
+  same-length-2 c =
+      let at-comparison = c .before .before .before .before .before .before .before in
+      omega (arith, at-comparison .comparison .kept)
 
   pub same-length-3 : lts.Need-same-length-3 given (boolean-at t) boolean.Post
-  same-length-3 c = omega (arith, c .before .before .before .before .before .before .before .comparison .kept)
+  same-length-3 c =
+      let at-comparison = c .before .before .before .before .before .before .before in
+      omega (arith, at-comparison .comparison .kept)
 
   pub returns : lts.Need-returns given (boolean-at t) boolean.Post
   unfolding P.expression-rule
-  returns c = then-stops and-on (c .before .before .before .before .before .before .before .comparison .ensures) (c .match .keys2)
+  returns c =
+      let at-comparison = c .before .before .before .before .before .before .before in
+      then-stops and-on (at-comparison .comparison .ensures) (c .match .keys2)
 
   pub head-requires : lts.Need-head-requires given (boolean-at t) boolean.Post
   head-requires c κs =
@@ -47,29 +64,53 @@ module _ (t : ℕ) where
       (start .pre .1 .asks .held, omega (arith, at-comparison .comparison .ensures .moved .end))
 
   pub same-length-4 : lts.Need-same-length-4 given (boolean-at t) boolean.Post
-  same-length-4 c = omega (arith, c .before .before .before .before .before .before .before .before .before .before .before .before .comparison .kept)
+  same-length-4 c =
+      let at-comparison = c .before .before .before .before .before .before .before .before .before .before .before .before in
+      omega (arith, at-comparison .comparison .kept)
 
   pub same-length-5 : lts.Need-same-length-5 given (boolean-at t) boolean.Post
-  same-length-5 c = omega (arith, c .before .before .before .before .before .before .before .before .before .before .before .before .comparison .kept)
+  same-length-5 c =
+      let at-comparison = c .before .before .before .before .before .before .before .before .before .before .before .before in
+      omega (arith, at-comparison .comparison .kept)
 
   pub same-length-6 : lts.Need-same-length-6 given (boolean-at t) boolean.Post
-  same-length-6 c = omega (arith, c .before .before .before .before .before .before .before .before .before .before .before .before .comparison .kept)
+  same-length-6 c =
+      let at-comparison = c .before .before .before .before .before .before .before .before .before .before .before .before in
+      omega (arith, at-comparison .comparison .kept)
 
   pub returns-2 : lts.Need-returns-2 given (boolean-at t) boolean.Post
   unfolding P.expression-rule
   returns-2 c =
-      let at-enum-told = c .before .before .before .before in
+      let at-head = c .before .before in
+      let at-enum-told = at-head .before .before in
       let at-comparison = at-enum-told .before .before .before .before .before .before .before .before in
       let start = at-comparison .before .before .before .before .before .before .before .before .before in
-      then-asked and-on (start .pre .1) (at-comparison .comparison .ensures) (and-none (goes-on (start .pre .1) (at-comparison .comparison .ensures) (omega (arith, at-comparison .comparison .kept)) (omega (arith, at-comparison .comparison .kept)) (omega (arith, at-comparison .comparison .kept))) (at-enum-told .enum-told .given .1) (c .before .before .head .ensures) (c .if1 .taken))
+      then-asked and-on (start .pre .1) (at-comparison .comparison .ensures)
+      (and-none (goes-on (start .pre .1) (at-comparison .comparison .ensures)
+      (omega (arith, at-comparison .comparison .kept)) (omega (arith, at-comparison .comparison .kept))
+      (omega (arith, at-comparison .comparison .kept))) (at-enum-told .enum-told .given .1)
+      (at-head .head .ensures) (c .if1 .taken))
 
   pub comparison-requires-2 : lts.Need-comparison-requires-2 given (boolean-at t) boolean.Post
   comparison-requires-2 c κs =
       let at-if1 = c .before .before .before in
       let at-head = at-if1 .before .before in
       let at-comparison = at-head .before .before .before .before .before .before .before .before .before .before in
-      let start = at-comparison .before .before .before .before .before .before .before .before .before in
-      (omega (arith, start .pre .0, start .pre .1 .asks .at, at-comparison .comparison .ensures .moved .at, at-head .head .ensures, at-if1 .if1 .left), asked-seen (asked-moved (start .pre .1) (at-comparison .comparison .ensures .moved) (omega (arith, at-comparison .comparison .kept)) (omega (arith, at-comparison .comparison .kept)) (omega (arith, at-comparison .comparison .kept))) (at-head .head .ensures))
+      let start = at-comparison .before .before .before .before .before .before .before .before .before in (
+        omega (
+          arith,
+          start .pre .0,
+          start .pre .1 .asks .at,
+          at-comparison .comparison .ensures .moved .at,
+          at-head .head .ensures,
+          at-if1 .if1 .left,
+        ),
+        asked-seen
+            (asked-moved (start .pre .1) (at-comparison .comparison .ensures .moved)
+            (omega (arith, at-comparison .comparison .kept)) (omega (arith, at-comparison .comparison .kept))
+            (omega (arith, at-comparison .comparison .kept)))
+            (at-head .head .ensures),
+      )
 
   pub abandon-requires : lts.Need-abandon-requires given (boolean-at t) boolean.Post
   abandon-requires c κs =
@@ -77,7 +118,12 @@ module _ (t : ℕ) where
       let at-head = at-comparison2 .before .before .before .before .before .before in
       let at-comparison = at-head .before .before .before .before .before .before .before .before .before .before in
       let start = at-comparison .before .before .before .before .before .before .before .before .before in
-      join-cuts (goes-on (start .pre .1) (at-comparison .comparison .ensures) (omega (arith, at-comparison .comparison .kept)) (omega (arith, at-comparison .comparison .kept)) (omega (arith, at-comparison .comparison .kept))) (at-head .head .ensures) (at-comparison2 .comparison2 .ensures) (omega (arith, at-comparison2 .comparison2 .kept))
+      join-cuts
+      (goes-on (start .pre .1) (at-comparison .comparison .ensures)
+      (omega (arith, at-comparison .comparison .kept)) (omega (arith, at-comparison .comparison .kept))
+      (omega (arith, at-comparison .comparison .kept)))
+      (at-head .head .ensures) (at-comparison2 .comparison2 .ensures)
+      (omega (arith, at-comparison2 .comparison2 .kept))
 
   pub finish-requires : lts.Need-finish-requires given (boolean-at t) boolean.Post
   finish-requires c κs =
@@ -86,37 +132,69 @@ module _ (t : ℕ) where
       let at-head = at-comparison2 .before .before .before .before .before .before in
       let at-comparison = at-head .before .before .before .before .before .before .before .before .before .before in
       let start = at-comparison .before .before .before .before .before .before .before .before .before in
-      join-room (goes-on (start .pre .1) (at-comparison .comparison .ensures) (omega (arith, at-comparison .comparison .kept)) (omega (arith, at-comparison .comparison .kept)) (omega (arith, at-comparison .comparison .kept))) (at-head .head .ensures) (at-comparison2 .comparison2 .ensures) (at-abandon .abandon .ensures) (omega (arith, at-comparison2 .comparison2 .kept))
+      join-room
+      (goes-on (start .pre .1) (at-comparison .comparison .ensures)
+      (omega (arith, at-comparison .comparison .kept)) (omega (arith, at-comparison .comparison .kept))
+      (omega (arith, at-comparison .comparison .kept)))
+      (at-head .head .ensures) (at-comparison2 .comparison2 .ensures) (at-abandon .abandon .ensures)
+      (omega (arith, at-comparison2 .comparison2 .kept))
 
   pub same-length-7 : lts.Need-same-length-7 given (boolean-at t) boolean.Post
   same-length-7 c =
-      let at-abandon = c .before .before .before .before .before .before in
+      let at-finish = c .before .before in
+      let at-abandon = at-finish .before .before .before .before in
       let at-comparison2 = at-abandon .before .before .before .before .before .before .before .before in
       let at-comparison = at-comparison2 .before .before .before .before .before .before .before .before .before .before .before .before .before .before .before .before in
-      omega (arith, c .before .before .finish .kept, at-abandon .abandon .kept, at-comparison2 .comparison2 .kept, at-comparison .comparison .kept)
+      omega (
+        arith,
+        at-finish .finish .kept,
+        at-abandon .abandon .kept,
+        at-comparison2 .comparison2 .kept,
+        at-comparison .comparison .kept,
+      )
 
   pub same-length-8 : lts.Need-same-length-8 given (boolean-at t) boolean.Post
   same-length-8 c =
-      let at-abandon = c .before .before .before .before .before .before in
+      let at-finish = c .before .before in
+      let at-abandon = at-finish .before .before .before .before in
       let at-comparison2 = at-abandon .before .before .before .before .before .before .before .before in
       let at-comparison = at-comparison2 .before .before .before .before .before .before .before .before .before .before .before .before .before .before .before .before in
-      omega (arith, c .before .before .finish .kept, at-abandon .abandon .kept, at-comparison2 .comparison2 .kept, at-comparison .comparison .kept)
+      omega (
+        arith,
+        at-finish .finish .kept,
+        at-abandon .abandon .kept,
+        at-comparison2 .comparison2 .kept,
+        at-comparison .comparison .kept,
+      )
 
   pub same-length-9 : lts.Need-same-length-9 given (boolean-at t) boolean.Post
   same-length-9 c =
-      let at-abandon = c .before .before .before .before .before .before in
+      let at-finish = c .before .before in
+      let at-abandon = at-finish .before .before .before .before in
       let at-comparison2 = at-abandon .before .before .before .before .before .before .before .before in
       let at-comparison = at-comparison2 .before .before .before .before .before .before .before .before .before .before .before .before .before .before .before .before in
-      omega (arith, c .before .before .finish .kept, at-abandon .abandon .kept, at-comparison2 .comparison2 .kept, at-comparison .comparison .kept)
+      omega (
+        arith,
+        at-finish .finish .kept,
+        at-abandon .abandon .kept,
+        at-comparison2 .comparison2 .kept,
+        at-comparison .comparison .kept,
+      )
 
   pub returns-3 : lts.Need-returns-3 given (boolean-at t) boolean.Post
   unfolding P.expression-rule
   returns-3 c =
-      let at-abandon = c .before .before .before .before .before .before in
+      let at-finish = c .before .before in
+      let at-abandon = at-finish .before .before .before .before in
       let at-comparison2 = at-abandon .before .before .before .before .before .before .before .before in
       let at-if1 = at-comparison2 .before .before .before .before in
       let at-head = at-if1 .before .before in
       let at-enum-told = at-head .before .before in
       let at-comparison = at-enum-told .before .before .before .before .before .before .before .before in
       let start = at-comparison .before .before .before .before .before .before .before .before .before in
-      then-asked and-on (start .pre .1) (at-comparison .comparison .ensures) (and-found (goes-on (start .pre .1) (at-comparison .comparison .ensures) (omega (arith, at-comparison .comparison .kept)) (omega (arith, at-comparison .comparison .kept)) (omega (arith, at-comparison .comparison .kept))) (at-enum-told .enum-told .given .1) (at-head .head .ensures) (at-if1 .if1 .left) (at-comparison2 .comparison2 .ensures) (at-abandon .abandon .ensures) (c .before .before .finish .ensures))
+      then-asked and-on (start .pre .1) (at-comparison .comparison .ensures)
+      (and-found (goes-on (start .pre .1) (at-comparison .comparison .ensures)
+      (omega (arith, at-comparison .comparison .kept)) (omega (arith, at-comparison .comparison .kept))
+      (omega (arith, at-comparison .comparison .kept))) (at-enum-told .enum-told .given .1)
+      (at-head .head .ensures) (at-if1 .if1 .left) (at-comparison2 .comparison2 .ensures)
+      (at-abandon .abandon .ensures) (at-finish .finish .ensures))

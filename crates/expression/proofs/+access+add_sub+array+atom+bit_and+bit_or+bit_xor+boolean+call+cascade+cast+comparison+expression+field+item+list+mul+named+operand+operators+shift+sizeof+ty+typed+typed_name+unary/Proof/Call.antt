@@ -18,7 +18,18 @@ use Rattle.expression.proofs.+access+add_sub+array+atom+bit_and+bit_or+
 
 module _ (t : ℕ) where
   abbrev pub given : lts.Claims
-  given = (sizeof-below t, sizeof.Post, head-reads.Asked, head-reads.Learnt, list-below t, list.Post, silence-reads.Asked, silence-reads.Learnt, finish-reads.Asked, finish-reads.Learnt)
+  given = (
+    sizeof-below t,
+    sizeof.Post,
+    head-reads.Asked,
+    head-reads.Learnt,
+    list-below t,
+    list.Post,
+    silence-reads.Asked,
+    silence-reads.Learnt,
+    finish-reads.Asked,
+    finish-reads.Learnt,
+  )
 
   pub sizeof-requires : lts.Need-sizeof-requires given (call-at t) call.Post
   sizeof-requires c κs =
@@ -29,17 +40,25 @@ module _ (t : ℕ) where
   enum-told c = search needs
 
   pub same-length : lts.Need-same-length given (call-at t) call.Post
-  same-length c = omega (arith, c .before .before .before .before .before .before .before .sizeof .kept)
+  same-length c =
+      let at-sizeof = c .before .before .before .before .before .before .before in
+      omega (arith, at-sizeof .sizeof .kept)
 
   pub same-length-2 : lts.Need-same-length-2 given (call-at t) call.Post
-  same-length-2 c = omega (arith, c .before .before .before .before .before .before .before .sizeof .kept)
+  same-length-2 c =
+      let at-sizeof = c .before .before .before .before .before .before .before in
+      omega (arith, at-sizeof .sizeof .kept)
 
   pub same-length-3 : lts.Need-same-length-3 given (call-at t) call.Post
-  same-length-3 c = omega (arith, c .before .before .before .before .before .before .before .sizeof .kept)
+  same-length-3 c =
+      let at-sizeof = c .before .before .before .before .before .before .before in
+      omega (arith, at-sizeof .sizeof .kept)
 
   pub returns : lts.Need-returns given (call-at t) call.Post
   unfolding P.parse-call
-  returns c = then-stops call-on (c .before .before .before .before .before .before .before .sizeof .ensures) (c .match .keys2)
+  returns c =
+      let at-sizeof = c .before .before .before .before .before .before .before in
+      then-stops call-on (at-sizeof .sizeof .ensures) (c .match .keys2)
 
   pub head-requires : lts.Need-head-requires given (call-at t) call.Post
   head-requires c κs =
@@ -48,29 +67,48 @@ module _ (t : ℕ) where
       (start .pre .1 .asks .held, omega (arith, at-sizeof .sizeof .ensures .moved .end))
 
   pub same-length-4 : lts.Need-same-length-4 given (call-at t) call.Post
-  same-length-4 c = omega (arith, c .before .before .before .before .before .before .before .before .before .before .before .before .sizeof .kept)
+  same-length-4 c =
+      let at-sizeof = c .before .before .before .before .before .before .before .before .before .before .before .before in
+      omega (arith, at-sizeof .sizeof .kept)
 
   pub same-length-5 : lts.Need-same-length-5 given (call-at t) call.Post
-  same-length-5 c = omega (arith, c .before .before .before .before .before .before .before .before .before .before .before .before .sizeof .kept)
+  same-length-5 c =
+      let at-sizeof = c .before .before .before .before .before .before .before .before .before .before .before .before in
+      omega (arith, at-sizeof .sizeof .kept)
 
   pub same-length-6 : lts.Need-same-length-6 given (call-at t) call.Post
-  same-length-6 c = omega (arith, c .before .before .before .before .before .before .before .before .before .before .before .before .sizeof .kept)
+  same-length-6 c =
+      let at-sizeof = c .before .before .before .before .before .before .before .before .before .before .before .before in
+      omega (arith, at-sizeof .sizeof .kept)
 
   pub returns-2 : lts.Need-returns-2 given (call-at t) call.Post
   unfolding P.parse-call
   returns-2 c =
-      let at-enum-told = c .before .before .before .before in
+      let at-head = c .before .before in
+      let at-enum-told = at-head .before .before in
       let at-sizeof = at-enum-told .before .before .before .before .before .before .before .before in
       let start = at-sizeof .before .before .before .before .before .before .before .before .before in
-      then-asked call-on (start .pre .1) (at-sizeof .sizeof .ensures) (call-none (goes-on (start .pre .1) (at-sizeof .sizeof .ensures) (omega (arith, at-sizeof .sizeof .kept)) (omega (arith, at-sizeof .sizeof .kept)) (omega (arith, at-sizeof .sizeof .kept))) (at-enum-told .enum-told .given .1) (c .before .before .head .ensures) (c .if1 .taken))
+      then-asked call-on (start .pre .1) (at-sizeof .sizeof .ensures)
+      (call-none (goes-on (start .pre .1) (at-sizeof .sizeof .ensures) (omega (arith, at-sizeof .sizeof .kept))
+      (omega (arith, at-sizeof .sizeof .kept)) (omega (arith, at-sizeof .sizeof .kept)))
+      (at-enum-told .enum-told .given .1) (at-head .head .ensures) (c .if1 .taken))
 
   pub list-requires : lts.Need-list-requires given (call-at t) call.Post
   list-requires c κs =
       let at-if1 = c .before .before .before in
       let at-head = at-if1 .before .before in
       let at-sizeof = at-head .before .before .before .before .before .before .before .before .before .before in
-      let start = at-sizeof .before .before .before .before .before .before .before .before .before in
-      (omega (arith, start .pre .0, at-sizeof .sizeof .ensures .moved .end, call-later (start .pre .1) (at-sizeof .sizeof .ensures) (at-head .head .ensures) (at-if1 .if1 .left)), (asked-moved (start .pre .1) (at-sizeof .sizeof .ensures .moved) (omega (arith, at-sizeof .sizeof .kept)) (omega (arith, at-sizeof .sizeof .kept)) (omega (arith, at-sizeof .sizeof .kept))))
+      let start = at-sizeof .before .before .before .before .before .before .before .before .before in (
+        omega (
+          arith,
+          start .pre .0,
+          at-sizeof .sizeof .ensures .moved .end,
+          call-later (start .pre .1) (at-sizeof .sizeof .ensures) (at-head .head .ensures)
+              (at-if1 .if1 .left),
+        ),
+        (asked-moved (start .pre .1) (at-sizeof .sizeof .ensures .moved) (omega (arith, at-sizeof .sizeof .kept))
+            (omega (arith, at-sizeof .sizeof .kept)) (omega (arith, at-sizeof .sizeof .kept))),
+      )
 
   pub silence-requires : lts.Need-silence-requires given (call-at t) call.Post
   silence-requires c κs = search needs
@@ -80,34 +118,43 @@ module _ (t : ℕ) where
       let at-list = c .before .before .before .before .before .before .before .before in
       let at-sizeof = at-list .before .before .before .before .before .before .before .before .before .before .before .before .before .before .before .before in
       let start = at-sizeof .before .before .before .before .before .before .before .before .before in
-      call-room (start .pre .1) (at-sizeof .sizeof .ensures .moved) (at-list .list .ensures .moved) (c .before .silence .ensures) (omega (arith, at-list .list .kept, at-sizeof .sizeof .kept))
+      call-room (start .pre .1) (at-sizeof .sizeof .ensures .moved) (at-list .list .ensures .moved)
+      (c .before .silence .ensures) (omega (arith, at-list .list .kept, at-sizeof .sizeof .kept))
 
   pub same-length-7 : lts.Need-same-length-7 given (call-at t) call.Post
   same-length-7 c =
-      let at-list = c .before .before .before .before .before .before .before .before .before .before .before in
+      let at-finish = c .before .before in
+      let at-list = at-finish .before .before .before .before .before .before .before .before .before in
       let at-sizeof = at-list .before .before .before .before .before .before .before .before .before .before .before .before .before .before .before .before in
-      omega (arith, c .before .before .finish .kept, at-list .list .kept, at-sizeof .sizeof .kept)
+      omega (arith, at-finish .finish .kept, at-list .list .kept, at-sizeof .sizeof .kept)
 
   pub same-length-8 : lts.Need-same-length-8 given (call-at t) call.Post
   same-length-8 c =
-      let at-list = c .before .before .before .before .before .before .before .before .before .before .before in
+      let at-finish = c .before .before in
+      let at-list = at-finish .before .before .before .before .before .before .before .before .before in
       let at-sizeof = at-list .before .before .before .before .before .before .before .before .before .before .before .before .before .before .before .before in
-      omega (arith, c .before .before .finish .kept, at-list .list .kept, at-sizeof .sizeof .kept)
+      omega (arith, at-finish .finish .kept, at-list .list .kept, at-sizeof .sizeof .kept)
 
   pub same-length-9 : lts.Need-same-length-9 given (call-at t) call.Post
   same-length-9 c =
-      let at-list = c .before .before .before .before .before .before .before .before .before .before .before in
+      let at-finish = c .before .before in
+      let at-list = at-finish .before .before .before .before .before .before .before .before .before in
       let at-sizeof = at-list .before .before .before .before .before .before .before .before .before .before .before .before .before .before .before .before in
-      omega (arith, c .before .before .finish .kept, at-list .list .kept, at-sizeof .sizeof .kept)
+      omega (arith, at-finish .finish .kept, at-list .list .kept, at-sizeof .sizeof .kept)
 
   pub returns-3 : lts.Need-returns-3 given (call-at t) call.Post
   unfolding P.parse-call
   returns-3 c =
-      let at-silence = c .before .before .before .before in
+      let at-finish = c .before .before in
+      let at-silence = at-finish .before .before in
       let at-list = at-silence .before .before .before .before .before .before .before in
       let at-if1 = at-list .before .before .before .before in
       let at-head = at-if1 .before .before in
       let at-enum-told = at-head .before .before in
       let at-sizeof = at-enum-told .before .before .before .before .before .before .before .before in
       let start = at-sizeof .before .before .before .before .before .before .before .before .before in
-      then-asked call-on (start .pre .1) (at-sizeof .sizeof .ensures) (call-done (goes-on (start .pre .1) (at-sizeof .sizeof .ensures) (omega (arith, at-sizeof .sizeof .kept)) (omega (arith, at-sizeof .sizeof .kept)) (omega (arith, at-sizeof .sizeof .kept))) (at-enum-told .enum-told .given .1) (at-head .head .ensures) (at-if1 .if1 .left) (at-list .list .ensures) (at-silence .silence .ensures) (c .before .before .finish .ensures))
+      then-asked call-on (start .pre .1) (at-sizeof .sizeof .ensures)
+      (call-done (goes-on (start .pre .1) (at-sizeof .sizeof .ensures) (omega (arith, at-sizeof .sizeof .kept))
+      (omega (arith, at-sizeof .sizeof .kept)) (omega (arith, at-sizeof .sizeof .kept)))
+      (at-enum-told .enum-told .given .1) (at-head .head .ensures) (at-if1 .if1 .left) (at-list .list .ensures)
+      (at-silence .silence .ensures) (at-finish .finish .ensures))

@@ -25,7 +25,18 @@ abbrev pub μ-loop : lts.MeasureT-loop
 
 module _ (t : ℕ) where
   abbrev pub given : lts.Claims
-  given = (operand-below t, operand.Post, head-reads.Asked, head-reads.Learnt, ty-below t, ty.Post, abandon-reads.Asked, abandon-reads.Learnt, finish-reads.Asked, finish-reads.Learnt)
+  given = (
+    operand-below t,
+    operand.Post,
+    head-reads.Asked,
+    head-reads.Learnt,
+    ty-below t,
+    ty.Post,
+    abandon-reads.Asked,
+    abandon-reads.Learnt,
+    finish-reads.Asked,
+    finish-reads.Learnt,
+  )
 
   pub operand-requires : lts.Need-operand-requires given (cast-at t) cast.Post Inv-loop μ-loop
   operand-requires c κs =
@@ -35,30 +46,42 @@ module _ (t : ℕ) where
   pub loop-holds : lts.Need-loop-holds given (cast-at t) cast.Post Inv-loop μ-loop
   loop-holds c =
       let at-operand = c .before .before .before .before .before .before in
-      let start = at-operand .before .before .before .before .before .before .before .before .before in
-      (goes-on (start .pre .1) (at-operand .operand .ensures) (omega (arith, at-operand .operand .kept)) (omega (arith, at-operand .operand .kept)) (omega (arith, at-operand .operand .kept)), at-start)
+      let start = at-operand .before .before .before .before .before .before .before .before .before in (
+        goes-on (start .pre .1) (at-operand .operand .ensures) (omega (arith, at-operand .operand .kept))
+            (omega (arith, at-operand .operand .kept)) (omega (arith, at-operand .operand .kept)),
+        at-start,
+      )
 
   pub enum-told : lts.Need-enum-told given (cast-at t) cast.Post Inv-loop μ-loop
   enum-told c = search needs
 
   pub same-length : lts.Need-same-length given (cast-at t) cast.Post Inv-loop μ-loop
-  same-length c = omega (arith, c .before .loop .inv .1, c .before .before .before .before .before .before .before .before .operand .kept)
+  same-length c =
+      let at-operand = c .before .before .before .before .before .before .before .before in
+      omega (arith, c .before .loop .inv .1, at-operand .operand .kept)
 
   pub same-length-2 : lts.Need-same-length-2 given (cast-at t) cast.Post Inv-loop μ-loop
-  same-length-2 c = omega (arith, c .before .loop .inv .1, c .before .before .before .before .before .before .before .before .operand .kept)
+  same-length-2 c =
+      let at-operand = c .before .before .before .before .before .before .before .before in
+      omega (arith, c .before .loop .inv .1, at-operand .operand .kept)
 
   pub same-length-3 : lts.Need-same-length-3 given (cast-at t) cast.Post Inv-loop μ-loop
-  same-length-3 c = omega (arith, c .before .loop .inv .1, c .before .before .before .before .before .before .before .before .operand .kept)
+  same-length-3 c =
+      let at-operand = c .before .before .before .before .before .before .before .before in
+      omega (arith, c .before .loop .inv .1, at-operand .operand .kept)
 
   pub returns : lts.Need-returns given (cast-at t) cast.Post Inv-loop μ-loop
   unfolding P.parse-cast
   returns c =
       let at-operand = c .before .before .before .before .before .before .before .before in
       let start = at-operand .before .before .before .before .before .before .before .before .before in
-      then-asked casts-on (start .pre .1) (at-operand .operand .ensures) (c .before .loop .inv .1 .rest (goes-stops (c .before .loop .inv .0) (c .match .keys2)))
+      then-asked casts-on (start .pre .1) (at-operand .operand .ensures)
+      (c .before .loop .inv .1 .rest (goes-stops (c .before .loop .inv .0) (c .match .keys2)))
 
   pub head-requires : lts.Need-head-requires given (cast-at t) cast.Post Inv-loop μ-loop
-  head-requires c κs = (c .before .before .before .loop .inv .0 .asked .asks .held, c .before .before .before .loop .inv .0 .asked .asks .at)
+  head-requires c κs =
+      let at-loop = c .before .before .before in
+      (at-loop .loop .inv .0 .asked .asks .held, at-loop .loop .inv .0 .asked .asks .at)
 
   pub same-length-4 : lts.Need-same-length-4 given (cast-at t) cast.Post Inv-loop μ-loop
   same-length-4 c =
@@ -81,11 +104,15 @@ module _ (t : ℕ) where
   pub returns-2 : lts.Need-returns-2 given (cast-at t) cast.Post Inv-loop μ-loop
   unfolding P.parse-cast
   returns-2 c =
-      let at-enum-told = c .before .before .before .before in
+      let at-head = c .before .before in
+      let at-enum-told = at-head .before .before in
       let at-loop = at-enum-told .before .before in
       let at-operand = at-loop .before .before .before .before .before .before .before in
       let start = at-operand .before .before .before .before .before .before .before .before .before in
-      then-asked casts-on (start .pre .1) (at-operand .operand .ensures) (at-loop .loop .inv .1 .rest (casts-none (at-loop .loop .inv .0) (at-enum-told .enum-told .given .1) (c .before .before .head .ensures) (c .if1 .taken)))
+      then-asked casts-on (start .pre .1) (at-operand .operand .ensures)
+      (at-loop .loop .inv .1 .rest
+      (casts-none (at-loop .loop .inv .0) (at-enum-told .enum-told .given .1) (at-head .head .ensures)
+      (c .if1 .taken)))
 
   pub ty-requires : lts.Need-ty-requires given (cast-at t) cast.Post Inv-loop μ-loop
   ty-requires c κs =
@@ -93,15 +120,26 @@ module _ (t : ℕ) where
       let at-head = at-if1 .before .before in
       let at-loop = at-head .before .before .before .before in
       let at-operand = at-loop .before .before .before .before .before .before .before in
-      let start = at-operand .before .before .before .before .before .before .before .before .before in
-      (omega (arith, start .pre .0, at-operand .operand .ensures .moved .at, at-loop .loop .inv .1 .on, at-loop .loop .inv .0 .asked .asks .at, at-head .head .ensures, at-if1 .if1 .left), asked-seen (at-loop .loop .inv .0 .asked) (at-head .head .ensures))
+      let start = at-operand .before .before .before .before .before .before .before .before .before in (
+        omega (
+          arith,
+          start .pre .0,
+          at-operand .operand .ensures .moved .at,
+          at-loop .loop .inv .1 .on,
+          at-loop .loop .inv .0 .asked .asks .at,
+          at-head .head .ensures,
+          at-if1 .if1 .left,
+        ),
+        asked-seen (at-loop .loop .inv .0 .asked) (at-head .head .ensures),
+      )
 
   pub abandon-requires : lts.Need-abandon-requires given (cast-at t) cast.Post Inv-loop μ-loop
   abandon-requires c κs =
       let at-ty = c .before .before .before .before .before .before .before in
       let at-head = at-ty .before .before .before .before .before .before in
       let at-loop = at-head .before .before .before .before in
-      join-cuts (at-loop .loop .inv .0) (at-head .head .ensures) (at-ty .ty .ensures) (omega (arith, at-ty .ty .kept))
+      join-cuts (at-loop .loop .inv .0) (at-head .head .ensures) (at-ty .ty .ensures)
+      (omega (arith, at-ty .ty .kept))
 
   pub finish-requires : lts.Need-finish-requires given (cast-at t) cast.Post Inv-loop μ-loop
   finish-requires c κs =
@@ -109,23 +147,50 @@ module _ (t : ℕ) where
       let at-ty = at-abandon .before .before .before .before .before .before .before .before in
       let at-head = at-ty .before .before .before .before .before .before in
       let at-loop = at-head .before .before .before .before in
-      join-room (at-loop .loop .inv .0) (at-head .head .ensures) (at-ty .ty .ensures) (at-abandon .abandon .ensures) (omega (arith, at-ty .ty .kept))
+      join-room (at-loop .loop .inv .0) (at-head .head .ensures) (at-ty .ty .ensures)
+      (at-abandon .abandon .ensures) (omega (arith, at-ty .ty .kept))
 
   pub loop-less : lts.Need-loop-less given (cast-at t) cast.Post Inv-loop μ-loop
   loop-less c =
-      let at-abandon = c .before .before .before .before .before .before in
+      let at-finish = c .before .before in
+      let at-abandon = at-finish .before .before .before .before in
       let at-ty = at-abandon .before .before .before .before .before .before .before .before in
       let at-if1 = at-ty .before .before .before .before in
       let at-head = at-if1 .before .before in
       let at-loop = at-head .before .before .before .before in
-      omega (arith, at-loop .loop .inv .0 .asked .asks .at, at-head .head .ensures, at-if1 .if1 .left, at-ty .ty .ensures .moved, at-abandon .abandon .ensures .at, c .before .before .finish .ensures .at)
+      omega (
+        arith,
+        at-loop .loop .inv .0 .asked .asks .at,
+        at-head .head .ensures,
+        at-if1 .if1 .left,
+        at-ty .ty .ensures .moved,
+        at-abandon .abandon .ensures .at,
+        at-finish .finish .ensures .at,
+      )
 
   pub loop-again : lts.Need-loop-again given (cast-at t) cast.Post Inv-loop μ-loop
   loop-again c =
-      let at-abandon = c .before .before .before .before .before .before in
+      let at-finish = c .before .before in
+      let at-abandon = at-finish .before .before .before .before in
       let at-ty = at-abandon .before .before .before .before .before .before .before .before in
       let at-if1 = at-ty .before .before .before .before in
       let at-head = at-if1 .before .before in
       let at-enum-told = at-head .before .before in
-      let at-loop = at-enum-told .before .before in
-      (joined-on (at-loop .loop .inv .0) (at-head .head .ensures) (at-ty .ty .ensures) (at-abandon .abandon .ensures) (c .before .before .finish .ensures) (omega (arith, at-if1 .if1 .left)) (omega (arith, c .before .before .finish .kept, at-ty .ty .kept)) (omega (arith, at-abandon .abandon .kept, at-ty .ty .kept)) (omega (arith, at-ty .ty .kept)), one-turn (at-loop .loop .inv .1) (omega (arith, c .before .before .finish .kept, at-ty .ty .kept)) (omega (arith, at-abandon .abandon .kept, at-ty .ty .kept)) (omega (arith, at-ty .ty .kept)) (omega (arith, at-head .head .ensures .up, at-ty .ty .ensures .moved, at-abandon .abandon .ensures .at, c .before .before .finish .ensures .at)) (λ _ _ _ _ g. casts-more (at-loop .loop .inv .0) (at-enum-told .enum-told .given .1) (at-head .head .ensures) (at-if1 .if1 .left) (at-ty .ty .ensures) (at-abandon .abandon .ensures) (c .before .before .finish .ensures) g))
+      let at-loop = at-enum-told .before .before in (
+        joined-on (at-loop .loop .inv .0) (at-head .head .ensures) (at-ty .ty .ensures)
+            (at-abandon .abandon .ensures) (at-finish .finish .ensures) (omega (arith, at-if1 .if1 .left))
+            (omega (arith, at-finish .finish .kept, at-ty .ty .kept))
+            (omega (arith, at-abandon .abandon .kept, at-ty .ty .kept)) (omega (arith, at-ty .ty .kept)),
+        one-turn (at-loop .loop .inv .1) (omega (arith, at-finish .finish .kept, at-ty .ty .kept))
+            (omega (arith, at-abandon .abandon .kept, at-ty .ty .kept)) (omega (arith, at-ty .ty .kept))
+            (omega (
+              arith,
+              at-head .head .ensures .up,
+              at-ty .ty .ensures .moved,
+              at-abandon .abandon .ensures .at,
+              at-finish .finish .ensures .at,
+            ))
+            (λ _ _ _ _ g. casts-more (at-loop .loop .inv .0) (at-enum-told .enum-told .given .1)
+            (at-head .head .ensures) (at-if1 .if1 .left) (at-ty .ty .ensures) (at-abandon .abandon .ensures)
+            (at-finish .finish .ensures) g),
+      )

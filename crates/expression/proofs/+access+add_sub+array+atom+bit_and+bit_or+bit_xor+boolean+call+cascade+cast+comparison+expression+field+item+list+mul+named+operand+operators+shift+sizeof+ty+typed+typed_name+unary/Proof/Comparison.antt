@@ -18,7 +18,18 @@ use Rattle.expression.proofs.+access+add_sub+array+atom+bit_and+bit_or+
 
 module _ (t : ℕ) where
   abbrev pub given : lts.Claims
-  given = (bit-or-below t, bit-or.Post, head-reads.Asked, head-reads.Learnt, comparison-operator-reads.Asked, comparison-operator-reads.Learnt, abandon-reads.Asked, abandon-reads.Learnt, finish-reads.Asked, finish-reads.Learnt)
+  given = (
+    bit-or-below t,
+    bit-or.Post,
+    head-reads.Asked,
+    head-reads.Learnt,
+    comparison-operator-reads.Asked,
+    comparison-operator-reads.Learnt,
+    abandon-reads.Asked,
+    abandon-reads.Learnt,
+    finish-reads.Asked,
+    finish-reads.Learnt,
+  )
 
   pub bit-or-requires : lts.Need-bit-or-requires given (comparison-at t) comparison.Post
   bit-or-requires c κs =
@@ -29,17 +40,25 @@ module _ (t : ℕ) where
   enum-told c = search needs
 
   pub same-length : lts.Need-same-length given (comparison-at t) comparison.Post
-  same-length c = omega (arith, c .before .before .before .before .before .before .before .bit-or .kept)
+  same-length c =
+      let at-bit-or = c .before .before .before .before .before .before .before in
+      omega (arith, at-bit-or .bit-or .kept)
 
   pub same-length-2 : lts.Need-same-length-2 given (comparison-at t) comparison.Post
-  same-length-2 c = omega (arith, c .before .before .before .before .before .before .before .bit-or .kept)
+  same-length-2 c =
+      let at-bit-or = c .before .before .before .before .before .before .before in
+      omega (arith, at-bit-or .bit-or .kept)
 
   pub same-length-3 : lts.Need-same-length-3 given (comparison-at t) comparison.Post
-  same-length-3 c = omega (arith, c .before .before .before .before .before .before .before .bit-or .kept)
+  same-length-3 c =
+      let at-bit-or = c .before .before .before .before .before .before .before in
+      omega (arith, at-bit-or .bit-or .kept)
 
   pub returns : lts.Need-returns given (comparison-at t) comparison.Post
   unfolding P.parse-comparison
-  returns c = then-stops compare-on (c .before .before .before .before .before .before .before .bit-or .ensures) (c .match .keys2)
+  returns c =
+      let at-bit-or = c .before .before .before .before .before .before .before in
+      then-stops compare-on (at-bit-or .bit-or .ensures) (c .match .keys2)
 
   pub head-requires : lts.Need-head-requires given (comparison-at t) comparison.Post
   head-requires c κs =
@@ -51,21 +70,33 @@ module _ (t : ℕ) where
   comparison-operator-requires c κs = search needs
 
   pub same-length-4 : lts.Need-same-length-4 given (comparison-at t) comparison.Post
-  same-length-4 c = omega (arith, c .before .before .before .before .before .before .before .before .before .before .before .before .bit-or .kept)
+  same-length-4 c =
+      let at-bit-or = c .before .before .before .before .before .before .before .before .before .before .before .before in
+      omega (arith, at-bit-or .bit-or .kept)
 
   pub same-length-5 : lts.Need-same-length-5 given (comparison-at t) comparison.Post
-  same-length-5 c = omega (arith, c .before .before .before .before .before .before .before .before .before .before .before .before .bit-or .kept)
+  same-length-5 c =
+      let at-bit-or = c .before .before .before .before .before .before .before .before .before .before .before .before in
+      omega (arith, at-bit-or .bit-or .kept)
 
   pub same-length-6 : lts.Need-same-length-6 given (comparison-at t) comparison.Post
-  same-length-6 c = omega (arith, c .before .before .before .before .before .before .before .before .before .before .before .before .bit-or .kept)
+  same-length-6 c =
+      let at-bit-or = c .before .before .before .before .before .before .before .before .before .before .before .before in
+      omega (arith, at-bit-or .bit-or .kept)
 
   pub returns-2 : lts.Need-returns-2 given (comparison-at t) comparison.Post
   unfolding P.parse-comparison
   returns-2 c =
-      let at-enum-told = c .before .before .before .before in
+      let at-head = c .before .before in
+      let at-enum-told = at-head .before .before in
       let at-bit-or = at-enum-told .before .before .before .before .before .before .before .before in
       let start = at-bit-or .before .before .before .before .before .before .before .before .before in
-      then-asked compare-on (start .pre .1) (at-bit-or .bit-or .ensures) (compare-none (goes-on (start .pre .1) (at-bit-or .bit-or .ensures) (omega (arith, at-bit-or .bit-or .kept)) (omega (arith, at-bit-or .bit-or .kept)) (omega (arith, at-bit-or .bit-or .kept))) (at-enum-told .enum-told .given .1) (c .before .before .head .ensures) (c .before .comparison-operator .ensures) (c .if1 .taken))
+      then-asked compare-on (start .pre .1) (at-bit-or .bit-or .ensures)
+      (compare-none
+      (goes-on (start .pre .1) (at-bit-or .bit-or .ensures) (omega (arith, at-bit-or .bit-or .kept))
+      (omega (arith, at-bit-or .bit-or .kept)) (omega (arith, at-bit-or .bit-or .kept)))
+      (at-enum-told .enum-told .given .1) (at-head .head .ensures) (c .before .comparison-operator .ensures)
+      (c .if1 .taken))
 
   pub bit-or-requires-2 : lts.Need-bit-or-requires-2 given (comparison-at t) comparison.Post
   bit-or-requires-2 c κs =
@@ -73,8 +104,22 @@ module _ (t : ℕ) where
       let at-comparison-operator = at-if1 .before in
       let at-head = at-comparison-operator .before in
       let at-bit-or = at-head .before .before .before .before .before .before .before .before .before .before in
-      let start = at-bit-or .before .before .before .before .before .before .before .before .before in
-      (omega (arith, start .pre .0, start .pre .1 .asks .at, at-bit-or .bit-or .ensures .moved .at, at-head .head .ensures, at-comparison-operator .comparison-operator .ensures, at-if1 .if1 .left), asked-seen (asked-moved (start .pre .1) (at-bit-or .bit-or .ensures .moved) (omega (arith, at-bit-or .bit-or .kept)) (omega (arith, at-bit-or .bit-or .kept)) (omega (arith, at-bit-or .bit-or .kept))) (at-head .head .ensures))
+      let start = at-bit-or .before .before .before .before .before .before .before .before .before in (
+        omega (
+          arith,
+          start .pre .0,
+          start .pre .1 .asks .at,
+          at-bit-or .bit-or .ensures .moved .at,
+          at-head .head .ensures,
+          at-comparison-operator .comparison-operator .ensures,
+          at-if1 .if1 .left,
+        ),
+        asked-seen
+            (asked-moved (start .pre .1) (at-bit-or .bit-or .ensures .moved)
+            (omega (arith, at-bit-or .bit-or .kept)) (omega (arith, at-bit-or .bit-or .kept))
+            (omega (arith, at-bit-or .bit-or .kept)))
+            (at-head .head .ensures),
+      )
 
   pub abandon-requires : lts.Need-abandon-requires given (comparison-at t) comparison.Post
   abandon-requires c κs =
@@ -82,7 +127,10 @@ module _ (t : ℕ) where
       let at-head = at-bit-or2 .before .before .before .before .before .before in
       let at-bit-or = at-head .before .before .before .before .before .before .before .before .before .before in
       let start = at-bit-or .before .before .before .before .before .before .before .before .before in
-      join-cuts (goes-on (start .pre .1) (at-bit-or .bit-or .ensures) (omega (arith, at-bit-or .bit-or .kept)) (omega (arith, at-bit-or .bit-or .kept)) (omega (arith, at-bit-or .bit-or .kept))) (at-head .head .ensures) (at-bit-or2 .bit-or2 .ensures) (omega (arith, at-bit-or2 .bit-or2 .kept))
+      join-cuts
+      (goes-on (start .pre .1) (at-bit-or .bit-or .ensures) (omega (arith, at-bit-or .bit-or .kept))
+      (omega (arith, at-bit-or .bit-or .kept)) (omega (arith, at-bit-or .bit-or .kept)))
+      (at-head .head .ensures) (at-bit-or2 .bit-or2 .ensures) (omega (arith, at-bit-or2 .bit-or2 .kept))
 
   pub sub-t36 : lts.Need-sub-t36 given (comparison-at t) comparison.Post
   sub-t36 c = omega arith
@@ -94,33 +142,59 @@ module _ (t : ℕ) where
       let at-head = at-bit-or2 .before .before .before .before .before .before in
       let at-bit-or = at-head .before .before .before .before .before .before .before .before .before .before in
       let start = at-bit-or .before .before .before .before .before .before .before .before .before in
-      join-room (goes-on (start .pre .1) (at-bit-or .bit-or .ensures) (omega (arith, at-bit-or .bit-or .kept)) (omega (arith, at-bit-or .bit-or .kept)) (omega (arith, at-bit-or .bit-or .kept))) (at-head .head .ensures) (at-bit-or2 .bit-or2 .ensures) (at-abandon .abandon .ensures) (omega (arith, at-bit-or2 .bit-or2 .kept))
+      join-room
+      (goes-on (start .pre .1) (at-bit-or .bit-or .ensures) (omega (arith, at-bit-or .bit-or .kept))
+      (omega (arith, at-bit-or .bit-or .kept)) (omega (arith, at-bit-or .bit-or .kept)))
+      (at-head .head .ensures) (at-bit-or2 .bit-or2 .ensures) (at-abandon .abandon .ensures)
+      (omega (arith, at-bit-or2 .bit-or2 .kept))
 
   pub same-length-7 : lts.Need-same-length-7 given (comparison-at t) comparison.Post
   same-length-7 c =
-      let at-abandon = c .before .before .before .before .before .before in
+      let at-finish = c .before .before in
+      let at-abandon = at-finish .before .before .before .before in
       let at-bit-or2 = at-abandon .before .before .before .before .before .before .before .before in
       let at-bit-or = at-bit-or2 .before .before .before .before .before .before .before .before .before .before .before .before .before .before .before .before in
-      omega (arith, c .before .before .finish .kept, at-abandon .abandon .kept, at-bit-or2 .bit-or2 .kept, at-bit-or .bit-or .kept)
+      omega (
+        arith,
+        at-finish .finish .kept,
+        at-abandon .abandon .kept,
+        at-bit-or2 .bit-or2 .kept,
+        at-bit-or .bit-or .kept,
+      )
 
   pub same-length-8 : lts.Need-same-length-8 given (comparison-at t) comparison.Post
   same-length-8 c =
-      let at-abandon = c .before .before .before .before .before .before in
+      let at-finish = c .before .before in
+      let at-abandon = at-finish .before .before .before .before in
       let at-bit-or2 = at-abandon .before .before .before .before .before .before .before .before in
       let at-bit-or = at-bit-or2 .before .before .before .before .before .before .before .before .before .before .before .before .before .before .before .before in
-      omega (arith, c .before .before .finish .kept, at-abandon .abandon .kept, at-bit-or2 .bit-or2 .kept, at-bit-or .bit-or .kept)
+      omega (
+        arith,
+        at-finish .finish .kept,
+        at-abandon .abandon .kept,
+        at-bit-or2 .bit-or2 .kept,
+        at-bit-or .bit-or .kept,
+      )
 
   pub same-length-9 : lts.Need-same-length-9 given (comparison-at t) comparison.Post
   same-length-9 c =
-      let at-abandon = c .before .before .before .before .before .before in
+      let at-finish = c .before .before in
+      let at-abandon = at-finish .before .before .before .before in
       let at-bit-or2 = at-abandon .before .before .before .before .before .before .before .before in
       let at-bit-or = at-bit-or2 .before .before .before .before .before .before .before .before .before .before .before .before .before .before .before .before in
-      omega (arith, c .before .before .finish .kept, at-abandon .abandon .kept, at-bit-or2 .bit-or2 .kept, at-bit-or .bit-or .kept)
+      omega (
+        arith,
+        at-finish .finish .kept,
+        at-abandon .abandon .kept,
+        at-bit-or2 .bit-or2 .kept,
+        at-bit-or .bit-or .kept,
+      )
 
   pub returns-3 : lts.Need-returns-3 given (comparison-at t) comparison.Post
   unfolding P.parse-comparison
   returns-3 c =
-      let at-abandon = c .before .before .before .before .before .before in
+      let at-finish = c .before .before in
+      let at-abandon = at-finish .before .before .before .before in
       let at-bit-or2 = at-abandon .before .before .before .before .before .before .before .before in
       let at-if1 = at-bit-or2 .before .before .before .before in
       let at-comparison-operator = at-if1 .before in
@@ -128,4 +202,10 @@ module _ (t : ℕ) where
       let at-enum-told = at-head .before .before in
       let at-bit-or = at-enum-told .before .before .before .before .before .before .before .before in
       let start = at-bit-or .before .before .before .before .before .before .before .before .before in
-      then-asked compare-on (start .pre .1) (at-bit-or .bit-or .ensures) (compare-found (goes-on (start .pre .1) (at-bit-or .bit-or .ensures) (omega (arith, at-bit-or .bit-or .kept)) (omega (arith, at-bit-or .bit-or .kept)) (omega (arith, at-bit-or .bit-or .kept))) (at-enum-told .enum-told .given .1) (at-head .head .ensures) (at-comparison-operator .comparison-operator .ensures) (at-if1 .if1 .left) (at-bit-or2 .bit-or2 .ensures) (at-abandon .abandon .ensures) (c .before .before .finish .ensures))
+      then-asked compare-on (start .pre .1) (at-bit-or .bit-or .ensures)
+      (compare-found
+      (goes-on (start .pre .1) (at-bit-or .bit-or .ensures) (omega (arith, at-bit-or .bit-or .kept))
+      (omega (arith, at-bit-or .bit-or .kept)) (omega (arith, at-bit-or .bit-or .kept)))
+      (at-enum-told .enum-told .given .1) (at-head .head .ensures)
+      (at-comparison-operator .comparison-operator .ensures) (at-if1 .if1 .left) (at-bit-or2 .bit-or2 .ensures)
+      (at-abandon .abandon .ensures) (at-finish .finish .ensures))

@@ -19,7 +19,9 @@ module _ (t : ℕ) where
   refuse-requires c κs = search needs
 
   pub returns : lts.Need-returns given (expression-at t) expression.Post
-  returns c = deep Expression (c .before .before .before .before .before .before .before .pre .1 .asks) (c .before .if1 .taken) (c .refuse .ensures)
+  returns c =
+      let start = c .before .before .before .before .before .before .before in
+      deep Expression (start .pre .1 .asks) (c .before .if1 .taken) (c .refuse .ensures)
 
   pub sub-boolean : lts.Need-sub-boolean given (expression-at t) expression.Post
   sub-boolean c = omega arith
@@ -30,13 +32,19 @@ module _ (t : ℕ) where
       (omega (arith, start .pre .0), start .pre .1)
 
   pub same-length : lts.Need-same-length given (expression-at t) expression.Post
-  same-length c = omega (arith, c .before .before .before .before .before .before .boolean .kept)
+  same-length c =
+      let at-boolean = c .before .before .before .before .before .before in
+      omega (arith, at-boolean .boolean .kept)
 
   pub same-length-2 : lts.Need-same-length-2 given (expression-at t) expression.Post
-  same-length-2 c = omega (arith, c .before .before .before .before .before .before .boolean .kept)
+  same-length-2 c =
+      let at-boolean = c .before .before .before .before .before .before in
+      omega (arith, at-boolean .boolean .kept)
 
   pub same-length-3 : lts.Need-same-length-3 given (expression-at t) expression.Post
-  same-length-3 c = omega (arith, c .before .before .before .before .before .before .boolean .kept)
+  same-length-3 c =
+      let at-boolean = c .before .before .before .before .before .before in
+      omega (arith, at-boolean .boolean .kept)
 
   pub returns-2 : lts.Need-returns-2 given (expression-at t) expression.Post
   returns-2 c =

@@ -14,20 +14,40 @@ use Rattle.expression.proofs.+access+add_sub+array+atom+bit_and+bit_or+
 
 module _ (t : ℕ) where
   abbrev pub given : lts.Claims
-  given = (head-reads.Asked, head-reads.Learnt, expect-identifier-reads.Asked, expect-identifier-reads.Learnt, and-expect-reads.Asked, and-expect-reads.Learnt, expression-below t, expression.Post, finish-text-reads.Asked, finish-text-reads.Learnt)
+  given = (
+    head-reads.Asked,
+    head-reads.Learnt,
+    expect-identifier-reads.Asked,
+    expect-identifier-reads.Learnt,
+    and-expect-reads.Asked,
+    and-expect-reads.Learnt,
+    expression-below t,
+    expression.Post,
+    finish-text-reads.Asked,
+    finish-text-reads.Learnt,
+  )
 
   pub head-requires : lts.Need-head-requires given (field-at t) field.Post
-  head-requires c κs = (c .before .before .before .before .before .pre .1 .asks .held, c .before .before .before .before .before .pre .1 .asks .at)
+  head-requires c κs =
+      let start = c .before .before .before .before .before in
+      (start .pre .1 .asks .held, start .pre .1 .asks .at)
 
   pub expect-identifier-requires : lts.Need-expect-identifier-requires given (field-at t) field.Post
-  expect-identifier-requires c κs = c .before .before .before .before .before .before .before .before .pre .1 .asks
+  expect-identifier-requires c κs =
+      let start = c .before .before .before .before .before .before .before .before in
+      start .pre .1 .asks
 
   pub and-expect-requires : lts.Need-and-expect-requires given (field-at t) field.Post
   and-expect-requires c κs =
       let at-expect-identifier = c .before .before .before .before .before .before in
       let at-head = at-expect-identifier .before .before .before in
-      let start = at-head .before .before .before .before .before .before in
-      (field-follows (start .pre .1) (at-head .head .ensures) (at-expect-identifier .expect-identifier .ensures) (omega (arith, at-expect-identifier .expect-identifier .kept)) (omega (arith, at-expect-identifier .expect-identifier .kept)), (omega arith, omega arith))
+      let start = at-head .before .before .before .before .before .before in (
+        field-follows (start .pre .1) (at-head .head .ensures)
+            (at-expect-identifier .expect-identifier .ensures)
+            (omega (arith, at-expect-identifier .expect-identifier .kept))
+            (omega (arith, at-expect-identifier .expect-identifier .kept)),
+        (omega arith, omega arith),
+      )
 
   pub enum-told : lts.Need-enum-told given (field-at t) field.Post
   enum-told c = search needs
@@ -50,15 +70,28 @@ module _ (t : ℕ) where
       let at-expect-identifier = at-and-expect .before .before .before .before .before .before .before in
       let at-head = at-expect-identifier .before .before .before in
       let start = at-head .before .before .before .before .before .before in
-      field-stops (start .pre .1) (at-head .head .ensures) (at-expect-identifier .expect-identifier .ensures) (at-and-expect .and-expect .ensures) (omega (arith, at-expect-identifier .expect-identifier .kept)) (omega (arith, at-expect-identifier .expect-identifier .kept)) (c .match .keys2)
+      field-stops (start .pre .1) (at-head .head .ensures)
+      (at-expect-identifier .expect-identifier .ensures) (at-and-expect .and-expect .ensures)
+      (omega (arith, at-expect-identifier .expect-identifier .kept))
+      (omega (arith, at-expect-identifier .expect-identifier .kept)) (c .match .keys2)
 
   pub expression-requires : lts.Need-expression-requires given (field-at t) field.Post
   expression-requires c κs =
       let at-and-expect = c .before .before .before .before .before .before .before .before .before .before in
       let at-expect-identifier = at-and-expect .before .before .before .before .before .before .before in
       let at-head = at-expect-identifier .before .before .before in
-      let start = at-head .before .before .before .before .before .before in
-      (omega (arith, start .pre .0, at-expect-identifier .expect-identifier .ensures .moved, at-and-expect .and-expect .ensures .moved), field-asked (start .pre .1) (at-head .head .ensures) (at-expect-identifier .expect-identifier .ensures) (at-and-expect .and-expect .ensures) (omega (arith, at-expect-identifier .expect-identifier .kept, at-and-expect .and-expect .kept)) (omega (arith, at-expect-identifier .expect-identifier .kept, at-and-expect .and-expect .kept)))
+      let start = at-head .before .before .before .before .before .before in (
+        omega (
+          arith,
+          start .pre .0,
+          at-expect-identifier .expect-identifier .ensures .moved,
+          at-and-expect .and-expect .ensures .moved,
+        ),
+        field-asked (start .pre .1) (at-head .head .ensures)
+            (at-expect-identifier .expect-identifier .ensures) (at-and-expect .and-expect .ensures)
+            (omega (arith, at-expect-identifier .expect-identifier .kept, at-and-expect .and-expect .kept))
+            (omega (arith, at-expect-identifier .expect-identifier .kept, at-and-expect .and-expect .kept)),
+      )
 
   pub finish-text-requires : lts.Need-finish-text-requires given (field-at t) field.Post
   finish-text-requires c κs =
@@ -68,35 +101,57 @@ module _ (t : ℕ) where
       let at-expect-identifier = at-and-expect .before .before .before .before .before .before .before in
       let at-head = at-expect-identifier .before .before .before in
       let start = at-head .before .before .before .before .before .before in
-      field-room (start .pre .1) (at-head .head .ensures) (at-expect-identifier .expect-identifier .ensures) (at-and-expect .and-expect .ensures) (at-enum-told .enum-told .given .1) (at-expression .expression .ensures) (omega (arith, at-expression .expression .kept))
+      field-room (start .pre .1) (at-head .head .ensures) (at-expect-identifier .expect-identifier .ensures)
+      (at-and-expect .and-expect .ensures) (at-enum-told .enum-told .given .1)
+      (at-expression .expression .ensures) (omega (arith, at-expression .expression .kept))
 
   pub same-length-3 : lts.Need-same-length-3 given (field-at t) field.Post
   same-length-3 c =
-      let at-expression = c .before .before .before .before .before .before .before .before .before .before in
+      let at-finish-text = c .before .before in
+      let at-expression = at-finish-text .before .before .before .before .before .before .before .before in
       let at-and-expect = at-expression .before .before .before .before .before .before .before .before .before .before .before in
       let at-expect-identifier = at-and-expect .before .before .before .before .before .before .before in
-      omega (arith, c .before .before .finish-text .kept, at-expression .expression .kept, at-and-expect .and-expect .kept, at-expect-identifier .expect-identifier .kept)
+      omega (
+        arith,
+        at-finish-text .finish-text .kept,
+        at-expression .expression .kept,
+        at-and-expect .and-expect .kept,
+        at-expect-identifier .expect-identifier .kept,
+      )
 
   pub same-length-4 : lts.Need-same-length-4 given (field-at t) field.Post
   same-length-4 c =
       let at-expression = c .before .before .before .before .before .before .before .before .before .before in
       let at-and-expect = at-expression .before .before .before .before .before .before .before .before .before .before .before in
       let at-expect-identifier = at-and-expect .before .before .before .before .before .before .before in
-      omega (arith, at-expression .expression .kept, at-and-expect .and-expect .kept, at-expect-identifier .expect-identifier .kept)
+      omega (
+        arith,
+        at-expression .expression .kept,
+        at-and-expect .and-expect .kept,
+        at-expect-identifier .expect-identifier .kept,
+      )
 
   pub same-length-5 : lts.Need-same-length-5 given (field-at t) field.Post
   same-length-5 c =
       let at-expression = c .before .before .before .before .before .before .before .before .before .before in
       let at-and-expect = at-expression .before .before .before .before .before .before .before .before .before .before .before in
       let at-expect-identifier = at-and-expect .before .before .before .before .before .before .before in
-      omega (arith, at-expression .expression .kept, at-and-expect .and-expect .kept, at-expect-identifier .expect-identifier .kept)
+      omega (
+        arith,
+        at-expression .expression .kept,
+        at-and-expect .and-expect .kept,
+        at-expect-identifier .expect-identifier .kept,
+      )
 
   pub returns-2 : lts.Need-returns-2 given (field-at t) field.Post
   returns-2 c =
-      let at-expression = c .before .before .before .before .before .before .before .before .before .before in
+      let at-finish-text = c .before .before in
+      let at-expression = at-finish-text .before .before .before .before .before .before .before .before in
       let at-enum-told = at-expression .before .before .before .before .before in
       let at-and-expect = at-enum-told .before .before .before .before .before .before in
       let at-expect-identifier = at-and-expect .before .before .before .before .before .before .before in
       let at-head = at-expect-identifier .before .before .before in
       let start = at-head .before .before .before .before .before .before in
-      field-done (start .pre .1) (at-head .head .ensures) (at-expect-identifier .expect-identifier .ensures) (at-and-expect .and-expect .ensures) (at-enum-told .enum-told .given .1) (at-expression .expression .ensures) (c .before .before .finish-text .ensures)
+      field-done (start .pre .1) (at-head .head .ensures) (at-expect-identifier .expect-identifier .ensures)
+      (at-and-expect .and-expect .ensures) (at-enum-told .enum-told .given .1)
+      (at-expression .expression .ensures) (at-finish-text .finish-text .ensures)

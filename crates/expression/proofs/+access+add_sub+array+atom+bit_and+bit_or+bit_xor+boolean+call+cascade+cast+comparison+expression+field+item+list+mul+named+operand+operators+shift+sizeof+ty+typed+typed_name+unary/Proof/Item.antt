@@ -55,13 +55,19 @@ module _ (t : ℕ) where
       (omega (arith, start .pre .0), start .pre .1)
 
   pub same-length : lts.Need-same-length given (item-at t) item.Post
-  same-length c = omega (arith, c .before .before .before .before .before .before .named .kept)
+  same-length c =
+      let at-named = c .before .before .before .before .before .before in
+      omega (arith, at-named .named .kept)
 
   pub same-length-2 : lts.Need-same-length-2 given (item-at t) item.Post
-  same-length-2 c = omega (arith, c .before .before .before .before .before .before .named .kept)
+  same-length-2 c =
+      let at-named = c .before .before .before .before .before .before in
+      omega (arith, at-named .named .kept)
 
   pub same-length-3 : lts.Need-same-length-3 given (item-at t) item.Post
-  same-length-3 c = omega (arith, c .before .before .before .before .before .before .named .kept)
+  same-length-3 c =
+      let at-named = c .before .before .before .before .before .before in
+      omega (arith, at-named .named .kept)
 
   pub returns : lts.Need-returns given (item-at t) item.Post
   returns c =
@@ -70,13 +76,19 @@ module _ (t : ℕ) where
       item-parameter (at-enum-told .enum-told .given .1) (at-named .named .ensures)
 
   pub same-length-4 : lts.Need-same-length-4 given (item-at t) item.Post
-  same-length-4 c = omega (arith, c .before .before .before .before .before .before .expression .kept)
+  same-length-4 c =
+      let at-expression = c .before .before .before .before .before .before in
+      omega (arith, at-expression .expression .kept)
 
   pub same-length-5 : lts.Need-same-length-5 given (item-at t) item.Post
-  same-length-5 c = omega (arith, c .before .before .before .before .before .before .expression .kept)
+  same-length-5 c =
+      let at-expression = c .before .before .before .before .before .before in
+      omega (arith, at-expression .expression .kept)
 
   pub same-length-6 : lts.Need-same-length-6 given (item-at t) item.Post
-  same-length-6 c = omega (arith, c .before .before .before .before .before .before .expression .kept)
+  same-length-6 c =
+      let at-expression = c .before .before .before .before .before .before in
+      omega (arith, at-expression .expression .kept)
 
   pub returns-2 : lts.Need-returns-2 given (item-at t) item.Post
   returns-2 c =
@@ -85,13 +97,19 @@ module _ (t : ℕ) where
       item-argument (at-enum-told2 .enum-told2 .given .1) (at-expression .expression .ensures)
 
   pub same-length-7 : lts.Need-same-length-7 given (item-at t) item.Post
-  same-length-7 c = omega (arith, c .before .before .before .before .before .before .named2 .kept)
+  same-length-7 c =
+      let at-named2 = c .before .before .before .before .before .before in
+      omega (arith, at-named2 .named2 .kept)
 
   pub same-length-8 : lts.Need-same-length-8 given (item-at t) item.Post
-  same-length-8 c = omega (arith, c .before .before .before .before .before .before .named2 .kept)
+  same-length-8 c =
+      let at-named2 = c .before .before .before .before .before .before in
+      omega (arith, at-named2 .named2 .kept)
 
   pub same-length-9 : lts.Need-same-length-9 given (item-at t) item.Post
-  same-length-9 c = omega (arith, c .before .before .before .before .before .before .named2 .kept)
+  same-length-9 c =
+      let at-named2 = c .before .before .before .before .before .before in
+      omega (arith, at-named2 .named2 .kept)
 
   pub returns-3 : lts.Need-returns-3 given (item-at t) item.Post
   returns-3 c =
@@ -100,13 +118,19 @@ module _ (t : ℕ) where
       item-field (at-enum-told3 .enum-told3 .given .1) (at-named2 .named2 .ensures)
 
   pub same-length-10 : lts.Need-same-length-10 given (item-at t) item.Post
-  same-length-10 c = omega (arith, c .before .before .before .before .before .before .expression2 .kept)
+  same-length-10 c =
+      let at-expression2 = c .before .before .before .before .before .before in
+      omega (arith, at-expression2 .expression2 .kept)
 
   pub same-length-11 : lts.Need-same-length-11 given (item-at t) item.Post
-  same-length-11 c = omega (arith, c .before .before .before .before .before .before .expression2 .kept)
+  same-length-11 c =
+      let at-expression2 = c .before .before .before .before .before .before in
+      omega (arith, at-expression2 .expression2 .kept)
 
   pub same-length-12 : lts.Need-same-length-12 given (item-at t) item.Post
-  same-length-12 c = omega (arith, c .before .before .before .before .before .before .expression2 .kept)
+  same-length-12 c =
+      let at-expression2 = c .before .before .before .before .before .before in
+      omega (arith, at-expression2 .expression2 .kept)
 
   pub returns-4 : lts.Need-returns-4 given (item-at t) item.Post
   returns-4 c =
@@ -115,13 +139,19 @@ module _ (t : ℕ) where
       item-value (at-enum-told4 .enum-told4 .given .1) (at-expression2 .expression2 .ensures)
 
   pub same-length-13 : lts.Need-same-length-13 given (item-at t) item.Post
-  same-length-13 c = omega (arith, c .before .before .before .before .before .before .field .kept)
+  same-length-13 c =
+      let at-field = c .before .before .before .before .before .before in
+      omega (arith, at-field .field .kept)
 
   pub same-length-14 : lts.Need-same-length-14 given (item-at t) item.Post
-  same-length-14 c = omega (arith, c .before .before .before .before .before .before .field .kept)
+  same-length-14 c =
+      let at-field = c .before .before .before .before .before .before in
+      omega (arith, at-field .field .kept)
 
   pub same-length-15 : lts.Need-same-length-15 given (item-at t) item.Post
-  same-length-15 c = omega (arith, c .before .before .before .before .before .before .field .kept)
+  same-length-15 c =
+      let at-field = c .before .before .before .before .before .before in
+      omega (arith, at-field .field .kept)
 
   pub returns-5 : lts.Need-returns-5 given (item-at t) item.Post
   returns-5 c =

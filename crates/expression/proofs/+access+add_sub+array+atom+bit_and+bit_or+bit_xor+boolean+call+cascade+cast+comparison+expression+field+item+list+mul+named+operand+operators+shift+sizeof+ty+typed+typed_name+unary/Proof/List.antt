@@ -23,36 +23,64 @@ use Rattle.steps.proofs.head.Reads as head-reads
 use Rattle.expression.proofs.+access+add_sub+array+atom+bit_and+bit_or+bit_xor+boolean+call+cascade+cast+comparison+expression+field+item+list+mul+named+operand+operators+shift+sizeof+ty+typed+typed_name+unary.Proof.Falls.{item-below, list-at}
 
 abbrev pub Inv-loop : lts.InvT-loop
-Inv-loop w x n o₀ r₀ f₀ k d opened closed count₀ s₀ o r f count s = ItemsTurned (LoopOn (listed-on (listed-of k)) w x n d) w x n count₀ o₀ r₀ f₀ s₀ count o r f s
+Inv-loop w x n o₀ r₀ f₀ k d opened closed count₀ s₀ o r f count s =
+    ItemsTurned (LoopOn (listed-on (listed-of k)) w x n d) w x n count₀ o₀ r₀ f₀ s₀ count o r f s
 
 abbrev pub μ-loop : lts.MeasureT-loop
 μ-loop w x n o₀ r₀ f₀ k d opened closed count₀ s₀ o r f count s = n - s .at
 
 module _ (t : ℕ) where
   abbrev pub given : lts.Claims
-  given = (opener-reads.Asked, opener-reads.Learnt, expect-reads.Asked, expect-reads.Learnt, closer-reads.Asked, closer-reads.Learnt, head-reads.Asked, head-reads.Learnt, entry-reads.Asked, entry-reads.Learnt, note-reads.Asked, note-reads.Learnt, item-below t, item.Post, comma-reads.Asked, comma-reads.Learnt, counted-reads.Asked, counted-reads.Learnt)
+  given = (
+    opener-reads.Asked,
+    opener-reads.Learnt,
+    expect-reads.Asked,
+    expect-reads.Learnt,
+    closer-reads.Asked,
+    closer-reads.Learnt,
+    head-reads.Asked,
+    head-reads.Learnt,
+    entry-reads.Asked,
+    entry-reads.Learnt,
+    note-reads.Asked,
+    note-reads.Learnt,
+    item-below t,
+    item.Post,
+    comma-reads.Asked,
+    comma-reads.Learnt,
+    counted-reads.Asked,
+    counted-reads.Learnt,
+  )
 
   pub opener-requires : lts.Need-opener-requires given (list-at t) list.Post Inv-loop μ-loop
   opener-requires c κs = search needs
 
   pub expect-requires : lts.Need-expect-requires given (list-at t) list.Post Inv-loop μ-loop
-  expect-requires c κs = (c .before .before .before .before .before .before .before .before .pre .1 .asks, c .before .before .opener .ensures .1)
+  expect-requires c κs =
+      let at-opener = c .before .before in
+      let start = at-opener .before .before .before .before .before .before in
+      (start .pre .1 .asks, at-opener .opener .ensures .1)
 
   pub enum-told : lts.Need-enum-told given (list-at t) list.Post Inv-loop μ-loop
   enum-told c = search needs
 
   pub same-length : lts.Need-same-length given (list-at t) list.Post Inv-loop μ-loop
-  same-length c = omega (arith, c .before .before .before .before .before .before .expect .kept)
+  same-length c =
+      let at-expect = c .before .before .before .before .before .before in
+      omega (arith, at-expect .expect .kept)
 
   pub same-length-2 : lts.Need-same-length-2 given (list-at t) list.Post Inv-loop μ-loop
-  same-length-2 c = omega (arith, c .before .before .before .before .before .before .expect .kept)
+  same-length-2 c =
+      let at-expect = c .before .before .before .before .before .before in
+      omega (arith, at-expect .expect .kept)
 
   pub returns : lts.Need-returns given (list-at t) list.Post Inv-loop μ-loop
   returns c =
       let at-expect = c .before .before .before .before .before .before in
       let at-opener = at-expect .before .before .before in
       let start = at-opener .before .before .before .before .before .before in
-      list-refused _ (start .pre .1) (at-opener .opener .ensures) (at-expect .expect .ensures) (c .before .match .keys1)
+      list-refused _ (start .pre .1) (at-opener .opener .ensures) (at-expect .expect .ensures)
+      (c .before .match .keys1)
 
   pub closer-requires : lts.Need-closer-requires given (list-at t) list.Post Inv-loop μ-loop
   closer-requires c κs = search needs
@@ -60,8 +88,14 @@ module _ (t : ℕ) where
   pub loop-holds : lts.Need-loop-holds given (list-at t) list.Post Inv-loop μ-loop
   loop-holds c =
       let at-expect = c .before .before .before .before .before .before .before in
-      let start = at-expect .before .before .before .before .before .before .before .before .before in
-      ((asked-moved (start .pre .1) (at-expect .expect .ensures .moved) refl (omega (arith, at-expect .expect .kept)) (omega (arith, at-expect .expect .kept)), omega arith), at-start)
+      let start = at-expect .before .before .before .before .before .before .before .before .before in (
+        (
+          asked-moved (start .pre .1) (at-expect .expect .ensures .moved) refl
+              (omega (arith, at-expect .expect .kept)) (omega (arith, at-expect .expect .kept)),
+          omega arith,
+        ),
+        at-start,
+      )
 
   pub head-requires : lts.Need-head-requires given (list-at t) list.Post Inv-loop μ-loop
   head-requires c κs = (c .loop .inv .0 .0 .asks .held, c .loop .inv .0 .0 .asks .at)
@@ -70,7 +104,9 @@ module _ (t : ℕ) where
   entry-requires c κs = omega arith
 
   pub note-requires : lts.Need-note-requires given (list-at t) list.Post Inv-loop μ-loop
-  note-requires c κs = raise-asked (c .before .before .before .before .before .before .loop .inv .0 .0)
+  note-requires c κs =
+      let at-loop = c .before .before .before .before .before .before in
+      raise-asked (at-loop .loop .inv .0 .0)
 
   pub same-length-3 : lts.Need-same-length-3 given (list-at t) list.Post Inv-loop μ-loop
   same-length-3 c =
@@ -103,7 +139,11 @@ module _ (t : ℕ) where
       let at-expect = at-match .before .before .before .before .before in
       let at-opener = at-expect .before .before .before in
       let start = at-opener .before .before .before .before .before .before in
-      list-on _ (start .pre .1) (at-opener .opener .ensures) (at-expect .expect .ensures) (at-match .match .keys2) (at-loop .loop .inv .1 .rest (rest-end _ (at-loop .loop .inv .0) (at-head .head .ensures) (at-if1 .if1 .taken) (at-entry .entry .ensures) (at-note .note .ensures)))
+      list-on _ (start .pre .1) (at-opener .opener .ensures) (at-expect .expect .ensures)
+      (at-match .match .keys2)
+      (at-loop .loop .inv .1 .rest
+      (rest-end _ (at-loop .loop .inv .0) (at-head .head .ensures) (at-if1 .if1 .taken)
+      (at-entry .entry .ensures) (at-note .note .ensures)))
 
   pub same-length-6 : lts.Need-same-length-6 given (list-at t) list.Post Inv-loop μ-loop
   same-length-6 c =
@@ -125,21 +165,28 @@ module _ (t : ℕ) where
 
   pub returns-3 : lts.Need-returns-3 given (list-at t) list.Post Inv-loop μ-loop
   returns-3 c =
-      let at-head = c .before .before .before .before in
+      let at-if1 = c .before .before in
+      let at-head = at-if1 .before .before in
       let at-loop = at-head .before in
       let at-closer = at-loop .before .before in
       let at-match = at-closer .before in
       let at-expect = at-match .before .before .before .before .before in
       let at-opener = at-expect .before .before .before in
       let start = at-opener .before .before .before .before .before .before in
-      list-on _ (start .pre .1) (at-opener .opener .ensures) (at-expect .expect .ensures) (at-match .match .keys2) (at-loop .loop .inv .1 .rest (rest-closed _ (at-loop .loop .inv .0) (at-head .head .ensures) (c .before .before .if1 .left) (at-closer .closer .ensures) (c .if2 .taken)))
+      list-on _ (start .pre .1) (at-opener .opener .ensures) (at-expect .expect .ensures)
+      (at-match .match .keys2)
+      (at-loop .loop .inv .1 .rest
+      (rest-closed _ (at-loop .loop .inv .0) (at-head .head .ensures) (at-if1 .if1 .left)
+      (at-closer .closer .ensures) (c .if2 .taken)))
 
   pub item-requires : lts.Need-item-requires given (list-at t) list.Post Inv-loop μ-loop
   item-requires c κs =
       let at-loop = c .before .before .before .before .before .before .before .before in
       let at-expect = at-loop .before .before .before .before .before .before .before .before in
-      let start = at-expect .before .before .before .before .before .before .before .before .before in
-      (omega (arith, start .pre .0, at-expect .expect .ensures .moved, at-loop .loop .inv .1 .on), at-loop .loop .inv .0 .0)
+      let start = at-expect .before .before .before .before .before .before .before .before .before in (
+        omega (arith, start .pre .0, at-expect .expect .ensures .moved, at-loop .loop .inv .1 .on),
+        at-loop .loop .inv .0 .0,
+      )
 
   pub enum-told-2 : lts.Need-enum-told-2 given (list-at t) list.Post Inv-loop μ-loop
   enum-told-2 c = search needs
@@ -177,7 +224,11 @@ module _ (t : ℕ) where
       let at-expect = at-match .before .before .before .before .before in
       let at-opener = at-expect .before .before .before in
       let start = at-opener .before .before .before .before .before .before in
-      list-on _ (start .pre .1) (at-opener .opener .ensures) (at-expect .expect .ensures) (at-match .match .keys2) (at-loop .loop .inv .1 .rest (rest-item _ (at-loop .loop .inv .0) (at-head .head .ensures) (at-if1 .if1 .left) (at-closer .closer .ensures) (at-if2 .if2 .left) (at-item .item .ensures) (c .before .match2 .keys1)))
+      list-on _ (start .pre .1) (at-opener .opener .ensures) (at-expect .expect .ensures)
+      (at-match .match .keys2)
+      (at-loop .loop .inv .1 .rest
+      (rest-item _ (at-loop .loop .inv .0) (at-head .head .ensures) (at-if1 .if1 .left)
+      (at-closer .closer .ensures) (at-if2 .if2 .left) (at-item .item .ensures) (c .before .match2 .keys1)))
 
   pub comma-requires : lts.Need-comma-requires given (list-at t) list.Post Inv-loop μ-loop
   comma-requires c κs =
@@ -185,7 +236,8 @@ module _ (t : ℕ) where
       let at-if1 = at-item .before .before .before .before .before .before in
       let at-head = at-if1 .before .before in
       let at-loop = at-head .before in
-      comma-asks (at-loop .loop .inv .0) (at-head .head .ensures) (at-if1 .if1 .left) (at-item .item .ensures) (omega (arith, at-item .item .kept)) (omega (arith, at-item .item .kept))
+      comma-asks (at-loop .loop .inv .0) (at-head .head .ensures) (at-if1 .if1 .left)
+      (at-item .item .ensures) (omega (arith, at-item .item .kept)) (omega (arith, at-item .item .kept))
 
   pub enum-told-3 : lts.Need-enum-told-3 given (list-at t) list.Post Inv-loop μ-loop
   enum-told-3 c = search needs
@@ -203,7 +255,13 @@ module _ (t : ℕ) where
       let at-item = at-comma .before .before .before .before .before .before .before .before .before .before .before in
       let at-loop = at-item .before .before .before .before .before .before .before .before .before in
       let at-expect = at-loop .before .before .before .before .before .before .before .before in
-      omega (arith, at-loop .loop .inv .1, at-expect .expect .kept, at-comma .comma .kept, at-item .item .kept)
+      omega (
+        arith,
+        at-loop .loop .inv .1,
+        at-expect .expect .kept,
+        at-comma .comma .kept,
+        at-item .item .kept,
+      )
 
   pub same-length-14 : lts.Need-same-length-14 given (list-at t) list.Post Inv-loop μ-loop
   same-length-14 c =
@@ -211,7 +269,13 @@ module _ (t : ℕ) where
       let at-item = at-comma .before .before .before .before .before .before .before .before .before .before .before in
       let at-loop = at-item .before .before .before .before .before .before .before .before .before in
       let at-expect = at-loop .before .before .before .before .before .before .before .before in
-      omega (arith, at-loop .loop .inv .1, at-expect .expect .kept, at-comma .comma .kept, at-item .item .kept)
+      omega (
+        arith,
+        at-loop .loop .inv .1,
+        at-expect .expect .kept,
+        at-comma .comma .kept,
+        at-item .item .kept,
+      )
 
   pub returns-5 : lts.Need-returns-5 given (list-at t) list.Post Inv-loop μ-loop
   returns-5 c =
@@ -227,12 +291,22 @@ module _ (t : ℕ) where
       let at-expect = at-match .before .before .before .before .before in
       let at-opener = at-expect .before .before .before in
       let start = at-opener .before .before .before .before .before .before in
-      list-on _ (start .pre .1) (at-opener .opener .ensures) (at-expect .expect .ensures) (at-match .match .keys2) (at-loop .loop .inv .1 .rest (rest-comma _ (at-loop .loop .inv .0) (at-head .head .ensures) (at-if1 .if1 .left) (at-closer .closer .ensures) (at-if2 .if2 .left) (at-item .item .ensures) (at-match2 .match2 .keys2) (at-comma .comma .ensures) (c .match3 .keys2)))
+      list-on _ (start .pre .1) (at-opener .opener .ensures) (at-expect .expect .ensures)
+      (at-match .match .keys2)
+      (at-loop .loop .inv .1 .rest
+      (rest-comma _ (at-loop .loop .inv .0) (at-head .head .ensures) (at-if1 .if1 .left)
+      (at-closer .closer .ensures) (at-if2 .if2 .left) (at-item .item .ensures) (at-match2 .match2 .keys2)
+      (at-comma .comma .ensures) (c .match3 .keys2)))
 
   pub counted-requires : lts.Need-counted-requires given (list-at t) list.Post Inv-loop μ-loop
   counted-requires c κs =
       let at-loop = c .before .before .before .before .before .before .before .before .before .before .before .before .before .before .before .before .before .before .before .before .before .before .before .before .before .before in
-      omega (arith, at-loop .loop .inv .0 .1, at-loop .loop .inv .0 .0 .asks .at, at-loop .loop .inv .0 .0 .asks .held .few)
+      omega (
+        arith,
+        at-loop .loop .inv .0 .1,
+        at-loop .loop .inv .0 .0 .asks .at,
+        at-loop .loop .inv .0 .0 .asks .held .few,
+      )
 
   pub loop-less : lts.Need-loop-less given (list-at t) list.Post Inv-loop μ-loop
   loop-less c =
@@ -241,16 +315,36 @@ module _ (t : ℕ) where
       let at-if1 = at-item .before .before .before .before .before .before in
       let at-head = at-if1 .before .before in
       let at-loop = at-head .before in
-      omega (arith, at-loop .loop .inv .0 .0 .asks .at, at-head .head .ensures .kind, at-if1 .if1 .left, at-item .item .ensures .on, at-item .item .ensures .moved, at-comma .comma .ensures .moved)
+      omega (
+        arith,
+        at-loop .loop .inv .0 .0 .asks .at,
+        at-head .head .ensures .kind,
+        at-if1 .if1 .left,
+        at-item .item .ensures .on,
+        at-item .item .ensures .moved,
+        at-comma .comma .ensures .moved,
+      )
 
   pub loop-again : lts.Need-loop-again given (list-at t) list.Post Inv-loop μ-loop
   loop-again c =
-      let at-comma = c .before .before .before .before .before .before .before .before in
+      let at-enum-told3 = c .before .before in
+      let at-comma = at-enum-told3 .before .before .before .before .before .before in
       let at-match2 = at-comma .before .before .before in
       let at-item = at-match2 .before .before .before .before .before .before .before .before in
       let at-if2 = at-item .before .before .before .before in
       let at-if1 = at-if2 .before .before in
       let at-head = at-if1 .before .before in
       let at-loop = at-head .before in
-      let at-closer = at-loop .before .before in
-      (rest-asked (at-loop .loop .inv .0) (at-head .head .ensures) (at-if1 .if1 .left) (at-item .item .ensures) (at-comma .comma .ensures) (c .before .counted .ensures) (omega (arith, at-item .item .kept)) (omega (arith, at-comma .comma .kept, at-item .item .kept)) (omega (arith, at-comma .comma .kept, at-item .item .kept)), one-turn (at-loop .loop .inv .1) (omega (arith, at-item .item .kept)) (omega (arith, at-comma .comma .kept, at-item .item .kept)) (omega (arith, at-comma .comma .kept, at-item .item .kept)) (omega (arith, at-item .item .ensures .moved, at-comma .comma .ensures .moved)) (λ _ _ _ _ g. rest-next _ (at-loop .loop .inv .0) (at-head .head .ensures) (at-if1 .if1 .left) (at-closer .closer .ensures) (at-if2 .if2 .left) (at-item .item .ensures) (at-match2 .match2 .keys2) (at-comma .comma .ensures) (c .before .before .enum-told3 .given .1) (c .before .counted .ensures) g))
+      let at-closer = at-loop .before .before in (
+        rest-asked (at-loop .loop .inv .0) (at-head .head .ensures) (at-if1 .if1 .left)
+            (at-item .item .ensures) (at-comma .comma .ensures) (c .before .counted .ensures)
+            (omega (arith, at-item .item .kept)) (omega (arith, at-comma .comma .kept, at-item .item .kept))
+            (omega (arith, at-comma .comma .kept, at-item .item .kept)),
+        one-turn (at-loop .loop .inv .1) (omega (arith, at-item .item .kept))
+            (omega (arith, at-comma .comma .kept, at-item .item .kept))
+            (omega (arith, at-comma .comma .kept, at-item .item .kept))
+            (omega (arith, at-item .item .ensures .moved, at-comma .comma .ensures .moved))
+            (λ _ _ _ _ g. rest-next _ (at-loop .loop .inv .0) (at-head .head .ensures) (at-if1 .if1 .left)
+            (at-closer .closer .ensures) (at-if2 .if2 .left) (at-item .item .ensures) (at-match2 .match2 .keys2)
+            (at-comma .comma .ensures) (at-enum-told3 .enum-told3 .given .1) (c .before .counted .ensures) g),
+      )

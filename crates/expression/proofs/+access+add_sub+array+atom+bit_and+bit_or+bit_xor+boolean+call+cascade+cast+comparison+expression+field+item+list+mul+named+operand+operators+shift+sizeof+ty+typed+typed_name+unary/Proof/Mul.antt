@@ -23,8 +23,11 @@ module _ (t : ℕ) where
   pub operators-requires : lts.Need-operators-requires given (mul-at t) mul.Post
   operators-requires c κs =
       let at-cast = c .before .before .before .before .before .before .before .before .before in
-      let start = at-cast .before .before .before .before .before .before .before .before .before in
-      (omega (arith, start .pre .0, start .pre .1 .asks .at, at-cast .cast .ensures .moved .at), goes-on (start .pre .1) (at-cast .cast .ensures) (omega (arith, at-cast .cast .kept)) (omega (arith, at-cast .cast .kept)) (omega (arith, at-cast .cast .kept)))
+      let start = at-cast .before .before .before .before .before .before .before .before .before in (
+        omega (arith, start .pre .0, start .pre .1 .asks .at, at-cast .cast .ensures .moved .at),
+        goes-on (start .pre .1) (at-cast .cast .ensures) (omega (arith, at-cast .cast .kept))
+            (omega (arith, at-cast .cast .kept)) (omega (arith, at-cast .cast .kept)),
+      )
 
   pub same-length : lts.Need-same-length given (mul-at t) mul.Post
   same-length c =
@@ -50,4 +53,5 @@ module _ (t : ℕ) where
       let at-operators = c .before .before .before .before .before .before in
       let at-cast = at-operators .before .before .before .before .before .before .before .before .before .before in
       let start = at-cast .before .before .before .before .before .before .before .before .before in
-      then-asked (operators-on Mul) (start .pre .1) (at-cast .cast .ensures) (at-operators .operators .ensures)
+      then-asked (operators-on Mul) (start .pre .1) (at-cast .cast .ensures)
+      (at-operators .operators .ensures)

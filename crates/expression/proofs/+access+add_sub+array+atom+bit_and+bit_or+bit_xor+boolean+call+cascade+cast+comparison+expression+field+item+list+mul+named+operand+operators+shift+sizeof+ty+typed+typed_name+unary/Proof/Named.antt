@@ -21,19 +21,27 @@ module _ (t : ℕ) where
   bare-name-requires c κs =
       let at-typed-name = c .before .before .before .before .before .before .before in
       let start = at-typed-name .before .before .before .before .before .before .before .before .before in
-      named-room (start .pre .1) (at-typed-name .typed-name .ensures) (omega (arith, at-typed-name .typed-name .kept))
+      named-room (start .pre .1) (at-typed-name .typed-name .ensures)
+      (omega (arith, at-typed-name .typed-name .kept))
 
   pub same-length : lts.Need-same-length given (named-at t) named.Post
-  same-length c = omega (arith, c .before .before .before .before .before .before .before .before .before .before .typed-name .kept)
+  same-length c =
+      let at-typed-name = c .before .before .before .before .before .before .before .before .before .before in
+      omega (arith, at-typed-name .typed-name .kept)
 
   pub same-length-2 : lts.Need-same-length-2 given (named-at t) named.Post
-  same-length-2 c = omega (arith, c .before .before .before .before .before .before .before .before .before .before .typed-name .kept)
+  same-length-2 c =
+      let at-typed-name = c .before .before .before .before .before .before .before .before .before .before in
+      omega (arith, at-typed-name .typed-name .kept)
 
   pub same-length-3 : lts.Need-same-length-3 given (named-at t) named.Post
-  same-length-3 c = omega (arith, c .before .before .before .before .before .before .before .before .before .before .typed-name .kept)
+  same-length-3 c =
+      let at-typed-name = c .before .before .before .before .before .before .before .before .before .before in
+      omega (arith, at-typed-name .typed-name .kept)
 
   pub returns : lts.Need-returns given (named-at t) named.Post
   returns c =
-      let at-typed-name = c .before .before .before .before .before .before .before .before .before .before in
+      let at-bare-name = c .before .before in
+      let at-typed-name = at-bare-name .before .before .before .before .before .before .before .before in
       let start = at-typed-name .before .before .before .before .before .before .before .before .before in
-      named-reads (start .pre .1) (at-typed-name .typed-name .ensures) (c .before .before .bare-name .ensures)
+      named-reads (start .pre .1) (at-typed-name .typed-name .ensures) (at-bare-name .bare-name .ensures)

@@ -13,13 +13,26 @@ use Rattle.expression.proofs.+access+add_sub+array+atom+bit_and+bit_or+
 
 module _ (t : ℕ) where
   abbrev pub given : lts.Claims
-  given = (head-reads.Asked, head-reads.Learnt, name-alone-reads.Asked, name-alone-reads.Learnt, unary-below t, unary.Post, name-reads.Asked, name-reads.Learnt)
+  given = (
+    head-reads.Asked,
+    head-reads.Learnt,
+    name-alone-reads.Asked,
+    name-alone-reads.Learnt,
+    unary-below t,
+    unary.Post,
+    name-reads.Asked,
+    name-reads.Learnt,
+  )
 
   pub head-requires : lts.Need-head-requires given (operand-at t) operand.Post
-  head-requires c κs = (c .before .before .before .before .before .pre .1 .asks .held, c .before .before .before .before .before .pre .1 .asks .at)
+  head-requires c κs =
+      let start = c .before .before .before .before .before in
+      (start .pre .1 .asks .held, start .pre .1 .asks .at)
 
   pub head-requires-2 : lts.Need-head-requires-2 given (operand-at t) operand.Post
-  head-requires-2 c κs = (c .before .before .before .before .before .before .pre .1 .asks .held, omega (arith, c .head .ensures .end))
+  head-requires-2 c κs =
+      let start = c .before .before .before .before .before .before in
+      (start .pre .1 .asks .held, omega (arith, c .head .ensures .end))
 
   pub name-alone-requires : lts.Need-name-alone-requires given (operand-at t) operand.Post
   name-alone-requires c κs = search needs
@@ -30,16 +43,24 @@ module _ (t : ℕ) where
       (omega (arith, start .pre .0), start .pre .1)
 
   pub same-length : lts.Need-same-length given (operand-at t) operand.Post
-  same-length c = omega (arith, c .before .before .before .before .before .before .unary .kept)
+  same-length c =
+      let at-unary = c .before .before .before .before .before .before in
+      omega (arith, at-unary .unary .kept)
 
   pub same-length-2 : lts.Need-same-length-2 given (operand-at t) operand.Post
-  same-length-2 c = omega (arith, c .before .before .before .before .before .before .unary .kept)
+  same-length-2 c =
+      let at-unary = c .before .before .before .before .before .before in
+      omega (arith, at-unary .unary .kept)
 
   pub same-length-3 : lts.Need-same-length-3 given (operand-at t) operand.Post
-  same-length-3 c = omega (arith, c .before .before .before .before .before .before .unary .kept)
+  same-length-3 c =
+      let at-unary = c .before .before .before .before .before .before in
+      omega (arith, at-unary .unary .kept)
 
   pub returns : lts.Need-returns given (operand-at t) operand.Post
-  returns c = c .before .before .before .before .before .before .unary .ensures
+  returns c =
+      let at-unary = c .before .before .before .before .before .before in
+      at-unary .unary .ensures
 
   pub name-requires : lts.Need-name-requires given (operand-at t) operand.Post
   name-requires c κs =
@@ -48,13 +69,18 @@ module _ (t : ℕ) where
       record { room = omega (arith, start .pre .1 .room, at-head .head .ensures .pays); part = at-head .head .ensures .part }
 
   pub same-length-4 : lts.Need-same-length-4 given (operand-at t) operand.Post
-  same-length-4 c = omega (arith, c .before .before .name .kept)
+  same-length-4 c =
+      let at-name = c .before .before in
+      omega (arith, at-name .name .kept)
 
   pub returns-2 : lts.Need-returns-2 given (operand-at t) operand.Post
   returns-2 c =
-      let at-if1 = c .before .before .before .before in
+      let at-name = c .before .before in
+      let at-if1 = at-name .before .before in
       let at-name-alone = at-if1 .before in
       let at-head2 = at-name-alone .before in
       let at-head = at-head2 .before in
       let start = at-head .before .before .before .before .before .before in
-      name-operand (start .pre .1) (at-head .head .ensures) (at-head2 .head2 .ensures) (at-name-alone .name-alone .ensures) (at-if1 .if1 .left) (c .before .before .name .ensures) (omega (arith, c .before .before .name .kept))
+      name-operand (start .pre .1) (at-head .head .ensures) (at-head2 .head2 .ensures)
+      (at-name-alone .name-alone .ensures) (at-if1 .if1 .left) (at-name .name .ensures)
+      (omega (arith, at-name .name .kept))

@@ -25,10 +25,23 @@ abbrev pub μ-loop : lts.MeasureT-loop
 
 module _ (t : ℕ) where
   abbrev pub given : lts.Claims
-  given = (head-reads.Asked, head-reads.Learnt, operator-reads.Asked, operator-reads.Learnt, cascade-below t, cascade.Post, abandon-reads.Asked, abandon-reads.Learnt, finish-reads.Asked, finish-reads.Learnt)
+  given = (
+    head-reads.Asked,
+    head-reads.Learnt,
+    operator-reads.Asked,
+    operator-reads.Learnt,
+    cascade-below t,
+    cascade.Post,
+    abandon-reads.Asked,
+    abandon-reads.Learnt,
+    finish-reads.Asked,
+    finish-reads.Learnt,
+  )
 
   pub loop-holds : lts.Need-loop-holds given (operators-at t) operators.Post Inv-loop μ-loop
-  loop-holds c = (c .before .before .before .before .before .pre .1, at-start)
+  loop-holds c =
+      let start = c .before .before .before .before .before in
+      (start .pre .1, at-start)
 
   pub enum-told : lts.Need-enum-told given (operators-at t) operators.Post Inv-loop μ-loop
   enum-told c = search needs
@@ -46,25 +59,36 @@ module _ (t : ℕ) where
   returns c = c .before .loop .inv .1 .rest (goes-stops (c .before .loop .inv .0) (c .match .keys2))
 
   pub head-requires : lts.Need-head-requires given (operators-at t) operators.Post Inv-loop μ-loop
-  head-requires c κs = (c .before .before .before .loop .inv .0 .asked .asks .held, c .before .before .before .loop .inv .0 .asked .asks .at)
+  head-requires c κs =
+      let at-loop = c .before .before .before in
+      (at-loop .loop .inv .0 .asked .asks .held, at-loop .loop .inv .0 .asked .asks .at)
 
   pub operator-requires : lts.Need-operator-requires given (operators-at t) operators.Post Inv-loop μ-loop
   operator-requires c κs = search needs
 
   pub same-length-4 : lts.Need-same-length-4 given (operators-at t) operators.Post Inv-loop μ-loop
-  same-length-4 c = omega (arith, c .before .before .before .before .before .before .loop .inv .1)
+  same-length-4 c =
+      let at-loop = c .before .before .before .before .before .before in
+      omega (arith, at-loop .loop .inv .1)
 
   pub same-length-5 : lts.Need-same-length-5 given (operators-at t) operators.Post Inv-loop μ-loop
-  same-length-5 c = omega (arith, c .before .before .before .before .before .before .loop .inv .1)
+  same-length-5 c =
+      let at-loop = c .before .before .before .before .before .before in
+      omega (arith, at-loop .loop .inv .1)
 
   pub same-length-6 : lts.Need-same-length-6 given (operators-at t) operators.Post Inv-loop μ-loop
-  same-length-6 c = omega (arith, c .before .before .before .before .before .before .loop .inv .1)
+  same-length-6 c =
+      let at-loop = c .before .before .before .before .before .before in
+      omega (arith, at-loop .loop .inv .1)
 
   pub returns-2 : lts.Need-returns-2 given (operators-at t) operators.Post Inv-loop μ-loop
   returns-2 c =
-      let at-enum-told = c .before .before .before .before in
+      let at-head = c .before .before in
+      let at-enum-told = at-head .before .before in
       let at-loop = at-enum-told .before .before in
-      at-loop .loop .inv .1 .rest (operators-none (at-loop .loop .inv .0) (at-enum-told .enum-told .given .1) (c .before .before .head .ensures) _ (c .before .operator .ensures) (c .if1 .taken))
+      at-loop .loop .inv .1 .rest
+      (operators-none (at-loop .loop .inv .0) (at-enum-told .enum-told .given .1) (at-head .head .ensures) _
+      (c .before .operator .ensures) (c .if1 .taken))
 
   pub cascade-requires : lts.Need-cascade-requires given (operators-at t) operators.Post Inv-loop μ-loop
   cascade-requires c κs =
@@ -72,15 +96,26 @@ module _ (t : ℕ) where
       let at-operator = at-if1 .before in
       let at-head = at-operator .before in
       let at-loop = at-head .before .before .before .before in
-      let start = at-loop .before .before .before .before .before .before in
-      (omega (arith, start .pre .0, at-loop .loop .inv .1 .on, at-loop .loop .inv .0 .asked .asks .at, at-head .head .ensures, at-operator .operator .ensures, at-if1 .if1 .left), asked-seen (at-loop .loop .inv .0 .asked) (at-head .head .ensures))
+      let start = at-loop .before .before .before .before .before .before in (
+        omega (
+          arith,
+          start .pre .0,
+          at-loop .loop .inv .1 .on,
+          at-loop .loop .inv .0 .asked .asks .at,
+          at-head .head .ensures,
+          at-operator .operator .ensures,
+          at-if1 .if1 .left,
+        ),
+        asked-seen (at-loop .loop .inv .0 .asked) (at-head .head .ensures),
+      )
 
   pub abandon-requires : lts.Need-abandon-requires given (operators-at t) operators.Post Inv-loop μ-loop
   abandon-requires c κs =
       let at-cascade = c .before .before .before .before .before .before .before in
       let at-head = at-cascade .before .before .before .before .before .before in
       let at-loop = at-head .before .before .before .before in
-      join-cuts (at-loop .loop .inv .0) (at-head .head .ensures) (at-cascade .cascade .ensures) (omega (arith, at-cascade .cascade .kept))
+      join-cuts (at-loop .loop .inv .0) (at-head .head .ensures) (at-cascade .cascade .ensures)
+      (omega (arith, at-cascade .cascade .kept))
 
   pub sub-t32 : lts.Need-sub-t32 given (operators-at t) operators.Post Inv-loop μ-loop
   sub-t32 c = omega arith
@@ -91,25 +126,56 @@ module _ (t : ℕ) where
       let at-cascade = at-abandon .before .before .before .before .before .before .before .before in
       let at-head = at-cascade .before .before .before .before .before .before in
       let at-loop = at-head .before .before .before .before in
-      join-room (at-loop .loop .inv .0) (at-head .head .ensures) (at-cascade .cascade .ensures) (at-abandon .abandon .ensures) (omega (arith, at-cascade .cascade .kept))
+      join-room (at-loop .loop .inv .0) (at-head .head .ensures) (at-cascade .cascade .ensures)
+      (at-abandon .abandon .ensures) (omega (arith, at-cascade .cascade .kept))
 
   pub loop-less : lts.Need-loop-less given (operators-at t) operators.Post Inv-loop μ-loop
   loop-less c =
-      let at-abandon = c .before .before .before .before .before .before in
+      let at-finish = c .before .before in
+      let at-abandon = at-finish .before .before .before .before in
       let at-cascade = at-abandon .before .before .before .before .before .before .before .before in
       let at-if1 = at-cascade .before .before .before .before in
       let at-operator = at-if1 .before in
       let at-head = at-operator .before in
       let at-loop = at-head .before .before .before .before in
-      omega (arith, at-loop .loop .inv .0 .asked .asks .at, at-head .head .ensures, at-operator .operator .ensures, at-if1 .if1 .left, at-cascade .cascade .ensures .moved, at-abandon .abandon .ensures .at, c .before .before .finish .ensures .at)
+      omega (
+        arith,
+        at-loop .loop .inv .0 .asked .asks .at,
+        at-head .head .ensures,
+        at-operator .operator .ensures,
+        at-if1 .if1 .left,
+        at-cascade .cascade .ensures .moved,
+        at-abandon .abandon .ensures .at,
+        at-finish .finish .ensures .at,
+      )
 
   pub loop-again : lts.Need-loop-again given (operators-at t) operators.Post Inv-loop μ-loop
   loop-again c =
-      let at-abandon = c .before .before .before .before .before .before in
+      let at-finish = c .before .before in
+      let at-abandon = at-finish .before .before .before .before in
       let at-cascade = at-abandon .before .before .before .before .before .before .before .before in
       let at-if1 = at-cascade .before .before .before .before in
       let at-operator = at-if1 .before in
       let at-head = at-operator .before in
       let at-enum-told = at-head .before .before in
-      let at-loop = at-enum-told .before .before in
-      (joined-on (at-loop .loop .inv .0) (at-head .head .ensures) (at-cascade .cascade .ensures) (at-abandon .abandon .ensures) (c .before .before .finish .ensures) (omega (arith, at-operator .operator .ensures, at-if1 .if1 .left)) (omega (arith, c .before .before .finish .kept, at-cascade .cascade .kept)) (omega (arith, at-abandon .abandon .kept, at-cascade .cascade .kept)) (omega (arith, at-cascade .cascade .kept)), one-turn (at-loop .loop .inv .1) (omega (arith, c .before .before .finish .kept, at-cascade .cascade .kept)) (omega (arith, at-abandon .abandon .kept, at-cascade .cascade .kept)) (omega (arith, at-cascade .cascade .kept)) (omega (arith, at-head .head .ensures .up, at-cascade .cascade .ensures .moved, at-abandon .abandon .ensures .at, c .before .before .finish .ensures .at)) (λ _ _ _ _ g. operators-more (at-loop .loop .inv .0) (at-enum-told .enum-told .given .1) (at-head .head .ensures) _ (at-operator .operator .ensures) (at-if1 .if1 .left) (at-cascade .cascade .ensures) (at-abandon .abandon .ensures) (c .before .before .finish .ensures) g))
+      let at-loop = at-enum-told .before .before in (
+        joined-on (at-loop .loop .inv .0) (at-head .head .ensures) (at-cascade .cascade .ensures)
+            (at-abandon .abandon .ensures) (at-finish .finish .ensures)
+            (omega (arith, at-operator .operator .ensures, at-if1 .if1 .left))
+            (omega (arith, at-finish .finish .kept, at-cascade .cascade .kept))
+            (omega (arith, at-abandon .abandon .kept, at-cascade .cascade .kept))
+            (omega (arith, at-cascade .cascade .kept)),
+        one-turn (at-loop .loop .inv .1) (omega (arith, at-finish .finish .kept, at-cascade .cascade .kept))
+            (omega (arith, at-abandon .abandon .kept, at-cascade .cascade .kept))
+            (omega (arith, at-cascade .cascade .kept))
+            (omega (
+              arith,
+              at-head .head .ensures .up,
+              at-cascade .cascade .ensures .moved,
+              at-abandon .abandon .ensures .at,
+              at-finish .finish .ensures .at,
+            ))
+            (λ _ _ _ _ g. operators-more (at-loop .loop .inv .0) (at-enum-told .enum-told .given .1)
+            (at-head .head .ensures) _ (at-operator .operator .ensures) (at-if1 .if1 .left)
+            (at-cascade .cascade .ensures) (at-abandon .abandon .ensures) (at-finish .finish .ensures) g),
+      )

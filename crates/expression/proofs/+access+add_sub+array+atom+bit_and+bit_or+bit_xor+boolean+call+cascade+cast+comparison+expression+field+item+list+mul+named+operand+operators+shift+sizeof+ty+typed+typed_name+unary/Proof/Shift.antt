@@ -23,8 +23,11 @@ module _ (t : ℕ) where
   pub operators-requires : lts.Need-operators-requires given (shift-at t) shift.Post
   operators-requires c κs =
       let at-add-sub = c .before .before .before .before .before .before .before .before .before in
-      let start = at-add-sub .before .before .before .before .before .before .before .before .before in
-      (omega (arith, start .pre .0, start .pre .1 .asks .at, at-add-sub .add-sub .ensures .moved .at), goes-on (start .pre .1) (at-add-sub .add-sub .ensures) (omega (arith, at-add-sub .add-sub .kept)) (omega (arith, at-add-sub .add-sub .kept)) (omega (arith, at-add-sub .add-sub .kept)))
+      let start = at-add-sub .before .before .before .before .before .before .before .before .before in (
+        omega (arith, start .pre .0, start .pre .1 .asks .at, at-add-sub .add-sub .ensures .moved .at),
+        goes-on (start .pre .1) (at-add-sub .add-sub .ensures) (omega (arith, at-add-sub .add-sub .kept))
+            (omega (arith, at-add-sub .add-sub .kept)) (omega (arith, at-add-sub .add-sub .kept)),
+      )
 
   pub same-length : lts.Need-same-length given (shift-at t) shift.Post
   same-length c =
@@ -50,4 +53,5 @@ module _ (t : ℕ) where
       let at-operators = c .before .before .before .before .before .before in
       let at-add-sub = at-operators .before .before .before .before .before .before .before .before .before .before in
       let start = at-add-sub .before .before .before .before .before .before .before .before .before in
-      then-asked (operators-on Shift) (start .pre .1) (at-add-sub .add-sub .ensures) (at-operators .operators .ensures)
+      then-asked (operators-on Shift) (start .pre .1) (at-add-sub .add-sub .ensures)
+      (at-operators .operators .ensures)

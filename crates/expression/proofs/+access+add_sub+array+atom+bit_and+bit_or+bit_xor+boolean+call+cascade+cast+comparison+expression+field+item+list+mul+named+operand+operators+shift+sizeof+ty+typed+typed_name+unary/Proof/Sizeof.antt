@@ -19,10 +19,25 @@ use Rattle.expression.proofs.+access+add_sub+array+atom+bit_and+bit_or+
 
 module _ (t : ℕ) where
   abbrev pub given : lts.Claims
-  given = (head-reads.Asked, head-reads.Learnt, access-below t, access.Post, expect-reads.Asked, expect-reads.Learnt, ty-below t, ty.Post, and-expect-reads.Asked, and-expect-reads.Learnt, finish-reads.Asked, finish-reads.Learnt)
+  given = (
+    head-reads.Asked,
+    head-reads.Learnt,
+    access-below t,
+    access.Post,
+    expect-reads.Asked,
+    expect-reads.Learnt,
+    ty-below t,
+    ty.Post,
+    and-expect-reads.Asked,
+    and-expect-reads.Learnt,
+    finish-reads.Asked,
+    finish-reads.Learnt,
+  )
 
   pub head-requires : lts.Need-head-requires given (sizeof-at t) sizeof.Post
-  head-requires c κs = (c .before .before .before .before .before .pre .1 .asks .held, c .before .before .before .before .before .pre .1 .asks .at)
+  head-requires c κs =
+      let start = c .before .before .before .before .before in
+      (start .pre .1 .asks .held, start .pre .1 .asks .at)
 
   pub access-requires : lts.Need-access-requires given (sizeof-at t) sizeof.Post
   access-requires c κs =
@@ -30,13 +45,19 @@ module _ (t : ℕ) where
       (omega (arith, start .pre .0), start .pre .1)
 
   pub same-length : lts.Need-same-length given (sizeof-at t) sizeof.Post
-  same-length c = omega (arith, c .before .before .before .before .before .before .access .kept)
+  same-length c =
+      let at-access = c .before .before .before .before .before .before in
+      omega (arith, at-access .access .kept)
 
   pub same-length-2 : lts.Need-same-length-2 given (sizeof-at t) sizeof.Post
-  same-length-2 c = omega (arith, c .before .before .before .before .before .before .access .kept)
+  same-length-2 c =
+      let at-access = c .before .before .before .before .before .before in
+      omega (arith, at-access .access .kept)
 
   pub same-length-3 : lts.Need-same-length-3 given (sizeof-at t) sizeof.Post
-  same-length-3 c = omega (arith, c .before .before .before .before .before .before .access .kept)
+  same-length-3 c =
+      let at-access = c .before .before .before .before .before .before in
+      omega (arith, at-access .access .kept)
 
   pub returns : lts.Need-returns given (sizeof-at t) sizeof.Post
   returns c =
@@ -44,7 +65,8 @@ module _ (t : ℕ) where
       let at-if1 = at-access .before .before .before .before in
       let at-head = at-if1 .before .before in
       let start = at-head .before .before .before .before .before .before in
-      sizeof-other (start .pre .1) (at-head .head .ensures) (at-if1 .if1 .taken) (at-access .access .ensures)
+      sizeof-other (start .pre .1) (at-head .head .ensures) (at-if1 .if1 .taken)
+      (at-access .access .ensures)
 
   pub expect-requires : lts.Need-expect-requires given (sizeof-at t) sizeof.Post
   expect-requires c κs =
@@ -56,10 +78,14 @@ module _ (t : ℕ) where
   enum-told c = search needs
 
   pub same-length-4 : lts.Need-same-length-4 given (sizeof-at t) sizeof.Post
-  same-length-4 c = omega (arith, c .before .before .before .before .before .expect .kept)
+  same-length-4 c =
+      let at-expect = c .before .before .before .before .before in
+      omega (arith, at-expect .expect .kept)
 
   pub same-length-5 : lts.Need-same-length-5 given (sizeof-at t) sizeof.Post
-  same-length-5 c = omega (arith, c .before .before .before .before .before .expect .kept)
+  same-length-5 c =
+      let at-expect = c .before .before .before .before .before in
+      omega (arith, at-expect .expect .kept)
 
   pub returns-2 : lts.Need-returns-2 given (sizeof-at t) sizeof.Post
   returns-2 c =
@@ -67,15 +93,27 @@ module _ (t : ℕ) where
       let at-if1 = at-expect .before .before .before in
       let at-head = at-if1 .before .before in
       let start = at-head .before .before .before .before .before .before in
-      sizeof-stop (start .pre .1) (at-head .head .ensures) (at-if1 .if1 .left) (at-expect .expect .ensures) (c .match .keys2)
+      sizeof-stop (start .pre .1) (at-head .head .ensures) (at-if1 .if1 .left) (at-expect .expect .ensures)
+      (c .match .keys2)
 
   pub ty-requires : lts.Need-ty-requires given (sizeof-at t) sizeof.Post
   ty-requires c κs =
       let at-expect = c .before .before .before .before .before .before .before .before .before .before in
       let at-if1 = at-expect .before .before .before in
       let at-head = at-if1 .before .before in
-      let start = at-head .before .before .before .before .before .before in
-      (omega (arith, start .pre .0, start .pre .1 .asks .at, at-head .head .ensures, at-if1 .if1 .left, at-expect .expect .ensures .moved), asked-moved (asked-seen (start .pre .1) (at-head .head .ensures)) (at-expect .expect .ensures .moved) refl (omega (arith, at-expect .expect .kept)) (omega (arith, at-expect .expect .kept)))
+      let start = at-head .before .before .before .before .before .before in (
+        omega (
+          arith,
+          start .pre .0,
+          start .pre .1 .asks .at,
+          at-head .head .ensures,
+          at-if1 .if1 .left,
+          at-expect .expect .ensures .moved,
+        ),
+        asked-moved (asked-seen (start .pre .1) (at-head .head .ensures))
+            (at-expect .expect .ensures .moved) refl (omega (arith, at-expect .expect .kept))
+            (omega (arith, at-expect .expect .kept)),
+      )
 
   pub and-expect-requires : lts.Need-and-expect-requires given (sizeof-at t) sizeof.Post
   and-expect-requires c κs =
@@ -84,8 +122,13 @@ module _ (t : ℕ) where
       let at-expect = at-enum-told .before .before .before .before .before .before in
       let at-if1 = at-expect .before .before .before in
       let at-head = at-if1 .before .before in
-      let start = at-head .before .before .before .before .before .before in
-      (sizeof-asks (start .pre .1) (at-head .head .ensures) (at-if1 .if1 .left) (at-expect .expect .ensures) (at-enum-told .enum-told .given .1) (at-ty .ty .ensures) (omega (arith, at-ty .ty .kept, at-expect .expect .kept)) (omega (arith, at-ty .ty .kept, at-expect .expect .kept)), (omega arith, omega arith))
+      let start = at-head .before .before .before .before .before .before in (
+        sizeof-asks (start .pre .1) (at-head .head .ensures) (at-if1 .if1 .left)
+            (at-expect .expect .ensures) (at-enum-told .enum-told .given .1) (at-ty .ty .ensures)
+            (omega (arith, at-ty .ty .kept, at-expect .expect .kept))
+            (omega (arith, at-ty .ty .kept, at-expect .expect .kept)),
+        (omega arith, omega arith),
+      )
 
   pub finish-requires : lts.Need-finish-requires given (sizeof-at t) sizeof.Post
   finish-requires c κs =
@@ -94,36 +137,66 @@ module _ (t : ℕ) where
       let at-expect = at-ty .before .before .before .before .before .before .before .before .before .before .before in
       let at-head = at-expect .before .before .before .before .before in
       let start = at-head .before .before .before .before .before .before in
-      room-at (start .pre .1) (moved-trans (moved-trans (moved-trans (fore-moved (start .pre .1 .asks) (at-head .head .ensures)) (at-expect .expect .ensures .moved)) (at-ty .ty .ensures .moved)) (at-and-expect .and-expect .ensures .moved)) (omega (arith, at-ty .ty .kept))
+      room-at (start .pre .1)
+      (moved-trans (moved-trans (moved-trans (fore-moved (start .pre .1 .asks) (at-head .head .ensures))
+      (at-expect .expect .ensures .moved)) (at-ty .ty .ensures .moved))
+      (at-and-expect .and-expect .ensures .moved))
+      (omega (arith, at-ty .ty .kept))
 
   pub same-length-6 : lts.Need-same-length-6 given (sizeof-at t) sizeof.Post
   same-length-6 c =
-      let at-and-expect = c .before .before .before .before .before .before .before .before in
+      let at-finish = c .before .before in
+      let at-and-expect = at-finish .before .before .before .before .before .before in
       let at-ty = at-and-expect .before .before .before .before .before .before .before .before .before in
       let at-expect = at-ty .before .before .before .before .before .before .before .before .before .before .before in
-      omega (arith, c .before .before .finish .kept, at-and-expect .and-expect .kept, at-ty .ty .kept, at-expect .expect .kept)
+      omega (
+        arith,
+        at-finish .finish .kept,
+        at-and-expect .and-expect .kept,
+        at-ty .ty .kept,
+        at-expect .expect .kept,
+      )
 
   pub same-length-7 : lts.Need-same-length-7 given (sizeof-at t) sizeof.Post
   same-length-7 c =
-      let at-and-expect = c .before .before .before .before .before .before .before .before in
+      let at-finish = c .before .before in
+      let at-and-expect = at-finish .before .before .before .before .before .before in
       let at-ty = at-and-expect .before .before .before .before .before .before .before .before .before in
       let at-expect = at-ty .before .before .before .before .before .before .before .before .before .before .before in
-      omega (arith, c .before .before .finish .kept, at-and-expect .and-expect .kept, at-ty .ty .kept, at-expect .expect .kept)
+      omega (
+        arith,
+        at-finish .finish .kept,
+        at-and-expect .and-expect .kept,
+        at-ty .ty .kept,
+        at-expect .expect .kept,
+      )
 
   pub same-length-8 : lts.Need-same-length-8 given (sizeof-at t) sizeof.Post
   same-length-8 c =
-      let at-and-expect = c .before .before .before .before .before .before .before .before in
+      let at-finish = c .before .before in
+      let at-and-expect = at-finish .before .before .before .before .before .before in
       let at-ty = at-and-expect .before .before .before .before .before .before .before .before .before in
       let at-expect = at-ty .before .before .before .before .before .before .before .before .before .before .before in
-      omega (arith, c .before .before .finish .kept, at-and-expect .and-expect .kept, at-ty .ty .kept, at-expect .expect .kept)
+      omega (
+        arith,
+        at-finish .finish .kept,
+        at-and-expect .and-expect .kept,
+        at-ty .ty .kept,
+        at-expect .expect .kept,
+      )
 
   pub returns-3 : lts.Need-returns-3 given (sizeof-at t) sizeof.Post
   returns-3 c =
-      let at-and-expect = c .before .before .before .before .before .before .before .before in
+      let at-finish = c .before .before in
+      let at-and-expect = at-finish .before .before .before .before .before .before in
       let at-ty = at-and-expect .before .before .before .before .before .before .before .before .before in
       let at-enum-told = at-ty .before .before .before .before .before in
       let at-expect = at-enum-told .before .before .before .before .before .before in
       let at-if1 = at-expect .before .before .before in
       let at-head = at-if1 .before .before in
       let start = at-head .before .before .before .before .before .before in
-      sizeof-done (start .pre .1) (at-head .head .ensures) (at-if1 .if1 .left) (at-expect .expect .ensures) (at-enum-told .enum-told .given .1) (at-ty .ty .ensures) (omega (arith, at-ty .ty .kept, at-expect .expect .kept)) (omega (arith, at-ty .ty .kept, at-expect .expect .kept)) (at-and-expect .and-expect .ensures) (c .before .before .finish .ensures)
+      sizeof-done (start .pre .1) (at-head .head .ensures) (at-if1 .if1 .left) (at-expect .expect .ensures)
+      (at-enum-told .enum-told .given .1) (at-ty .ty .ensures)
+      (omega (arith, at-ty .ty .kept, at-expect .expect .kept))
+      (omega (arith, at-ty .ty .kept, at-expect .expect .kept)) (at-and-expect .and-expect .ensures)
+      (at-finish .finish .ensures)

@@ -19,13 +19,36 @@ use Rattle.expression.proofs.+access+add_sub+array+atom+bit_and+bit_or+
 
 module _ (t : ℕ) where
   abbrev pub given : lts.Claims
-  given = (refuse-reads.Asked, refuse-reads.Learnt, head-reads.Asked, head-reads.Learnt, finish-text-reads.Asked, finish-text-reads.Learnt, ty-below t, ty.Post, finish-reads.Asked, finish-reads.Learnt, array-below t, array.Post, list-below t, list.Post, silence-reads.Asked, silence-reads.Learnt, entry-reads.Asked, entry-reads.Learnt, raise-reads.Asked, raise-reads.Learnt)
+  given = (
+    refuse-reads.Asked,
+    refuse-reads.Learnt,
+    head-reads.Asked,
+    head-reads.Learnt,
+    finish-text-reads.Asked,
+    finish-text-reads.Learnt,
+    ty-below t,
+    ty.Post,
+    finish-reads.Asked,
+    finish-reads.Learnt,
+    array-below t,
+    array.Post,
+    list-below t,
+    list.Post,
+    silence-reads.Asked,
+    silence-reads.Learnt,
+    entry-reads.Asked,
+    entry-reads.Learnt,
+    raise-reads.Asked,
+    raise-reads.Learnt,
+  )
 
   pub refuse-requires : lts.Need-refuse-requires given (ty-at t) ty.Post
   refuse-requires c κs = search needs
 
   pub returns : lts.Need-returns given (ty-at t) ty.Post
-  returns c = type-deep (c .before .before .before .before .before .before .before .pre .1) (c .before .if1 .taken) (c .refuse .ensures)
+  returns c =
+      let start = c .before .before .before .before .before .before .before in
+      type-deep (start .pre .1) (c .before .if1 .taken) (c .refuse .ensures)
 
   pub head-requires : lts.Need-head-requires given (ty-at t) ty.Post
   head-requires c κs =
@@ -39,15 +62,19 @@ module _ (t : ℕ) where
       room-token (start .pre .1) (at-head .head .ensures)
 
   pub same-length : lts.Need-same-length given (ty-at t) ty.Post
-  same-length c = omega (arith, c .before .before .finish-text .kept)
+  same-length c =
+      let at-finish-text = c .before .before in
+      omega (arith, at-finish-text .finish-text .kept)
 
   pub returns-2 : lts.Need-returns-2 given (ty-at t) ty.Post
   returns-2 c =
-      let at-if2 = c .before .before .before .before in
+      let at-finish-text = c .before .before in
+      let at-if2 = at-finish-text .before .before in
       let at-head = at-if2 .before .before in
       let at-if1 = at-head .before in
       let start = at-if1 .before .before .before .before .before .before in
-      type-name (start .pre .1) (at-if1 .if1 .left) (at-head .head .ensures) (at-if2 .if2 .taken) (c .before .before .finish-text .ensures)
+      type-name (start .pre .1) (at-if1 .if1 .left) (at-head .head .ensures) (at-if2 .if2 .taken)
+      (at-finish-text .finish-text .ensures)
 
   pub sub-ty : lts.Need-sub-ty given (ty-at t) ty.Post
   sub-ty c = omega arith
@@ -56,40 +83,48 @@ module _ (t : ℕ) where
   ty-requires c κs =
       let at-if3 = c .before .before .before in
       let at-head = at-if3 .before .before .before .before in
-      let start = at-head .before .before .before .before .before .before .before in
-      (omega (arith, start .pre .0, at-head .head .ensures, at-if3 .if3 .taken), asked-seen (start .pre .1) (at-head .head .ensures))
+      let start = at-head .before .before .before .before .before .before .before in (
+        omega (arith, start .pre .0, at-head .head .ensures, at-if3 .if3 .taken),
+        asked-seen (start .pre .1) (at-head .head .ensures),
+      )
 
   pub finish-requires : lts.Need-finish-requires given (ty-at t) ty.Post
   finish-requires c κs =
       let at-ty = c .before .before .before .before .before .before .before in
       let at-head = at-ty .before .before .before .before .before .before .before .before in
       let start = at-head .before .before .before .before .before .before .before in
-      star-room (start .pre .1) (at-head .head .ensures) (at-ty .ty .ensures) (omega (arith, at-ty .ty .kept))
+      star-room (start .pre .1) (at-head .head .ensures) (at-ty .ty .ensures)
+      (omega (arith, at-ty .ty .kept))
 
   pub same-length-2 : lts.Need-same-length-2 given (ty-at t) ty.Post
   same-length-2 c =
-      let at-ty = c .before .before .before .before .before .before .before .before .before .before in
-      omega (arith, c .before .before .finish .kept, at-ty .ty .kept)
+      let at-finish = c .before .before in
+      let at-ty = at-finish .before .before .before .before .before .before .before .before in
+      omega (arith, at-finish .finish .kept, at-ty .ty .kept)
 
   pub same-length-3 : lts.Need-same-length-3 given (ty-at t) ty.Post
   same-length-3 c =
-      let at-ty = c .before .before .before .before .before .before .before .before .before .before in
-      omega (arith, c .before .before .finish .kept, at-ty .ty .kept)
+      let at-finish = c .before .before in
+      let at-ty = at-finish .before .before .before .before .before .before .before .before in
+      omega (arith, at-finish .finish .kept, at-ty .ty .kept)
 
   pub same-length-4 : lts.Need-same-length-4 given (ty-at t) ty.Post
   same-length-4 c =
-      let at-ty = c .before .before .before .before .before .before .before .before .before .before in
-      omega (arith, c .before .before .finish .kept, at-ty .ty .kept)
+      let at-finish = c .before .before in
+      let at-ty = at-finish .before .before .before .before .before .before .before .before in
+      omega (arith, at-finish .finish .kept, at-ty .ty .kept)
 
   pub returns-3 : lts.Need-returns-3 given (ty-at t) ty.Post
   returns-3 c =
-      let at-ty = c .before .before .before .before .before .before .before .before .before .before in
+      let at-finish = c .before .before in
+      let at-ty = at-finish .before .before .before .before .before .before .before .before in
       let at-if3 = at-ty .before .before .before .before in
       let at-if2 = at-if3 .before .before in
       let at-head = at-if2 .before .before in
       let at-if1 = at-head .before in
       let start = at-if1 .before .before .before .before .before .before in
-      type-star (start .pre .1) (at-if1 .if1 .left) (at-head .head .ensures) (at-if2 .if2 .left) (at-if3 .if3 .taken) (at-ty .ty .ensures) (c .before .before .finish .ensures)
+      type-star (start .pre .1) (at-if1 .if1 .left) (at-head .head .ensures) (at-if2 .if2 .left)
+      (at-if3 .if3 .taken) (at-ty .ty .ensures) (at-finish .finish .ensures)
 
   pub sub-array : lts.Need-sub-array given (ty-at t) ty.Post
   sub-array c = omega arith
@@ -98,17 +133,25 @@ module _ (t : ℕ) where
   array-requires c κs =
       let at-if4 = c .before .before .before in
       let at-head = at-if4 .before .before .before .before .before .before in
-      let start = at-head .before .before .before .before .before .before .before in
-      (omega (arith, start .pre .0, at-head .head .ensures, at-if4 .if4 .taken), array-asked (start .pre .1) (at-head .head .ensures))
+      let start = at-head .before .before .before .before .before .before .before in (
+        omega (arith, start .pre .0, at-head .head .ensures, at-if4 .if4 .taken),
+        array-asked (start .pre .1) (at-head .head .ensures),
+      )
 
   pub same-length-5 : lts.Need-same-length-5 given (ty-at t) ty.Post
-  same-length-5 c = omega (arith, c .before .before .before .before .before .before .array .kept)
+  same-length-5 c =
+      let at-array = c .before .before .before .before .before .before in
+      omega (arith, at-array .array .kept)
 
   pub same-length-6 : lts.Need-same-length-6 given (ty-at t) ty.Post
-  same-length-6 c = omega (arith, c .before .before .before .before .before .before .array .kept)
+  same-length-6 c =
+      let at-array = c .before .before .before .before .before .before in
+      omega (arith, at-array .array .kept)
 
   pub same-length-7 : lts.Need-same-length-7 given (ty-at t) ty.Post
-  same-length-7 c = omega (arith, c .before .before .before .before .before .before .array .kept)
+  same-length-7 c =
+      let at-array = c .before .before .before .before .before .before in
+      omega (arith, at-array .array .kept)
 
   pub returns-4 : lts.Need-returns-4 given (ty-at t) ty.Post
   returns-4 c =
@@ -119,7 +162,8 @@ module _ (t : ℕ) where
       let at-head = at-if2 .before .before in
       let at-if1 = at-head .before in
       let start = at-if1 .before .before .before .before .before .before in
-      type-array (start .pre .1) (at-if1 .if1 .left) (at-head .head .ensures) (at-if2 .if2 .left) (at-if3 .if3 .left) (at-if4 .if4 .taken) (at-array .array .ensures)
+      type-array (start .pre .1) (at-if1 .if1 .left) (at-head .head .ensures) (at-if2 .if2 .left)
+      (at-if3 .if3 .left) (at-if4 .if4 .taken) (at-array .array .ensures)
 
   pub sub-list : lts.Need-sub-list given (ty-at t) ty.Post
   sub-list c = omega arith
@@ -128,8 +172,10 @@ module _ (t : ℕ) where
   list-requires c κs =
       let at-if5 = c .before .before .before in
       let at-head = at-if5 .before .before .before .before .before .before .before .before in
-      let start = at-head .before .before .before .before .before .before .before in
-      (omega (arith, start .pre .0, at-head .head .ensures, at-if5 .if5 .taken), asked-seen (start .pre .1) (at-head .head .ensures))
+      let start = at-head .before .before .before .before .before .before .before in (
+        omega (arith, start .pre .0, at-head .head .ensures, at-if5 .if5 .taken),
+        asked-seen (start .pre .1) (at-head .head .ensures),
+      )
 
   pub silence-requires : lts.Need-silence-requires given (ty-at t) ty.Post
   silence-requires c κs = search needs
@@ -139,26 +185,31 @@ module _ (t : ℕ) where
       let at-list = c .before .before .before .before .before .before .before .before in
       let at-head = at-list .before .before .before .before .before .before .before .before .before .before .before .before in
       let start = at-head .before .before .before .before .before .before .before in
-      struct-room (start .pre .1) (at-head .head .ensures) (at-list .list .ensures) (c .before .silence .ensures) (omega (arith, at-list .list .kept))
+      struct-room (start .pre .1) (at-head .head .ensures) (at-list .list .ensures)
+      (c .before .silence .ensures) (omega (arith, at-list .list .kept))
 
   pub same-length-8 : lts.Need-same-length-8 given (ty-at t) ty.Post
   same-length-8 c =
-      let at-list = c .before .before .before .before .before .before .before .before .before .before .before in
-      omega (arith, c .before .before .finish2 .kept, at-list .list .kept)
+      let at-finish2 = c .before .before in
+      let at-list = at-finish2 .before .before .before .before .before .before .before .before .before in
+      omega (arith, at-finish2 .finish2 .kept, at-list .list .kept)
 
   pub same-length-9 : lts.Need-same-length-9 given (ty-at t) ty.Post
   same-length-9 c =
-      let at-list = c .before .before .before .before .before .before .before .before .before .before .before in
-      omega (arith, c .before .before .finish2 .kept, at-list .list .kept)
+      let at-finish2 = c .before .before in
+      let at-list = at-finish2 .before .before .before .before .before .before .before .before .before in
+      omega (arith, at-finish2 .finish2 .kept, at-list .list .kept)
 
   pub same-length-10 : lts.Need-same-length-10 given (ty-at t) ty.Post
   same-length-10 c =
-      let at-list = c .before .before .before .before .before .before .before .before .before .before .before in
-      omega (arith, c .before .before .finish2 .kept, at-list .list .kept)
+      let at-finish2 = c .before .before in
+      let at-list = at-finish2 .before .before .before .before .before .before .before .before .before in
+      omega (arith, at-finish2 .finish2 .kept, at-list .list .kept)
 
   pub returns-5 : lts.Need-returns-5 given (ty-at t) ty.Post
   returns-5 c =
-      let at-silence = c .before .before .before .before in
+      let at-finish2 = c .before .before in
+      let at-silence = at-finish2 .before .before in
       let at-list = at-silence .before .before .before .before .before .before .before in
       let at-if5 = at-list .before .before .before .before in
       let at-if4 = at-if5 .before .before in
@@ -167,7 +218,9 @@ module _ (t : ℕ) where
       let at-head = at-if2 .before .before in
       let at-if1 = at-head .before in
       let start = at-if1 .before .before .before .before .before .before in
-      type-struct (start .pre .1) (at-if1 .if1 .left) (at-head .head .ensures) (at-if2 .if2 .left) (at-if3 .if3 .left) (at-if4 .if4 .left) (at-if5 .if5 .taken) (at-list .list .ensures) (at-silence .silence .ensures) (c .before .before .finish2 .ensures)
+      type-struct (start .pre .1) (at-if1 .if1 .left) (at-head .head .ensures) (at-if2 .if2 .left)
+      (at-if3 .if3 .left) (at-if4 .if4 .left) (at-if5 .if5 .taken) (at-list .list .ensures)
+      (at-silence .silence .ensures) (at-finish2 .finish2 .ensures)
 
   pub entry-requires : lts.Need-entry-requires given (ty-at t) ty.Post
   entry-requires c κs = omega arith
@@ -179,10 +232,14 @@ module _ (t : ℕ) where
       raise-asked (asked-seen (start .pre .1) (at-head .head .ensures))
 
   pub same-length-11 : lts.Need-same-length-11 given (ty-at t) ty.Post
-  same-length-11 c = omega (arith, c .before .before .before .before .raise .kept)
+  same-length-11 c =
+      let at-raise = c .before .before .before .before in
+      omega (arith, at-raise .raise .kept)
 
   pub same-length-12 : lts.Need-same-length-12 given (ty-at t) ty.Post
-  same-length-12 c = omega (arith, c .before .before .before .before .raise .kept)
+  same-length-12 c =
+      let at-raise = c .before .before .before .before in
+      omega (arith, at-raise .raise .kept)
 
   pub returns-6 : lts.Need-returns-6 given (ty-at t) ty.Post
   returns-6 c =
@@ -196,10 +253,14 @@ module _ (t : ℕ) where
       let at-head = at-if2 .before .before in
       let at-if1 = at-head .before in
       let start = at-if1 .before .before .before .before .before .before in
-      type-end (start .pre .1) (at-if1 .if1 .left) (at-head .head .ensures) (at-if2 .if2 .left) (at-if3 .if3 .left) (at-if4 .if4 .left) (at-if5 .if5 .left) (at-if6 .if6 .taken) (at-entry .entry .ensures) (at-raise .raise .ensures)
+      type-end (start .pre .1) (at-if1 .if1 .left) (at-head .head .ensures) (at-if2 .if2 .left)
+      (at-if3 .if3 .left) (at-if4 .if4 .left) (at-if5 .if5 .left) (at-if6 .if6 .taken)
+      (at-entry .entry .ensures) (at-raise .raise .ensures)
 
   pub entry-requires-2 : lts.Need-entry-requires-2 given (ty-at t) ty.Post
-  entry-requires-2 c κs = omega (arith, c .before .before .before .before .before .before .before .before .before .before .head .ensures)
+  entry-requires-2 c κs =
+      let at-head = c .before .before .before .before .before .before .before .before .before .before in
+      omega (arith, at-head .head .ensures)
 
   pub raise-requires-2 : lts.Need-raise-requires-2 given (ty-at t) ty.Post
   raise-requires-2 c κs =
@@ -208,10 +269,14 @@ module _ (t : ℕ) where
       raise-asked (asked-seen (start .pre .1) (at-head .head .ensures))
 
   pub same-length-13 : lts.Need-same-length-13 given (ty-at t) ty.Post
-  same-length-13 c = omega (arith, c .before .before .before .before .raise2 .kept)
+  same-length-13 c =
+      let at-raise2 = c .before .before .before .before in
+      omega (arith, at-raise2 .raise2 .kept)
 
   pub same-length-14 : lts.Need-same-length-14 given (ty-at t) ty.Post
-  same-length-14 c = omega (arith, c .before .before .before .before .raise2 .kept)
+  same-length-14 c =
+      let at-raise2 = c .before .before .before .before in
+      omega (arith, at-raise2 .raise2 .kept)
 
   pub returns-7 : lts.Need-returns-7 given (ty-at t) ty.Post
   returns-7 c =
@@ -225,4 +290,6 @@ module _ (t : ℕ) where
       let at-head = at-if2 .before .before in
       let at-if1 = at-head .before in
       let start = at-if1 .before .before .before .before .before .before in
-      type-other (start .pre .1) (at-if1 .if1 .left) (at-head .head .ensures) (at-if2 .if2 .left) (at-if3 .if3 .left) (at-if4 .if4 .left) (at-if5 .if5 .left) (at-if6 .if6 .left) (at-entry2 .entry2 .ensures) (at-raise2 .raise2 .ensures)
+      type-other (start .pre .1) (at-if1 .if1 .left) (at-head .head .ensures) (at-if2 .if2 .left)
+      (at-if3 .if3 .left) (at-if4 .if4 .left) (at-if5 .if5 .left) (at-if6 .if6 .left)
+      (at-entry2 .entry2 .ensures) (at-raise2 .raise2 .ensures)

@@ -15,7 +15,9 @@ module _ (t : ℕ) where
   given = (expect-reads.Asked, expect-reads.Learnt, abandon-reads.Asked, abandon-reads.Learnt, ty-below t, ty.Post)
 
   pub expect-requires : lts.Need-expect-requires given (typed-at t) typed.Post
-  expect-requires c κs = (c .before .before .before .before .before .before .before .pre .1 .0 .asks, (omega arith, omega arith))
+  expect-requires c κs =
+      let start = c .before .before .before .before .before .before .before in
+      (start .pre .1 .0 .asks, (omega arith, omega arith))
 
   pub abandon-requires : lts.Need-abandon-requires given (typed-at t) typed.Post
   abandon-requires c κs =
@@ -43,14 +45,19 @@ module _ (t : ℕ) where
       let at-abandon = c .before .before .before in
       let at-expect = at-abandon .before .before .before .before .before .before in
       let start = at-expect .before .before .before .before .before .before .before .before in
-      typed-colon (start .pre .1) (at-expect .expect .ensures) (at-abandon .abandon .ensures) (c .match .keys2)
+      typed-colon (start .pre .1) (at-expect .expect .ensures) (at-abandon .abandon .ensures)
+      (c .match .keys2)
 
   pub ty-requires : lts.Need-ty-requires given (typed-at t) typed.Post
   ty-requires c κs =
       let at-abandon = c .before .before .before .before .before .before .before .before in
       let at-expect = at-abandon .before .before .before .before .before .before in
-      let start = at-expect .before .before .before .before .before .before .before .before in
-      (omega (arith, start .pre .0, at-expect .expect .ensures .moved, at-abandon .abandon .ensures .at), type-asked (start .pre .1) (at-expect .expect .ensures) (at-abandon .abandon .ensures) (omega (arith, at-expect .expect .kept, at-abandon .abandon .kept)) (omega (arith, at-expect .expect .kept, at-abandon .abandon .kept)))
+      let start = at-expect .before .before .before .before .before .before .before .before in (
+        omega (arith, start .pre .0, at-expect .expect .ensures .moved, at-abandon .abandon .ensures .at),
+        type-asked (start .pre .1) (at-expect .expect .ensures) (at-abandon .abandon .ensures)
+            (omega (arith, at-expect .expect .kept, at-abandon .abandon .kept))
+            (omega (arith, at-expect .expect .kept, at-abandon .abandon .kept)),
+      )
 
   pub abandon-requires-2 : lts.Need-abandon-requires-2 given (typed-at t) typed.Post
   abandon-requires-2 c κs =
@@ -58,21 +65,37 @@ module _ (t : ℕ) where
       let at-abandon = at-ty .before .before .before .before .before .before .before .before .before in
       let at-expect = at-abandon .before .before .before .before .before .before in
       let start = at-expect .before .before .before .before .before .before .before .before in
-      type-cuts (start .pre .1) (at-expect .expect .ensures) (at-abandon .abandon .ensures) (at-ty .ty .ensures) (omega (arith, at-expect .expect .kept, at-abandon .abandon .kept)) (omega (arith, at-expect .expect .kept, at-abandon .abandon .kept)) (omega (arith, at-ty .ty .kept))
+      type-cuts (start .pre .1) (at-expect .expect .ensures) (at-abandon .abandon .ensures)
+      (at-ty .ty .ensures) (omega (arith, at-expect .expect .kept, at-abandon .abandon .kept))
+      (omega (arith, at-expect .expect .kept, at-abandon .abandon .kept)) (omega (arith, at-ty .ty .kept))
 
   pub same-length-3 : lts.Need-same-length-3 given (typed-at t) typed.Post
   same-length-3 c =
-      let at-ty = c .before .before .before .before .before .before .before .before .before .before in
+      let at-abandon2 = c .before .before in
+      let at-ty = at-abandon2 .before .before .before .before .before .before .before .before in
       let at-abandon = at-ty .before .before .before .before .before .before .before .before .before in
       let at-expect = at-abandon .before .before .before .before .before .before in
-      omega (arith, c .before .before .abandon2 .kept, at-ty .ty .kept, at-abandon .abandon .kept, at-expect .expect .kept)
+      omega (
+        arith,
+        at-abandon2 .abandon2 .kept,
+        at-ty .ty .kept,
+        at-abandon .abandon .kept,
+        at-expect .expect .kept,
+      )
 
   pub same-length-4 : lts.Need-same-length-4 given (typed-at t) typed.Post
   same-length-4 c =
-      let at-ty = c .before .before .before .before .before .before .before .before .before .before in
+      let at-abandon2 = c .before .before in
+      let at-ty = at-abandon2 .before .before .before .before .before .before .before .before in
       let at-abandon = at-ty .before .before .before .before .before .before .before .before .before in
       let at-expect = at-abandon .before .before .before .before .before .before in
-      omega (arith, c .before .before .abandon2 .kept, at-ty .ty .kept, at-abandon .abandon .kept, at-expect .expect .kept)
+      omega (
+        arith,
+        at-abandon2 .abandon2 .kept,
+        at-ty .ty .kept,
+        at-abandon .abandon .kept,
+        at-expect .expect .kept,
+      )
 
   pub same-length-5 : lts.Need-same-length-5 given (typed-at t) typed.Post
   same-length-5 c =
@@ -82,9 +105,11 @@ module _ (t : ℕ) where
 
   pub returns-2 : lts.Need-returns-2 given (typed-at t) typed.Post
   returns-2 c =
-      let at-ty = c .before .before .before .before .before .before .before .before .before .before in
+      let at-abandon2 = c .before .before in
+      let at-ty = at-abandon2 .before .before .before .before .before .before .before .before in
       let at-enum-told = at-ty .before .before .before .before .before in
       let at-abandon = at-enum-told .before .before .before .before in
       let at-expect = at-abandon .before .before .before .before .before .before in
       let start = at-expect .before .before .before .before .before .before .before .before in
-      typed-type (start .pre .1) (at-expect .expect .ensures) (at-abandon .abandon .ensures) (at-enum-told .enum-told .given .1) (at-ty .ty .ensures) (c .before .before .abandon2 .ensures)
+      typed-type (start .pre .1) (at-expect .expect .ensures) (at-abandon .abandon .ensures)
+      (at-enum-told .enum-told .given .1) (at-ty .ty .ensures) (at-abandon2 .abandon2 .ensures)

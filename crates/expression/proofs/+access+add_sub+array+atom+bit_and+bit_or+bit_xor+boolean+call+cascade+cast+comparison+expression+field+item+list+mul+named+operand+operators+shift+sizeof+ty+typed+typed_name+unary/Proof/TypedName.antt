@@ -16,25 +16,46 @@ use Rattle.expression.proofs.+access+add_sub+array+atom+bit_and+bit_or+
 
 module _ (t : ℕ) where
   abbrev pub given : lts.Claims
-  given = (head-reads.Asked, head-reads.Learnt, typed-below t, typed.Post, entry-reads.Asked, entry-reads.Learnt, raise-reads.Asked, raise-reads.Learnt, note-reads.Asked, note-reads.Learnt)
+  given = (
+    head-reads.Asked,
+    head-reads.Learnt,
+    typed-below t,
+    typed.Post,
+    entry-reads.Asked,
+    entry-reads.Learnt,
+    raise-reads.Asked,
+    raise-reads.Learnt,
+    note-reads.Asked,
+    note-reads.Learnt,
+  )
 
   pub head-requires : lts.Need-head-requires given (typed-name-at t) typed-name.Post
-  head-requires c κs = (c .before .before .before .before .before .pre .1 .asks .held, c .before .before .before .before .before .pre .1 .asks .at)
+  head-requires c κs =
+      let start = c .before .before .before .before .before in
+      (start .pre .1 .asks .held, start .pre .1 .asks .at)
 
   pub typed-requires : lts.Need-typed-requires given (typed-name-at t) typed-name.Post
   typed-requires c κs =
       let at-head = c .before .before .before .before .before in
-      let start = at-head .before .before .before .before .before .before in
-      (omega (arith, start .pre .0, at-head .head .ensures), (asked-seen (start .pre .1) (at-head .head .ensures), omega arith))
+      let start = at-head .before .before .before .before .before .before in (
+        omega (arith, start .pre .0, at-head .head .ensures),
+        (asked-seen (start .pre .1) (at-head .head .ensures), omega arith),
+      )
 
   pub same-length : lts.Need-same-length given (typed-name-at t) typed-name.Post
-  same-length c = omega (arith, c .before .before .before .before .before .before .typed .kept)
+  same-length c =
+      let at-typed = c .before .before .before .before .before .before in
+      omega (arith, at-typed .typed .kept)
 
   pub same-length-2 : lts.Need-same-length-2 given (typed-name-at t) typed-name.Post
-  same-length-2 c = omega (arith, c .before .before .before .before .before .before .typed .kept)
+  same-length-2 c =
+      let at-typed = c .before .before .before .before .before .before in
+      omega (arith, at-typed .typed .kept)
 
   pub same-length-3 : lts.Need-same-length-3 given (typed-name-at t) typed-name.Post
-  same-length-3 c = omega (arith, c .before .before .before .before .before .before .typed .kept)
+  same-length-3 c =
+      let at-typed = c .before .before .before .before .before .before in
+      omega (arith, at-typed .typed .kept)
 
   pub returns : lts.Need-returns given (typed-name-at t) typed-name.Post
   returns c =
@@ -42,7 +63,8 @@ module _ (t : ℕ) where
       let at-if1 = at-typed .before .before .before .before in
       let at-head = at-if1 .before .before in
       let start = at-head .before .before .before .before .before .before in
-      identifier-name (start .pre .1) (at-head .head .ensures) (at-if1 .if1 .taken) (at-typed .typed .ensures)
+      identifier-name (start .pre .1) (at-head .head .ensures) (at-if1 .if1 .taken)
+      (at-typed .typed .ensures)
 
   pub entry-requires : lts.Need-entry-requires given (typed-name-at t) typed-name.Post
   entry-requires c κs = omega arith
@@ -54,10 +76,14 @@ module _ (t : ℕ) where
       raise-asked (asked-seen (start .pre .1) (at-head .head .ensures))
 
   pub same-length-4 : lts.Need-same-length-4 given (typed-name-at t) typed-name.Post
-  same-length-4 c = omega (arith, c .before .before .before .before .raise .kept)
+  same-length-4 c =
+      let at-raise = c .before .before .before .before in
+      omega (arith, at-raise .raise .kept)
 
   pub same-length-5 : lts.Need-same-length-5 given (typed-name-at t) typed-name.Post
-  same-length-5 c = omega (arith, c .before .before .before .before .raise .kept)
+  same-length-5 c =
+      let at-raise = c .before .before .before .before in
+      omega (arith, at-raise .raise .kept)
 
   pub returns-2 : lts.Need-returns-2 given (typed-name-at t) typed-name.Post
   returns-2 c =
@@ -67,10 +93,13 @@ module _ (t : ℕ) where
       let at-if1 = at-if2 .before .before in
       let at-head = at-if1 .before .before in
       let start = at-head .before .before .before .before .before .before in
-      identifier-end (start .pre .1) (at-head .head .ensures) (at-if1 .if1 .left) (at-if2 .if2 .taken) (at-entry .entry .ensures) (at-raise .raise .ensures)
+      identifier-end (start .pre .1) (at-head .head .ensures) (at-if1 .if1 .left) (at-if2 .if2 .taken)
+      (at-entry .entry .ensures) (at-raise .raise .ensures)
 
   pub entry-requires-2 : lts.Need-entry-requires-2 given (typed-name-at t) typed-name.Post
-  entry-requires-2 c κs = omega (arith, c .before .before .before .before .head .ensures)
+  entry-requires-2 c κs =
+      let at-head = c .before .before .before .before in
+      omega (arith, at-head .head .ensures)
 
   pub note-requires : lts.Need-note-requires given (typed-name-at t) typed-name.Post
   note-requires c κs =
@@ -82,10 +111,14 @@ module _ (t : ℕ) where
   enum-told c = search needs
 
   pub same-length-6 : lts.Need-same-length-6 given (typed-name-at t) typed-name.Post
-  same-length-6 c = omega (arith, c .before .before .before .before .before .note .kept)
+  same-length-6 c =
+      let at-note = c .before .before .before .before .before in
+      omega (arith, at-note .note .kept)
 
   pub same-length-7 : lts.Need-same-length-7 given (typed-name-at t) typed-name.Post
-  same-length-7 c = omega (arith, c .before .before .before .before .before .note .kept)
+  same-length-7 c =
+      let at-note = c .before .before .before .before .before in
+      omega (arith, at-note .note .kept)
 
   pub returns-3 : lts.Need-returns-3 given (typed-name-at t) typed-name.Post
   returns-3 c =
@@ -95,14 +128,23 @@ module _ (t : ℕ) where
       let at-if1 = at-if2 .before .before in
       let at-head = at-if1 .before .before in
       let start = at-head .before .before .before .before .before .before in
-      identifier-refused (start .pre .1) (at-head .head .ensures) (at-if1 .if1 .left) (at-if2 .if2 .left) (at-entry2 .entry2 .ensures) (at-note .note .ensures) (c .match .keys2)
+      identifier-refused (start .pre .1) (at-head .head .ensures) (at-if1 .if1 .left) (at-if2 .if2 .left)
+      (at-entry2 .entry2 .ensures) (at-note .note .ensures) (c .match .keys2)
 
   pub typed-requires-2 : lts.Need-typed-requires-2 given (typed-name-at t) typed-name.Post
   typed-requires-2 c κs =
       let at-note = c .before .before .before .before .before .before .before .before .before .before in
       let at-head = at-note .before .before .before .before .before .before .before .before in
-      let start = at-head .before .before .before .before .before .before in
-      (omega (arith, start .pre .0, at-head .head .ensures, noted-moved (start .pre .1) (at-head .head .ensures) (at-note .note .ensures)), noted-asked (start .pre .1) (at-head .head .ensures) (at-note .note .ensures) (omega (arith, at-note .note .kept)) (omega (arith, at-note .note .kept)))
+      let start = at-head .before .before .before .before .before .before in (
+        omega (
+          arith,
+          start .pre .0,
+          at-head .head .ensures,
+          noted-moved (start .pre .1) (at-head .head .ensures) (at-note .note .ensures),
+        ),
+        noted-asked (start .pre .1) (at-head .head .ensures) (at-note .note .ensures)
+            (omega (arith, at-note .note .kept)) (omega (arith, at-note .note .kept)),
+      )
 
   pub same-length-8 : lts.Need-same-length-8 given (typed-name-at t) typed-name.Post
   same-length-8 c =
@@ -132,4 +174,6 @@ module _ (t : ℕ) where
       let at-if1 = at-if2 .before .before in
       let at-head = at-if1 .before .before in
       let start = at-head .before .before .before .before .before .before in
-      identifier-noted (start .pre .1) (at-head .head .ensures) (at-if1 .if1 .left) (at-if2 .if2 .left) (at-entry2 .entry2 .ensures) (at-note .note .ensures) (at-enum-told .enum-told .given .1) (at-typed2 .typed2 .ensures)
+      identifier-noted (start .pre .1) (at-head .head .ensures) (at-if1 .if1 .left) (at-if2 .if2 .left)
+      (at-entry2 .entry2 .ensures) (at-note .note .ensures) (at-enum-told .enum-told .given .1)
+      (at-typed2 .typed2 .ensures)

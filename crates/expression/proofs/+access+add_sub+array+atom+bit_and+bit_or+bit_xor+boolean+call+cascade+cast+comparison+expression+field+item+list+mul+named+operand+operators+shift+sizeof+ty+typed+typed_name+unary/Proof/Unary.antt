@@ -18,13 +18,28 @@ use Rattle.expression.proofs.+access+add_sub+array+atom+bit_and+bit_or+
 
 module _ (t : ℕ) where
   abbrev pub given : lts.Claims
-  given = (refuse-reads.Asked, refuse-reads.Learnt, head-reads.Asked, head-reads.Learnt, prefix-reads.Asked, prefix-reads.Learnt, call-below t, call.Post, unary-below t, unary.Post, finish-reads.Asked, finish-reads.Learnt)
+  given = (
+    refuse-reads.Asked,
+    refuse-reads.Learnt,
+    head-reads.Asked,
+    head-reads.Learnt,
+    prefix-reads.Asked,
+    prefix-reads.Learnt,
+    call-below t,
+    call.Post,
+    unary-below t,
+    unary.Post,
+    finish-reads.Asked,
+    finish-reads.Learnt,
+  )
 
   pub refuse-requires : lts.Need-refuse-requires given (unary-at t) unary.Post
   refuse-requires c κs = search needs
 
   pub returns : lts.Need-returns given (unary-at t) unary.Post
-  returns c = deep Unary (c .before .before .before .before .before .before .before .pre .1 .asks) (c .before .if1 .taken) (c .refuse .ensures)
+  returns c =
+      let start = c .before .before .before .before .before .before .before in
+      deep Unary (start .pre .1 .asks) (c .before .if1 .taken) (c .refuse .ensures)
 
   pub head-requires : lts.Need-head-requires given (unary-at t) unary.Post
   head-requires c κs =
@@ -43,13 +58,19 @@ module _ (t : ℕ) where
       (omega (arith, start .pre .0), start .pre .1)
 
   pub same-length : lts.Need-same-length given (unary-at t) unary.Post
-  same-length c = omega (arith, c .before .before .before .before .before .before .call .kept)
+  same-length c =
+      let at-call = c .before .before .before .before .before .before in
+      omega (arith, at-call .call .kept)
 
   pub same-length-2 : lts.Need-same-length-2 given (unary-at t) unary.Post
-  same-length-2 c = omega (arith, c .before .before .before .before .before .before .call .kept)
+  same-length-2 c =
+      let at-call = c .before .before .before .before .before .before in
+      omega (arith, at-call .call .kept)
 
   pub same-length-3 : lts.Need-same-length-3 given (unary-at t) unary.Post
-  same-length-3 c = omega (arith, c .before .before .before .before .before .before .call .kept)
+  same-length-3 c =
+      let at-call = c .before .before .before .before .before .before in
+      omega (arith, at-call .call .kept)
 
   pub returns-2 : lts.Need-returns-2 given (unary-at t) unary.Post
   returns-2 c =
@@ -59,7 +80,8 @@ module _ (t : ℕ) where
       let at-head = at-prefix .before in
       let at-if1 = at-head .before in
       let start = at-if1 .before .before .before .before .before .before in
-      unary-none (start .pre .1) (at-if1 .if1 .left) (at-head .head .ensures) (at-prefix .prefix .ensures) (at-if2 .if2 .taken) (at-call .call .ensures)
+      unary-none (start .pre .1) (at-if1 .if1 .left) (at-head .head .ensures) (at-prefix .prefix .ensures)
+      (at-if2 .if2 .taken) (at-call .call .ensures)
 
   pub sub-unary : lts.Need-sub-unary given (unary-at t) unary.Post
   sub-unary c = omega arith
@@ -69,37 +91,52 @@ module _ (t : ℕ) where
       let at-if2 = c .before .before .before in
       let at-prefix = at-if2 .before in
       let at-head = at-prefix .before in
-      let start = at-head .before .before .before .before .before .before .before in
-      (omega (arith, start .pre .0, start .pre .1 .asks .at, at-head .head .ensures, at-prefix .prefix .ensures, at-if2 .if2 .left), asked-seen (start .pre .1) (at-head .head .ensures))
+      let start = at-head .before .before .before .before .before .before .before in (
+        omega (
+          arith,
+          start .pre .0,
+          start .pre .1 .asks .at,
+          at-head .head .ensures,
+          at-prefix .prefix .ensures,
+          at-if2 .if2 .left,
+        ),
+        asked-seen (start .pre .1) (at-head .head .ensures),
+      )
 
   pub finish-requires : lts.Need-finish-requires given (unary-at t) unary.Post
   finish-requires c κs =
       let at-unary = c .before .before .before .before .before .before .before in
       let at-head = at-unary .before .before .before .before .before .before in
       let start = at-head .before .before .before .before .before .before .before in
-      star-room (start .pre .1) (at-head .head .ensures) (at-unary .unary .ensures) (omega (arith, at-unary .unary .kept))
+      star-room (start .pre .1) (at-head .head .ensures) (at-unary .unary .ensures)
+      (omega (arith, at-unary .unary .kept))
 
   pub same-length-4 : lts.Need-same-length-4 given (unary-at t) unary.Post
   same-length-4 c =
-      let at-unary = c .before .before .before .before .before .before .before .before .before .before in
-      omega (arith, c .before .before .finish .kept, at-unary .unary .kept)
+      let at-finish = c .before .before in
+      let at-unary = at-finish .before .before .before .before .before .before .before .before in
+      omega (arith, at-finish .finish .kept, at-unary .unary .kept)
 
   pub same-length-5 : lts.Need-same-length-5 given (unary-at t) unary.Post
   same-length-5 c =
-      let at-unary = c .before .before .before .before .before .before .before .before .before .before in
-      omega (arith, c .before .before .finish .kept, at-unary .unary .kept)
+      let at-finish = c .before .before in
+      let at-unary = at-finish .before .before .before .before .before .before .before .before in
+      omega (arith, at-finish .finish .kept, at-unary .unary .kept)
 
   pub same-length-6 : lts.Need-same-length-6 given (unary-at t) unary.Post
   same-length-6 c =
-      let at-unary = c .before .before .before .before .before .before .before .before .before .before in
-      omega (arith, c .before .before .finish .kept, at-unary .unary .kept)
+      let at-finish = c .before .before in
+      let at-unary = at-finish .before .before .before .before .before .before .before .before in
+      omega (arith, at-finish .finish .kept, at-unary .unary .kept)
 
   pub returns-3 : lts.Need-returns-3 given (unary-at t) unary.Post
   returns-3 c =
-      let at-unary = c .before .before .before .before .before .before .before .before .before .before in
+      let at-finish = c .before .before in
+      let at-unary = at-finish .before .before .before .before .before .before .before .before in
       let at-if2 = at-unary .before .before .before .before in
       let at-prefix = at-if2 .before in
       let at-head = at-prefix .before in
       let at-if1 = at-head .before in
       let start = at-if1 .before .before .before .before .before .before in
-      unary-prefix (start .pre .1) (at-if1 .if1 .left) (at-head .head .ensures) (at-prefix .prefix .ensures) (at-if2 .if2 .left) (at-unary .unary .ensures) (c .before .before .finish .ensures)
+      unary-prefix (start .pre .1) (at-if1 .if1 .left) (at-head .head .ensures) (at-prefix .prefix .ensures)
+      (at-if2 .if2 .left) (at-unary .unary .ensures) (at-finish .finish .ensures)

@@ -4,27 +4,67 @@ use native.Mathlib.Omega.{arith}
 use Rattle.items.proofs.functions.return_type.Statement.{statement}
 use Rattle.items.proofs.functions.return_type.Tie as tie
 
+head-requires : tie.Need-head-requires
+head-requires c κs =
+    let start = c .before .before .before .before .before in
+    (start .pre .asks .held, (start .pre) .asks .at)
+
+ty-requires : tie.Need-ty-requires
+ty-requires c κs =
+    let at-head = c .before .before .before .before .before in
+    let start = at-head .before .before .before .before .before .before in
+    asked-seen (start .pre) (at-head .head .ensures)
+
+same-length : tie.Need-same-length
+same-length c =
+    let at-ty = c .before .before .before .before .before .before in
+    omega (arith, at-ty .ty .kept)
+
+same-length-2 : tie.Need-same-length-2
+same-length-2 c =
+    let at-ty = c .before .before .before .before .before .before in
+    omega (arith, at-ty .ty .kept)
+
+same-length-3 : tie.Need-same-length-3
+same-length-3 c =
+    let at-ty = c .before .before .before .before .before .before in
+    omega (arith, at-ty .ty .kept)
+
+returns : tie.Need-returns
+returns c =
+    let at-ty = c .before .before .before .before .before .before in
+    let at-if1 = at-ty .before .before .before .before in
+    let at-head = at-if1 .before .before in
+    type-given (at-head .head .ensures) (at-if1 .if1 .taken) (at-ty .ty .ensures)
+
+finish-requires : tie.Need-finish-requires
+finish-requires c κs =
+    let start = c .before .before .before .before .before .before .before .before .before in
+    record { room = omega (arith, (start .pre) .room); part = omega arith }
+
+same-length-4 : tie.Need-same-length-4
+same-length-4 c =
+    let at-finish = c .before .before in
+    omega (arith, at-finish .finish .kept)
+
+returns-2 : tie.Need-returns-2
+returns-2 c =
+    let at-finish = c .before .before in
+    let at-if1 = at-finish .before .before in
+    let at-head = at-if1 .before .before in
+    let start = at-head .before .before .before .before .before .before in
+    type-none (at-head .head .ensures) (start .pre) (at-if1 .if1 .left) (at-finish .finish .ensures)
+
 pub return-type-spec : {M : Type 1} → statement M
 return-type-spec =
     tie.close
     (tie.spec
-    (λ c κs. (c .before .before .before .before .before .pre .asks .held, (c .before .before .before .before .before .pre) .asks .at))
-    (λ c κs.
-    let at-head = c .before .before .before .before .before in
-    let start = at-head .before .before .before .before .before .before in
-    asked-seen (start .pre) (at-head .head .ensures))
-    (λ c. omega (arith, c .before .before .before .before .before .before .ty .kept))
-    (λ c. omega (arith, c .before .before .before .before .before .before .ty .kept))
-    (λ c. omega (arith, c .before .before .before .before .before .before .ty .kept))
-    (λ c.
-    let at-ty = c .before .before .before .before .before .before in
-    let at-if1 = at-ty .before .before .before .before in
-    let at-head = at-if1 .before .before in
-    type-given (at-head .head .ensures) (at-if1 .if1 .taken) (at-ty .ty .ensures))
-    (λ c κs. record { room = omega (arith, (c .before .before .before .before .before .before .before .before .before .pre) .room); part = omega arith })
-    (λ c. omega (arith, c .before .before .finish .kept))
-    (λ c.
-    let at-if1 = c .before .before .before .before in
-    let at-head = at-if1 .before .before in
-    let start = at-head .before .before .before .before .before .before in
-    type-none (at-head .head .ensures) (start .pre) (at-if1 .if1 .left) (c .before .before .finish .ensures)))
+    head-requires
+    ty-requires
+    same-length
+    same-length-2
+    same-length-3
+    returns
+    finish-requires
+    same-length-4
+    returns-2)

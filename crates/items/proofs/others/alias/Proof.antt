@@ -7,82 +7,168 @@ use borrow.Author.Needs.{needs}
 use Rattle.items.proofs.others.alias.Statement.{statement}
 use Rattle.items.proofs.others.alias.Tie as tie
 
-pub alias-spec : {M : Type 1} → statement M
-alias-spec =
-    tie.close
-    (tie.spec
-    (λ c κs. (c .before .before .before .before .before .pre .asks .held, c .before .before .before .before .before .pre .asks .at))
-    (λ c κs. search needs)
-    (λ c.
+head-requires : tie.Need-head-requires
+head-requires c κs =
+    let start = c .before .before .before .before .before in
+    (start .pre .asks .held, start .pre .asks .at)
+
+refuse-requires : tie.Need-refuse-requires
+refuse-requires c κs = search needs
+
+returns : tie.Need-returns
+returns c =
     let at-head = c .before .before .before in
     let start = at-head .before .before .before .before .before .before in
-    alias-end _ _ _ _ (start .pre) (at-head .head .ensures) (c .before .if1 .taken) (c .refuse .ensures))
-    (λ c κs.
+    alias-end _ _ _ _ (start .pre) (at-head .head .ensures) (c .before .if1 .taken) (c .refuse .ensures)
+
+entry-requires : tie.Need-entry-requires
+entry-requires c κs =
     let at-head = c .before .before .before .before in
-    omega (arith, at-head .head .ensures .lines, at-head .head .ensures .columns))
-    (λ c κs. raise-asked (c .before .before .before .before .before .before .before .before .before .before .before .before .before .pre))
-    (λ c. omega (arith, c .before .before .before .before .raise .kept))
-    (λ c. omega (arith, c .before .before .before .before .raise .kept))
-    (λ c.
+    omega (arith, at-head .head .ensures .lines, at-head .head .ensures .columns)
+
+raise-requires : tie.Need-raise-requires
+raise-requires c κs =
+    let start = c .before .before .before .before .before .before .before .before .before .before .before .before .before in
+    raise-asked (start .pre)
+
+same-length : tie.Need-same-length
+same-length c =
+    let at-raise = c .before .before .before .before in
+    omega (arith, at-raise .raise .kept)
+
+same-length-2 : tie.Need-same-length-2
+same-length-2 c =
+    let at-raise = c .before .before .before .before in
+    omega (arith, at-raise .raise .kept)
+
+returns-2 : tie.Need-returns-2
+returns-2 c =
     let at-raise = c .before .before .before .before in
     let at-entry = at-raise .before .before .before in
     let at-if2 = at-entry .before in
     let at-if1 = at-if2 .before .before in
     let at-head = at-if1 .before .before in
     let start = at-head .before .before .before .before .before .before in
-    alias-other _ _ _ _ (start .pre) (at-head .head .ensures) (at-if1 .if1 .left) (at-if2 .if2 .taken) (at-entry .entry .ensures) (at-raise .raise .ensures))
-    (λ c κs.
+    alias-other _ _ _ _ (start .pre) (at-head .head .ensures) (at-if1 .if1 .left) (at-if2 .if2 .taken)
+    (at-entry .entry .ensures) (at-raise .raise .ensures)
+
+expect-requires : tie.Need-expect-requires
+expect-requires c κs =
     let at-head = c .before .before .before .before .before .before in
     let start = at-head .before .before .before .before .before .before in
-    (asks-fore (start .pre .asks) (at-head .head .ensures), (omega arith, omega arith)))
-    (λ c. search needs)
-    (λ c. omega (arith, c .before .before .before .before .before .expect .kept))
-    (λ c. omega (arith, c .before .before .before .before .before .expect .kept))
-    (λ c.
+    (asks-fore (start .pre .asks) (at-head .head .ensures), (omega arith, omega arith))
+
+enum-told : tie.Need-enum-told
+enum-told c = search needs
+
+same-length-3 : tie.Need-same-length-3
+same-length-3 c =
+    let at-expect = c .before .before .before .before .before in
+    omega (arith, at-expect .expect .kept)
+
+same-length-4 : tie.Need-same-length-4
+same-length-4 c =
+    let at-expect = c .before .before .before .before .before in
+    omega (arith, at-expect .expect .kept)
+
+returns-3 : tie.Need-returns-3
+returns-3 c =
     let at-expect = c .before .before .before .before .before in
     let at-if2 = at-expect .before .before .before in
     let at-head = at-if2 .before .before .before .before in
     let start = at-head .before .before .before .before .before .before in
-    alias-stops _ _ _ _ (start .pre) (at-head .head .ensures) (at-if2 .if2 .left) (at-expect .expect .ensures) (c .match .keys2))
-    (λ c κs.
+    alias-stops _ _ _ _ (start .pre) (at-head .head .ensures) (at-if2 .if2 .left)
+    (at-expect .expect .ensures) (c .match .keys2)
+
+ty-requires : tie.Need-ty-requires
+ty-requires c κs =
     let at-expect = c .before .before .before .before .before .before .before .before .before .before in
     let at-head = at-expect .before .before .before .before .before .before .before in
     let start = at-head .before .before .before .before .before .before in
-    asked-moved (asked-seen (start .pre) (at-head .head .ensures)) (at-expect .expect .ensures .moved) refl (omega (arith, at-expect .expect .kept)) (omega (arith, at-expect .expect .kept)))
-    (λ c κs.
+    asked-moved (asked-seen (start .pre) (at-head .head .ensures)) (at-expect .expect .ensures .moved) refl
+    (omega (arith, at-expect .expect .kept)) (omega (arith, at-expect .expect .kept))
+
+and-expect-requires : tie.Need-and-expect-requires
+and-expect-requires c κs =
     let at-ty = c .before .before .before .before .before .before .before .before in
     let at-enum-told = at-ty .before .before .before .before .before in
     let at-expect = at-enum-told .before .before .before .before .before .before in
     let at-head = at-expect .before .before .before .before .before .before .before in
-    let start = at-head .before .before .before .before .before .before in
-    (alias-follows (start .pre) (at-head .head .ensures) (at-expect .expect .ensures) (at-ty .ty .ensures) (at-enum-told .enum-told .given .1) (omega (arith, at-ty .ty .kept, at-expect .expect .kept)) (omega (arith, at-ty .ty .kept, at-expect .expect .kept)), (omega arith, omega arith)))
-    (λ c κs.
+    let start = at-head .before .before .before .before .before .before in (
+      alias-follows (start .pre) (at-head .head .ensures) (at-expect .expect .ensures) (at-ty .ty .ensures)
+          (at-enum-told .enum-told .given .1) (omega (arith, at-ty .ty .kept, at-expect .expect .kept))
+          (omega (arith, at-ty .ty .kept, at-expect .expect .kept)),
+      (omega arith, omega arith),
+    )
+
+finish-text-requires : tie.Need-finish-text-requires
+finish-text-requires c κs =
     let at-and-expect = c .before .before .before .before .before in
     let at-ty = at-and-expect .before .before .before .before .before .before .before .before .before in
     let at-expect = at-ty .before .before .before .before .before .before .before .before .before .before .before in
     let at-if2 = at-expect .before .before .before in
     let at-head = at-if2 .before .before .before .before in
     let start = at-head .before .before .before .before .before .before in
-    alias-room (start .pre) (at-head .head .ensures) (at-expect .expect .ensures) (at-ty .ty .ensures) (at-if2 .if2 .left) (at-and-expect .and-expect .ensures) (omega (arith, at-ty .ty .kept)))
-    (λ c.
-    let at-ty = c .before .before .before .before .before .before .before .before .before .before .before .before .before .before .before .before .before in
-    omega (arith, at-ty .ty .kept, c .before .before .finish-text .kept))
-    (λ c.
+    alias-room (start .pre) (at-head .head .ensures) (at-expect .expect .ensures) (at-ty .ty .ensures)
+    (at-if2 .if2 .left) (at-and-expect .and-expect .ensures) (omega (arith, at-ty .ty .kept))
+
+same-length-5 : tie.Need-same-length-5
+same-length-5 c =
+    let at-finish-text = c .before .before in
+    let at-ty = at-finish-text .before .before .before .before .before .before .before .before .before .before .before .before .before .before .before in
+    omega (arith, at-ty .ty .kept, at-finish-text .finish-text .kept)
+
+same-length-6 : tie.Need-same-length-6
+same-length-6 c =
     let at-and-expect = c .before .before .before .before .before .before .before .before in
     let at-ty = at-and-expect .before .before .before .before .before .before .before .before .before in
     let at-expect = at-ty .before .before .before .before .before .before .before .before .before .before .before in
-    omega (arith, at-ty .ty .kept, at-expect .expect .kept, at-and-expect .and-expect .kept))
-    (λ c.
+    omega (arith, at-ty .ty .kept, at-expect .expect .kept, at-and-expect .and-expect .kept)
+
+same-length-7 : tie.Need-same-length-7
+same-length-7 c =
     let at-and-expect = c .before .before .before .before .before .before .before .before in
     let at-ty = at-and-expect .before .before .before .before .before .before .before .before .before in
     let at-expect = at-ty .before .before .before .before .before .before .before .before .before .before .before in
-    omega (arith, at-ty .ty .kept, at-expect .expect .kept, at-and-expect .and-expect .kept))
-    (λ c.
-    let at-and-expect = c .before .before .before .before .before .before .before .before in
+    omega (arith, at-ty .ty .kept, at-expect .expect .kept, at-and-expect .and-expect .kept)
+
+returns-4 : tie.Need-returns-4
+returns-4 c =
+    let at-finish-text = c .before .before in
+    let at-and-expect = at-finish-text .before .before .before .before .before .before in
     let at-ty = at-and-expect .before .before .before .before .before .before .before .before .before in
     let at-enum-told = at-ty .before .before .before .before .before in
     let at-expect = at-enum-told .before .before .before .before .before .before in
     let at-if2 = at-expect .before .before .before in
     let at-head = at-if2 .before .before .before .before in
     let start = at-head .before .before .before .before .before .before in
-    alias-done _ _ _ _ (start .pre) (at-head .head .ensures) (at-if2 .if2 .left) (at-expect .expect .ensures) (at-enum-told .enum-told .given .1) (at-ty .ty .ensures) (omega (arith, at-ty .ty .kept, at-expect .expect .kept)) (omega (arith, at-ty .ty .kept, at-expect .expect .kept)) (at-and-expect .and-expect .ensures) (c .before .before .finish-text .ensures)))
+    alias-done _ _ _ _ (start .pre) (at-head .head .ensures) (at-if2 .if2 .left)
+    (at-expect .expect .ensures) (at-enum-told .enum-told .given .1) (at-ty .ty .ensures)
+    (omega (arith, at-ty .ty .kept, at-expect .expect .kept))
+    (omega (arith, at-ty .ty .kept, at-expect .expect .kept)) (at-and-expect .and-expect .ensures)
+    (at-finish-text .finish-text .ensures)
+
+pub alias-spec : {M : Type 1} → statement M
+alias-spec =
+    tie.close
+    (tie.spec
+    head-requires
+    refuse-requires
+    returns
+    entry-requires
+    raise-requires
+    same-length
+    same-length-2
+    returns-2
+    expect-requires
+    enum-told
+    same-length-3
+    same-length-4
+    returns-3
+    ty-requires
+    and-expect-requires
+    finish-text-requires
+    same-length-5
+    same-length-6
+    same-length-7
+    returns-4)

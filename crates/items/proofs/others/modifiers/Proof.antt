@@ -8,10 +8,64 @@ use Rattle.items.proofs.others.modifiers.Tie as tie
 
 -- what the words from here on show, the words from the first on show
 abbrev Inv-loop : tie.InvT-loop
-Inv-loop w x n from d₀ i₀ at₀ d i at = ((at ≤ n) × ((d ≤ 1) × (i ≤ 2))) × ((m : AliasWords) → Modified w x n d i at m → Modified w x n 0 0 from m)
+Inv-loop w x n from d₀ i₀ at₀ d i at =
+    ((at ≤ n) × ((d ≤ 1) × (i ≤ 2))) × ((m : AliasWords) → Modified w x n d i at m → Modified w x n 0 0 from m)
 
 abbrev μ-loop : tie.MeasureT-loop
 μ-loop w x n from d₀ i₀ at₀ d i at = n - at
+
+loop-holds : tie.Need-loop-holds Inv-loop μ-loop
+loop-holds c =
+    let start = c .before .before in
+    ((start .pre .1, (omega arith, omega arith)), λ m g. g)
+
+head-requires : tie.Need-head-requires Inv-loop μ-loop
+head-requires c κs =
+    let start = c .before .before .before in
+    (start .pre .0, c .loop .inv .0 .0)
+
+loop-less : tie.Need-loop-less Inv-loop μ-loop
+loop-less c =
+    let at-head = c .before .before in
+    let v = at-head .head .ensures in
+    omega (arith, v .on, v .end, c .if1 .taken)
+
+loop-again : tie.Need-loop-again Inv-loop μ-loop
+loop-again c =
+    let at-head = c .before .before in
+    let at-loop = at-head .before in (
+      (at-head .head .ensures .end, (omega arith, at-loop .loop .inv .0 .1 .1)),
+      λ m g. at-loop .loop .inv .1 m (modifiers-distinct (at-head .head .ensures) (c .if1 .taken) g),
+    )
+
+loop-less-2 : tie.Need-loop-less-2 Inv-loop μ-loop
+loop-less-2 c =
+    let at-head = c .before .before .before .before in
+    let v = at-head .head .ensures in
+    omega (arith, v .on, v .end, c .if2 .taken)
+
+loop-again-2 : tie.Need-loop-again-2 Inv-loop μ-loop
+loop-again-2 c =
+    let at-if1 = c .before .before in
+    let at-head = at-if1 .before .before in
+    let at-loop = at-head .before in (
+      (at-head .head .ensures .end, (at-loop .loop .inv .0 .1 .0, omega arith)),
+      λ m g. at-loop .loop .inv .1 m
+          (modifiers-internal (at-head .head .ensures) (at-if1 .if1 .left) (c .if2 .taken) g),
+    )
+
+add-t10 : tie.Need-add-t10 Inv-loop μ-loop
+add-t10 c =
+    let at-loop = c .before .before .before .before .before in
+    omega (arith, at-loop .loop .inv .0)
+
+returns : tie.Need-returns Inv-loop μ-loop
+returns c =
+    let at-if1 = c .before .before in
+    let at-head = at-if1 .before .before in
+    let at-loop = at-head .before in
+    at-loop .loop .inv .1 _
+    (modifiers-none (at-head .head .ensures) (at-loop .loop .inv .0 .0) (at-if1 .if1 .left) (c .if2 .left))
 
 pub modifiers-spec : {M : Type 1} → statement M
 modifiers-spec =
@@ -19,19 +73,11 @@ modifiers-spec =
     (tie.spec
     Inv-loop
     μ-loop
-    (λ c. ((c .before .before .pre .1, (omega arith, omega arith)), λ m g. g))
-    (λ c κs. (c .before .before .before .pre .0, c .loop .inv .0 .0))
-    (λ c. let v = c .before .before .head .ensures in omega (arith, v .on, v .end, c .if1 .taken))
-    (λ c.
-    let at-loop = c .before .before .before in
-    ((c .before .before .head .ensures .end, (omega arith, at-loop .loop .inv .0 .1 .1)), λ m g. at-loop .loop .inv .1 m (modifiers-distinct (c .before .before .head .ensures) (c .if1 .taken) g)))
-    (λ c. let v = c .before .before .before .before .head .ensures in omega (arith, v .on, v .end, c .if2 .taken))
-    (λ c.
-    let at-head = c .before .before .before .before in
-    let at-loop = at-head .before in
-    ((at-head .head .ensures .end, (at-loop .loop .inv .0 .1 .0, omega arith)), λ m g. at-loop .loop .inv .1 m (modifiers-internal (at-head .head .ensures) (c .before .before .if1 .left) (c .if2 .taken) g)))
-    (λ c. omega (arith, c .before .before .before .before .before .loop .inv .0))
-    (λ c.
-    let at-head = c .before .before .before .before in
-    let at-loop = at-head .before in
-    at-loop .loop .inv .1 _ (modifiers-none (at-head .head .ensures) (at-loop .loop .inv .0 .0) (c .before .before .if1 .left) (c .if2 .left))))
+    loop-holds
+    head-requires
+    loop-less
+    loop-again
+    loop-less-2
+    loop-again-2
+    add-t10
+    returns)

@@ -6,46 +6,108 @@ use borrow.Author.Needs.{needs}
 use Rattle.items.proofs.others.path.Statement.{statement}
 use Rattle.items.proofs.others.path.Tie as tie
 
-pub path-spec : {M : Type 1} → statement M
-path-spec =
-    tie.close
-    (tie.spec
-    (λ c κs. (c .before .before .before .before .before .pre .asks .held, c .before .before .before .before .before .pre .asks .at))
-    (λ c κs. search needs)
-    (λ c.
+head-requires : tie.Need-head-requires
+head-requires c κs =
+    let start = c .before .before .before .before .before in
+    (start .pre .asks .held, start .pre .asks .at)
+
+refuse-requires : tie.Need-refuse-requires
+refuse-requires c κs = search needs
+
+returns : tie.Need-returns
+returns c =
     let at-head = c .before .before .before in
     let start = at-head .before .before .before .before .before .before in
-    λ d. path-end d _ _ (start .pre) (at-head .head .ensures) (c .before .if1 .taken) (c .refuse .ensures))
-    (λ c κs.
+    λ d. path-end d _ _ (start .pre) (at-head .head .ensures) (c .before .if1 .taken) (c .refuse .ensures)
+
+entry-requires : tie.Need-entry-requires
+entry-requires c κs =
     let at-head = c .before .before .before .before in
-    omega (arith, at-head .head .ensures .lines, at-head .head .ensures .columns))
-    (λ c κs. raise-asked (c .before .before .before .before .before .before .before .before .before .before .before .before .before .pre))
-    (λ c. omega (arith, c .before .before .before .before .raise .kept))
-    (λ c. omega (arith, c .before .before .before .before .raise .kept))
-    (λ c.
+    omega (arith, at-head .head .ensures .lines, at-head .head .ensures .columns)
+
+raise-requires : tie.Need-raise-requires
+raise-requires c κs =
+    let start = c .before .before .before .before .before .before .before .before .before .before .before .before .before in
+    raise-asked (start .pre)
+
+same-length : tie.Need-same-length
+same-length c =
+    let at-raise = c .before .before .before .before in
+    omega (arith, at-raise .raise .kept)
+
+same-length-2 : tie.Need-same-length-2
+same-length-2 c =
+    let at-raise = c .before .before .before .before in
+    omega (arith, at-raise .raise .kept)
+
+returns-2 : tie.Need-returns-2
+returns-2 c =
     let at-raise = c .before .before .before .before in
     let at-entry = at-raise .before .before .before in
     let at-if2 = at-entry .before in
     let at-if1 = at-if2 .before .before in
     let at-head = at-if1 .before .before in
     let start = at-head .before .before .before .before .before .before in
-    λ d. path-other d _ _ (start .pre) (at-head .head .ensures) (at-if1 .if1 .left) (at-if2 .if2 .taken) (at-entry .entry .ensures) (at-raise .raise .ensures))
-    (λ c κs.
+    λ d. path-other d _ _ (start .pre) (at-head .head .ensures) (at-if1 .if1 .left) (at-if2 .if2 .taken)
+    (at-entry .entry .ensures) (at-raise .raise .ensures)
+
+expect-requires : tie.Need-expect-requires
+expect-requires c κs =
     let at-head = c .before .before .before .before .before .before in
     let start = at-head .before .before .before .before .before .before in
-    (asks-fore (start .pre .asks) (at-head .head .ensures), (omega arith, omega arith)))
-    (λ c κs.
+    (asks-fore (start .pre .asks) (at-head .head .ensures), (omega arith, omega arith))
+
+finish-text-requires : tie.Need-finish-text-requires
+finish-text-requires c κs =
     let at-expect = c .before .before .before .before .before in
     let at-if2 = at-expect .before .before .before in
     let at-head = at-if2 .before .before .before .before in
     let start = at-head .before .before .before .before .before .before in
-    path-room (start .pre) (at-head .head .ensures) (at-if2 .if2 .left) (at-expect .expect .ensures))
-    (λ c. omega (arith, c .before .before .finish-text .kept, c .before .before .before .before .before .before .before .before .expect .kept))
-    (λ c. omega (arith, c .before .before .finish-text .kept, c .before .before .before .before .before .before .before .before .expect .kept))
-    (λ c. omega (arith, c .before .before .finish-text .kept, c .before .before .before .before .before .before .before .before .expect .kept))
-    (λ c.
-    let at-expect = c .before .before .before .before .before .before .before .before in
+    path-room (start .pre) (at-head .head .ensures) (at-if2 .if2 .left) (at-expect .expect .ensures)
+
+same-length-3 : tie.Need-same-length-3
+same-length-3 c =
+    let at-finish-text = c .before .before in
+    let at-expect = at-finish-text .before .before .before .before .before .before in
+    omega (arith, at-finish-text .finish-text .kept, at-expect .expect .kept)
+
+same-length-4 : tie.Need-same-length-4
+same-length-4 c =
+    let at-finish-text = c .before .before in
+    let at-expect = at-finish-text .before .before .before .before .before .before in
+    omega (arith, at-finish-text .finish-text .kept, at-expect .expect .kept)
+
+same-length-5 : tie.Need-same-length-5
+same-length-5 c =
+    let at-finish-text = c .before .before in
+    let at-expect = at-finish-text .before .before .before .before .before .before in
+    omega (arith, at-finish-text .finish-text .kept, at-expect .expect .kept)
+
+returns-3 : tie.Need-returns-3
+returns-3 c =
+    let at-finish-text = c .before .before in
+    let at-expect = at-finish-text .before .before .before .before .before .before in
     let at-if2 = at-expect .before .before .before in
     let at-head = at-if2 .before .before .before .before in
     let start = at-head .before .before .before .before .before .before in
-    λ d. path-done d _ _ (start .pre) (at-head .head .ensures) (at-if2 .if2 .left) (at-expect .expect .ensures) (c .before .before .finish-text .ensures)))
+    λ d. path-done d _ _ (start .pre) (at-head .head .ensures) (at-if2 .if2 .left)
+    (at-expect .expect .ensures) (at-finish-text .finish-text .ensures)
+
+pub path-spec : {M : Type 1} → statement M
+path-spec =
+    tie.close
+    (tie.spec
+    head-requires
+    refuse-requires
+    returns
+    entry-requires
+    raise-requires
+    same-length
+    same-length-2
+    returns-2
+    expect-requires
+    finish-text-requires
+    same-length-3
+    same-length-4
+    same-length-5
+    returns-3)

@@ -6,38 +6,81 @@ use borrow.Author.Needs.{needs}
 use Rattle.items.proofs.others.top_level_var_declaration.Statement.{statement}
 use Rattle.items.proofs.others.top_level_var_declaration.Tie as tie
 
-pub top-level-var-declaration-spec : {M : Type 1} → statement M
-top-level-var-declaration-spec =
-    tie.close
-    (tie.spec
-    (λ c κs. (c .before .before .before .before .before .pre .asks .held, c .before .before .before .before .before .pre .asks .at))
-    (λ c κs. (c .before .before .before .before .before .before .before .before .pre .asks, (omega arith, omega arith)))
-    (λ c. search needs)
-    (λ c. omega (arith, c .before .before .before .before .before .expect .kept))
-    (λ c. omega (arith, c .before .before .before .before .before .expect .kept))
-    (λ c.
+head-requires : tie.Need-head-requires
+head-requires c κs =
+    let start = c .before .before .before .before .before in
+    (start .pre .asks .held, start .pre .asks .at)
+
+expect-requires : tie.Need-expect-requires
+expect-requires c κs =
+    let start = c .before .before .before .before .before .before .before .before in
+    (start .pre .asks, (omega arith, omega arith))
+
+enum-told : tie.Need-enum-told
+enum-told c = search needs
+
+same-length : tie.Need-same-length
+same-length c =
+    let at-expect = c .before .before .before .before .before in
+    omega (arith, at-expect .expect .kept)
+
+same-length-2 : tie.Need-same-length-2
+same-length-2 c =
+    let at-expect = c .before .before .before .before .before in
+    omega (arith, at-expect .expect .kept)
+
+returns : tie.Need-returns
+returns c =
     let at-expect = c .before .before .before .before .before in
     let at-head = at-expect .before .before .before in
-    var-stops (at-head .head .ensures) (at-expect .expect .ensures) (c .match .keys2))
-    (λ c κs.
+    var-stops (at-head .head .ensures) (at-expect .expect .ensures) (c .match .keys2)
+
+declaration-requires : tie.Need-declaration-requires
+declaration-requires c κs =
     let at-expect = c .before .before .before .before .before .before .before .before .before .before in
     let start = at-expect .before .before .before .before .before .before .before .before .before in
-    asked-moved (start .pre) (at-expect .expect .ensures .moved) refl (omega (arith, at-expect .expect .kept)) (omega (arith, at-expect .expect .kept)))
-    (λ c.
+    asked-moved (start .pre) (at-expect .expect .ensures .moved) refl
+    (omega (arith, at-expect .expect .kept)) (omega (arith, at-expect .expect .kept))
+
+same-length-3 : tie.Need-same-length-3
+same-length-3 c =
     let at-declaration = c .before .before .before .before .before .before in
     let at-expect = at-declaration .before .before .before .before .before .before .before .before .before .before .before in
-    omega (arith, at-declaration .declaration .kept, at-expect .expect .kept))
-    (λ c.
+    omega (arith, at-declaration .declaration .kept, at-expect .expect .kept)
+
+same-length-4 : tie.Need-same-length-4
+same-length-4 c =
     let at-declaration = c .before .before .before .before .before .before in
     let at-expect = at-declaration .before .before .before .before .before .before .before .before .before .before .before in
-    omega (arith, at-declaration .declaration .kept, at-expect .expect .kept))
-    (λ c.
+    omega (arith, at-declaration .declaration .kept, at-expect .expect .kept)
+
+same-length-5 : tie.Need-same-length-5
+same-length-5 c =
     let at-declaration = c .before .before .before .before .before .before in
     let at-expect = at-declaration .before .before .before .before .before .before .before .before .before .before .before in
-    omega (arith, at-declaration .declaration .kept, at-expect .expect .kept))
-    (λ c.
+    omega (arith, at-declaration .declaration .kept, at-expect .expect .kept)
+
+returns-2 : tie.Need-returns-2
+returns-2 c =
     let at-declaration = c .before .before .before .before .before .before in
     let at-enum-told = at-declaration .before .before .before .before .before in
     let at-expect = at-enum-told .before .before .before .before .before .before in
     let at-head = at-expect .before .before .before in
-    var-on (at-head .head .ensures) (at-expect .expect .ensures) (at-enum-told .enum-told .given .1) (at-declaration .declaration .ensures)))
+    var-on (at-head .head .ensures) (at-expect .expect .ensures) (at-enum-told .enum-told .given .1)
+    (at-declaration .declaration .ensures)
+
+pub top-level-var-declaration-spec : {M : Type 1} → statement M
+top-level-var-declaration-spec =
+    tie.close
+    (tie.spec
+    head-requires
+    expect-requires
+    enum-told
+    same-length
+    same-length-2
+    returns
+    declaration-requires
+    same-length-3
+    same-length-4
+    same-length-5
+    returns-2)

@@ -31,21 +31,28 @@ module _ (t : ℕ) where
       room-at (start .pre .1 .asked) (at-body .body .ensures .moved) (omega (arith, at-body .body .kept))
 
   pub same-length : lts.Need-same-length given (block-at t) block.Post
-  same-length c = omega (arith, c .before .before .finish .kept, c .before .before .before .before .before .before .before .before .before .before .body .kept)
+  same-length c =
+      let at-finish = c .before .before in
+      let at-body = at-finish .before .before .before .before .before .before .before .before in
+      omega (arith, at-finish .finish .kept, at-body .body .kept)
 
   pub same-length-2 : lts.Need-same-length-2 given (block-at t) block.Post
   same-length-2 c =
-      let at-body = c .before .before .before .before .before .before .before .before .before .before in
-      omega (arith, c .before .before .finish .kept, at-body .body .kept)
+      let at-finish = c .before .before in
+      let at-body = at-finish .before .before .before .before .before .before .before .before in
+      omega (arith, at-finish .finish .kept, at-body .body .kept)
 
   pub same-length-3 : lts.Need-same-length-3 given (block-at t) block.Post
   same-length-3 c =
-      let at-body = c .before .before .before .before .before .before .before .before .before .before in
-      omega (arith, c .before .before .finish .kept, at-body .body .kept)
+      let at-finish = c .before .before in
+      let at-body = at-finish .before .before .before .before .before .before .before .before in
+      omega (arith, at-finish .finish .kept, at-body .body .kept)
 
   pub returns : lts.Need-returns given (block-at t) block.Post
   returns c =
-      let at-body = c .before .before .before .before .before .before .before .before .before .before in
+      let at-finish = c .before .before in
+      let at-body = at-finish .before .before .before .before .before .before .before .before in
       let at-head = at-body .before .before .before .before in
       let start = at-head .before .before .before .before .before .before in
-      block-reads (at-head .head .ensures) (start .pre .1) (at-body .body .ensures) (c .before .before .finish .ensures)
+      block-reads (at-head .head .ensures) (start .pre .1) (at-body .body .ensures)
+      (at-finish .finish .ensures)

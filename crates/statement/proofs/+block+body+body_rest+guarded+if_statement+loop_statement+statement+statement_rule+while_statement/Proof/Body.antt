@@ -17,7 +17,9 @@ module _ (t : ℕ) where
   given = (expect-reads.Asked, expect-reads.Learnt, body-rest-below t, body-rest.Post)
 
   pub expect-requires : lts.Need-expect-requires given (body-at t) body.Post
-  expect-requires c κs = (c .before .before .before .before .before .before .before .pre .1 .asks, (omega arith, omega arith))
+  expect-requires c κs =
+      let start = c .before .before .before .before .before .before .before in
+      (start .pre .1 .asks, (omega arith, omega arith))
 
   pub enum-told : lts.Need-enum-told given (body-at t) body.Post
   enum-told c = search needs
@@ -26,8 +28,16 @@ module _ (t : ℕ) where
   body-rest-requires c κs =
       let at-enum-told = c .before .before .before in
       let at-expect = at-enum-told .before .before .before .before .before .before .before in
-      let start = at-expect .before .before .before .before .before .before .before .before in
-      (omega (arith, start .pre .0, at-expect .expect .ensures .moved .end, passed (at-expect .expect .ensures) (at-enum-told .enum-told .given .1)), asked-moved (start .pre .1) (at-expect .expect .ensures .moved) refl (omega (arith, at-expect .expect .kept)) (omega (arith, at-expect .expect .kept)))
+      let start = at-expect .before .before .before .before .before .before .before .before in (
+        omega (
+          arith,
+          start .pre .0,
+          at-expect .expect .ensures .moved .end,
+          passed (at-expect .expect .ensures) (at-enum-told .enum-told .given .1),
+        ),
+        asked-moved (start .pre .1) (at-expect .expect .ensures .moved) refl
+            (omega (arith, at-expect .expect .kept)) (omega (arith, at-expect .expect .kept)),
+      )
 
   pub enum-told-2 : lts.Need-enum-told-2 given (body-at t) body.Post
   enum-told-2 c = search needs
@@ -59,13 +69,18 @@ module _ (t : ℕ) where
       let at-enum-told = at-body-rest .before .before .before .before in
       let at-expect = at-enum-told .before .before .before .before .before .before .before in
       let start = at-expect .before .before .before .before .before .before .before .before in
-      body-on (start .pre .1) (at-expect .expect .ensures) (at-enum-told .enum-told .given .1) (at-body-rest .body-rest .ensures)
+      body-on (start .pre .1) (at-expect .expect .ensures) (at-enum-told .enum-told .given .1)
+      (at-body-rest .body-rest .ensures)
 
   pub same-length-4 : lts.Need-same-length-4 given (body-at t) body.Post
-  same-length-4 c = omega (arith, c .before .before .before .before .before .before .before .expect .kept)
+  same-length-4 c =
+      let at-expect = c .before .before .before .before .before .before .before in
+      omega (arith, at-expect .expect .kept)
 
   pub same-length-5 : lts.Need-same-length-5 given (body-at t) body.Post
-  same-length-5 c = omega (arith, c .before .before .before .before .before .before .before .expect .kept)
+  same-length-5 c =
+      let at-expect = c .before .before .before .before .before .before .before in
+      omega (arith, at-expect .expect .kept)
 
   pub returns-2 : lts.Need-returns-2 given (body-at t) body.Post
   returns-2 c =
@@ -74,10 +89,14 @@ module _ (t : ℕ) where
       body-none (start .pre .1) (at-expect .expect .ensures) (c .enum-told2 .given .1)
 
   pub same-length-6 : lts.Need-same-length-6 given (body-at t) body.Post
-  same-length-6 c = omega (arith, c .before .before .before .before .before .before .before .expect .kept)
+  same-length-6 c =
+      let at-expect = c .before .before .before .before .before .before .before in
+      omega (arith, at-expect .expect .kept)
 
   pub same-length-7 : lts.Need-same-length-7 given (body-at t) body.Post
-  same-length-7 c = omega (arith, c .before .before .before .before .before .before .before .expect .kept)
+  same-length-7 c =
+      let at-expect = c .before .before .before .before .before .before .before in
+      omega (arith, at-expect .expect .kept)
 
   pub returns-3 : lts.Need-returns-3 given (body-at t) body.Post
   returns-3 c =

@@ -25,33 +25,56 @@ abbrev pub μ-loop : lts.MeasureT-loop
 
 module _ (t : ℕ) where
   abbrev pub given : lts.Claims
-  given = (head-reads.Asked, head-reads.Learnt, entry-reads.Asked, entry-reads.Learnt, note-reads.Asked, note-reads.Learnt, statement-below t, statement′.Post, counted-reads.Asked, counted-reads.Learnt)
+  given = (
+    head-reads.Asked,
+    head-reads.Learnt,
+    entry-reads.Asked,
+    entry-reads.Learnt,
+    note-reads.Asked,
+    note-reads.Learnt,
+    statement-below t,
+    statement′.Post,
+    counted-reads.Asked,
+    counted-reads.Learnt,
+  )
 
   pub loop-holds : lts.Need-loop-holds given (body-rest-at t) body-rest.Post Inv-loop μ-loop
-  loop-holds c = ((c .before .before .before .before .before .pre .1, omega arith), at-start)
+  loop-holds c =
+      let start = c .before .before .before .before .before in
+      ((start .pre .1, omega arith), at-start)
 
   pub head-requires : lts.Need-head-requires given (body-rest-at t) body-rest.Post Inv-loop μ-loop
   head-requires c κs = (c .loop .inv .0 .0 .asks .held, c .loop .inv .0 .0 .asks .at)
 
   pub same-length : lts.Need-same-length given (body-rest-at t) body-rest.Post Inv-loop μ-loop
-  same-length c = omega (arith, c .before .before .before .loop .inv .1)
+  same-length c =
+      let at-loop = c .before .before .before in
+      omega (arith, at-loop .loop .inv .1)
 
   pub same-length-2 : lts.Need-same-length-2 given (body-rest-at t) body-rest.Post Inv-loop μ-loop
-  same-length-2 c = omega (arith, c .before .before .before .loop .inv .1)
+  same-length-2 c =
+      let at-loop = c .before .before .before in
+      omega (arith, at-loop .loop .inv .1)
 
   pub same-length-3 : lts.Need-same-length-3 given (body-rest-at t) body-rest.Post Inv-loop μ-loop
-  same-length-3 c = omega (arith, c .before .before .before .loop .inv .1)
+  same-length-3 c =
+      let at-loop = c .before .before .before in
+      omega (arith, at-loop .loop .inv .1)
 
   pub returns : lts.Need-returns given (body-rest-at t) body-rest.Post Inv-loop μ-loop
   returns c =
-      let at-loop = c .before .before .before in
-      at-loop .loop .inv .1 .rest (rest-closed (at-loop .loop .inv .0) (c .before .before .head .ensures) (c .if1 .taken))
+      let at-head = c .before .before in
+      let at-loop = at-head .before in
+      at-loop .loop .inv .1 .rest
+      (rest-closed (at-loop .loop .inv .0) (at-head .head .ensures) (c .if1 .taken))
 
   pub entry-requires : lts.Need-entry-requires given (body-rest-at t) body-rest.Post Inv-loop μ-loop
   entry-requires c κs = omega arith
 
   pub note-requires : lts.Need-note-requires given (body-rest-at t) body-rest.Post Inv-loop μ-loop
-  note-requires c κs = raise-asked (c .before .before .before .before .before .before .before .before .loop .inv .0 .0)
+  note-requires c κs =
+      let at-loop = c .before .before .before .before .before .before .before .before in
+      raise-asked (at-loop .loop .inv .0 .0)
 
   pub same-length-4 : lts.Need-same-length-4 given (body-rest-at t) body-rest.Post Inv-loop μ-loop
   same-length-4 c =
@@ -78,7 +101,9 @@ module _ (t : ℕ) where
       let at-if1 = at-if2 .before .before in
       let at-head = at-if1 .before .before in
       let at-loop = at-head .before in
-      at-loop .loop .inv .1 .rest (rest-end (at-loop .loop .inv .0) (at-head .head .ensures) (at-if1 .if1 .left) (at-if2 .if2 .taken) (at-entry .entry .ensures) (at-note .note .ensures))
+      at-loop .loop .inv .1 .rest
+      (rest-end (at-loop .loop .inv .0) (at-head .head .ensures) (at-if1 .if1 .left) (at-if2 .if2 .taken)
+      (at-entry .entry .ensures) (at-note .note .ensures))
 
   pub statement-requires : lts.Need-statement-requires given (body-rest-at t) body-rest.Post Inv-loop μ-loop
   statement-requires c κs =
@@ -114,12 +139,19 @@ module _ (t : ℕ) where
       let at-if1 = at-if2 .before .before in
       let at-head = at-if1 .before .before in
       let at-loop = at-head .before in
-      at-loop .loop .inv .1 .rest (rest-refused (at-loop .loop .inv .0) (at-head .head .ensures) (at-if1 .if1 .left) (at-if2 .if2 .left) (at-statement .statement .ensures) (c .before .match .keys1))
+      at-loop .loop .inv .1 .rest
+      (rest-refused (at-loop .loop .inv .0) (at-head .head .ensures) (at-if1 .if1 .left) (at-if2 .if2 .left)
+      (at-statement .statement .ensures) (c .before .match .keys1))
 
   pub counted-requires : lts.Need-counted-requires given (body-rest-at t) body-rest.Post Inv-loop μ-loop
   counted-requires c κs =
       let at-loop = c .before .before .before .before .before .before .before .before .before .before .before .before .before .before .before .before .before in
-      omega (arith, at-loop .loop .inv .0 .1, at-loop .loop .inv .0 .0 .asks .at, at-loop .loop .inv .0 .0 .asks .held .few)
+      omega (
+        arith,
+        at-loop .loop .inv .0 .1,
+        at-loop .loop .inv .0 .0 .asks .at,
+        at-loop .loop .inv .0 .0 .asks .held .few,
+      )
 
   pub loop-less : lts.Need-loop-less given (body-rest-at t) body-rest.Post Inv-loop μ-loop
   loop-less c =
@@ -127,7 +159,14 @@ module _ (t : ℕ) where
       let at-if2 = at-statement .before .before .before .before in
       let at-head = at-if2 .before .before .before .before in
       let at-loop = at-head .before in
-      omega (arith, at-loop .loop .inv .0 .0 .asks .at, at-head .head .ensures .kind, at-if2 .if2 .left, at-statement .statement .ensures .on, at-statement .statement .ensures .moved)
+      omega (
+        arith,
+        at-loop .loop .inv .0 .0 .asks .at,
+        at-head .head .ensures .kind,
+        at-if2 .if2 .left,
+        at-statement .statement .ensures .on,
+        at-statement .statement .ensures .moved,
+      )
 
   pub loop-again : lts.Need-loop-again given (body-rest-at t) body-rest.Post Inv-loop μ-loop
   loop-again c =
@@ -135,5 +174,15 @@ module _ (t : ℕ) where
       let at-if2 = at-statement .before .before .before .before in
       let at-if1 = at-if2 .before .before in
       let at-head = at-if1 .before .before in
-      let at-loop = at-head .before in
-      (loop-asked (at-loop .loop .inv .0) (at-head .head .ensures) (at-if2 .if2 .left) (at-statement .statement .ensures) (c .counted .ensures) (omega (arith, at-statement .statement .kept)) (omega (arith, at-statement .statement .kept)) (omega (arith, at-statement .statement .kept)), one-turn (at-loop .loop .inv .1) (omega (arith, at-statement .statement .kept)) (omega (arith, at-statement .statement .kept)) (omega (arith, at-statement .statement .kept)) (at-statement .statement .ensures .moved .at) (λ _ _ _ _ g. rest-next (at-loop .loop .inv .0) (at-head .head .ensures) (at-if1 .if1 .left) (at-if2 .if2 .left) (at-statement .statement .ensures) (c .before .match .keys2) (c .counted .ensures) g))
+      let at-loop = at-head .before in (
+        loop-asked (at-loop .loop .inv .0) (at-head .head .ensures) (at-if2 .if2 .left)
+            (at-statement .statement .ensures) (c .counted .ensures)
+            (omega (arith, at-statement .statement .kept)) (omega (arith, at-statement .statement .kept))
+            (omega (arith, at-statement .statement .kept)),
+        one-turn (at-loop .loop .inv .1) (omega (arith, at-statement .statement .kept))
+            (omega (arith, at-statement .statement .kept)) (omega (arith, at-statement .statement .kept))
+            (at-statement .statement .ensures .moved .at)
+            (λ _ _ _ _ g. rest-next (at-loop .loop .inv .0) (at-head .head .ensures) (at-if1 .if1 .left)
+            (at-if2 .if2 .left) (at-statement .statement .ensures) (c .before .match .keys2)
+            (c .counted .ensures) g),
+      )

@@ -17,7 +17,18 @@ use Rattle.statement.proofs.+block+body+body_rest+guarded+if_statement+
 
 module _ (t : ℕ) where
   abbrev pub given : lts.Claims
-  given = (head-reads.Asked, head-reads.Learnt, guarded-below t, guarded.Post, finish-reads.Asked, finish-reads.Learnt, statement-below t, statement′.Post, abandon-reads.Asked, abandon-reads.Learnt)
+  given = (
+    head-reads.Asked,
+    head-reads.Learnt,
+    guarded-below t,
+    guarded.Post,
+    finish-reads.Asked,
+    finish-reads.Learnt,
+    statement-below t,
+    statement′.Post,
+    abandon-reads.Asked,
+    abandon-reads.Learnt,
+  )
 
   pub head-requires : lts.Need-head-requires given (if-statement-at t) if-statement.Post
   head-requires c κs =
@@ -27,20 +38,35 @@ module _ (t : ℕ) where
   pub guarded-requires : lts.Need-guarded-requires given (if-statement-at t) if-statement.Post
   guarded-requires c κs =
       let at-head = c .before .before .before in
-      let start = at-head .before .before .before .before .before .before in
-      (omega (arith, start .pre .0, start .pre .1 .kind, at-head .head .ensures .kind, at-head .head .ensures .on, at-head .head .ensures .end), asked-seen (start .pre .1 .asked) (at-head .head .ensures))
+      let start = at-head .before .before .before .before .before .before in (
+        omega (
+          arith,
+          start .pre .0,
+          start .pre .1 .kind,
+          at-head .head .ensures .kind,
+          at-head .head .ensures .on,
+          at-head .head .ensures .end,
+        ),
+        asked-seen (start .pre .1 .asked) (at-head .head .ensures),
+      )
 
   pub enum-told : lts.Need-enum-told given (if-statement-at t) if-statement.Post
   enum-told c = search needs
 
   pub same-length : lts.Need-same-length given (if-statement-at t) if-statement.Post
-  same-length c = omega (arith, c .before .before .before .before .before .before .before .guarded .kept)
+  same-length c =
+      let at-guarded = c .before .before .before .before .before .before .before in
+      omega (arith, at-guarded .guarded .kept)
 
   pub same-length-2 : lts.Need-same-length-2 given (if-statement-at t) if-statement.Post
-  same-length-2 c = omega (arith, c .before .before .before .before .before .before .before .guarded .kept)
+  same-length-2 c =
+      let at-guarded = c .before .before .before .before .before .before .before in
+      omega (arith, at-guarded .guarded .kept)
 
   pub same-length-3 : lts.Need-same-length-3 given (if-statement-at t) if-statement.Post
-  same-length-3 c = omega (arith, c .before .before .before .before .before .before .before .guarded .kept)
+  same-length-3 c =
+      let at-guarded = c .before .before .before .before .before .before .before in
+      omega (arith, at-guarded .guarded .kept)
 
   pub returns : lts.Need-returns given (if-statement-at t) if-statement.Post
   returns c =
@@ -60,40 +86,61 @@ module _ (t : ℕ) where
       let at-guarded = c .before .before .before .before .before .before .before .before .before .before .before .before .before in
       let at-head = at-guarded .before .before .before .before in
       let start = at-head .before .before .before .before .before .before in
-      room-at (start .pre .1 .asked) (moved-trans (fore-moved (start .pre .1 .asked .asks) (at-head .head .ensures)) (at-guarded .guarded .ensures .moved)) (omega (arith, at-guarded .guarded .kept))
+      room-at (start .pre .1 .asked)
+      (moved-trans (fore-moved (start .pre .1 .asked .asks) (at-head .head .ensures)) (at-guarded .guarded .ensures .moved))
+      (omega (arith, at-guarded .guarded .kept))
 
   pub same-length-4 : lts.Need-same-length-4 given (if-statement-at t) if-statement.Post
   same-length-4 c =
-      let at-guarded = c .before .before .before .before .before .before .before .before .before .before .before .before .before .before .before .before in
-      omega (arith, c .before .before .finish .kept, at-guarded .guarded .kept)
+      let at-finish = c .before .before in
+      let at-guarded = at-finish .before .before .before .before .before .before .before .before .before .before .before .before .before .before in
+      omega (arith, at-finish .finish .kept, at-guarded .guarded .kept)
 
   pub same-length-5 : lts.Need-same-length-5 given (if-statement-at t) if-statement.Post
   same-length-5 c =
-      let at-guarded = c .before .before .before .before .before .before .before .before .before .before .before .before .before .before .before .before in
-      omega (arith, c .before .before .finish .kept, at-guarded .guarded .kept)
+      let at-finish = c .before .before in
+      let at-guarded = at-finish .before .before .before .before .before .before .before .before .before .before .before .before .before .before in
+      omega (arith, at-finish .finish .kept, at-guarded .guarded .kept)
 
   pub same-length-6 : lts.Need-same-length-6 given (if-statement-at t) if-statement.Post
   same-length-6 c =
-      let at-guarded = c .before .before .before .before .before .before .before .before .before .before .before .before .before .before .before .before in
-      omega (arith, c .before .before .finish .kept, at-guarded .guarded .kept)
+      let at-finish = c .before .before in
+      let at-guarded = at-finish .before .before .before .before .before .before .before .before .before .before .before .before .before .before in
+      omega (arith, at-finish .finish .kept, at-guarded .guarded .kept)
 
   pub returns-2 : lts.Need-returns-2 given (if-statement-at t) if-statement.Post
   returns-2 c =
-      let at-if1 = c .before .before .before .before in
+      let at-finish = c .before .before in
+      let at-if1 = at-finish .before .before in
       let at-head2 = at-if1 .before .before in
       let at-enum-told = at-head2 .before .before in
       let at-guarded = at-enum-told .before .before .before .before .before .before .before .before in
       let at-head = at-guarded .before .before .before .before in
       let start = at-head .before .before .before .before .before .before in
-      if-two (at-head .head .ensures) (start .pre .1) (at-guarded .guarded .ensures) (at-enum-told .enum-told .given .1) (at-head2 .head2 .ensures) (at-if1 .if1 .taken) (c .before .before .finish .ensures)
+      if-two (at-head .head .ensures) (start .pre .1) (at-guarded .guarded .ensures)
+      (at-enum-told .enum-told .given .1) (at-head2 .head2 .ensures) (at-if1 .if1 .taken)
+      (at-finish .finish .ensures)
 
   pub statement-requires : lts.Need-statement-requires given (if-statement-at t) if-statement.Post
   statement-requires c κs =
       let at-head2 = c .before .before .before .before .before in
       let at-guarded = at-head2 .before .before .before .before .before .before .before .before .before .before in
       let at-head = at-guarded .before .before .before .before in
-      let start = at-head .before .before .before .before .before .before in
-      (omega (arith, start .pre .0, start .pre .1 .kind, at-head .head .ensures .kind, at-head .head .ensures .on, at-guarded .guarded .ensures .moved .at, at-head2 .head2 .ensures .up, at-head2 .head2 .ensures .end), later-asked (start .pre .1 .asked) (at-head .head .ensures) (at-guarded .guarded .ensures .moved) (at-head2 .head2 .ensures) (omega (arith, at-guarded .guarded .kept)) (omega (arith, at-guarded .guarded .kept)) (omega (arith, at-guarded .guarded .kept)))
+      let start = at-head .before .before .before .before .before .before in (
+        omega (
+          arith,
+          start .pre .0,
+          start .pre .1 .kind,
+          at-head .head .ensures .kind,
+          at-head .head .ensures .on,
+          at-guarded .guarded .ensures .moved .at,
+          at-head2 .head2 .ensures .up,
+          at-head2 .head2 .ensures .end,
+        ),
+        later-asked (start .pre .1 .asked) (at-head .head .ensures) (at-guarded .guarded .ensures .moved)
+            (at-head2 .head2 .ensures) (omega (arith, at-guarded .guarded .kept))
+            (omega (arith, at-guarded .guarded .kept)) (omega (arith, at-guarded .guarded .kept)),
+      )
 
   pub abandon-requires : lts.Need-abandon-requires given (if-statement-at t) if-statement.Post
   abandon-requires c κs =
@@ -101,7 +148,10 @@ module _ (t : ℕ) where
       let at-guarded = at-statement .before .before .before .before .before .before .before .before .before .before .before .before .before .before .before .before in
       let at-head = at-guarded .before .before .before .before in
       let start = at-head .before .before .before .before .before .before in
-      later-cuts (start .pre .1 .asked) (moved-trans (fore-moved (start .pre .1 .asked .asks) (at-head .head .ensures)) (at-guarded .guarded .ensures .moved)) (at-statement .statement .ensures .moved) refl refl (omega (arith, at-statement .statement .kept, at-guarded .guarded .kept))
+      later-cuts (start .pre .1 .asked)
+      (moved-trans (fore-moved (start .pre .1 .asked .asks) (at-head .head .ensures)) (at-guarded .guarded .ensures .moved))
+      (at-statement .statement .ensures .moved) refl refl
+      (omega (arith, at-statement .statement .kept, at-guarded .guarded .kept))
 
   pub finish-requires-2 : lts.Need-finish-requires-2 given (if-statement-at t) if-statement.Post
   finish-requires-2 c κs =
@@ -111,32 +161,56 @@ module _ (t : ℕ) where
       let at-guarded = at-head2 .before .before .before .before .before .before .before .before .before .before in
       let at-head = at-guarded .before .before .before .before in
       let start = at-head .before .before .before .before .before .before in
-      later-room (start .pre .1 .asked) (at-head .head .ensures) (at-guarded .guarded .ensures .moved) (at-head2 .head2 .ensures) (at-statement .statement .ensures .moved) (at-abandon .abandon .ensures) (omega (arith, at-statement .statement .kept, at-guarded .guarded .kept))
+      later-room (start .pre .1 .asked) (at-head .head .ensures) (at-guarded .guarded .ensures .moved)
+      (at-head2 .head2 .ensures) (at-statement .statement .ensures .moved) (at-abandon .abandon .ensures)
+      (omega (arith, at-statement .statement .kept, at-guarded .guarded .kept))
 
   pub same-length-7 : lts.Need-same-length-7 given (if-statement-at t) if-statement.Post
   same-length-7 c =
-      let at-abandon = c .before .before .before .before .before .before in
+      let at-finish2 = c .before .before in
+      let at-abandon = at-finish2 .before .before .before .before in
       let at-statement = at-abandon .before .before .before .before .before .before .before .before in
       let at-guarded = at-statement .before .before .before .before .before .before .before .before .before .before .before .before .before .before .before .before in
-      omega (arith, c .before .before .finish2 .kept, at-abandon .abandon .kept, at-statement .statement .kept, at-guarded .guarded .kept)
+      omega (
+        arith,
+        at-finish2 .finish2 .kept,
+        at-abandon .abandon .kept,
+        at-statement .statement .kept,
+        at-guarded .guarded .kept,
+      )
 
   pub same-length-8 : lts.Need-same-length-8 given (if-statement-at t) if-statement.Post
   same-length-8 c =
-      let at-abandon = c .before .before .before .before .before .before in
+      let at-finish2 = c .before .before in
+      let at-abandon = at-finish2 .before .before .before .before in
       let at-statement = at-abandon .before .before .before .before .before .before .before .before in
       let at-guarded = at-statement .before .before .before .before .before .before .before .before .before .before .before .before .before .before .before .before in
-      omega (arith, c .before .before .finish2 .kept, at-abandon .abandon .kept, at-statement .statement .kept, at-guarded .guarded .kept)
+      omega (
+        arith,
+        at-finish2 .finish2 .kept,
+        at-abandon .abandon .kept,
+        at-statement .statement .kept,
+        at-guarded .guarded .kept,
+      )
 
   pub same-length-9 : lts.Need-same-length-9 given (if-statement-at t) if-statement.Post
   same-length-9 c =
-      let at-abandon = c .before .before .before .before .before .before in
+      let at-finish2 = c .before .before in
+      let at-abandon = at-finish2 .before .before .before .before in
       let at-statement = at-abandon .before .before .before .before .before .before .before .before in
       let at-guarded = at-statement .before .before .before .before .before .before .before .before .before .before .before .before .before .before .before .before in
-      omega (arith, c .before .before .finish2 .kept, at-abandon .abandon .kept, at-statement .statement .kept, at-guarded .guarded .kept)
+      omega (
+        arith,
+        at-finish2 .finish2 .kept,
+        at-abandon .abandon .kept,
+        at-statement .statement .kept,
+        at-guarded .guarded .kept,
+      )
 
   pub returns-3 : lts.Need-returns-3 given (if-statement-at t) if-statement.Post
   returns-3 c =
-      let at-abandon = c .before .before .before .before .before .before in
+      let at-finish2 = c .before .before in
+      let at-abandon = at-finish2 .before .before .before .before in
       let at-statement = at-abandon .before .before .before .before .before .before .before .before in
       let at-if1 = at-statement .before .before .before .before in
       let at-head2 = at-if1 .before .before in
@@ -144,4 +218,7 @@ module _ (t : ℕ) where
       let at-guarded = at-enum-told .before .before .before .before .before .before .before .before in
       let at-head = at-guarded .before .before .before .before in
       let start = at-head .before .before .before .before .before .before in
-      if-three (at-head .head .ensures) (start .pre .1) (at-guarded .guarded .ensures) (at-enum-told .enum-told .given .1) (at-head2 .head2 .ensures) (at-if1 .if1 .left) (at-statement .statement .ensures) (omega (arith, at-guarded .guarded .kept)) (at-abandon .abandon .ensures) (c .before .before .finish2 .ensures)
+      if-three (at-head .head .ensures) (start .pre .1) (at-guarded .guarded .ensures)
+      (at-enum-told .enum-told .given .1) (at-head2 .head2 .ensures) (at-if1 .if1 .left)
+      (at-statement .statement .ensures) (omega (arith, at-guarded .guarded .kept))
+      (at-abandon .abandon .ensures) (at-finish2 .finish2 .ensures)

@@ -23,34 +23,50 @@ module _ (t : ℕ) where
   pub statement-requires : lts.Need-statement-requires given (loop-statement-at t) loop-statement.Post
   statement-requires c κs =
       let at-head = c .before .before .before in
-      let start = at-head .before .before .before .before .before .before in
-      (omega (arith, start .pre .0, start .pre .1 .kind, at-head .head .ensures .kind, at-head .head .ensures .on, at-head .head .ensures .end), asked-seen (start .pre .1 .asked) (at-head .head .ensures))
+      let start = at-head .before .before .before .before .before .before in (
+        omega (
+          arith,
+          start .pre .0,
+          start .pre .1 .kind,
+          at-head .head .ensures .kind,
+          at-head .head .ensures .on,
+          at-head .head .ensures .end,
+        ),
+        asked-seen (start .pre .1 .asked) (at-head .head .ensures),
+      )
 
   pub finish-requires : lts.Need-finish-requires given (loop-statement-at t) loop-statement.Post
   finish-requires c κs =
       let at-statement = c .before .before .before .before .before .before .before in
       let at-head = at-statement .before .before .before .before in
       let start = at-head .before .before .before .before .before .before in
-      room-at (start .pre .1 .asked) (moved-trans (fore-moved (start .pre .1 .asked .asks) (at-head .head .ensures)) (at-statement .statement .ensures .moved)) (omega (arith, at-statement .statement .kept))
+      room-at (start .pre .1 .asked)
+      (moved-trans (fore-moved (start .pre .1 .asked .asks) (at-head .head .ensures)) (at-statement .statement .ensures .moved))
+      (omega (arith, at-statement .statement .kept))
 
   pub same-length : lts.Need-same-length given (loop-statement-at t) loop-statement.Post
   same-length c =
-      let at-statement = c .before .before .before .before .before .before .before .before .before .before in
-      omega (arith, c .before .before .finish .kept, at-statement .statement .kept)
+      let at-finish = c .before .before in
+      let at-statement = at-finish .before .before .before .before .before .before .before .before in
+      omega (arith, at-finish .finish .kept, at-statement .statement .kept)
 
   pub same-length-2 : lts.Need-same-length-2 given (loop-statement-at t) loop-statement.Post
   same-length-2 c =
-      let at-statement = c .before .before .before .before .before .before .before .before .before .before in
-      omega (arith, c .before .before .finish .kept, at-statement .statement .kept)
+      let at-finish = c .before .before in
+      let at-statement = at-finish .before .before .before .before .before .before .before .before in
+      omega (arith, at-finish .finish .kept, at-statement .statement .kept)
 
   pub same-length-3 : lts.Need-same-length-3 given (loop-statement-at t) loop-statement.Post
   same-length-3 c =
-      let at-statement = c .before .before .before .before .before .before .before .before .before .before in
-      omega (arith, c .before .before .finish .kept, at-statement .statement .kept)
+      let at-finish = c .before .before in
+      let at-statement = at-finish .before .before .before .before .before .before .before .before in
+      omega (arith, at-finish .finish .kept, at-statement .statement .kept)
 
   pub returns : lts.Need-returns given (loop-statement-at t) loop-statement.Post
   returns c =
-      let at-statement = c .before .before .before .before .before .before .before .before .before .before in
+      let at-finish = c .before .before in
+      let at-statement = at-finish .before .before .before .before .before .before .before .before in
       let at-head = at-statement .before .before .before .before in
       let start = at-head .before .before .before .before .before .before in
-      loop-reads (at-head .head .ensures) (start .pre .1) (at-statement .statement .ensures) (c .before .before .finish .ensures)
+      loop-reads (at-head .head .ensures) (start .pre .1) (at-statement .statement .ensures)
+      (at-finish .finish .ensures)

@@ -18,10 +18,14 @@ module _ (t : ℕ) where
   refuse-requires c κs = search needs
 
   pub returns : lts.Need-returns given (statement-at t) statement′.Post
-  returns c = deep Statement (c .before .before .before .before .before .before .before .pre .1 .asks) (c .before .if1 .taken) (c .refuse .ensures)
+  returns c =
+      let start = c .before .before .before .before .before .before .before in
+      deep Statement (start .pre .1 .asks) (c .before .if1 .taken) (c .refuse .ensures)
 
   pub sub-statement-rule : lts.Need-sub-statement-rule given (statement-at t) statement′.Post
-  sub-statement-rule c = omega (arith, c .before .before .before .if1 .left)
+  sub-statement-rule c =
+      let at-if1 = c .before .before .before in
+      omega (arith, at-if1 .if1 .left)
 
   pub statement-rule-requires : lts.Need-statement-rule-requires given (statement-at t) statement′.Post
   statement-rule-requires c κs =
@@ -29,13 +33,19 @@ module _ (t : ℕ) where
       (omega (arith, start .pre .0), start .pre .1)
 
   pub same-length : lts.Need-same-length given (statement-at t) statement′.Post
-  same-length c = omega (arith, c .before .before .before .before .before .before .statement-rule .kept)
+  same-length c =
+      let at-statement-rule = c .before .before .before .before .before .before in
+      omega (arith, at-statement-rule .statement-rule .kept)
 
   pub same-length-2 : lts.Need-same-length-2 given (statement-at t) statement′.Post
-  same-length-2 c = omega (arith, c .before .before .before .before .before .before .statement-rule .kept)
+  same-length-2 c =
+      let at-statement-rule = c .before .before .before .before .before .before in
+      omega (arith, at-statement-rule .statement-rule .kept)
 
   pub same-length-3 : lts.Need-same-length-3 given (statement-at t) statement′.Post
-  same-length-3 c = omega (arith, c .before .before .before .before .before .before .statement-rule .kept)
+  same-length-3 c =
+      let at-statement-rule = c .before .before .before .before .before .before in
+      omega (arith, at-statement-rule .statement-rule .kept)
 
   pub returns-2 : lts.Need-returns-2 given (statement-at t) statement′.Post
   returns-2 c =

@@ -23,34 +23,50 @@ module _ (t : ℕ) where
   pub guarded-requires : lts.Need-guarded-requires given (while-statement-at t) while-statement.Post
   guarded-requires c κs =
       let at-head = c .before .before .before in
-      let start = at-head .before .before .before .before .before .before in
-      (omega (arith, start .pre .0, start .pre .1 .kind, at-head .head .ensures .kind, at-head .head .ensures .on, at-head .head .ensures .end), asked-seen (start .pre .1 .asked) (at-head .head .ensures))
+      let start = at-head .before .before .before .before .before .before in (
+        omega (
+          arith,
+          start .pre .0,
+          start .pre .1 .kind,
+          at-head .head .ensures .kind,
+          at-head .head .ensures .on,
+          at-head .head .ensures .end,
+        ),
+        asked-seen (start .pre .1 .asked) (at-head .head .ensures),
+      )
 
   pub finish-requires : lts.Need-finish-requires given (while-statement-at t) while-statement.Post
   finish-requires c κs =
       let at-guarded = c .before .before .before .before .before .before .before in
       let at-head = at-guarded .before .before .before .before in
       let start = at-head .before .before .before .before .before .before in
-      room-at (start .pre .1 .asked) (moved-trans (fore-moved (start .pre .1 .asked .asks) (at-head .head .ensures)) (at-guarded .guarded .ensures .moved)) (omega (arith, at-guarded .guarded .kept))
+      room-at (start .pre .1 .asked)
+      (moved-trans (fore-moved (start .pre .1 .asked .asks) (at-head .head .ensures)) (at-guarded .guarded .ensures .moved))
+      (omega (arith, at-guarded .guarded .kept))
 
   pub same-length : lts.Need-same-length given (while-statement-at t) while-statement.Post
   same-length c =
-      let at-guarded = c .before .before .before .before .before .before .before .before .before .before in
-      omega (arith, c .before .before .finish .kept, at-guarded .guarded .kept)
+      let at-finish = c .before .before in
+      let at-guarded = at-finish .before .before .before .before .before .before .before .before in
+      omega (arith, at-finish .finish .kept, at-guarded .guarded .kept)
 
   pub same-length-2 : lts.Need-same-length-2 given (while-statement-at t) while-statement.Post
   same-length-2 c =
-      let at-guarded = c .before .before .before .before .before .before .before .before .before .before in
-      omega (arith, c .before .before .finish .kept, at-guarded .guarded .kept)
+      let at-finish = c .before .before in
+      let at-guarded = at-finish .before .before .before .before .before .before .before .before in
+      omega (arith, at-finish .finish .kept, at-guarded .guarded .kept)
 
   pub same-length-3 : lts.Need-same-length-3 given (while-statement-at t) while-statement.Post
   same-length-3 c =
-      let at-guarded = c .before .before .before .before .before .before .before .before .before .before in
-      omega (arith, c .before .before .finish .kept, at-guarded .guarded .kept)
+      let at-finish = c .before .before in
+      let at-guarded = at-finish .before .before .before .before .before .before .before .before in
+      omega (arith, at-finish .finish .kept, at-guarded .guarded .kept)
 
   pub returns : lts.Need-returns given (while-statement-at t) while-statement.Post
   returns c =
-      let at-guarded = c .before .before .before .before .before .before .before .before .before .before in
+      let at-finish = c .before .before in
+      let at-guarded = at-finish .before .before .before .before .before .before .before .before in
       let at-head = at-guarded .before .before .before .before in
       let start = at-head .before .before .before .before .before .before in
-      while-reads (at-head .head .ensures) (start .pre .1) (at-guarded .guarded .ensures) (c .before .before .finish .ensures)
+      while-reads (at-head .head .ensures) (start .pre .1) (at-guarded .guarded .ensures)
+      (at-finish .finish .ensures)

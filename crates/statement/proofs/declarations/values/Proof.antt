@@ -4,7 +4,49 @@ use native.Mathlib.Omega.{arith}
 use Rattle.statement.proofs.declarations.values.Statement.{statement}
 use Rattle.statement.proofs.declarations.values.Tie as tie
 
+list-requires : tie.Need-list-requires
+list-requires c κs =
+    let start = c .before .before .before .before .before .before .before .before in
+    start .pre .asked
+
+finish-requires : tie.Need-finish-requires
+finish-requires c κs =
+    let at-list = c .before .before .before .before .before .before .before in
+    let start = at-list .before .before .before .before .before .before .before .before .before in
+    room-at (start .pre .asked) (at-list .list .ensures .moved) (omega (arith, at-list .list .kept))
+
+same-length : tie.Need-same-length
+same-length c =
+    let at-finish = c .before .before in
+    let at-list = at-finish .before .before .before .before .before .before .before .before in
+    omega (arith, at-finish .finish .kept, at-list .list .kept)
+
+same-length-2 : tie.Need-same-length-2
+same-length-2 c =
+    let at-finish = c .before .before in
+    let at-list = at-finish .before .before .before .before .before .before .before .before in
+    omega (arith, at-finish .finish .kept, at-list .list .kept)
+
+same-length-3 : tie.Need-same-length-3
+same-length-3 c =
+    let at-finish = c .before .before in
+    let at-list = at-finish .before .before .before .before .before .before .before .before in
+    omega (arith, at-finish .finish .kept, at-list .list .kept)
+
+returns : tie.Need-returns
+returns c =
+    let at-finish = c .before .before in
+    let at-list = at-finish .before .before .before .before .before .before .before .before in
+    let start = at-list .before .before .before .before .before .before .before .before .before in
+    values-reads _ _ _ _ (start .pre) (at-list .list .ensures) (at-finish .finish .ensures)
+
 pub values-spec : {M : Type 1} → statement M
 values-spec =
     tie.close
-    (tie.spec (λ c κs. c .before .before .before .before .before .before .before .before .pre .asked) (λ c κs. room-at (c .before .before .before .before .before .before .before .before .before .before .before .before .before .before .before .before .pre .asked) (c .before .before .before .before .before .before .before .list .ensures .moved) (omega (arith, c .before .before .before .before .before .before .before .list .kept))) (λ c. omega (arith, c .before .before .finish .kept, c .before .before .before .before .before .before .before .before .before .before .list .kept)) (λ c. omega (arith, c .before .before .finish .kept, c .before .before .before .before .before .before .before .before .before .before .list .kept)) (λ c. omega (arith, c .before .before .finish .kept, c .before .before .before .before .before .before .before .before .before .before .list .kept)) (λ c. values-reads _ _ _ _ (c .before .before .before .before .before .before .before .before .before .before .before .before .before .before .before .before .before .before .before .pre) (c .before .before .before .before .before .before .before .before .before .before .list .ensures) (c .before .before .finish .ensures)))
+    (tie.spec
+    list-requires
+    finish-requires
+    same-length
+    same-length-2
+    same-length-3
+    returns)

@@ -5,43 +5,125 @@ use native.Mathlib.Omega.{arith}
 use Rattle.statement.proofs.simple.after_expression.Statement.{statement}
 use Rattle.statement.proofs.simple.after_expression.Tie as tie
 
-pub after-expression-spec : {M : Type 1} → statement M
-after-expression-spec =
-    tie.close
-    (tie.spec
-    (λ c κs. (c .before .before .before .before .before .pre .0 .asks .held, (c .before .before .before .before .before .pre) .0 .asks .at))
-    (λ c κs.
+head-requires : tie.Need-head-requires
+head-requires c κs =
+    let start = c .before .before .before .before .before in
+    (start .pre .0 .asks .held, (start .pre) .0 .asks .at)
+
+assignment-requires : tie.Need-assignment-requires
+assignment-requires c κs =
     let at-if1 = c .before .before .before in
     let at-head = at-if1 .before .before in
     let start = at-head .before .before .before .before .before .before in
-    (begins (start .pre .0) (at-head .head .ensures) (at-if1 .if1 .taken), (start .pre) .1))
-    (λ c. omega (arith, c .before .before .before .before .before .before .assignment .kept))
-    (λ c. omega (arith, c .before .before .before .before .before .before .assignment .kept))
-    (λ c. omega (arith, c .before .before .before .before .before .before .assignment .kept))
-    (λ c. c .before .before .before .before .before .before .assignment .ensures)
-    (λ c κs.
+    (begins (start .pre .0) (at-head .head .ensures) (at-if1 .if1 .taken), (start .pre) .1)
+
+same-length : tie.Need-same-length
+same-length c =
+    let at-assignment = c .before .before .before .before .before .before in
+    omega (arith, at-assignment .assignment .kept)
+
+same-length-2 : tie.Need-same-length-2
+same-length-2 c =
+    let at-assignment = c .before .before .before .before .before .before in
+    omega (arith, at-assignment .assignment .kept)
+
+same-length-3 : tie.Need-same-length-3
+same-length-3 c =
+    let at-assignment = c .before .before .before .before .before .before in
+    omega (arith, at-assignment .assignment .kept)
+
+returns : tie.Need-returns
+returns c =
+    let at-assignment = c .before .before .before .before .before .before in
+    at-assignment .assignment .ensures
+
+compound-assignment-requires : tie.Need-compound-assignment-requires
+compound-assignment-requires c κs =
     let at-if2 = c .before .before .before in
     let at-head = at-if2 .before .before .before .before in
     let start = at-head .before .before .before .before .before .before in
-    (begins (start .pre .0) (at-head .head .ensures) (at-if2 .if2 .taken), (start .pre) .1))
-    (λ c. omega (arith, c .before .before .before .before .before .before .compound-assignment .kept))
-    (λ c. omega (arith, c .before .before .before .before .before .before .compound-assignment .kept))
-    (λ c. omega (arith, c .before .before .before .before .before .before .compound-assignment .kept))
-    (λ c. c .before .before .before .before .before .before .compound-assignment .ensures)
-    (λ c κs.
-    let start = c .before .before .before .before .before .before .before .before .before .before .before .before in
-    (record { asks = start .pre .0 .asks; pos = (start .pre) .1; reported = omega arith }, (omega arith, omega arith)))
-    (λ c κs.
+    (begins (start .pre .0) (at-head .head .ensures) (at-if2 .if2 .taken), (start .pre) .1)
+
+same-length-4 : tie.Need-same-length-4
+same-length-4 c =
+    let at-compound-assignment = c .before .before .before .before .before .before in
+    omega (arith, at-compound-assignment .compound-assignment .kept)
+
+same-length-5 : tie.Need-same-length-5
+same-length-5 c =
+    let at-compound-assignment = c .before .before .before .before .before .before in
+    omega (arith, at-compound-assignment .compound-assignment .kept)
+
+same-length-6 : tie.Need-same-length-6
+same-length-6 c =
+    let at-compound-assignment = c .before .before .before .before .before .before in
+    omega (arith, at-compound-assignment .compound-assignment .kept)
+
+returns-2 : tie.Need-returns-2
+returns-2 c =
+    let at-compound-assignment = c .before .before .before .before .before .before in
+    at-compound-assignment .compound-assignment .ensures
+
+and-expect-requires : tie.Need-and-expect-requires
+and-expect-requires c κs =
+    let start = c .before .before .before .before .before .before .before .before .before .before .before .before in (
+      record { asks = start .pre .0 .asks; pos = (start .pre) .1; reported = omega arith },
+      (omega arith, omega arith),
+    )
+
+finish-requires : tie.Need-finish-requires
+finish-requires c κs =
     let at-and-expect = c .before .before .before .before .before in
     let start = at-and-expect .before .before .before .before .before .before .before .before .before .before .before .before .before in
-    record { room = omega (arith, (start .pre) .0 .room, at-and-expect .and-expect .ensures .high); part = omega arith })
-    (λ c. omega (arith, c .before .before .finish .kept, c .before .before .before .before .before .before .before .before .and-expect .kept))
-    (λ c. omega (arith, c .before .before .finish .kept, c .before .before .before .before .before .before .before .before .and-expect .kept))
-    (λ c. omega (arith, c .before .before .finish .kept, c .before .before .before .before .before .before .before .before .and-expect .kept))
-    (λ c.
-    let at-and-expect = c .before .before .before .before .before .before .before .before in
+    record { room = omega (arith, (start .pre) .0 .room, at-and-expect .and-expect .ensures .high); part = omega arith }
+
+same-length-7 : tie.Need-same-length-7
+same-length-7 c =
+    let at-finish = c .before .before in
+    let at-and-expect = at-finish .before .before .before .before .before .before in
+    omega (arith, at-finish .finish .kept, at-and-expect .and-expect .kept)
+
+same-length-8 : tie.Need-same-length-8
+same-length-8 c =
+    let at-finish = c .before .before in
+    let at-and-expect = at-finish .before .before .before .before .before .before in
+    omega (arith, at-finish .finish .kept, at-and-expect .and-expect .kept)
+
+same-length-9 : tie.Need-same-length-9
+same-length-9 c =
+    let at-finish = c .before .before in
+    let at-and-expect = at-finish .before .before .before .before .before .before in
+    omega (arith, at-finish .finish .kept, at-and-expect .and-expect .kept)
+
+returns-3 : tie.Need-returns-3
+returns-3 c =
+    let at-finish = c .before .before in
+    let at-and-expect = at-finish .before .before .before .before .before .before in
     let at-if2 = at-and-expect .before .before .before in
     let at-if1 = at-if2 .before .before in
     let at-head = at-if1 .before .before in
     let start = at-head .before .before .before .before .before .before in
-    expression-behind (start .pre .0) (start .pre .1) (at-head .head .ensures) refl (at-if1 .if1 .left) (at-if2 .if2 .left) (at-and-expect .and-expect .ensures) (c .before .before .finish .ensures)))
+    expression-behind (start .pre .0) (start .pre .1) (at-head .head .ensures) refl (at-if1 .if1 .left)
+    (at-if2 .if2 .left) (at-and-expect .and-expect .ensures) (at-finish .finish .ensures)
+
+pub after-expression-spec : {M : Type 1} → statement M
+after-expression-spec =
+    tie.close
+    (tie.spec
+    head-requires
+    assignment-requires
+    same-length
+    same-length-2
+    same-length-3
+    returns
+    compound-assignment-requires
+    same-length-4
+    same-length-5
+    same-length-6
+    returns-2
+    and-expect-requires
+    finish-requires
+    same-length-7
+    same-length-8
+    same-length-9
+    returns-3)

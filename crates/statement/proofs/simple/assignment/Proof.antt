@@ -5,49 +5,116 @@ use native.Mathlib.Omega.{arith}
 use Rattle.statement.proofs.simple.assignment.Statement.{statement}
 use Rattle.statement.proofs.simple.assignment.Tie as tie
 
-pub assignment-spec : {M : Type 1} → statement M
-assignment-spec =
-    tie.close
-    (tie.spec
-    (λ c κs. (c .before .before .before .before .before .pre .0 .asked .asks .held, (c .before .before .before .before .before .pre) .0 .asked .asks .at))
-    (λ c κs. asked-seen (c .before .before .before .before .before .before .before .before .before .pre .0 .asked) (c .before .before .before .head .ensures))
-    (λ c κs.
+head-requires : tie.Need-head-requires
+head-requires c κs =
+    let start = c .before .before .before .before .before in
+    (start .pre .0 .asked .asks .held, (start .pre) .0 .asked .asks .at)
+
+expression-requires : tie.Need-expression-requires
+expression-requires c κs =
+    let at-head = c .before .before .before in
+    let start = at-head .before .before .before .before .before .before in
+    asked-seen (start .pre .0 .asked) (at-head .head .ensures)
+
+abandon-requires : tie.Need-abandon-requires
+abandon-requires c κs =
     let at-expression = c .before .before .before .before .before .before .before in
     let at-head = at-expression .before .before .before .before in
     let start = at-head .before .before .before .before .before .before in
-    assigned-cuts (start .pre .0 .asked) (start .pre .1) (at-head .head .ensures) (at-expression .expression .ensures) (omega (arith, at-expression .expression .kept)))
-    (λ c κs.
+    assigned-cuts (start .pre .0 .asked) (start .pre .1) (at-head .head .ensures)
+    (at-expression .expression .ensures) (omega (arith, at-expression .expression .kept))
+
+and-expect-requires : tie.Need-and-expect-requires
+and-expect-requires c κs =
     let at-abandon = c .before .before .before .before in
     let at-expression = at-abandon .before .before .before .before .before .before .before .before in
     let at-head = at-expression .before .before .before .before in
-    let start = at-head .before .before .before .before .before .before in
-    (assigned-asks (start .pre .0 .asked) (start .pre .1) (at-head .head .ensures) (at-expression .expression .ensures) (at-abandon .abandon .ensures) (omega (arith, at-abandon .abandon .kept, at-expression .expression .kept)) (omega (arith, at-expression .expression .kept)), (omega arith, omega arith)))
-    (λ c κs.
+    let start = at-head .before .before .before .before .before .before in (
+      assigned-asks (start .pre .0 .asked) (start .pre .1) (at-head .head .ensures)
+          (at-expression .expression .ensures) (at-abandon .abandon .ensures)
+          (omega (arith, at-abandon .abandon .kept, at-expression .expression .kept))
+          (omega (arith, at-expression .expression .kept)),
+      (omega arith, omega arith),
+    )
+
+finish-requires : tie.Need-finish-requires
+finish-requires c κs =
     let at-and-expect = c .before .before .before .before .before in
     let at-abandon = at-and-expect .before .before .before .before .before in
     let at-expression = at-abandon .before .before .before .before .before .before .before .before in
     let at-head = at-expression .before .before .before .before in
     let start = at-head .before .before .before .before .before .before in
-    assigned-room (start .pre .0 .asked) (start .pre .1) (at-head .head .ensures) (at-expression .expression .ensures) (at-abandon .abandon .ensures) (at-and-expect .and-expect .ensures) (omega (arith, at-expression .expression .kept)))
-    (λ c.
-    let at-and-expect = c .before .before .before .before .before .before .before .before in
+    assigned-room (start .pre .0 .asked) (start .pre .1) (at-head .head .ensures)
+    (at-expression .expression .ensures) (at-abandon .abandon .ensures) (at-and-expect .and-expect .ensures)
+    (omega (arith, at-expression .expression .kept))
+
+same-length : tie.Need-same-length
+same-length c =
+    let at-finish = c .before .before in
+    let at-and-expect = at-finish .before .before .before .before .before .before in
     let at-abandon = at-and-expect .before .before .before .before .before in
     let at-expression = at-abandon .before .before .before .before .before .before .before .before in
-    omega (arith, c .before .before .finish .kept, at-and-expect .and-expect .kept, at-abandon .abandon .kept, at-expression .expression .kept))
-    (λ c.
-    let at-and-expect = c .before .before .before .before .before .before .before .before in
+    omega (
+      arith,
+      at-finish .finish .kept,
+      at-and-expect .and-expect .kept,
+      at-abandon .abandon .kept,
+      at-expression .expression .kept,
+    )
+
+same-length-2 : tie.Need-same-length-2
+same-length-2 c =
+    let at-finish = c .before .before in
+    let at-and-expect = at-finish .before .before .before .before .before .before in
     let at-abandon = at-and-expect .before .before .before .before .before in
     let at-expression = at-abandon .before .before .before .before .before .before .before .before in
-    omega (arith, c .before .before .finish .kept, at-and-expect .and-expect .kept, at-abandon .abandon .kept, at-expression .expression .kept))
-    (λ c.
-    let at-and-expect = c .before .before .before .before .before .before .before .before in
+    omega (
+      arith,
+      at-finish .finish .kept,
+      at-and-expect .and-expect .kept,
+      at-abandon .abandon .kept,
+      at-expression .expression .kept,
+    )
+
+same-length-3 : tie.Need-same-length-3
+same-length-3 c =
+    let at-finish = c .before .before in
+    let at-and-expect = at-finish .before .before .before .before .before .before in
     let at-abandon = at-and-expect .before .before .before .before .before in
     let at-expression = at-abandon .before .before .before .before .before .before .before .before in
-    omega (arith, c .before .before .finish .kept, at-and-expect .and-expect .kept, at-abandon .abandon .kept, at-expression .expression .kept))
-    (λ c.
-    let at-and-expect = c .before .before .before .before .before .before .before .before in
+    omega (
+      arith,
+      at-finish .finish .kept,
+      at-and-expect .and-expect .kept,
+      at-abandon .abandon .kept,
+      at-expression .expression .kept,
+    )
+
+returns : tie.Need-returns
+returns c =
+    let at-finish = c .before .before in
+    let at-and-expect = at-finish .before .before .before .before .before .before in
     let at-abandon = at-and-expect .before .before .before .before .before in
     let at-expression = at-abandon .before .before .before .before .before .before .before .before in
     let at-head = at-expression .before .before .before .before in
     let start = at-head .before .before .before .before .before .before in
-    assignment-behind (start .pre .0 .asked) (start .pre .1) (at-head .head .ensures) (sym (at-head .head .ensures .kind) ∙ start .pre .0 .kind) (at-expression .expression .ensures) (at-abandon .abandon .ensures) (omega (arith, at-abandon .abandon .kept, at-expression .expression .kept)) (omega (arith, at-expression .expression .kept)) (at-and-expect .and-expect .ensures) (c .before .before .finish .ensures)))
+    assignment-behind (start .pre .0 .asked) (start .pre .1) (at-head .head .ensures)
+    (sym (at-head .head .ensures .kind) ∙ start .pre .0 .kind) (at-expression .expression .ensures)
+    (at-abandon .abandon .ensures)
+    (omega (arith, at-abandon .abandon .kept, at-expression .expression .kept))
+    (omega (arith, at-expression .expression .kept)) (at-and-expect .and-expect .ensures)
+    (at-finish .finish .ensures)
+
+pub assignment-spec : {M : Type 1} → statement M
+assignment-spec =
+    tie.close
+    (tie.spec
+    head-requires
+    expression-requires
+    abandon-requires
+    and-expect-requires
+    finish-requires
+    same-length
+    same-length-2
+    same-length-3
+    returns)

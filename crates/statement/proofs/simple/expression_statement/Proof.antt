@@ -6,58 +6,128 @@ use borrow.Author.Needs.{needs}
 use Rattle.statement.proofs.simple.expression_statement.Statement.{statement}
 use Rattle.statement.proofs.simple.expression_statement.Tie as tie
 
-pub expression-statement-spec : {M : Type 1} → statement M
-expression-statement-spec =
-    tie.close
-    (tie.spec
-    (λ c κs. c .before .before .before .before .before .before .before .before .pre)
-    (λ c. search needs)
-    (λ c. omega (arith, c .before .before .before .before .before .before .before .expression .kept))
-    (λ c. omega (arith, c .before .before .before .before .before .before .before .expression .kept))
-    (λ c. omega (arith, c .before .before .before .before .before .before .before .expression .kept))
-    (λ c.
+expression-requires : tie.Need-expression-requires
+expression-requires c κs =
+    let start = c .before .before .before .before .before .before .before .before in
+    start .pre
+
+enum-told : tie.Need-enum-told
+enum-told c = search needs
+
+same-length : tie.Need-same-length
+same-length c =
+    let at-expression = c .before .before .before .before .before .before .before in
+    omega (arith, at-expression .expression .kept)
+
+same-length-2 : tie.Need-same-length-2
+same-length-2 c =
+    let at-expression = c .before .before .before .before .before .before .before in
+    omega (arith, at-expression .expression .kept)
+
+same-length-3 : tie.Need-same-length-3
+same-length-3 c =
+    let at-expression = c .before .before .before .before .before .before .before in
+    omega (arith, at-expression .expression .kept)
+
+returns : tie.Need-returns
+returns c =
     let at-expression = c .before .before .before .before .before .before .before in
     let start = at-expression .before .before .before .before .before .before .before .before .before in
-    statement-stops (start .pre) (at-expression .expression .ensures) _ _ (c .match .keys2))
-    (λ c κs.
+    statement-stops (start .pre) (at-expression .expression .ensures) _ _ (c .match .keys2)
+
+finish-requires : tie.Need-finish-requires
+finish-requires c κs =
     let at-expression = c .before .before .before .before .before .before .before .before .before .before .before .before .before in
     let start = at-expression .before .before .before .before .before .before .before .before .before in
-    room-at (start .pre) (at-expression .expression .ensures .moved) (omega (arith, at-expression .expression .kept)))
-    (λ c.
-    let at-expression = c .before .before .before .before .before .before .before .before .before .before .before .before .before .before .before .before in
-    omega (arith, c .before .before .finish .kept, at-expression .expression .kept))
-    (λ c.
-    let at-expression = c .before .before .before .before .before .before .before .before .before .before .before .before .before .before .before .before in
-    omega (arith, c .before .before .finish .kept, at-expression .expression .kept))
-    (λ c.
-    let at-expression = c .before .before .before .before .before .before .before .before .before .before .before .before .before .before .before .before in
-    omega (arith, c .before .before .finish .kept, at-expression .expression .kept))
-    (λ c.
-    let at-if1 = c .before .before .before .before in
+    room-at (start .pre) (at-expression .expression .ensures .moved)
+    (omega (arith, at-expression .expression .kept))
+
+same-length-4 : tie.Need-same-length-4
+same-length-4 c =
+    let at-finish = c .before .before in
+    let at-expression = at-finish .before .before .before .before .before .before .before .before .before .before .before .before .before .before in
+    omega (arith, at-finish .finish .kept, at-expression .expression .kept)
+
+same-length-5 : tie.Need-same-length-5
+same-length-5 c =
+    let at-finish = c .before .before in
+    let at-expression = at-finish .before .before .before .before .before .before .before .before .before .before .before .before .before .before in
+    omega (arith, at-finish .finish .kept, at-expression .expression .kept)
+
+same-length-6 : tie.Need-same-length-6
+same-length-6 c =
+    let at-finish = c .before .before in
+    let at-expression = at-finish .before .before .before .before .before .before .before .before .before .before .before .before .before .before in
+    omega (arith, at-finish .finish .kept, at-expression .expression .kept)
+
+returns-2 : tie.Need-returns-2
+returns-2 c =
+    let at-finish = c .before .before in
+    let at-if1 = at-finish .before .before in
     let at-enum-told = at-if1 .before .before .before .before in
     let at-expression = at-enum-told .before .before .before .before .before .before .before .before in
     let start = at-expression .before .before .before .before .before .before .before .before .before in
-    statement-errors (start .pre) (at-expression .expression .ensures) _ _ (at-enum-told .enum-told .given .1) (omega (arith, at-expression .expression .kept)) (omega (arith, at-expression .expression .kept)) (at-if1 .if1 .taken) (c .before .before .finish .ensures))
-    (λ c κs.
+    statement-errors (start .pre) (at-expression .expression .ensures) _ _
+    (at-enum-told .enum-told .given .1) (omega (arith, at-expression .expression .kept))
+    (omega (arith, at-expression .expression .kept)) (at-if1 .if1 .taken) (at-finish .finish .ensures)
+
+after-expression-requires : tie.Need-after-expression-requires
+after-expression-requires c κs =
     let at-expression = c .before .before .before .before .before .before .before .before .before .before .before .before .before .before .before in
-    let start = at-expression .before .before .before .before .before .before .before .before .before in
-    (asked-moved (start .pre) (at-expression .expression .ensures .moved) (omega (arith, at-expression .expression .kept)) (omega (arith, at-expression .expression .kept)) (omega (arith, at-expression .expression .kept)), at-expression .expression .ensures .moved .pos))
-    (λ c.
+    let start = at-expression .before .before .before .before .before .before .before .before .before in (
+      asked-moved (start .pre) (at-expression .expression .ensures .moved)
+          (omega (arith, at-expression .expression .kept)) (omega (arith, at-expression .expression .kept))
+          (omega (arith, at-expression .expression .kept)),
+      at-expression .expression .ensures .moved .pos,
+    )
+
+same-length-7 : tie.Need-same-length-7
+same-length-7 c =
     let at-after-expression = c .before .before .before .before .before .before in
     let at-expression = at-after-expression .before .before .before .before .before .before .before .before .before .before .before .before .before .before .before .before in
-    omega (arith, at-after-expression .after-expression .kept, at-expression .expression .kept))
-    (λ c.
+    omega (arith, at-after-expression .after-expression .kept, at-expression .expression .kept)
+
+same-length-8 : tie.Need-same-length-8
+same-length-8 c =
     let at-after-expression = c .before .before .before .before .before .before in
     let at-expression = at-after-expression .before .before .before .before .before .before .before .before .before .before .before .before .before .before .before .before in
-    omega (arith, at-after-expression .after-expression .kept, at-expression .expression .kept))
-    (λ c.
+    omega (arith, at-after-expression .after-expression .kept, at-expression .expression .kept)
+
+same-length-9 : tie.Need-same-length-9
+same-length-9 c =
     let at-after-expression = c .before .before .before .before .before .before in
     let at-expression = at-after-expression .before .before .before .before .before .before .before .before .before .before .before .before .before .before .before .before in
-    omega (arith, at-after-expression .after-expression .kept, at-expression .expression .kept))
-    (λ c.
+    omega (arith, at-after-expression .after-expression .kept, at-expression .expression .kept)
+
+returns-3 : tie.Need-returns-3
+returns-3 c =
     let at-after-expression = c .before .before .before .before .before .before in
     let at-if1 = at-after-expression .before .before .before .before in
     let at-enum-told = at-if1 .before .before .before .before in
     let at-expression = at-enum-told .before .before .before .before .before .before .before .before in
     let start = at-expression .before .before .before .before .before .before .before .before .before in
-    statement-after (start .pre) (at-expression .expression .ensures) _ _ (at-enum-told .enum-told .given .1) (omega (arith, at-expression .expression .kept)) (omega (arith, at-expression .expression .kept)) (λ e. omega (arith, e, at-if1 .if1 .left)) (at-after-expression .after-expression .ensures)))
+    statement-after (start .pre) (at-expression .expression .ensures) _ _
+    (at-enum-told .enum-told .given .1) (omega (arith, at-expression .expression .kept))
+    (omega (arith, at-expression .expression .kept)) (λ e. omega (arith, e, at-if1 .if1 .left))
+    (at-after-expression .after-expression .ensures)
+
+pub expression-statement-spec : {M : Type 1} → statement M
+expression-statement-spec =
+    tie.close
+    (tie.spec
+    expression-requires
+    enum-told
+    same-length
+    same-length-2
+    same-length-3
+    returns
+    finish-requires
+    same-length-4
+    same-length-5
+    same-length-6
+    returns-2
+    after-expression-requires
+    same-length-7
+    same-length-8
+    same-length-9
+    returns-3)
