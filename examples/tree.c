@@ -100,7 +100,7 @@ static const char *const TOKEN_ERRORS[] = {
     "no error",
     "unknown escape",
     "string without closing quote",
-    "no { behind asm",
+    "no { after asm",
     "unknown character",
 };
 
@@ -121,8 +121,8 @@ static const char *const ERRORS[] = {
     "} expected before the end",
     "the end inside a list",
     "unexpected in a list",
-    "identifier expected behind type",
-    "string expected behind use",
+    "identifier expected after type",
+    "string expected after use",
     "compound expected, not the end",
     "compound expected",
 };
@@ -160,7 +160,7 @@ static uint64_t number_at(const uint8_t *bytes, int width)
     return n;
 }
 
-/* Takes the field at *at, which is below bytes, and goes behind it; whether it ends in the file. */
+/* Takes the field at *at, which is below bytes, and goes past it; whether it ends in the file. */
 static int next_field(const uint8_t *file, size_t bytes, size_t *at, struct field *f)
 {
     size_t left = bytes - *at;

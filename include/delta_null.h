@@ -8,12 +8,15 @@
  *     size_t bytes;
  *     uint32_t number = dn_read(script, script_len, file, sizeof file, &bytes);
  *
- * Number 0 says that the script was read, not that it is good. Look at the fields behind DN_MODULE:
+ * Number 0 says that the script was read, not that it is good. Look at the fields after DN_MODULE:
  * each is a complaint, and what it complains of may be missing from the tree. DN_TOKEN_ERROR fields
  * name all that the tokenizer met, DN_FULL_ERROR fields all that the parser met. That there is no
  * DN_REPORTED_ERROR field proves nothing: the arguments of a call and the fields of a struct type
- * report nothing. One thing is lost without a complaint: a minus swallows the character behind it,
- * so that a - b is read as it looks, and a -bc as a - c.
+ * report nothing.
+ *
+ * Two things are lost without a complaint. A minus swallows the character after it, so that a - b is
+ * read as it looks, and a -bc as a - c. Assembly with no closing brace runs to the end of the script:
+ * asm { fn f(w: T) is read as assembly alone, and there is no function f.
  *
  * examples/tree.c walks a file and prints it.
  */
@@ -34,10 +37,10 @@ extern "C" {
  *
  * Returns DN_OK or one of the refusals below. *bytes is set by every call: to the length of the
  * tree file, or to 0 where the script is refused. Where it is read, all bytes of the file slice
- * behind the tree file are set to 0.
+ * after the tree file are set to 0.
  *
  * No pointer may be NULL, also where a length is 0, and the script, the file slice and *bytes must
- * not overlap. The bytes themselves may be any. The script is not changed, nothing behind the two
+ * not overlap. The bytes themselves may be any. The script is not changed, nothing after the two
  * lengths is touched, no memory is allocated, and nothing is kept between calls, so that threads
  * may call it at the same time with slices of their own. Give each a stack of 1 MiB: no theorem
  * bounds it; the most that was measured is below 400 KiB (bench/README.md).
@@ -67,7 +70,7 @@ enum dn_number {
 
     /* refused by the tokenizer, which stops at the first: the file slice is all zeros */
     DN_FOREIGN_CHARACTER = 4,     /* a character above 127, and not in a string, a comment or
-                                     assembly or behind a minus */
+                                     assembly or after a minus */
     DN_MINUS_AT_END = 5,          /* the script ends with a dash that is a minus */
     DN_TOO_MANY_TOKENS = 6,       /* more than DN_TOKENS */
     DN_TOO_MANY_TOKEN_ERRORS = 7, /* more than DN_TOKEN_ERRORS */
@@ -85,7 +88,7 @@ enum dn_number {
 /* ---- the tree file ---- */
 
 /*
- * A file is fields, one behind the other. A field is a tag (1 byte), the length of its body
+ * A file is fields, one after the other. A field is a tag (1 byte), the length of its body
  * (2 bytes) and the body. All numbers have their high byte first.
  *
  *     records of the tree | DN_MODULE | DN_TOKEN_ERROR .. | DN_REPORTED_ERROR .. | DN_FULL_ERROR ..
@@ -96,7 +99,7 @@ enum dn_number {
  *
  * A body is a place (line and column, 2 bytes each), then numbers, then text to the body's end.
  * Lines and columns count from 1, columns in characters. There is no place in the tags marked
- * "no place". Below, u8, u16 and u64 are numbers of 1, 2 and 8 bytes; behind the colon stand the
+ * "no place". Below, u8, u16 and u64 are numbers of 1, 2 and 8 bytes; after the colon stand the
  * children. Text is UTF-8 and is not ended by a zero.
  *
  * A name is "<?>" where another token stood in place of an identifier: DN_NAMED_TYPE,
@@ -200,7 +203,7 @@ enum dn_comparison {
 enum dn_token_error {
     DN_UNKNOWN_ESCAPE = 1,   /* other than \r, \n, \t; it is left out. Placed at the opening quote */
     DN_UNCLOSED_STRING = 2,  /* no closing quote, and no token. Placed at the opening quote */
-    DN_NO_ASSEMBLY = 3,      /* no { behind `asm`, and no token. Placed at `asm` */
+    DN_NO_ASSEMBLY = 3,      /* no { after `asm`, and no token. Placed at `asm` */
     DN_UNKNOWN_CHARACTER = 4 /* it is left out */
 };
 
@@ -217,16 +220,16 @@ enum dn_error {
     DN_E_STATEMENT_END = 6,    /* end, where a statement is expected */
     DN_E_EXPRESSION = 7,       /* no expression begins so: got */
     DN_E_EXPRESSION_END = 8,   /* end, where an expression is expected */
-    DN_E_ARRAY_SIZE = 9,       /* no integer behind the bracket of an array type; at the bracket */
+    DN_E_ARRAY_SIZE = 9,       /* no integer after the bracket of an array type; at the bracket */
     DN_E_SIZE_POSITIVE = 10,   /* a size with a dash, or above 64 bits; at the bracket */
     DN_E_TYPE = 11,            /* no type begins so: got */
     DN_E_TYPE_END = 12,        /* end, where a type is expected */
     DN_E_BODY_END = 13,        /* end, before the } of a block */
     DN_E_LIST_END = 14,        /* end, inside a list */
-    DN_E_IN_LIST = 15,         /* neither a comma nor the list's end behind an item: got */
-    DN_E_NAME_AFTER_TYPE = 16, /* no identifier behind `type` */
-    DN_E_PATH_AFTER_USE = 17,  /* no string behind `use` */
-    DN_E_COMPOUND_END = 18,    /* end, behind # */
+    DN_E_IN_LIST = 15,         /* neither a comma nor the list's end after an item: got */
+    DN_E_NAME_AFTER_TYPE = 16, /* no identifier after `type` */
+    DN_E_PATH_AFTER_USE = 17,  /* no string after `use` */
+    DN_E_COMPOUND_END = 18,    /* end, after # */
     DN_E_COMPOUND = 19         /* no compound begins so: got */
 };
 

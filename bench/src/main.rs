@@ -1,6 +1,6 @@
 //! Times the whole operation (`dn_read`) beside the Rust's `tokenize` and `parse_module`, in one process.
 //!
-//! A call of `dn_read` clears its own token, error and text arrays (86,016 bytes) and what stands behind the
+//! A call of `dn_read` clears its own token, error and text arrays (86,016 bytes) and what stands after the
 //! file in the slice (65,536 bytes in all). The Rust makes its tokens and its tree on the heap and drops them.
 
 use plain::parser::Parser;
