@@ -10,7 +10,7 @@ use Rattle.definition.specs.Fallible.{Ans}
 use Rattle.definition.specs.Token.{Tok, head}
 use Rattle.definition.specs.Act.{Node, Goal, Loop, Left, Act, done, peek, take, make, if_then_else_, call, loop, panic, St, Res, gives, refused, after, advance, push, run, _>>=_}
 use Rattle.definition.specs.Go.{go, turns}
-use Rattle.definition.specs.Parser.{rule, turn, loops, parse, parse-module, no-items}
+use Rattle.definition.specs.Parser.{rule, turn, loops, parse, parse-module-within, parse-module, no-items}
 use Rattle.definition.proofs.Later.{Later, After, weaken}
 use Rattle.definition.proofs.Clean.{loops-later}
 use Rattle.definition.proofs.Total.{rank, rank-le, Enough, any, turn-enough, parse-after, Called}
@@ -113,7 +113,12 @@ unfolding go turns
 go-bind n m f s = run-bind (λ h t. parse n h t) (λ l t. turns n l t) m f s
 
 -- the whole parser is the loop of a module
+pub go-module-within : (n : ℕ) (ts : List Tok)
+    → go n (loop (Loop.Module (no-items [])) done) (record { left = ts; read = []; full = [] }) ≡ parse-module-within n ts
+unfolding go turns run parse-module-within
+go-module-within n ts = nothing _
+
 pub go-module : (ts : List Tok)
     → go 96 (loop (Loop.Module (no-items [])) done) (record { left = ts; read = []; full = [] }) ≡ parse-module ts
-unfolding go turns run parse-module
-go-module ts = nothing _
+unfolding parse-module
+go-module ts = go-module-within 96 ts

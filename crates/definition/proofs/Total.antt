@@ -13,7 +13,7 @@ use Rattle.definition.specs.Node.{byte}
 use Rattle.definition.specs.Token.{Tok, head, tail, _is_}
 use Rattle.definition.specs.Act.{Node, Goal, Loop, Module, Body, ListOf, Operators, Casts, Suffixes, Modifiers, Listed, Parameters, Arguments, StructFields, ArrayValues, StructValues, Left, Consumed, Act, done, peek, take, make, if_then_else_, call, loop, panic, St, Res, gives, refused, after, plain, advance, push, run, next, _>>=_, _>>?_}
 use Rattle.definition.specs.Parser as P
-use Rattle.definition.specs.Parser.{rule, turn, loops, parse, parse-module}
+use Rattle.definition.specs.Parser.{rule, turn, loops, parse, parse-module-within, parse-module}
 use Rattle.definition.proofs.Tests.{never-both}
 use Rattle.definition.proofs.Later.{Later, toks, later-left, later-refl, later-trans, later-advance, later-push, After, weaken}
 use Rattle.definition.proofs.Ind.{Positive, mapping-positive, parse-ind}
@@ -301,8 +301,12 @@ parse-moves (suc n) g s =
     (suc (suc (length (t .left)))) l t (omega (arith, rank-le l)))
     (rule g) any s (plenty (2 + length (s .left)) (rule g) any s s (later-refl s) (omega arith) (λ s′ d. tt))
 
+pub module-moves-within : (n : ℕ) (ts : List Tok) → Moves (parse-module-within n ts)
+unfolding parse-module-within
+module-moves-within n ts =
+    loops-moves (λ g s. parse n g s) (λ g s. parse-after n g s) (λ g s. parse-moves n g s)
+    (suc (suc (length ts))) (Module (P.no-items [])) (record { left = ts; read = []; full = [] }) (omega arith)
+
 pub module-moves : (ts : List Tok) → Moves (parse-module ts)
 unfolding parse-module
-module-moves ts =
-    loops-moves (λ g s. parse 96 g s) (λ g s. parse-after 96 g s) (λ g s. parse-moves 96 g s)
-    (suc (suc (length ts))) (Module (P.no-items [])) (record { left = ts; read = []; full = [] }) (omega arith)
+module-moves ts = module-moves-within 96 ts

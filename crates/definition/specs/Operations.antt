@@ -10,10 +10,10 @@ use Rattle.definition.specs.Node.{u16, field, recs-bytes}
 use Rattle.definition.specs.Fallible.{Err, errs-bytes}
 use Rattle.definition.specs.Token.{Tok}
 use Rattle.definition.specs.Tokenizer as Z
-use Rattle.definition.specs.Tokenizer.{tokenize}
+use Rattle.definition.specs.Tokenizer.{tokenize-within, tokenize}
 use Rattle.definition.specs.Act as A
 use Rattle.definition.specs.Act.{Items}
-use Rattle.definition.specs.Parser.{parse-module}
+use Rattle.definition.specs.Parser.{parse-module-within, parse-module}
 use Rattle.definition.specs.Records.{tokens-words, tokens-text, errors-words, tokens-of, errors-of}
 
 -- a slice of n words or bytes: what is written, then zeros
@@ -61,10 +61,16 @@ unfoldable pub file-bytes : List Err → Items → List Err → List ℕ
 unfolding recs-bytes errs-bytes
 file-bytes es i full = recs-bytes (i .recs) ++ field 0x5F (u16 (i .count)) ++ errs-bytes 0x62 es ++ errs-bytes 0x60 (i .errors) ++ errs-bytes 0x61 full
 
+-- where at most n calls of the parser's four functions may be open
+unfoldable pub read-tokens-within : ℕ → List Tok → List Err → Outcome
+unfolding parse-module-within file-bytes
+read-tokens-within n [] es = refused 9
+read-tokens-within n (t ∷ ts) es =
+    elim (parse-module-within n (t ∷ ts)) [ A.gives i s ↦ file (file-bytes es i (s .full)) | A.refused k ↦ refused k ]
+
 unfoldable pub read-tokens : List Tok → List Err → Outcome
-unfolding parse-module file-bytes
-read-tokens [] es = refused 9
-read-tokens (t ∷ ts) es = elim (parse-module (t ∷ ts)) [ A.gives i s ↦ file (file-bytes es i (s .full)) | A.refused n ↦ refused n ]
+unfolding read-tokens-within parse-module
+read-tokens ts es = read-tokens-within 96 ts es
 
 -- the number, the count of file bytes, and the file slice
 pub record Written : Type 0 where
@@ -90,36 +96,68 @@ both none es = none
 both (some ts) none = none
 both (some ts) (some es) = some (record { tokens = ts; errors = es })
 
-unfoldable pub handed : List ℕ → ℕ → List ℕ → ℕ → List ℕ → Option Handed
+-- where at most `most` tokens are allowed
+unfoldable pub handed-within : ℕ → List ℕ → ℕ → List ℕ → ℕ → List ℕ → Option Handed
 unfolding tokens-of errors-of
-handed T n E m X =
-    elim (leb n 2048 && leb m 255 && leb (8 * n) (length T) && leb (4 * m) (length E)) [ true ↦ both (tokens-of T X nowhere 0 0 n) (errors-of E 0 m) | false ↦ none ]
+handed-within most T n E m X =
+    elim (leb n most && leb m 255 && leb (8 * n) (length T) && leb (4 * m) (length E)) [
+      | true ↦ both (tokens-of T X nowhere 0 0 n) (errors-of E 0 m)
+      | false ↦ none
+    ]
+
+unfoldable pub handed : List ℕ → ℕ → List ℕ → ℕ → List ℕ → Option Handed
+unfolding handed-within
+handed T n E m X = handed-within 2048 T n E m X
 
 -- with no tokens the slice is still untouched
-abbrev pub read-handed : List ℕ → List Tok → List Err → Written
-read-handed o [] es = kept 9 o
-read-handed o (t ∷ ts) es = written o (read-tokens (t ∷ ts) es)
+abbrev pub read-handed-within : ℕ → List ℕ → List Tok → List Err → Written
+read-handed-within n o [] es = kept 9 o
+read-handed-within n o (t ∷ ts) es = written o (read-tokens-within n (t ∷ ts) es)
 
--- the token slice and its count, the error slice and its count, the text slice, the file slice
-unfoldable pub read : List ℕ → ℕ → List ℕ → ℕ → List ℕ → List ℕ → Written
-unfolding handed read-tokens
-read T n E m X o =
+abbrev pub read-handed : List ℕ → List Tok → List Err → Written
+read-handed o ts es = read-handed-within 96 o ts es
+
+-- The token slice and its count, the error slice and its count, the text slice, the file slice; at most `most` tokens
+-- and `nesting` open calls
+unfoldable pub read-within : ℕ → ℕ → List ℕ → ℕ → List ℕ → ℕ → List ℕ → List ℕ → Written
+unfolding handed-within read-tokens-within
+read-within most nesting T n E m X o =
     elim (ltb (length o) 65536) [
       | true ↦ kept 3 o
-      | false ↦ elim (handed T n E m X) [ none ↦ kept 8 o | some h ↦ read-handed o (h .tokens) (h .errors) ]
+      | false ↦ elim (handed-within most T n E m X) [
+        | none ↦ kept 8 o
+        | some h ↦ read-handed-within nesting o (h .tokens) (h .errors)
+      ]
     ]
+
+unfoldable pub read : List ℕ → ℕ → List ℕ → ℕ → List ℕ → List ℕ → Written
+unfolding read-within handed read-tokens
+read T n E m X o = read-within 2048 96 T n E m X o
 
 -- ---- the whole operation
 
-abbrev pub read-tokenised : Z.Tokens → Outcome
-read-tokenised (Z.tokens ts es) = read-tokens ts es
-read-tokenised (Z.refused n) = refused n
+abbrev pub read-tokenised-within : ℕ → Z.Tokens → Outcome
+read-tokenised-within n (Z.tokens ts es) = read-tokens-within n ts es
+read-tokenised-within n (Z.refused k) = refused k
 
--- the script, the file slice
-unfoldable pub whole : List ℕ → List ℕ → Written
-unfolding characters tokenize read-tokens
-whole s o =
+abbrev pub read-tokenised : Z.Tokens → Outcome
+read-tokenised t = read-tokenised-within 96 t
+
+-- the script, the file slice; at most `most` tokens and `nesting` open calls
+unfoldable pub whole-within : ℕ → ℕ → List ℕ → List ℕ → Written
+unfolding characters tokenize-within read-tokens-within
+whole-within most nesting s o =
     elim (ltb 16384 (length s)) [
       | true ↦ kept 1 o
-      | false ↦ elim (characters s) [ none ↦ kept 2 o | some cs ↦ elim (ltb (length o) 65536) [ true ↦ kept 3 o | false ↦ written o (read-tokenised (tokenize cs)) ] ]
+      | false ↦ elim (characters s) [
+        | none ↦ kept 2 o
+        | some cs ↦ elim (ltb (length o) 65536) [
+          | true ↦ kept 3 o
+          | false ↦ written o (read-tokenised-within nesting (tokenize-within most cs))
+        ]
+      ]
     ]
+
+unfoldable pub whole : List ℕ → List ℕ → Written
+unfolding whole-within tokenize read-tokens
+whole s o = whole-within 2048 96 s o

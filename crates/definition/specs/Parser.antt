@@ -546,6 +546,12 @@ unfoldable pub parse : ℕ → Goal → St → Res (Ans Node)
 parse zero g s = refused 10
 parse (suc n) g s = run (λ h t. parse n h t) (λ l t. loops (λ h u. parse n h u) (suc (suc (length (t .left)))) l t) (rule g) s
 
-unfoldable pub parse-module : List Tok → Res Items
+-- the whole parser, where at most n calls of the four may be open
+unfoldable pub parse-module-within : ℕ → List Tok → Res Items
 unfolding run _>>=_ number ascii typed parse-typed-identifier parse-named-type parse-compound-struct-field parse-list after-item list-turn parse-array-type type-rule parse-group parse-atom parse-field-access-or-index suffixes-turn parse-sizeof parse-call prefix unary-rule parse-cast casts-turn parse-mul parse-add-sub parse-bit-shift parse-bitwise-and parse-bitwise-xor parse-bitwise-or operators-turn parse-comparison expression-rule parse-compound parse-var-like-declaration declaration parse-body body-turn parse-return parse-if after-expression expression-statement statement-rule function-body function parse-function-definition modifiers-turn alias-rule parse-type-alias path-rule parse-use parse-top-level-var-declaration parse-top-level-item module-turn loops parse
-parse-module ts = loops (λ g s. parse 96 g s) (suc (suc (length ts))) (Module (no-items [])) (record { left = ts; read = []; full = [] })
+parse-module-within n ts =
+    loops (λ g s. parse n g s) (suc (suc (length ts))) (Module (no-items [])) (record { left = ts; read = []; full = [] })
+
+unfoldable pub parse-module : List Tok → Res Items
+unfolding parse-module-within
+parse-module ts = parse-module-within 96 ts

@@ -52,16 +52,18 @@ whole-is s o = one (ltb 16384 (length s)) (characters s) (ltb (length o) 65536)
 module _ (s o : List ℕ) where
   pub whole-long : 16384 < length s → kept 1 o ≡ whole s o
   unfolding whole
-  whole-long h = rw (lt-ltb 16384 (length s) h, whole)
+  whole-long h = rw (lt-ltb 16384 (length s) h, whole, O.whole-within)
 
   module _ (h : length s ≤ 16384) where
     pub whole-foreign : {v : Bool} → v ≡ utf8 s → not v ≡ true → kept 2 o ≡ whole s o
     unfolding whole
-    whole-foreign {v} e n = rw (le-ltb 16384 (length s) h, no-characters s (sym e ∙ not-true v n), whole)
+    whole-foreign {v} e n =
+        rw (le-ltb 16384 (length s) h, no-characters s (sym e ∙ not-true v n), whole, O.whole-within)
 
     pub whole-short : Stands s origin → length o < 65536 → kept 3 o ≡ whole s o
     unfolding whole
-    whole-short z l = rw (le-ltb 16384 (length s) h, the-characters s z, lt-ltb (length o) 65536 l, whole)
+    whole-short z l =
+        rw (le-ltb 16384 (length s) h, the-characters s z, lt-ltb (length o) 65536 l, whole, O.whole-within)
 
 -- ---- behind the tests
 
@@ -77,7 +79,7 @@ module _ (s o : List ℕ) (q : Stands s origin × (length s ≤ 16384) × (65536
   runs : {t : Z.Tokens} → Z.tokenize-within 2048 (rest s origin) ≡ t → written o (read-tokenised t) ≡ whole s o
   unfolding whole
   runs e =
-      rw (le-ltb 16384 (length s) (q .1), the-characters s (q .0), le-ltb (length o) 65536 (q .2), whole)
+      rw (le-ltb 16384 (length s) (q .1), the-characters s (q .0), le-ltb (length o) 65536 (q .2), whole, O.whole-within)
       (ap (λ (t : Z.Tokens). written o (read-tokenised t)) (sym (within-limit (rest s origin) ∙ e)))
 
   module _ {T E X : List ℕ} {f : State} (g : Ran 2048 (rest s origin) T E X f) where
@@ -119,6 +121,7 @@ module _ (s o : List ℕ) (q : Stands s origin × (length s ≤ 16384) × (65536
 
       pub whole-read : {o′ : List ℕ} {w : Written} → (f .tokens ≡ 0 → ⊥) → ReadHanded T (f .tokens) E (f .errors) X o o′ w
           → answer w o′ ≡ whole s o
+      unfolding read-tokens
       whole-read {o′} {w} k r = go (d .ts) (λ m. k (d .holds .tokens ∙ m)) (r _ handed-back) (runs (d .is))
         where
           go : (ts : List Tok) → (length ts ≡ 0 → ⊥) → answer w o′ ≡ O.read-handed o ts (d .es)
