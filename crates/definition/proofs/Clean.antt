@@ -8,7 +8,7 @@ use lib.Dec.{ltb}
 use lib.ListN.{length, length-append}
 use Rattle.definition.specs.Fallible.{Err, Ans}
 use Rattle.definition.specs.Token.{Tok, head, tail}
-use Rattle.definition.specs.Act.{Node, Goal, Loop, Module, Left, Act, done, peek, take, make, if_then_else_, call, loop, panic, St, Res, gives, refused, advance, push, run}
+use Rattle.definition.specs.Act.{Node, Goal, Loop, Module, Left, Act, done, peek, take, make, if_then_else_, call, loop, panic, St, begin, Res, gives, refused, advance, push, run}
 use Rattle.definition.specs.Parser.{rule, turn, loops, parse, parse-module, no-items}
 use Rattle.definition.proofs.Later.{Later, later-refl, later-trans, later-advance, later-push, later-full, After, weaken}
 use Rattle.definition.proofs.Ind.{join, limit, wp, each, each-ans}
@@ -135,9 +135,8 @@ module _ (G : Goal → St → Ans Node → St → Type 0) (L : (l : Loop) → St
         (G g s) (rule g) s i (rules g s i)
 
     pub clean-module : (ts : List Tok) → I ts
-        → After (Kept (record { left = ts; read = []; full = [] })
-        (L (Module (no-items [])) (record { left = ts; read = []; full = [] }))) (parse-module ts)
+        → After (Kept (begin ts) (L (Module (no-items [])) (begin ts))) (parse-module ts)
     unfolding parse-module
     clean-module ts i =
         clean-loops (λ g s. parse 96 g s) (λ g s j. clean-parse 96 g s j) (λ g s. parse-later 96 g s)
-        (suc (suc (length ts))) (Module (no-items [])) (record { left = ts; read = []; full = [] }) i
+        (suc (suc (length ts))) (Module (no-items [])) (begin ts) i

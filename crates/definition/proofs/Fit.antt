@@ -10,7 +10,7 @@ use Rattle.definition.specs.Kind as K
 use Rattle.definition.specs.Source.{Place}
 use Rattle.definition.specs.Fallible.{Fallible, Ans, ok, fatal}
 use Rattle.definition.specs.Token.{Tok, head, tail, _is_}
-use Rattle.definition.specs.Act.{Node, Items, Goal, Statement, Expression, Unary, Type', Loop, Module, Body, ListOf, Operators, Casts, Suffixes, Modifiers, Parameters, ArrayValues, StructValues, Words, plain, Act, St, Res, gives, advance, _>>=_}
+use Rattle.definition.specs.Act.{Node, Items, Goal, Statement, Expression, Unary, Type', Loop, Module, Body, ListOf, Operators, Casts, Suffixes, Modifiers, Parameters, ArrayValues, StructValues, Words, plain, Act, St, begin, Res, gives, advance, _>>=_}
 use Rattle.definition.specs.Parser as P
 use Rattle.definition.proofs.Later.{Later, later-left, later-advance, After}
 use Rattle.definition.proofs.Ind.{wp-mono, follow, try-sure}
@@ -356,11 +356,12 @@ pub clean-fit : (ts : List Tok) → Small ts → (i : Items) (s : St) → P.pars
     → AllFit (i .recs) × (i .count < 65536)
 clean-fit ts d i s e f =
     go
-    (subst (λ (r : Res Items). After (λ i s′. Later s₀ s′ × (Clean s₀ s′ → Listing (P.no-items []) s₀ i s′)) r) e
+    (subst (λ (r : Res Items). After (λ i s′. Later (begin ts) s′
+    × (Clean (begin ts) s′ → Listing (P.no-items []) (begin ts) i s′)) r) e
     (clean-module G L Small small-tail (λ s s′ l h. small-later s s′ l h) rules turns ts d))
   where
-    s₀ : St
-    s₀ = record { left = ts; read = []; full = [] }
-
-    go : Later s₀ s × (Clean s₀ s → Listing (P.no-items []) s₀ i s) → AllFit (i .recs) × (i .count < 65536)
-    go h = let q : Listing (P.no-items []) s₀ i s = h .1 (omega (arith, ap length f)) in (q .fit none-fit, omega (arith, q .count, d .1))
+    go : Later (begin ts) s × (Clean (begin ts) s → Listing (P.no-items []) (begin ts) i s)
+        → AllFit (i .recs) × (i .count < 65536)
+    go h =
+        let q : Listing (P.no-items []) (begin ts) i s = h .1 (omega (arith, ap length f)) in
+        (q .fit none-fit, omega (arith, q .count, d .1))

@@ -8,7 +8,7 @@ use lib.Dec.{ltb}
 use lib.ListN.{length}
 use Rattle.definition.specs.Fallible.{Ans}
 use Rattle.definition.specs.Token.{Tok, head}
-use Rattle.definition.specs.Act.{Node, Goal, Loop, Left, Act, done, peek, take, make, if_then_else_, call, loop, panic, St, Res, gives, refused, after, advance, push, run, _>>=_}
+use Rattle.definition.specs.Act.{Node, Goal, Loop, Left, Act, done, peek, take, make, if_then_else_, call, loop, panic, St, begin, Res, gives, refused, after, advance, push, run, _>>=_}
 use Rattle.definition.specs.Go.{go, turns}
 use Rattle.definition.specs.Parser.{rule, turn, loops, parse, parse-module-within, parse-module, no-items}
 use Rattle.definition.proofs.Later.{Later, After, weaken}
@@ -114,11 +114,11 @@ go-bind n m f s = run-bind (λ h t. parse n h t) (λ l t. turns n l t) m f s
 
 -- the whole parser is the loop of a module
 pub go-module-within : (n : ℕ) (ts : List Tok)
-    → go n (loop (Loop.Module (no-items [])) done) (record { left = ts; read = []; full = [] }) ≡ parse-module-within n ts
+    → go n (loop (Loop.Module (no-items [])) done) (begin ts) ≡ parse-module-within n ts
 unfolding go turns run parse-module-within
 go-module-within n ts = nothing _
 
 pub go-module : (ts : List Tok)
-    → go 96 (loop (Loop.Module (no-items [])) done) (record { left = ts; read = []; full = [] }) ≡ parse-module ts
+    → go 96 (loop (Loop.Module (no-items [])) done) (begin ts) ≡ parse-module ts
 unfolding parse-module
 go-module ts = go-module-within 96 ts

@@ -8,7 +8,7 @@ use lib.Dec.{ltb, T, ltb→lt}
 use lib.ListN.{length}
 use Rattle.definition.specs.Fallible.{Err, Fallible, Ans, ok, fatal}
 use Rattle.definition.specs.Token.{Tok, head}
-use Rattle.definition.specs.Act.{Node, Items, Words, Goal, Loop, Module, Body, ListOf, Operators, Casts, Suffixes, Modifiers, Level, BitOr, BitXor, BitAnd, Shift, AddSub, Mul, Left, Act, done, peek, take, make, if_then_else_, call, loop, panic, St, Res, gives, refused, after, advance, push, run, _>>=_, _>>?_, or-return}
+use Rattle.definition.specs.Act.{Node, Items, Words, Goal, Loop, Module, Body, ListOf, Operators, Casts, Suffixes, Modifiers, Level, BitOr, BitXor, BitAnd, Shift, AddSub, Mul, Left, Act, done, peek, take, make, if_then_else_, call, loop, panic, St, begin, Res, gives, refused, after, advance, push, run, _>>=_, _>>?_, or-return}
 use Rattle.definition.specs.Parser as P
 use Rattle.definition.specs.Parser.{rule, turn, loops, parse, parse-module, no-items}
 use Rattle.definition.proofs.Tests.{is-kind}
@@ -287,8 +287,9 @@ module _ (G : Goal → St → Ans Node → St → Type 0) (L : (l : Loop) → St
           (λ l t. loops-ind (λ h u. parse n h u) (λ h u. parse-ind n h u) (suc (suc (length (t .left)))) l t)
           (G g s) (rule g) s s (later-refl s) (rules g s)
 
-      pub module-ind : (ts : List Tok) → After (λ i s′. Later (record { left = ts; read = []; full = [] }) s′ × L (Module (no-items [])) (record { left = ts; read = []; full = [] }) i s′) (parse-module ts)
+      pub module-ind : (ts : List Tok)
+          → After (λ i s′. Later (begin ts) s′ × L (Module (no-items [])) (begin ts) i s′) (parse-module ts)
       unfolding parse-module
       module-ind ts =
           loops-ind (λ g s. parse 96 g s) (λ g s. parse-ind 96 g s) (suc (suc (length ts)))
-          (Module (no-items [])) (record { left = ts; read = []; full = [] })
+          (Module (no-items [])) (begin ts)

@@ -12,7 +12,7 @@ use Rattle.definition.specs.Source.{Place}
 use Rattle.definition.specs.Node.{Num, byte, two, eight, Rec, at-place, nums-bytes, rec-bytes, recs-bytes}
 use Rattle.definition.specs.Fallible.{Err, errs-bytes, Ans}
 use Rattle.definition.specs.Token.{Tok, head, _is_}
-use Rattle.definition.specs.Act.{Node, Items, Goal, Loop, Module, Body, ListOf, Operators, Casts, Suffixes, Modifiers, Left, Act, done, peek, take, make, if_then_else_, call, loop, panic, St, Res, gives, advance, push, run}
+use Rattle.definition.specs.Act.{Node, Items, Goal, Loop, Module, Body, ListOf, Operators, Casts, Suffixes, Modifiers, Left, Act, done, peek, take, make, if_then_else_, call, loop, panic, St, begin, Res, gives, advance, push, run}
 use Rattle.definition.specs.Parser as P
 use Rattle.definition.specs.Parser.{rule, turn, loops, parse, parse-module}
 use Rattle.definition.specs.Operations.{whole, file-bytes}
@@ -67,15 +67,12 @@ at-end (t ∷ ts) k e = absurd (omega (arith, is-kind t K.End e, k .0))
 
 pub all-read : (ts : List Tok) → Kinds ts → (i : Items) (s : St) → parse-module ts ≡ gives i s → toks (s .read) ≡ ts
 all-read ts k i s e =
-    go (subst (After (λ i s′. Later s₀ s′ × (head (s′ .left) is K.End ≡ true))) e
+    go (subst (After (λ i s′. Later (begin ts) s′ × (head (s′ .left) is K.End ≡ true))) e
     (module-ind G L R M (λ s. tt) (λ e s. tt) (λ g s. wp-always G L R M (G g s) (rule g) s (λ a s′. tt)) turns ts))
   where
-    s₀ : St
-    s₀ = record { left = ts; read = []; full = [] }
-
-    go : Later s₀ s × (head (s .left) is K.End ≡ true) → toks (s .read) ≡ ts
+    go : Later (begin ts) s × (head (s .left) is K.End ≡ true) → toks (s .read) ≡ ts
     go h =
-        let l : Later s₀ s = h .0 in
+        let l : Later (begin ts) s = h .0 in
         let n : s .left ≡ [] = at-end (s .left) (kinds-drop (toks (l .eaten)) (s .left) (subst Kinds (l .left) k)) (h .1) in
         ap toks (l .read) ∙ sym (l .left ∙ ap (λ (x : List Tok). toks (l .eaten) ++ x) n ∙ append-nil (toks (l .eaten)))
 
@@ -120,7 +117,7 @@ module-few : (ts : List Tok) → After Few (parse-module ts)
 unfolding parse-module
 module-few ts =
     loops-few (λ g s. parse 96 g s) (λ g s h. parse-few 96 g s h) (suc (suc (length ts)))
-    (Module (P.no-items [])) (record { left = ts; read = []; full = [] }) (omega arith)
+    (Module (P.no-items [])) (begin ts) (omega arith)
 
 -- ---- lengths
 

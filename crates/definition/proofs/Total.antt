@@ -11,7 +11,7 @@ use Rattle.definition.specs.Kind as K
 use Rattle.definition.specs.Fallible.{Ans, ok, fatal}
 use Rattle.definition.specs.Node.{byte}
 use Rattle.definition.specs.Token.{Tok, head, tail, _is_}
-use Rattle.definition.specs.Act.{Node, Goal, Loop, Module, Body, ListOf, Operators, Casts, Suffixes, Modifiers, Listed, Parameters, Arguments, StructFields, ArrayValues, StructValues, Left, Consumed, Act, done, peek, take, make, if_then_else_, call, loop, panic, St, Res, gives, refused, after, plain, advance, push, run, next, _>>=_, _>>?_}
+use Rattle.definition.specs.Act.{Node, Goal, Loop, Module, Body, ListOf, Operators, Casts, Suffixes, Modifiers, Listed, Parameters, Arguments, StructFields, ArrayValues, StructValues, Left, Consumed, Act, done, peek, take, make, if_then_else_, call, loop, panic, St, begin, Res, gives, refused, after, plain, advance, push, run, next, _>>=_, _>>?_}
 use Rattle.definition.specs.Parser as P
 use Rattle.definition.specs.Parser.{rule, turn, loops, parse, parse-module-within, parse-module}
 use Rattle.definition.proofs.Tests.{never-both}
@@ -305,7 +305,7 @@ pub module-moves-within : (n : ℕ) (ts : List Tok) → Moves (parse-module-with
 unfolding parse-module-within
 module-moves-within n ts =
     loops-moves (λ g s. parse n g s) (λ g s. parse-after n g s) (λ g s. parse-moves n g s)
-    (suc (suc (length ts))) (Module (P.no-items [])) (record { left = ts; read = []; full = [] }) (omega arith)
+    (suc (suc (length ts))) (Module (P.no-items [])) (begin ts) (omega arith)
 
 pub module-moves : (ts : List Tok) → Moves (parse-module ts)
 unfolding parse-module

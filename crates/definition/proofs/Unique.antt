@@ -14,7 +14,7 @@ use Rattle.definition.specs.Source.{Place}
 use Rattle.definition.specs.Node.{byte, two, Rec}
 use Rattle.definition.specs.Fallible.{Fallible, Ans, ok, fatal}
 use Rattle.definition.specs.Token.{Tok, head, tail}
-use Rattle.definition.specs.Act.{Node, Items, Goal, Statement, Expression, Unary, Type', Loop, Module, Body, ListOf, Operators, Casts, Suffixes, Modifiers, Parameters, Words, plain, St, Res, gives, _>>=_, _>>?_}
+use Rattle.definition.specs.Act.{Node, Items, Goal, Statement, Expression, Unary, Type', Loop, Module, Body, ListOf, Operators, Casts, Suffixes, Modifiers, Parameters, Words, plain, St, begin, Res, gives, _>>=_, _>>?_}
 use Rattle.definition.specs.Parser as P
 use Rattle.definition.proofs.Ind.{follow}
 use Rattle.definition.proofs.Strip.{Norm, symbol, named, strip}
@@ -252,17 +252,15 @@ clean-shows : (ts : List Tok) → Distinct ts → (i : Items) (s : St) → P.par
 unfolding strip
 clean-shows ts d i s e f =
     go
-    (subst (λ (r : Res Items). After (λ i s′. Later s₀ s′ × (Clean s₀ s′ → Sequel [] (P.no-items []) s₀ i s′)) r)
+    (subst (λ (r : Res Items). After (λ i s′. Later (begin ts) s′
+    × (Clean (begin ts) s′ → Sequel [] (P.no-items []) (begin ts) i s′)) r)
     e (clean-module G L Distinct distinct-tail (λ s s′ l h. distinct-later s s′ l h) (λ g s i. rules g s)
     (λ l s i. turns l s) ts d))
   where
-    s₀ : St
-    s₀ = record { left = ts; read = []; full = [] }
-
-    go : Later s₀ s × (Clean s₀ s → Sequel [] (P.no-items []) s₀ i s)
+    go : Later (begin ts) s × (Clean (begin ts) s → Sequel [] (P.no-items []) (begin ts) i s)
         → gather [] (i .count) (unparse (i .recs) []) ≡ gathered (strip (s .read)) []
     go h =
-        let q : Sequel [] (P.no-items []) s₀ i s = h .1 (omega (arith, ap length f)) in
+        let q : Sequel [] (P.no-items []) (begin ts) i s = h .1 (omega (arith, ap length f)) in
         q .shows [] (items-none [] []) .on [] ∙ ap (λ (l : List Norm). gathered l [])
         (sym (append-nil (q .toks)) ∙ sym (q .grew .by))
 

@@ -108,6 +108,10 @@ pub record St : Type 0 where
   pub read : List Consumed
   pub full : List Err
 
+-- the state that the parser begins in
+abbrev pub begin : List Tok → St
+begin ts = record { left = ts; read = []; full = [] }
+
 -- a token is read; at the end nothing is
 abbrev pub now-read : (Tok → Role) → List Tok → List Consumed
 now-read r [] = []

@@ -8,7 +8,7 @@ use Rattle.definition.specs.Source.{Place}
 use Rattle.definition.specs.Fallible.{Err, Ans}
 use Rattle.definition.specs.Token.{head}
 use Rattle.definition.specs.Act as A
-use Rattle.definition.specs.Act.{Items, done, loop, Consumed, Res, gives, after, or-return, _>>=_}
+use Rattle.definition.specs.Act.{Items, done, loop, Consumed, begin, Res, gives, after, or-return, _>>=_}
 use Rattle.definition.specs.Parser as P
 use Rattle.definition.specs.Go.{go}
 use Rattle.fallible.specs.declared.State.{State}
@@ -71,4 +71,4 @@ pub record ReadsModule (w x : List ℕ) (n d : ℕ) (o r f : List ℕ) (a : Answ
   pub reported : a .state .reported ≤ a .state .full
   pub few : a .state .full ≤ 255
   pub never : a .how ≡ Fatal → ⊥
-  pub is : Shows items [] [] [] [] w x n o r f a (go d (items-on (P.no-items []) >>= as-answer) (record { left = rest w x n 0; read = []; full = [] }))
+  pub is : Shows items [] [] [] [] w x n o r f a (go d (items-on (P.no-items []) >>= as-answer) (begin (rest w x n 0)))

@@ -14,7 +14,7 @@ use Rattle.definition.specs.Fallible.{Err, Fallible, Ans, ok, fatal}
 use Rattle.definition.specs.Token.{Tok}
 use Rattle.definition.specs.Operations as O
 use Rattle.definition.specs.Operations.{filled, file-bytes}
-use Rattle.definition.specs.Act.{Items, St, Res, gives, refused, after, run, _>>=_}
+use Rattle.definition.specs.Act.{Items, St, begin, Res, gives, refused, after, run, _>>=_}
 use Rattle.definition.specs.Parser as P
 use Rattle.definition.specs.Parser.{parse-module}
 use Rattle.definition.specs.Go.{go}
@@ -81,7 +81,7 @@ refuses d (refused m) n e = let z : suc m ≡ suc n = ap number-of e in let y : 
 module _ {w x : List ℕ} {n : ℕ} {o r f : List ℕ} {a : Answer} (B : ReadsModule w x n 96 o r f a) where
   -- the module's answer, as the parser's
   parsed : answered 96 (parse-module (rest w x n 0))
-      ≡ go 96 (items-on (P.no-items []) >>= as-answer) (record { left = rest w x n 0; read = []; full = [] })
+      ≡ go 96 (items-on (P.no-items []) >>= as-answer) (begin (rest w x n 0))
   parsed = sym (go-bind 96 (items-on (P.no-items [])) as-answer _ ∙ ap (λ (q : Res Items). answered 96 q) (go-module (rest w x n 0)))
 
   -- a tree: its items, their records from the file's first byte on, and both lists
@@ -112,7 +112,7 @@ module _ {w x : List ℕ} {n : ℕ} {o r f : List ℕ} {a : Answer} (B : ReadsMo
   refused-with k z =
       refuses 96 (parse-module (rest w x n 0)) k (parsed
       ∙ subst (λ (h : How). ShowsOf h items [] [] [] [] w x n o r f a
-      (go 96 (items-on (P.no-items []) >>= as-answer) (record { left = rest w x n 0; read = []; full = [] }))) z
+      (go 96 (items-on (P.no-items []) >>= as-answer) (begin (rest w x n 0)))) z
       (B .is .told))
 
   pub refused-of : Ended a → parse-module (rest w x n 0) ≡ refused (refusal-number (a .how))

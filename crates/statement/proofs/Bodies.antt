@@ -32,15 +32,19 @@ use Rattle.statement.specs.Post.{ReadsBody, statements-on}
 -- ---- `body`
 
 -- a body is its brace, and what follows it
-opening : (d : ℕ) (S : St) → go d (P.parse-body >>= as-answer) S ≡ after (go d (P.expect 39) S) (λ y T. go d (P.begin y >>= as-answer) T)
+opening : (d : ℕ) (S : St)
+    → go d (P.parse-body >>= as-answer) S
+    ≡ after (go d (P.expect 39) S) (λ y T. go d (P.statements y >>= as-answer) T)
 unfolding P.parse-body
 opening d S =
     go-bind d P.parse-body as-answer S
-    ∙ ap (λ (z : Res Items). answered d z) (go-bind d (P.expect 39) (λ y. P.begin y) S)
+    ∙ ap (λ (z : Res Items). answered d z) (go-bind d (P.expect 39) (λ y. P.statements y) S)
     ∙ one (go d (P.expect 39) S)
   where
-    one : (z : Res (Ans Tok)) → answered d (after z (λ y T. go d (P.begin y) T)) ≡ after z (λ y T. go d (P.begin y >>= as-answer) T)
-    one (gives y T) = sym (go-bind d (P.begin y) as-answer T)
+    one : (z : Res (Ans Tok))
+        → answered d (after z (λ y T. go d (P.statements y) T))
+        ≡ after z (λ y T. go d (P.statements y >>= as-answer) T)
+    one (gives y T) = sym (go-bind d (P.statements y) as-answer T)
     one (refused m) = refl
 
 fatal-of : {A : Type 0} {K : View A} {T : List ℕ} {E : List Err} {w x : List ℕ} {n : ℕ} {o r f : List ℕ} {a : Answer}
