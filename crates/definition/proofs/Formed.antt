@@ -12,7 +12,7 @@ use Rattle.definition.specs.Classes as C
 use Rattle.definition.specs.Classes.{between}
 use Rattle.definition.specs.Kind as K
 use Rattle.definition.specs.Source.{Place, Ch, utf8}
-use Rattle.definition.specs.Token.{Tok}
+use Rattle.definition.specs.Token.{Tok, tok}
 use Rattle.definition.specs.Records.{has-text, base-fits, all-digits, integer-text}
 use Rattle.definition.specs.Tokenizer as Z
 use Rattle.definition.specs.Tokenizer.{Class, Foreign, White, Comment, Pair, Symbol, Quote, Word, Dash, Zero, Digit, Unknown, digits, Span}
@@ -71,7 +71,7 @@ plain-textless k p =
     ))
     (p .plain)
 
-pub plain-formed : (k : ℕ) (p : Place) → Plain k → 0 < k → Formed (record { kind = k; place = p; text = []; base = 0 })
+pub plain-formed : (k : ℕ) (p : Place) → Plain k → 0 < k → Formed (tok k p [] 0)
 plain-formed k p f h =
     let b : (4 ≤ k) × (k ≤ 53) = plain-bounds k f h in
     let e : eqb k 2 ≡ false = ne-eqb k 2 (λ z. omega arith) in
@@ -117,7 +117,7 @@ classed c d =
 
 -- a name, a string or inline assembly
 pub text-formed : (k : ℕ) (p : Place) (text : List ℕ) → has-text k ≡ true → eqb k 2 ≡ false → 1 ≤ k → k ≤ 54 → Utf8 text
-    → Formed (record { kind = k; place = p; text = text; base = 0 })
+    → Formed (tok k p text 0)
 text-formed k p text h e l m u =
     record {
       low = l;
@@ -195,7 +195,7 @@ or-zero-numeral base [] z e = numeral base (48 ∷ []) (both-true z refl) (omega
 or-zero-numeral base (d ∷ ds) z e = numeral base (d ∷ ds) e (omega arith)
 
 pub integer-formed : (base : ℕ) (p : Place) (ds : List ℕ) → base-fits 2 base ≡ true → Numeral base ds
-    → Formed (record { kind = 2; place = p; text = ds; base = base })
+    → Formed (tok K.Integer p ds base)
 integer-formed base p ds b n =
     record {
       low = omega arith;

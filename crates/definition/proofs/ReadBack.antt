@@ -13,7 +13,7 @@ use Rattle.definition.specs.Choice.{pick}
 use Rattle.definition.specs.Classes.{between}
 use Rattle.definition.specs.Source.{Place, Ch, nowhere, utf8, characters}
 use Rattle.definition.specs.Fallible.{Err}
-use Rattle.definition.specs.Token.{Tok}
+use Rattle.definition.specs.Token.{Tok, tok}
 use Rattle.definition.specs.Records.{has-text, token-words, tokens-words, tokens-text, errors-words, TokenWords, words-at, part, text-fits, good-alone, good-behind, place-of, text-end, token-of, token-before, tokens-of, ErrorWords, error-at, good-error, error-of, error-before, errors-of}
 use Rattle.definition.specs.Tokenizer as Z
 use Rattle.definition.specs.Tokenizer.{tokenize}
@@ -120,7 +120,7 @@ module _ (t : Tok) (g : Good t) (text before rest : List ℕ) (n : ℕ) (e : tex
       (rw part-is (g .formed .integer))
 
   token-is : token-of text (words n t) ≡ t
-  token-is = ap (λ (x : List ℕ). record { kind = t .kind; place = t .place; text = x; base = t .base }) part-is
+  token-is = ap (λ (x : List ℕ). tok (t .kind) (t .place) x (t .base)) part-is
 
 text-behind : (t : Tok) (n e : ℕ) → e ≤ n → pick (has-text (t .kind)) (leb e (words n t .start)) true ≡ true
 text-behind t n e h = go (has-text (t .kind))

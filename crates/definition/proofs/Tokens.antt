@@ -14,7 +14,7 @@ use Rattle.definition.specs.Classes as C
 use Rattle.definition.specs.Kind as K
 use Rattle.definition.specs.Source.{Place, Ch, after, nowhere, start, characters}
 use Rattle.definition.specs.Fallible.{Err}
-use Rattle.definition.specs.Token.{Tok}
+use Rattle.definition.specs.Token.{Tok, tok}
 use Rattle.definition.specs.Records.{base-fits, comes-after}
 use Rattle.definition.specs.Tokenizer as Z
 use Rattle.definition.specs.Tokenizer.{Turn, goes, refused, Span, Quoted, Run, ends, foreign, Class, Foreign, White, Comment, Pair, Symbol, Quote, Word, Dash, Zero, Digit, Unknown, Tokens, tokens, turn, tokenize, tokenize-from, comment, digits, assembly, quoted, word, white, look, drop-one}
@@ -297,8 +297,7 @@ module _ (c : Ch) (cs : List Ch) where
   gives-none : (rest : List Ch) (n : ℕ) (es : List Err) → Ran cs rest n → All (ErrorAt (c .place)) es → Turned c cs rest es []
   gives-none rest n es r a = record { ran = ran-less r; token = tt; errors = a }
 
-  plain-turned : (rest : List Ch) (n k : ℕ) → Ran cs rest n
-      → Formed (record { kind = k; place = c .place; text = []; base = 0 })
+  plain-turned : (rest : List Ch) (n k : ℕ) → Ran cs rest n → Formed (tok k (c .place) [] 0)
       → TurnOf c cs (Z.token rest k (c .place))
   plain-turned rest n k r f = gives-token rest n [] _ r refl (omega arith) f tt
 

@@ -10,7 +10,7 @@ use Rattle.definition.specs.Classes.{between, is-digit-of}
 use Rattle.definition.specs.Source.{Place, utf8}
 use Rattle.definition.specs.Fallible.{Err}
 use Rattle.definition.specs.Kind as K
-use Rattle.definition.specs.Token.{Tok, dashed}
+use Rattle.definition.specs.Token.{Tok, tok, dashed}
 
 -- ---- written
 
@@ -95,7 +95,7 @@ abbrev pub text-end : ℕ → TokenWords → ℕ
 text-end e w = pick (has-text (w .kind)) (w .start + w .size) e
 
 abbrev pub token-of : List ℕ → TokenWords → Tok
-token-of text w = record { kind = w .kind; place = place-of w; text = part text w; base = w .base }
+token-of text w = tok (w .kind) (place-of w) (part text w) (w .base)
 
 abbrev pub token-before : Tok → Option (List Tok) → Option (List Tok)
 token-before t none = none

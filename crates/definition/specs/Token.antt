@@ -14,9 +14,13 @@ pub record Tok : Type 0 where
   pub text : List ℕ
   pub base : ℕ
 
+-- by kind, place, text and base; all tokens are made so
+abbrev pub tok : ℕ → Place → List ℕ → ℕ → Tok
+tok k p text base = record { kind = k; place = p; text = text; base = base }
+
 -- what `peek` and `next` give where no token is left
 abbrev pub end-token : Tok
-end-token = record { kind = K.End; place = nowhere; text = []; base = 0 }
+end-token = tok K.End nowhere [] 0
 
 infix 50 _is_
 abbrev pub _is_ : Tok → ℕ → Bool

@@ -11,7 +11,7 @@ use Rattle.definition.specs.Classes.{is-white, is-digit, is-letter, is-w
 use Rattle.definition.specs.Source.{Place, Ch}
 use Rattle.definition.specs.Fallible.{Err}
 use Rattle.definition.specs.Kind as K
-use Rattle.definition.specs.Token.{Tok}
+use Rattle.definition.specs.Token.{Tok, tok}
 
 -- ---- the fixed spellings; 0 where the bytes are none of them
 
@@ -73,7 +73,7 @@ abbrev pub nothing : List Ch → Turn
 nothing cs = goes cs [] []
 
 abbrev pub token-text : List Ch → ℕ → Place → List ℕ → ℕ → Turn
-token-text cs k p text base = goes cs [] (record { kind = k; place = p; text = text; base = base } ∷ [])
+token-text cs k p text base = goes cs [] (tok k p text base ∷ [])
 
 abbrev pub token : List Ch → ℕ → Place → Turn
 token cs k p = token-text cs k p [] 0
@@ -168,7 +168,7 @@ quoted true (c ∷ cs) = elim (escape (c .byte)) [ zero ↦ one-unknown (quoted 
 unfoldable pub string-turn : Place → Quoted → Turn
 string-turn p q =
     elim (q .closed) [
-      | true ↦ goes (q .rest) (replicate (q .unknown) (token-error 1 p)) (record { kind = K.String; place = p; text = q .text; base = 0 } ∷ [])
+      | true ↦ goes (q .rest) (replicate (q .unknown) (token-error 1 p)) (tok K.String p (q .text) 0 ∷ [])
       | false ↦ goes (q .rest) (replicate (q .unknown) (token-error 1 p) ++ (token-error 2 p ∷ [])) []
     ]
 

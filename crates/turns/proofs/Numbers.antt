@@ -7,7 +7,7 @@ use native.Mathlib.Omega.{arith}
 use borrow.Author.Tests.{eq-eqb, ne-eqb}
 use lib.ListN.{length, getD}
 use Rattle.definition.specs.Source.{Place, Ch}
-use Rattle.definition.specs.Token.{Tok}
+use Rattle.definition.specs.Token.{Tok, tok}
 use Rattle.definition.specs.Classes as C
 use Rattle.definition.specs.Kind as K
 use Rattle.definition.specs.Tokenizer.{goes, refused}
@@ -24,7 +24,7 @@ use Rattle.turns.specs.Turn.{at-text, at-cursor, Ready, Turned}
 use Rattle.turns.proofs.Turned.{passed-step, on-text, end-token, end-refused, end-plain, with-words, turned-same, turned-on}
 
 abbrev number : Place → ℕ → List ℕ → Tok
-number p base text = record { kind = K.Integer; place = p; text = text; base = base }
+number p base text = tok K.Integer p text base
 
 -- ---- digits
 

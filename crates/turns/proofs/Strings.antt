@@ -9,7 +9,7 @@ use borrow.Author.Tests.{lt-leb}
 use lib.ListN.{length, replicate, length-append}
 use Rattle.definition.specs.Source.{Place}
 use Rattle.definition.specs.Fallible.{Err}
-use Rattle.definition.specs.Token.{Tok}
+use Rattle.definition.specs.Token.{Tok, tok}
 use Rattle.definition.specs.Kind as K
 use Rattle.definition.specs.Tokenizer.{goes, refused}
 use Rattle.definition.specs.Tokenizer as Z
@@ -25,7 +25,7 @@ use Rattle.turns.proofs.Turned.{end-token, end-errors, with-words, wrot
 string-closed : (p : Place) (q : Z.Quoted) → q .closed ≡ true
     → Z.string-turn p q
     ≡ goes (q .rest) (replicate (q .unknown) (Z.token-error 1 p))
-    (record { kind = K.String; place = p; text = q .text; base = 0 } ∷ [])
+    (tok K.String p (q .text) 0 ∷ [])
 unfolding Z.string-turn
 string-closed p q e = rw (e, Z.string-turn)
 
@@ -90,7 +90,7 @@ module _ {most : ℕ} {s : List ℕ} {st : State} {c : Cursor} {T E X X₁ E₁ 
         → Turned most (Z.string-turn p (body s c)) s st c T E X r T′ E₁ X₁
     string-closed-law f x =
         let z = escapes-went in
-        let k : Tok = record { kind = K.String; place = p; text = body s c .text; base = 0 } in
+        let k : Tok = tok K.String p (body s c .text) 0 in
         end-token (a .few) (record {
           passed = u .passed;
           tokens = z .tokens;

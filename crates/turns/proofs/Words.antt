@@ -10,6 +10,7 @@ use lib.ListN.{length, take, drop, replicate}
 use Rattle.definition.specs.Source.{Place, Ch}
 use Rattle.definition.specs.Classes as C
 use Rattle.definition.specs.Kind as K
+use Rattle.definition.specs.Token.{tok}
 use Rattle.definition.specs.Tokenizer.{Span, Turn, goes, refused}
 use Rattle.definition.specs.Tokenizer as Z
 use Rattle.definition.proofs.Tests.{never-both}
@@ -124,9 +125,8 @@ module _ {most : ℕ} {s : List ℕ} {st : State} {c w : Cursor} {b : ℕ} (p : 
         end-token (a .few) (on-text (a .few) (passed-trans (passed-trans pw pd) (sp .passed)) (sp .wrote) (sp .room))
         (ap (Z.assembly-turn p) (asm-run s w _ (pw .is) k false (le-ltb _ _ h)) ∙ asm-open p _ (sym k ∙ e)
         ∙ ap (λ (q : Span). Z.token-text (q .rest) K.InlineAssemblyFragment p (q .text) 0) (sym z))
-        (with-words
-        (record { kind = K.InlineAssemblyFragment; place = p; text = Z.assembly (rest s d) .text; base = 0 })
-        refl refl (omega (arith, sp .wrote .count)) g)
+        (with-words (tok K.InlineAssemblyFragment p (Z.assembly (rest s d) .text) 0) refl refl
+        (omega (arith, sp .wrote .count)) g)
 
     pub asm-other-law : {E E′ : List ℕ} {r : State} → (b ≡ 123 → ⊥)
         → ErrorsPushed E (at-cursor st d) (replicate 1 (Z.token-error 3 p)) E′ r
@@ -222,9 +222,8 @@ module _ {most : ℕ} {s : List ℕ} {st : State} {c : Cursor} {T X X₁ X₂ : 
       word-identifier-law z x =
           end-token (a .few) (on-text (a .few) (sp .passed) written (sp .room))
           (turn-kind ∙ ap (word-kind p (spelled first (rest s c))) z)
-          (with-words
-          (record { kind = K.Identifier; place = p; text = first ∷ letters (rest s c) .text; base = 0 }) refl
-          refl (omega (arith, written .count)) x)
+          (with-words (tok K.Identifier p (first ∷ letters (rest s c) .text) 0) refl refl
+          (omega (arith, written .count)) x)
 
       pub word-keyword-law : {E T′ : List ℕ} {r : State} → (y ≡ 0 → ⊥)
           → TokenPushed most T (at-cursor st (w .cursor)) (y ∷ p .line ∷ p .column ∷ 0 ∷ 0 ∷ 0 ∷ 0 ∷ 0 ∷ []) T′ r
