@@ -22,13 +22,13 @@ use Rattle.definition.proofs.Tests.{never-both, All, all-map}
 use Rattle.definition.proofs.Later.{toks}
 use Rattle.definition.proofs.Strip.{Norm, symbol, named, integer, sized, is-named, spelling, norm, strip}
 use Rattle.definition.proofs.Unique.{unique}
-use Rattle.definition.proofs.Layouts.{AllFit}
-use Rattle.definition.proofs.Fit.{clean-fit}
+use Rattle.definition.proofs.LeavesStatements.{module-leaves}
+use Rattle.definition.proofs.Fit.{Fit, leaves-fit}
 use Rattle.definition.proofs.Inject.{same-tree, Both}
 use Rattle.definition.proofs.Formed.{Formed}
 use Rattle.definition.proofs.Tokens.{Good}
 use Rattle.definition.proofs.Accepted.{Accepted, accepted}
-use Rattle.definition.proofs.Room.{all-read, light}
+use Rattle.definition.proofs.Room.{all-read, recs-length, light}
 use Rattle.definition.proofs.Fields.{tree-of-file, entries-of-file}
 
 -- ---- what is told of tokens determines them, but for the spelling of sizes
@@ -192,8 +192,10 @@ module _ (s o : List ℕ) (a : Accepted s o) where
   tree-is : tree (file-of s o) ≡ recs-bytes (a .items .recs) ++ field 0x5F (u16 (a .items .count))
   tree-is = ap tree file-is ∙ tree-of-file (a .errors) (a .items) (a .last .full) (omega (arith, light a .0))
 
-  fits : full-entries (file-of s o) ≡ 0 → AllFit (a .items .recs) × (a .items .count < 65536)
-  fits h = clean-fit (a .toks) (a .made .small, omega (arith, a .made .tokens)) (a .items) (a .last) (a .parsed) (clean h)
+  fits : All Fit (a .items .recs) × (a .items .count < 65536)
+  fits =
+      let l : _ = module-leaves (a .toks) (a .made .good, a .made .tokens) (a .items) (a .last) (a .parsed) in
+      (leaves-fit (l .0 .leaves) (omega (arith, recs-length (a .items .recs), light a .0)), omega (arith, l .1))
 
   formed : All Formed (toks (strike (reading s)))
   formed =
@@ -207,8 +209,8 @@ one-tree s t o p x y h k e =
     let a : Accepted s o = accepted s o x in
     let b : Accepted t p = accepted t p y in
     let r : Both (a .items .recs ≡ b .items .recs) (a .items .count ≡ b .items .count) = same-tree
-    (a .items .recs) (b .items .recs) (a .items .count) (b .items .count) (fits s o a h .0 .all)
-    (fits t p b k .0 .all) (fits s o a h .1) (fits t p b k .1) (sym (tree-is s o a) ∙ e ∙ tree-is t p b) in
+    (a .items .recs) (b .items .recs) (a .items .count) (b .items .count) (fits s o a .0)
+    (fits t p b .0) (fits s o a .1) (fits t p b .1) (sym (tree-is s o a) ∙ e ∙ tree-is t p b) in
     let u : strip (a .last .read) ≡ strip (b .last .read) = unique (a .toks) (b .toks) (a .made .distinct)
     (b .made .distinct) (a .items) (b .items) (a .last) (b .last) (a .parsed) (b .parsed) (clean s o a h)
     (clean t p b k) (r .left) (r .right) in

@@ -15,7 +15,7 @@ use Rattle.definition.specs.Act.{Items}
 use Rattle.definition.specs.Operations.{file-bytes}
 use Rattle.definition.specs.Demand.{field-size, tree-from, tree, entries-from, full-entries}
 use Rattle.definition.specs.TreeRecords.{tree-records-from, tree-records}
-use Rattle.definition.proofs.Inject.{body}
+use Rattle.definition.proofs.Fit.{body}
 use Rattle.definition.proofs.Size.{weight}
 use Rattle.definition.proofs.Room.{nums-length, place-length, errs-length}
 

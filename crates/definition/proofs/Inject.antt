@@ -1,17 +1,20 @@
 -- The bytes of a tree determine its records, where these fit. Assumes nothing.
-use mathlib.Core.Path.{_≡_, refl, sym, ap, ap₂, _∙_}
-use mathlib.Core.Bool.{Bool, true, false}
+use mathlib.Core.Path.{_≡_, refl, sym, ap, ap₂, _∙_, subst}
 use mathlib.Core.Option.{Option, none, some}
 use mathlib.Core.List.{List, [], _∷_, _++_, append-assoc}
-use Prim.Native.Nat.{ℕ, _+_, _/_, _%_, _^_, _≤_, _<_}
+use Prim.Native.Nat.{ℕ, _/_, _%_, _^_, _<_}
 use native.Mathlib.Omega.{arith}
 use native.Mathlib.Nat.{div-div-eq-div-mul, div-lt-iff-lt-mul}
-use lib.Dec.{eqb, lit<}
-use lib.ListN.{length, length-append}
+use lib.Dec.{lit<}
+use lib.ListN.{length}
 use Rattle.definition.specs.Source.{Place}
-use Rattle.definition.specs.Node.{Num, byte, two, eight, Rec, u16, at-place, nums-bytes, field, rec-bytes, recs-bytes}
-use Rattle.definition.proofs.Tests.{clash}
-use Rattle.definition.proofs.Layouts.{widths, placed, shape, layout, one-of, choose, SmallAt, SmallNums, Fit, Fits}
+use Rattle.definition.specs.Node.{Num, byte, two, eight, Rec, u16, place-bytes, at-place, nums-bytes, field, rec-bytes, recs-bytes}
+use Rattle.definition.specs.Format as F
+use Rattle.definition.specs.Format.{Part, Sort, Row, rows, find}
+use Rattle.definition.proofs.Tests.{All}
+use Rattle.definition.proofs.Tokens.{Placed}
+use Rattle.definition.proofs.Leaves.{Suits, nothing, with-text, with-byte, with-base, with-count, with-eight, Body, bare, at}
+use Rattle.definition.proofs.Fit.{body, Fit}
 
 u16-inj : (m n : ℕ) → m < 65536 → n < 65536 → m / 256 % 256 ≡ n / 256 % 256 → m % 256 ≡ n % 256 → m ≡ n
 u16-inj m n h k p q = omega arith
@@ -64,106 +67,65 @@ cancel (x ∷ xs) (y ∷ ys) r q h e =
     let c : Both (xs ≡ ys) (r ≡ q) = cancel xs ys r q (omega arith) (tails e) in
     record { left = ap₂ {C = List ℕ} (λ a b. a ∷ b) (heads e) (c .left); right = c .right }
 
-places : (p q : Option Place) (r t : List ℕ) → placed p ≡ placed q → SmallAt p → SmallAt q
-    → at-place p ++ r ≡ at-place q ++ t → Both (p ≡ q) (r ≡ t)
-places none none r t h a b e = record { left = refl; right = e }
-places none (some q) r t h a b e = absurd (omega arith)
-places (some p) none r t h a b e = absurd (omega arith)
-places (some p) (some q) r t h a b e =
-    let l : p .line ≡ q .line = u16-inj (p .line) (q .line) (a .0) (b .0) (heads e) (heads (tails e)) in
-    let c : p .column ≡ q .column = u16-inj (p .column) (q .column) (a .1) (b .1) (heads (tails (tails e)))
-    (heads (tails (tails (tails e)))) in
-    record { left = λ i. some (record { line = l i; column = c i }); right = tails (tails (tails (tails e))) }
-
-numbers : (ms ns : List Num) (r t : List ℕ) → widths ms ≡ widths ns → SmallNums ms → SmallNums ns
-    → nums-bytes ms ++ r ≡ nums-bytes ns ++ t → Both (ms ≡ ns) (r ≡ t)
+-- the numbers and the text, of the same parts
+same-parts : {ps : List Part} {ms ns : List Num} {t u : List ℕ} → Suits ps ms t → Suits ps ns u
+    → nums-bytes ms ++ t ≡ nums-bytes ns ++ u → Both (ms ≡ ns) (t ≡ u)
 unfolding nums-bytes
-numbers [] [] r t h a b e = record { left = refl; right = e }
-numbers [] (n ∷ ns) r t h a b e = let z : _≡_ {A = ℕ} 0 1 = cc in absurd (omega arith)
-numbers (m ∷ ms) [] r t h a b e = let z : _≡_ {A = ℕ} 0 1 = cc in absurd (omega arith)
-numbers (byte m ∷ ms) (byte n ∷ ns) r t h a b e =
-    let c : Both (ms ≡ ns) (r ≡ t) = numbers ms ns r t (tails h) a b (tails e) in
-    record { left = λ i. byte (heads e i) ∷ c .left i; right = c .right }
-numbers (two m ∷ ms) (two n ∷ ns) r t h a b e =
-    let c : Both (ms ≡ ns) (r ≡ t) = numbers ms ns r t (tails h) (a .1) (b .1) (tails (tails e)) in
-    let v : m ≡ n = u16-inj m n (a .0) (b .0) (heads e) (heads (tails e)) in record { left = λ i. two (v i) ∷ c .left i; right = c .right }
-numbers (eight m ∷ ms) (eight n ∷ ns) r t h a b e =
-    let c : Both (ms ≡ ns) (r ≡ t) = numbers ms ns r t (tails h) (a .1) (b .1)
-    (tails (tails (tails (tails (tails (tails (tails (tails e)))))))) in
-    let v : m ≡ n = u64-inj m n (a .0) (b .0) (heads e) (heads (tails e)) (heads (tails (tails e)))
-    (heads (tails (tails (tails e)))) (heads (tails (tails (tails (tails e)))))
-    (heads (tails (tails (tails (tails (tails e))))))
-    (heads (tails (tails (tails (tails (tails (tails e))))))) (heads (tails (tails (tails (tails (tails (tails (tails e)))))))) in
+same-parts nothing nothing e = record { left = refl; right = refl }
+same-parts (with-text a) (with-text b) e = record { left = refl; right = e }
+same-parts (with-byte l h a) (with-byte m k b) e =
+    let c = same-parts a b (tails e) in record { left = λ i. byte (heads e i) ∷ c .left i; right = c .right }
+same-parts (with-base h a) (with-base k b) e =
+    let c = same-parts a b (tails e) in record { left = λ i. byte (heads e i) ∷ c .left i; right = c .right }
+same-parts (with-count {n = m} h a) (with-count {n} k b) e =
+    let c = same-parts a b (tails (tails e)) in
+    let v : m ≡ n = u16-inj m n (omega arith) (omega arith) (heads e) (heads (tails e)) in
+    record { left = λ i. two (v i) ∷ c .left i; right = c .right }
+same-parts (with-eight {n = m} h a) (with-eight {n} k b) e =
+    let e₂ = tails (tails e) in
+    let e₄ = tails (tails e₂) in
+    let e₆ = tails (tails e₄) in
+    let c = same-parts a b (tails (tails e₆)) in
+    let v : m ≡ n = u64-inj m n h k (heads e) (heads (tails e)) (heads e₂) (heads (tails e₂)) (heads e₄)
+    (heads (tails e₄)) (heads e₆) (heads (tails e₆)) in
     record { left = λ i. eight (v i) ∷ c .left i; right = c .right }
-numbers (byte m ∷ ms) (two n ∷ ns) r t h a b e = absurd (omega (arith, heads h))
-numbers (byte m ∷ ms) (eight n ∷ ns) r t h a b e = absurd (omega (arith, heads h))
-numbers (two m ∷ ms) (byte n ∷ ns) r t h a b e = absurd (omega (arith, heads h))
-numbers (two m ∷ ms) (eight n ∷ ns) r t h a b e = absurd (omega (arith, heads h))
-numbers (eight m ∷ ms) (byte n ∷ ns) r t h a b e = absurd (omega (arith, heads h))
-numbers (eight m ∷ ms) (two n ∷ ns) r t h a b e = absurd (omega (arith, heads h))
 
-unfoldable pub body : Rec → List ℕ
-body r = at-place (r .place) ++ nums-bytes (r .numbers) ++ r .text
+same-place : (p q : Place) (r t : List ℕ) → Placed 1 p → Placed 1 q → place-bytes p ++ r ≡ place-bytes q ++ t
+    → Both (p ≡ q) (r ≡ t)
+same-place p q r t h k e =
+    let e₂ = tails (tails e) in
+    let l : p .line ≡ q .line = u16-inj _ _ (omega arith) (omega arith) (heads e) (heads (tails e)) in
+    let c : p .column ≡ q .column = u16-inj _ _ (omega arith) (omega arith) (heads e₂) (heads (tails e₂)) in
+    record { left = λ i. record { line = l i; column = c i }; right = tails (tails e₂) }
+
+-- and the place
+same-body : {ps : List Part} {p q : Option Place} {ms ns : List Num} {t u : List ℕ} → Body ps p ms t → Body ps q ns u
+    → at-place p ++ (nums-bytes ms ++ t) ≡ at-place q ++ (nums-bytes ns ++ u)
+    → Both (p ≡ q) (Both (ms ≡ ns) (t ≡ u))
+same-body (bare a) (bare b) e = record { left = refl; right = same-parts a b e }
+same-body (at {p} h a) (at {p = q} k b) e =
+    let c = same-place p q _ _ h k e in
+    record { left = ap some (c .left); right = same-parts a b (c .right) }
 
 same-rec : (r q : Rec) → Fit r → Fit q → r .tag ≡ q .tag → body r ≡ body q → r ≡ q
 unfolding body
 same-rec r q f g t e =
-    let h : shape r ≡ shape q = f .shaped ∙ ap layout t ∙ sym (g .shaped) in
-    let c : Both (r .place ≡ q .place) (nums-bytes (r .numbers) ++ r .text ≡ nums-bytes (q .numbers) ++ q .text) =
-    places (r .place) (q .place) (nums-bytes (r .numbers) ++ r .text) (nums-bytes (q .numbers) ++ q .text) (heads h) (f .at) (g .at)
-    (sym (append-assoc (at-place (r .place)) (nums-bytes (r .numbers)) (r .text)) ∙ e
+    let w : g .row ≡ f .row = cc (f .found, g .found, t) in
+    let b = subst (λ (w : Row). Body (w .body) (q .place) (q .numbers) (q .text)) w (g .holds) in
+    let c = same-body (f .holds) b (sym (append-assoc (at-place (r .place)) (nums-bytes (r .numbers)) (r .text)) ∙ e
     ∙ append-assoc (at-place (q .place)) (nums-bytes (q .numbers)) (q .text)) in
-    let d : Both (r .numbers ≡ q .numbers) (r .text ≡ q .text) = numbers (r .numbers) (q .numbers) (r .text)
-    (q .text) (tails h) (f .nums) (g .nums) (c .right) in
-    λ i. record { tag = t i; place = c .left i; numbers = d .left i; text = d .right i }
+    λ i. record { tag = t i; place = c .left i; numbers = c .right .left i; text = c .right .right i }
 
--- how long a body is
-total : List ℕ → ℕ
-total [] = 0
-total (n ∷ ns) = n + total ns
+sort-of : Option Row → Sort
+sort-of none = F.node 0
+sort-of (some w) = w .sort
 
-layout-bound : (t : ℕ) → total (layout t) ≤ 9
-unfolding layout total
-layout-bound t =
-    go (one-of t (0x15 ∷ 0x33 ∷ 0x34 ∷ 0x35 ∷ [])) (one-of t (0x13 ∷ []))
-    (one-of t (0x14 ∷ 0x24 ∷ 0x30 ∷ 0x31 ∷ 0x40 ∷ []))
-    (one-of t (0x21 ∷ 0x22 ∷ 0x2D ∷ 0x2E ∷ 0x45 ∷ 0x49 ∷ 0x51 ∷ [])) (one-of t (0x50 ∷ []))
-  where
-    go : (a b c d e : Bool)
-        → total (choose a (0 ∷ []) (choose b (1 ∷ 8 ∷ [])
-        (choose c (1 ∷ 2 ∷ []) (choose d (1 ∷ 1 ∷ []) (choose e (1 ∷ 1 ∷ 2 ∷ []) (1 ∷ [])))))) ≤ 9
-    go true b c d e = omega arith
-    go false true c d e = omega arith
-    go false false true d e = omega arith
-    go false false false true e = omega arith
-    go false false false false true = omega arith
-    go false false false false false = omega arith
-
-nums-length : (ns : List Num) → length (nums-bytes ns) ≡ total (widths ns)
-unfolding nums-bytes total
-nums-length [] = refl
-nums-length (byte n ∷ ns) = omega (arith, nums-length ns)
-nums-length (two n ∷ ns) = omega (arith, nums-length ns)
-nums-length (eight n ∷ ns) = omega (arith, nums-length ns)
-
-place-length : (p : Option Place) → length (at-place p) ≤ 4
-place-length none = omega arith
-place-length (some p) = omega arith
-
-body-short : (r : Rec) → Fit r → length (body r) < 65536
-unfolding body total
-body-short r f =
-    simp length-append (omega (
-      arith,
-      place-length (r .place),
-      nums-length (r .numbers),
-      layout-bound (r .tag),
-      ap total (f .shaped),
-      f .text,
-    ))
-
-never : {t : ℕ} → eqb t 0x5F ≡ false → 0x5F ≡ t → ⊥
-never {t} p e = clash (rw (← e) at p)
+-- no node has the module's tag
+never : (r : Rec) → Fit r → 0x5F ≡ r .tag → ⊥
+unfolding find rows sort-of
+never r f e =
+    let m : F.root ≡ F.node (f .kind) = ap (λ (u : ℕ). sort-of (find u rows)) e ∙ ap sort-of (f .found) ∙ f .node in
+    let z : _≡_ {A = ℕ} 0 1 = cc in absurd (omega arith)
 
 -- fields
 fields : (t u : ℕ) (b c r q : List ℕ) → length b < 65536 → length c < 65536 → field t b ++ r ≡ field u c ++ q
@@ -175,7 +137,7 @@ fields t u b c r q h k e =
           (tails (tails (tails e)));
     }
 
-pub same-tree : (xs ys : List Rec) (m n : ℕ) → Fits xs → Fits ys → m < 65536 → n < 65536
+pub same-tree : (xs ys : List Rec) (m n : ℕ) → All Fit xs → All Fit ys → m < 65536 → n < 65536
     → recs-bytes xs ++ field 0x5F (u16 m) ≡ recs-bytes ys ++ field 0x5F (u16 n) → Both (xs ≡ ys) (m ≡ n)
 unfolding recs-bytes rec-bytes body
 same-tree [] [] m n f g h k e =
@@ -183,12 +145,13 @@ same-tree [] [] m n f g h k e =
       left = refl;
       right = u16-inj m n h k (heads (tails (tails (tails e)))) (heads (tails (tails (tails (tails e)))));
     }
-same-tree [] (y ∷ ys) m n f g h k e = absurd (never (g .0 .module-not) (heads e))
-same-tree (x ∷ xs) [] m n f g h k e = absurd (never (f .0 .module-not) (sym (heads e)))
+same-tree [] (y ∷ ys) m n f g h k e = absurd (never y (g .0) (heads e))
+same-tree (x ∷ xs) [] m n f g h k e = absurd (never x (f .0) (sym (heads e)))
 same-tree (x ∷ xs) (y ∷ ys) m n f g h k e =
-    let c : Both (x .tag ≡ y .tag) (Both (body x ≡ body y) (recs-bytes xs ++ field 0x5F (u16 m) ≡ recs-bytes ys ++ field 0x5F (u16 n))) =
+    let c : Both (x .tag ≡ y .tag) (Both (body x ≡ body y)
+    (recs-bytes xs ++ field 0x5F (u16 m) ≡ recs-bytes ys ++ field 0x5F (u16 n))) =
     fields (x .tag) (y .tag) (body x) (body y) (recs-bytes xs ++ field 0x5F (u16 m))
-    (recs-bytes ys ++ field 0x5F (u16 n)) (body-short x (f .0)) (body-short y (g .0))
+    (recs-bytes ys ++ field 0x5F (u16 n)) (f .0 .short) (g .0 .short)
     (sym (append-assoc (rec-bytes x) (recs-bytes xs) (field 0x5F (u16 m))) ∙ e
     ∙ append-assoc (rec-bytes y) (recs-bytes ys) (field 0x5F (u16 n))) in
     let d : Both (xs ≡ ys) (m ≡ n) = same-tree xs ys m n (f .1) (g .1) h k (c .right .right) in

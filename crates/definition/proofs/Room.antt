@@ -2,7 +2,7 @@
 use mathlib.Core.Path.{_≡_, refl, sym, ap, _∙_, subst}
 use mathlib.Core.Bool.{true, false}
 use mathlib.Core.Option.{Option, none, some}
-use mathlib.Core.List.{List, [], _∷_, _++_, append-nil}
+use mathlib.Core.List.{List, [], _∷_, _++_, append-nil, append-assoc}
 use Prim.Native.Nat.{ℕ, zero, suc, _+_, _*_, _≤_}
 use native.Mathlib.Omega.{arith}
 use lib.Dec.{ltb, ltb→lt}
@@ -136,6 +136,13 @@ pub recs-length : (rs : List Rec) → length (recs-bytes rs) ≤ Z.weight rs
 unfolding recs-bytes rec-bytes
 recs-length [] = omega arith
 recs-length (r ∷ rs) = simp length-append (omega (arith, place-length (r .place), nums-length (r .numbers), recs-length rs))
+
+pub recs-append : (xs ys : List Rec) → recs-bytes (xs ++ ys) ≡ recs-bytes xs ++ recs-bytes ys
+unfolding recs-bytes
+recs-append [] ys = refl
+recs-append (x ∷ xs) ys =
+    ap (λ (l : List ℕ). rec-bytes x ++ l) (recs-append xs ys)
+    ∙ sym (append-assoc (rec-bytes x) (recs-bytes xs) (recs-bytes ys))
 
 pub errs-length : (tag : ℕ) (es : List Err) → length (errs-bytes tag es) ≡ 10 * length es
 unfolding errs-bytes

@@ -20,7 +20,6 @@ use Rattle.definition.specs.Tokenizer as Z
 use Rattle.definition.specs.Tokenizer.{Turn, goes, refused, Span, Quoted, Run, ends, foreign, Class, Foreign, White, Comment, Pair, Symbol, Quote, Word, Dash, Zero, Digit, Unknown, Tokens, tokens, turn, tokenize, tokenize-from, comment, digits, assembly, quoted, word, white, look, drop-one}
 use Rattle.definition.proofs.Unparse.{same-place}
 use Rattle.definition.proofs.Shown.{Apart, Distinct}
-use Rattle.definition.proofs.Layouts.{AllSmall}
 use Rattle.definition.proofs.Tests.{both-true, chosen, picked, counted, All, all-append, all-replicate, all-map}
 use Rattle.definition.proofs.Characters.{spelling, Whole, Spelt, spelt, Utf8, utf8-none, utf8-char, utf8-byte}
 use Rattle.definition.proofs.Formed.{Formed, Plain, plain-formed, pair-plain, symbol-plain, keyword-plain, Classed, is-foreign, is-white, is-comment, is-pair, is-symbol, is-quote, is-word, is-dash, is-zero, is-digit, is-unknown, classed, text-formed, letter-bounds, Numeral, dash-numeral, numeral, or-zero-numeral, integer-formed, digits-all, digit-first}
@@ -487,17 +486,12 @@ distinct : (ts : List Tok) (j k : ℕ) → Rising j ts k → Distinct ts
 distinct [] j k r = tt
 distinct (t ∷ ts) j k r = (apart (t .place) ts (key (t .place)) k (omega arith) (r .1), distinct ts (key (t .place)) k (r .1))
 
-small : (ts : List Tok) → All Good ts → AllSmall ts
-small [] g = tt
-small (t ∷ ts) g = (omega (arith, g .0), small ts (g .1))
-
 -- what is known of the tokens and errors of a script
 pub record Made (ts : List Tok) (es : List Err) : Type 0 where
   pub good : All Good ts
   pub behind : Behind nowhere ts
   pub faults : All Fault es
   pub distinct : Distinct ts
-  pub small : AllSmall ts
   pub kinds : Kinds ts
   pub text : texts ts ≤ 16384
   pub tokens : length ts ≤ 2048
@@ -560,7 +554,6 @@ tokens-from (suc n) [] ts es k f c b h m w = record {
   behind = behind nowhere ts k (omega arith) (h .rising) (h .good);
   faults = h .faults;
   distinct = distinct ts 0 k (h .rising);
-  small = small ts (h .good);
   kinds = all-map Good (λ t. 0 < t .kind) (λ t g. g .formed .low) ts (h .good);
   text = omega arith;
   tokens = m;

@@ -19,6 +19,7 @@ use Rattle.definition.specs.Fallible.{Err, Fallible, Ans, ok, fatal}
 use Rattle.definition.specs.Act.{Act, Node, Consumed, St, Res, gives, after, or-return, run}
 use Rattle.definition.specs.Parser as P
 use Rattle.definition.specs.Go.{go}
+use Rattle.definition.proofs.Room.{recs-append}
 use Rattle.fallible.proofs.How.{the-type}
 use Rattle.fallible.proofs.Grown.{errs-length}
 use Rattle.fallible.specs.declared.State.{State}
@@ -113,13 +114,6 @@ module _ {A : Type 0} (K : View A) {w x : List ℕ} {n : ℕ} {r f r′ f′ : L
       one false l = rw (few, l, run)
 
 -- ---- records and errors behind those that stand
-
-pub recs-append : (xs ys : List Rec) → recs-bytes (xs ++ ys) ≡ recs-bytes xs ++ recs-bytes ys
-unfolding recs-bytes
-recs-append [] ys = refl
-recs-append (x ∷ xs) ys =
-    ap (λ (l : List ℕ). rec-bytes x ++ l) (recs-append xs ys)
-    ∙ sym (append-assoc (rec-bytes x) (recs-bytes xs) (recs-bytes ys))
 
 pub tree-join : {T′ l : List ℕ} (T : List ℕ) (rs ys : List Rec) → T′ ≡ T ++ recs-bytes rs → l ≡ T′ ++ recs-bytes ys
     → l ≡ T ++ recs-bytes (rs ++ ys)

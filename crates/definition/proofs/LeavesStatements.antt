@@ -1,0 +1,444 @@
+-- The records of a declaration, a statement and an item leave one node, and those of a module one for each item,
+-- whatever errors are made. Assumes nothing.
+use mathlib.Core.Path.{_≡_, refl, subst}
+use mathlib.Core.Bool.{true, false}
+use mathlib.Core.List.{List, [], _∷_}
+use Prim.Native.Nat.{ℕ, _+_, _≤_, _<_}
+use native.Mathlib.Omega.{arith}
+use lib.ListN.{length, replicate}
+use Rattle.definition.specs.Kind as K
+use Rattle.definition.specs.Source.{Place, utf8}
+use Rattle.definition.specs.Node.{Rec, u16, field, nums-bytes, rec-bytes}
+use Rattle.definition.specs.Fallible.{Fallible, Ans, ok, fatal}
+use Rattle.definition.specs.Token.{Tok, head, tail, _is_}
+use Rattle.definition.specs.Act.{Node, Items, Goal, Statement, Expression, Unary, Type', Loop, Module, Body, ListOf, Operators, Casts, Suffixes, Modifiers, Parameters, ArrayValues, StructValues, Words, plain, Act, St, begin, gives, advance, _>>=_}
+use Rattle.definition.specs.Parser as P
+use Rattle.definition.specs.Format as F
+use Rattle.definition.specs.Format.{rows, find, module-rec}
+use Rattle.definition.proofs.Later.{Later, later-left, After}
+use Rattle.definition.proofs.Ind.{wp-mono, follow}
+use Rattle.definition.proofs.Grows.{there, tail-le}
+use Rattle.definition.proofs.Tokens.{Placed, Good}
+use Rattle.definition.proofs.Throughout.{module-known}
+use Rattle.definition.proofs.Leaves.{Leaves, Rooted, none-left, also, made, leaf, one-more, all-three, nothing, with-text, with-byte, with-count, bare, at}
+use Rattle.definition.proofs.LeavesExpressions.{Known, known-tail, known-later, good, good-of, Item, Whole, Listing, If, G, L, R, M, awp, reads, expects, identifier, calls, uses, suffixes-leaves, Opened, list-leaves, Typed, typed-identifier-leaves, list-turn-leaves, unary-leaves, casts-leaves, operators-leaves, expression-leaves, type-leaves}
+
+-- ---- declarations
+
+compound-leaves : (s : St) → Known (s .left) → awp P.parse-compound (If (Item F.compound s)) s
+unfolding P.parse-compound find rows
+compound-leaves s d = expects plain K.Hash tt _ _ _ (λ h b. (
+  λ _ _. tt,
+  λ _. (
+    λ j. let h₂ = good-of K.LBracket tt (t .left) e j in
+        follow G L R M (P.parse-list ArrayValues) _ (Opened F.expression t) _ _ (list-leaves ArrayValues t)
+        (λ a u l q. record {
+          leaves = made _ refl refl (at (h₂ .placed) (with-count (omega (arith, q .count, tail-le (t .left), e .1))
+              nothing)) (q .leaves);
+          less = omega (arith, q .count, tail-le (t .left));
+        }),
+    λ _. (
+      λ j. let h₂ = good-of K.LBrace tt (t .left) e j in
+          follow G L R M (P.parse-list StructValues) _ (Opened F.compound-field t) _ _ (list-leaves StructValues t)
+          (λ a u l q. record {
+            leaves = made _ refl refl (at (h₂ .placed)
+                (with-count (omega (arith, q .count, tail-le (t .left), e .1)) nothing)) (q .leaves);
+            less = omega (arith, q .count, tail-le (t .left));
+          }),
+      λ _ _. tt,
+    ),
+  ),
+))
+  where
+    t : St
+    t = advance (λ _. plain) s
+
+    e : Known (t .left)
+    e = known-tail (s .left) d
+
+-- a declaration: its type, and an initial value
+record Declared (s : St) (x : Fallible P.Typed) (s′ : St) : Type 0 where
+  leaves : Leaves (x .item .type) (F.type ∷ F.initial-value ∷ [])
+  name : utf8 (x .item .name) ≡ true
+  less : length (s′ .left) < length (s .left)
+
+var-like-leaves : (s : St) → Known (s .left) → awp P.parse-var-like-declaration (If (Declared s)) s
+unfolding P.parse-var-like-declaration find rows
+var-like-leaves s d = uses (Typed s) P.parse-typed-identifier _ _ _ (typed-identifier-leaves s) (λ x t l p. (
+  λ i _. calls Expression _ _ _ (λ e u q. record {
+    leaves = also (p .leaves) (made _ refl refl (bare nothing) (q .leaves));
+    name = p .name;
+    less = omega (arith, p .less, q .less, tail-le (t .left));
+  }),
+  λ _. (
+    λ i _. uses (Item F.compound (advance (λ _. plain) t)) P.parse-compound _ _ _
+        (compound-leaves (advance (λ _. plain) t) (known-tail (t .left) (known-later s t l d)))
+        (λ c u l₂ q. record {
+          leaves = also (p .leaves) (made _ refl refl (bare nothing) (q .leaves));
+          name = p .name;
+          less = omega (arith, p .less, q .less, tail-le (t .left));
+        }),
+    λ _.
+        record { leaves = also (p .leaves) (leaf _ refl refl refl (bare nothing)); name = p .name; less = p .less },
+  ),
+))
+
+declaration-leaves : (tag k : ℕ)
+    → ((rs : List Rec) (p : Place) (x : List ℕ) → Placed 1 p → utf8 x ≡ true
+    → Leaves rs (F.type ∷ F.initial-value ∷ []) → Leaves (P.node rs tag p [] x .recs) (k ∷ []))
+    → (p : Place) → Placed 1 p → (s : St) → Known (s .left) → reads k (P.declaration tag p) s
+unfolding P.declaration
+declaration-leaves tag k w p h s d =
+    uses (Declared s) P.parse-var-like-declaration _ _ _ (var-like-leaves s d)
+    (λ x t l q. expects plain K.Semicolon tt _ _ _ (λ _ b. record {
+      leaves = w _ _ _ h (q .name) (q .leaves);
+      place = h;
+      less = omega (arith, q .less);
+    }))
+
+-- ---- statements
+
+body-leaves : (s : St) → awp P.parse-body (Opened F.statement s) s
+unfolding P.parse-body _>>=_
+body-leaves s d = (
+  λ i a t l p. record { leaves = p .leaves none-left; count = omega (arith, p .count) },
+  λ _. (
+    λ _ _. record { leaves = none-left; count = omega arith },
+    λ _ _. record { leaves = none-left; count = omega arith },
+  ),
+)
+
+body-turn-leaves : (i : Items) (s : St) → awp (P.body-turn i) (Listing F.statement i s) s
+unfolding P.body-turn
+body-turn-leaves i s = (
+  λ e d. record { leaves = λ f. f; count = omega (arith, tail-le (s .left)) },
+  λ _. (
+    λ _ _. record { leaves = λ f. f; count = omega arith },
+    λ _. (
+      λ x t l p a u l₂ q. record {
+        leaves = λ f. q .leaves (one-more (i .count) F.statement f (p .leaves));
+        count = omega (arith, q .count, p .less);
+      },
+      λ es t l p a u l₂ q. record { leaves = q .leaves; count = omega (arith, q .count, later-left l) },
+    ),
+  ),
+)
+
+-- what is read after a first token, of the same answer
+more : (k : ℕ) (s : St) (m : Act (Ans Node)) → awp m (If (Whole k (advance (λ _. plain) s))) (advance (λ _. plain) s)
+    → awp m (If (Whole k s)) (advance (λ _. plain) s)
+more k s m w = wp-mono G L R M (If (Whole k (advance (λ _. plain) s))) (If (Whole k s)) m (advance (λ _. plain) s) go w
+  where
+    go : (a : Ans Node) (t : St) → If (Whole k (advance (λ _. plain) s)) a t → If (Whole k s) a t
+    go (ok x) t p = record { leaves = p .leaves; place = p .place; less = omega (arith, p .less, tail-le (s .left)) }
+    go (fatal es) t p = tt
+
+return-leaves : (p : Place) → Placed 1 p → (s : St) → reads F.statement (P.parse-return p) s
+unfolding P.parse-return find rows
+return-leaves p h s = (
+  λ j d. record {
+    leaves = leaf _ refl refl refl (at h (with-byte {n = 0} (omega arith) (omega arith) nothing));
+    place = h;
+    less = there K.Semicolon tt (s .left) j;
+  },
+  λ _.
+      calls Expression _ _ _ (λ e t q. expects plain K.Semicolon tt _ _ _ (λ _ b. record {
+        leaves = made _ refl refl (at h (with-byte {n = 1} (omega arith) (omega arith) nothing)) (q .leaves);
+        place = h;
+        less = omega (arith, q .less);
+      })),
+)
+
+if-leaves : (p : Place) → Placed 1 p → (s : St) → reads F.statement (P.parse-if p) s
+unfolding P.parse-if find rows
+if-leaves p h s = calls Expression _ _ _ (λ c t q. calls Statement _ _ _ (λ a u r. (
+  λ j d. calls Statement _ _ _ (λ b v z. record {
+    leaves = made _ refl refl (at h (with-byte {n = 3} (omega arith) (omega arith) nothing))
+        (also (also (q .leaves) (r .leaves)) (z .leaves));
+    place = h;
+    less = omega (arith, q .less, r .less, z .less, tail-le (u .left));
+  }),
+  λ _.
+      record {
+        leaves = made _ refl refl (at h (with-byte {n = 2} (omega arith) (omega arith) nothing))
+            (also (q .leaves) (r .leaves));
+        place = h;
+        less = omega (arith, q .less, r .less);
+      },
+)))
+
+after-expression-leaves : (p : Place) → Placed 1 p → (e : Node) (s t : St) → Leaves (e .recs) (F.expression ∷ [])
+    → length (t .left) < length (s .left) → Known (t .left)
+    → awp (P.after-expression p e) (If (Whole F.statement s)) t
+unfolding P.after-expression find rows
+after-expression-leaves p h e s t f b d = (
+  λ i _. calls Expression _ _ _ (λ v u q. expects plain K.Semicolon tt _ _ _ (λ _ b₂. record {
+    leaves = made _ refl refl (at h nothing) (also f (q .leaves));
+    place = h;
+    less = omega (arith, q .less, tail-le (t .left));
+  })),
+  λ _. (
+    λ i _. uses (Item F.compound (advance (λ _. plain) t)) P.parse-compound _ _ _
+        (compound-leaves (advance (λ _. plain) t) (known-tail (t .left) d))
+        (λ v u l q. expects plain K.Semicolon tt _ _ _ (λ _ b₂. record {
+          leaves = made _ refl refl (at h nothing) (also f (q .leaves));
+          place = h;
+          less = omega (arith, q .less, tail-le (t .left));
+        })),
+    λ _.
+        expects plain K.Semicolon tt _ _ _ (λ _ b₂. record {
+          leaves = made _ refl refl (at h nothing) f;
+          place = h;
+          less = omega arith;
+        }),
+  ),
+)
+
+expression-statement-leaves : (p : Place) → Placed 1 p → (s : St) → Known (s .left)
+    → reads F.statement (P.expression-statement p) s
+unfolding P.expression-statement find rows _>>=_
+expression-statement-leaves p h s d = (
+  λ e t l q. (
+    λ _. after-expression-leaves p h (e .item) s t (q .leaves) (q .less) (known-later s t l d),
+    λ _. record {
+      leaves = made _ refl refl (at h nothing) (q .leaves);
+      place = h;
+      less = q .less;
+    },
+  ),
+  λ es t l q. tt,
+)
+
+statement-leaves : (s : St) → Known (s .left) → reads F.statement P.statement-rule s
+unfolding P.statement-rule find rows
+statement-leaves s d = (
+  λ i _. more F.statement s (P.parse-return (head (s .left) .place))
+      (return-leaves (head (s .left) .place) (good-of K.KwReturn tt (s .left) d i .placed) (advance (λ _. plain) s)),
+  λ _. (
+    λ i _. more F.statement s (P.declaration 0x42 (head (s .left) .place))
+        (declaration-leaves 0x42 F.statement (λ rs p x h u f. made _ refl refl (at h (with-text u)) f)
+        (head (s .left) .place) (good-of K.KwVar tt (s .left) d i .placed) (advance (λ _. plain) s)
+        (known-tail (s .left) d)),
+    λ _. (
+      λ i. let h = good-of K.LBrace tt (s .left) d i in
+          let b = there K.LBrace tt (s .left) i in
+          follow G L R M P.parse-body _ (Opened F.statement s) _ _ (body-leaves s)
+          (λ a t l q. record {
+            leaves = made _ refl refl (at (h .placed) (with-count (omega (arith, q .count, d .1)) nothing)) (q .leaves);
+            place = h .placed;
+            less = omega (arith, q .count);
+          }),
+      λ _. (
+        λ i _. let h = good-of K.KwLoop tt (s .left) d i in
+            calls Statement _ _ _ (λ b t p. record {
+              leaves = made _ refl refl (at (h .placed) nothing) (p .leaves);
+              place = h .placed;
+              less = omega (arith, p .less, tail-le (s .left));
+            }),
+        λ _. (
+          λ i _. let h = good-of K.KwWhile tt (s .left) d i in
+              calls Expression _ _ _ (λ c t p. calls Statement _ _ _ (λ b u q. record {
+                leaves = made _ refl refl (at (h .placed) nothing) (also (p .leaves) (q .leaves));
+                place = h .placed;
+                less = omega (arith, p .less, q .less, tail-le (s .left));
+              })),
+          λ _. (
+            λ i _. let h = good-of K.KwBreak tt (s .left) d i in
+                expects plain K.Semicolon tt _ _ _ (λ _ b. record {
+                  leaves = leaf _ refl refl refl (at (h .placed) nothing);
+                  place = h .placed;
+                  less = omega (arith, tail-le (s .left));
+                }),
+            λ _. (
+              λ i _. more F.statement s (P.parse-if (head (s .left) .place))
+                  (if-leaves (head (s .left) .place) (good-of K.KwIf tt (s .left) d i .placed)
+                  (advance (λ _. plain) s)),
+              λ _. (
+                λ i _. let h = good-of K.InlineAssemblyFragment tt (s .left) d i in
+                    record {
+                      leaves = leaf _ refl refl refl (at (h .placed) (with-text (h .formed .utf8)));
+                      place = h .placed;
+                      less = there K.InlineAssemblyFragment tt (s .left) i;
+                    },
+                λ _. (
+                  λ _ _. tt,
+                  λ e. expression-statement-leaves (head (s .left) .place) (good (s .left) d e .placed) s d,
+                ),
+              ),
+            ),
+          ),
+        ),
+      ),
+    ),
+  ),
+)
+
+-- ---- items
+
+function-body-leaves : (p : Place) → Placed 1 p → (x : ℕ) (name : Tok) → utf8 (name .text) ≡ true
+    → (ps : Items) (r : Fallible Node) (s t : St) → Leaves (ps .recs) (replicate (ps .count) F.named-type)
+    → Leaves (r .item .recs) (F.type ∷ []) → ps .count ≤ 2048
+    → length (t .left) < length (s .left) → length (s .left) ≤ 2048
+    → awp (P.function-body p x name ps r) (If (Whole F.item s)) t
+unfolding P.function-body find rows
+function-body-leaves p h x name n ps r s t fp fr c b d = (
+  λ e. expects plain K.Semicolon tt _ _ _ (λ _ b₂. record {
+    leaves = made _ refl refl (at h (with-byte {n = 1} (omega arith) (omega arith) (with-count c (with-text n))))
+        (also fp fr);
+    place = h;
+    less = omega arith;
+  }),
+  λ e.
+      follow G L R M P.parse-body _ (Opened F.statement t) _ _ (body-leaves t) (λ z u l q. record {
+        leaves = made _ refl refl (at h (with-byte {n = 0} (omega arith) (omega arith) (with-count c (with-text n))))
+            (all-three fp fr (made _ refl refl (at h
+            (with-count {n = z .count} (omega (arith, q .count, tail-le (t .left))) nothing)) (q .leaves)));
+        place = h;
+        less = omega (arith, q .count, tail-le (t .left));
+      }),
+)
+
+function-leaves : (p : Place) → Placed 1 p → (x : ℕ) (s : St) → Known (s .left)
+    → reads F.item (P.function p x) s
+unfolding P.function find rows
+function-leaves p h x s d =
+    expects plain K.KwFn tt _ _ _ (λ _ b. identifier _ _ _
+    (λ n b₂. follow G L R M (P.parse-list Parameters) _ (Opened F.named-type u) _ _ (list-leaves Parameters u)
+    (λ ps v l q. (
+      λ k _. calls Type' _ _ _ (λ ty w r. function-body-leaves p h x (head (tail (s .left))) (n .formed .utf8) ps ty s w
+          (q .leaves) (r .leaves) (omega (arith, q .count, tail-le (u .left), d .1))
+          (omega (arith, q .count, tail-le (u .left), r .less, tail-le (v .left))) (d .1)),
+      λ _.
+          function-body-leaves p h x (head (tail (s .left))) (n .formed .utf8) ps void s v (q .leaves)
+          (leaf _ refl refl refl (at h nothing)) (omega (arith, q .count, tail-le (u .left), d .1))
+          (omega (arith, q .count, tail-le (u .left))) (d .1),
+    ))))
+  where
+    u : St
+    u = advance (λ _. plain) (advance (λ _. plain) s)
+
+    void : Fallible Node
+    void = record { item = P.node [] 0x11 p [] []; errors = [] }
+
+function-definition-leaves : (s : St) → Known (s .left) → Placed 1 (head (s .left) .place)
+    → reads F.item P.parse-function-definition s
+unfolding P.parse-function-definition
+function-definition-leaves s d h = (
+  λ i _. more F.item s (P.function (head (s .left) .place) 1)
+      (function-leaves (head (s .left) .place) h 1 (advance (λ _. plain) s) (known-tail (s .left) d)),
+  λ _. function-leaves (head (s .left) .place) h 0 s d,
+)
+
+type-alias-leaves : (s : St) → Known (s .left) → Placed 1 (head (s .left) .place)
+    → reads F.item P.parse-type-alias s
+unfolding P.parse-type-alias P.alias-rule find rows
+type-alias-leaves s d h w t l m = expects plain K.KwType tt _ _ _ (λ _ b d₂. (
+  λ _. tt,
+  λ e. (
+    λ _ _. tt,
+    λ _. expects plain K.Equals tt _ _ _ (λ _ b₂. calls Type' _ _ _
+        (λ ty u p. expects plain K.Semicolon tt _ _ _ (λ _ b₃. record {
+          leaves = made _ refl refl (at h (with-byte {n = w .distinct + w .internal} (omega arith)
+              (omega (arith, m (omega arith) (omega arith))) (with-text (good (tail (t .left)) d₂ e .formed .utf8))))
+              (p .leaves);
+          place = h;
+          less = omega (arith, p .less, later-left l, b, tail-le (tail (t .left)));
+        }))),
+  ),
+))
+
+use-leaves : (s : St) → Known (s .left) → reads F.item P.parse-use s
+unfolding P.parse-use P.path-rule find rows
+use-leaves s d = expects plain K.KwUse tt _ _ _ (λ h b d₂. (
+  λ _. tt,
+  λ e. (
+    λ _ _. tt,
+    λ _. expects plain K.Semicolon tt _ _ _ (λ _ b₃. record {
+      leaves = leaf _ refl refl refl (at (h .placed) (with-text (good (tail (s .left)) d₂ e .formed .utf8)));
+      place = h .placed;
+      less = omega (arith, tail-le (tail (s .left)));
+    }),
+  ),
+))
+
+top-level-item-leaves : (s : St) → Known (s .left) → head (s .left) is K.End ≡ false
+    → reads F.item P.parse-top-level-item s
+unfolding P.parse-top-level-item P.parse-top-level-var-declaration find rows
+top-level-item-leaves s d z = (
+  λ _. function-definition-leaves s d (h .placed),
+  λ _. (
+    λ _. type-alias-leaves s d (h .placed),
+    λ _. (
+      λ _. use-leaves s d,
+      λ _. (
+        λ _. expects plain K.KwVar tt _ _ _ (λ t b. more F.item s (P.declaration 0x53 (head (s .left) .place))
+            (declaration-leaves 0x53 F.item (λ rs p x h u f. made _ refl refl (at h (with-text u)) f)
+            (head (s .left) .place) (h .placed) (advance (λ _. plain) s) (known-tail (s .left) d))),
+        λ _. (
+          λ i _. record {
+            leaves = leaf _ refl refl refl (at (h .placed) (with-text (h .formed .utf8)));
+            place = h .placed;
+            less = there K.InlineAssemblyFragment tt (s .left) i;
+          },
+          λ _ _ _. tt,
+        ),
+      ),
+    ),
+  ),
+)
+  where
+    h : Good (head (s .left))
+    h = good (s .left) d z
+
+module-turn-leaves : (i : Items) (s : St) → Known (s .left) → awp (P.module-turn i) (Listing F.item i s) s
+unfolding P.module-turn
+module-turn-leaves i s d = (
+  λ e. record { leaves = λ f. f; count = omega arith },
+  λ z. follow G L R M P.parse-top-level-item _ (If (Whole F.item s)) _ _ (top-level-item-leaves s d z) go,
+)
+  where
+    go : (a : Ans Node) (t : St) → Later s t → If (Whole F.item s) a t → (b : Items) (u : St) → Later t u
+        → Listing F.item (P.integrate i a) t b u → Listing F.item i s b u
+    go (ok x) t l p b u l₂ q =
+        record {
+          leaves = λ f. q .leaves (one-more (i .count) F.item f (p .leaves));
+          count = omega (arith, q .count, p .less);
+        }
+    go (fatal es) t l p b u l₂ q = record { leaves = q .leaves; count = omega (arith, q .count, later-left l) }
+
+modifiers-leaves : (w : Words) (s : St) → awp (P.modifiers-turn w) (L (Modifiers w) s) s
+unfolding P.modifiers-turn
+modifiers-leaves w s =
+    (λ i d a t l p x y. p (omega arith) y, λ _. (λ i d a t l p x y. p x (omega arith), λ _ x y. (x, y)))
+
+rules : (g : Goal) (s : St) → Known (s .left) → awp (P.rule g) (G g s) s
+rules Statement s d = statement-leaves s d
+rules Expression s d = expression-leaves s
+rules Unary s d = unary-leaves s d
+rules Type' s d = type-leaves s d
+
+turns : (l : Loop) (s : St) → Known (s .left) → awp (P.turn l) (L l s) s
+turns (Module i) s d = module-turn-leaves i s d
+turns (Body i) s d = body-turn-leaves i s
+turns (ListOf k i) s d = list-turn-leaves k i s
+turns (Operators l e) s d = operators-leaves l e s
+turns (Casts e) s d = casts-leaves e s
+turns (Suffixes e) s d = suffixes-leaves e s d
+turns (Modifiers w) s d = modifiers-leaves w s
+
+-- the records of a whole reading leave the items that the module's record counts
+pub module-leaves : (ts : List Tok) → Known ts → (i : Items) (s : St) → P.parse-module ts ≡ gives i s
+    → Rooted (i .recs) (module-rec (i .count)) × (i .count ≤ 2048)
+unfolding find rows
+module-leaves ts d i s e =
+    let q : Listing F.item (P.no-items []) (begin ts) i s =
+    subst (After (λ i s′. Listing F.item (P.no-items []) (begin ts) i s′)) e
+    (module-known G L Known known-tail known-later rules turns ts d) in
+    let n : i .count ≤ 2048 = omega (arith, q .count, d .1) in
+    let h = bare (with-count n nothing) in
+    (record { row = _; found = refl; root = refl; holds = h; leaves = q .leaves none-left }, n)
+
+-- it is what a file has there
+pub module-written : (n : ℕ) → rec-bytes (module-rec n) ≡ field 0x5F (u16 n)
+unfolding rec-bytes nums-bytes
+module-written n = refl
