@@ -7,6 +7,7 @@ use native.Mathlib.Omega.{arith}
 use native.Mathlib.Nat.{div-div-eq-div-mul, div-lt-iff-lt-mul}
 use lib.Dec.{lit<}
 use lib.ListN.{length}
+use Rattle.definition.specs.Tag as Tag
 use Rattle.definition.specs.Source.{Place}
 use Rattle.definition.specs.Node.{Num, byte, two, eight, Rec, u16, place-bytes, at-place, nums-bytes, field, rec-bytes, recs-bytes}
 use Rattle.definition.specs.Format as F
@@ -121,7 +122,7 @@ sort-of none = F.node 0
 sort-of (some w) = w .sort
 
 -- no node has the module's tag
-never : (r : Rec) → Fit r → 0x5F ≡ r .tag → ⊥
+never : (r : Rec) → Fit r → Tag.Module ≡ r .tag → ⊥
 unfolding find rows sort-of
 never r f e =
     let m : F.root ≡ F.node (f .kind) = ap (λ (u : ℕ). sort-of (find u rows)) e ∙ ap sort-of (f .found) ∙ f .node in
@@ -138,7 +139,7 @@ fields t u b c r q h k e =
     }
 
 pub same-tree : (xs ys : List Rec) (m n : ℕ) → All Fit xs → All Fit ys → m < 65536 → n < 65536
-    → recs-bytes xs ++ field 0x5F (u16 m) ≡ recs-bytes ys ++ field 0x5F (u16 n) → Both (xs ≡ ys) (m ≡ n)
+    → recs-bytes xs ++ field Tag.Module (u16 m) ≡ recs-bytes ys ++ field Tag.Module (u16 n) → Both (xs ≡ ys) (m ≡ n)
 unfolding recs-bytes rec-bytes body
 same-tree [] [] m n f g h k e =
     record {
@@ -149,10 +150,10 @@ same-tree [] (y ∷ ys) m n f g h k e = absurd (never y (g .0) (heads e))
 same-tree (x ∷ xs) [] m n f g h k e = absurd (never x (f .0) (sym (heads e)))
 same-tree (x ∷ xs) (y ∷ ys) m n f g h k e =
     let c : Both (x .tag ≡ y .tag) (Both (body x ≡ body y)
-    (recs-bytes xs ++ field 0x5F (u16 m) ≡ recs-bytes ys ++ field 0x5F (u16 n))) =
-    fields (x .tag) (y .tag) (body x) (body y) (recs-bytes xs ++ field 0x5F (u16 m))
-    (recs-bytes ys ++ field 0x5F (u16 n)) (f .0 .short) (g .0 .short)
-    (sym (append-assoc (rec-bytes x) (recs-bytes xs) (field 0x5F (u16 m))) ∙ e
-    ∙ append-assoc (rec-bytes y) (recs-bytes ys) (field 0x5F (u16 n))) in
+    (recs-bytes xs ++ field Tag.Module (u16 m) ≡ recs-bytes ys ++ field Tag.Module (u16 n))) =
+    fields (x .tag) (y .tag) (body x) (body y) (recs-bytes xs ++ field Tag.Module (u16 m))
+    (recs-bytes ys ++ field Tag.Module (u16 n)) (f .0 .short) (g .0 .short)
+    (sym (append-assoc (rec-bytes x) (recs-bytes xs) (field Tag.Module (u16 m))) ∙ e
+    ∙ append-assoc (rec-bytes y) (recs-bytes ys) (field Tag.Module (u16 n))) in
     let d : Both (xs ≡ ys) (m ≡ n) = same-tree xs ys m n (f .1) (g .1) h k (c .right .right) in
     record { left = λ i. same-rec x y (f .0) (g .0) (c .left) (c .right .left) i ∷ d .left i; right = d .right }

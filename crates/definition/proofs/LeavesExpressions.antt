@@ -7,6 +7,7 @@ use native.Mathlib.Omega.{arith}
 use borrow.Author.Tests.{ltb-true, not-false}
 use lib.Dec.{ltb, T, ltb→lt}
 use lib.ListN.{length, replicate}
+use Rattle.definition.specs.Tag as Tag
 use Rattle.definition.specs.Ascii.{ascii}
 use Rattle.definition.specs.Kind as K
 use Rattle.definition.specs.Source.{Place, utf8}
@@ -412,12 +413,12 @@ prefix-leaves tag w s d =
 pub unary-leaves : (s : St) → Known (s .left) → reads F.expression P.unary-rule s
 unfolding P.unary-rule find rows
 unary-leaves s d = (
-  λ _. prefix-leaves 0x27 (λ rs p h f. made _ refl refl (at h nothing) f) s,
+  λ _. prefix-leaves Tag.PointerTake (λ rs p h f. made _ refl refl (at h nothing) f) s,
   λ _. (
-    λ _. prefix-leaves 0x28 (λ rs p h f. made _ refl refl (at h nothing) f) s,
+    λ _. prefix-leaves Tag.PointerDereference (λ rs p h f. made _ refl refl (at h nothing) f) s,
     λ _. (
-      λ _. prefix-leaves 0x2A (λ rs p h f. made _ refl refl (at h nothing) f) s,
-      λ _. (λ _. prefix-leaves 0x2B (λ rs p h f. made _ refl refl (at h nothing) f) s, λ _. call-leaves s d),
+      λ _. prefix-leaves Tag.BitwiseNot (λ rs p h f. made _ refl refl (at h nothing) f) s,
+      λ _. (λ _. prefix-leaves Tag.BooleanNot (λ rs p h f. made _ refl refl (at h nothing) f) s, λ _. call-leaves s d),
     ),
   ),
 )
@@ -503,7 +504,8 @@ pub operators-leaves : (l : Level) (e : Fallible Node) (s : St) → awp (P.opera
 unfolding P.operators-turn find rows
 operators-leaves l e s =
     find-leaves 7 (P.mapping l) (λ o. next λ op. P.cascade l >>? λ r. loop
-    (Operators l (P.binary 0x2D (byte o ∷ []) (op .place) e r)) done) (done (ok e)) (If (Onward e)) s (mapping-bound l)
+    (Operators l (P.binary Tag.ArithmeticBinOp (byte o ∷ []) (op .place) e r)) done)
+    (done (ok e)) (If (Onward e)) s (mapping-bound l)
     (λ o b g d. let h = g d in
     uses (Whole F.expression (advance (λ _. plain) s)) _ _ _ _ (cascade-leaves l (advance (λ _. plain) s)) (λ r t k p. (
       λ x u l₂ q. record {
@@ -519,7 +521,7 @@ comparison-leaves : (s : St) → reads F.expression P.parse-comparison s
 unfolding P.parse-comparison find rows
 comparison-leaves s = uses (Whole F.expression s) _ _ _ _ (bitwise-or-leaves s) (λ e t l p.
     find-leaves 4 P.comparisons (λ o. next λ op. P.parse-bitwise-or >>? λ r. done
-    (ok (P.binary 0x2E (byte o ∷ []) (op .place) e r))) (done (ok e)) (If (Whole F.expression s)) t
+    (ok (P.binary Tag.ComparisonBinOp (byte o ∷ []) (op .place) e r))) (done (ok e)) (If (Whole F.expression s)) t
     (tt, omega arith, (tt, omega arith, (tt, omega arith, (tt, omega arith, (tt, omega arith, tt)))))
     (λ o b g d. let h = g d in
     uses (Whole F.expression (advance (λ _. plain) t)) _ _ _ _ (bitwise-or-leaves (advance (λ _. plain) t))

@@ -6,6 +6,7 @@ use mathlib.Core.List.{List, [], _∷_}
 use Prim.Native.Nat.{ℕ, _+_, _≤_, _<_}
 use native.Mathlib.Omega.{arith}
 use lib.ListN.{length, replicate}
+use Rattle.definition.specs.Tag as Tag
 use Rattle.definition.specs.Kind as K
 use Rattle.definition.specs.Source.{Place, utf8}
 use Rattle.definition.specs.Node.{Rec, u16, field, nums-bytes, rec-bytes}
@@ -215,8 +216,9 @@ statement-leaves s d = (
   λ i _. more F.statement s (P.parse-return (head (s .left) .place))
       (return-leaves (head (s .left) .place) (good-of K.KwReturn tt (s .left) d i .placed) (advance (λ _. plain) s)),
   λ _. (
-    λ i _. more F.statement s (P.declaration 0x42 (head (s .left) .place))
-        (declaration-leaves 0x42 F.statement (λ rs p x h u f. made _ refl refl (at h (with-text u)) f)
+    λ i _. more F.statement s (P.declaration Tag.VariableDeclaration (head (s .left) .place))
+        (declaration-leaves Tag.VariableDeclaration F.statement
+        (λ rs p x h u f. made _ refl refl (at h (with-text u)) f)
         (head (s .left) .place) (good-of K.KwVar tt (s .left) d i .placed) (advance (λ _. plain) s)
         (known-tail (s .left) d)),
     λ _. (
@@ -318,7 +320,7 @@ function-leaves p h x s d =
     u = advance (λ _. plain) (advance (λ _. plain) s)
 
     void : Fallible Node
-    void = record { item = P.node [] 0x11 p [] []; errors = [] }
+    void = record { item = P.node [] Tag.Void p [] []; errors = [] }
 
 function-definition-leaves : (s : St) → Known (s .left) → Placed 1 (head (s .left) .place)
     → reads F.item P.parse-function-definition s
@@ -371,8 +373,9 @@ top-level-item-leaves s d z = (
     λ _. (
       λ _. use-leaves s d,
       λ _. (
-        λ _. expects plain K.KwVar tt _ _ _ (λ t b. more F.item s (P.declaration 0x53 (head (s .left) .place))
-            (declaration-leaves 0x53 F.item (λ rs p x h u f. made _ refl refl (at h (with-text u)) f)
+        λ _. expects plain K.KwVar tt _ _ _ (λ t b. more F.item s
+            (P.declaration Tag.TopLevelVariable (head (s .left) .place))
+            (declaration-leaves Tag.TopLevelVariable F.item (λ rs p x h u f. made _ refl refl (at h (with-text u)) f)
             (head (s .left) .place) (h .placed) (advance (λ _. plain) s) (known-tail (s .left) d))),
         λ _. (
           λ i _. record {
@@ -439,6 +442,6 @@ module-leaves ts d i s e =
     (record { row = _; found = refl; root = refl; holds = h; leaves = q .leaves none-left }, n)
 
 -- it is what a file has there
-pub module-written : (n : ℕ) → rec-bytes (module-rec n) ≡ field 0x5F (u16 n)
+pub module-written : (n : ℕ) → rec-bytes (module-rec n) ≡ field Tag.Module (u16 n)
 unfolding rec-bytes nums-bytes
 module-written n = refl

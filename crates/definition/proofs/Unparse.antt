@@ -6,6 +6,7 @@ use mathlib.Core.List.{List, [], _∷_, _++_}
 use Prim.Native.Nat.{ℕ, zero, suc}
 use lib.Dec.{eqb}
 use lib.ListN.{getD}
+use Rattle.definition.specs.Tag as Tag
 use Rattle.definition.specs.Choice.{pick}
 use Rattle.definition.specs.Kind as K
 use Rattle.definition.specs.Source.{Place, nowhere}
@@ -125,52 +126,60 @@ at t f = record { tag = t; act = f }
 
 unfoldable pub handlers : Place → List Num → List ℕ → List Handler
 handlers p ns tx =
-    at 0x10 (leaf p (named K.Identifier tx ∷ [])) ∷
-    at 0x11 (leaf p []) ∷
-    at 0x12 (on1 p (λ e. sym1 K.Star ++ e .toks)) ∷
-    at 0x13 (on1 p (λ e. sym1 K.LBracket ++ (sized K.Integer (number-at 0 ns) ∷ []) ++ sym1 K.RBracket ++ e .toks)) ∷
-    at 0x14 (λ st. on-list p (λ ts. sym1 K.KwStruct ++ sym1 K.LBrace ++ ts ++ sym1 K.RBrace) (gather comma (number-at 0 ns) st)) ∷
-    at 0x15 (on1 p (λ e. (named K.Identifier tx ∷ []) ++ sym1 K.Colon ++ e .toks)) ∷
-    at 0x20 (leaf p (named K.Identifier tx ∷ [])) ∷
-    at 0x21 (leaf p (integer (number-at 0 ns) tx ∷ [])) ∷
-    at 0x22 (leaf p (sym1 (pick (eqb (number-at 0 ns) 1) K.KwTrue K.KwFalse))) ∷
-    at 0x23 (leaf p (named K.String tx ∷ [])) ∷
-    at 0x24 (λ st. on-call p (gather comma (number-at 0 ns) st)) ∷
-    at 0x25 (on2 p (λ a b. a ++ sym1 K.LBracket ++ b ++ sym1 K.RBracket)) ∷
-    at 0x26 (on2 p (λ a b. a ++ sym1 K.KwAs ++ b)) ∷
-    at 0x27 (on1 p (λ e. sym1 K.Ampersand ++ e .toks)) ∷
-    at 0x28 (on1 p (dereference p)) ∷
-    at 0x29 (on1 p (λ e. e .toks ++ sym1 K.Dot ++ (named K.Identifier tx ∷ []))) ∷
-    at 0x2A (on1 p (λ e. sym1 K.Tilde ++ e .toks)) ∷
-    at 0x2B (on1 p (λ e. sym1 K.Bang ++ e .toks)) ∷
-    at 0x2C (on2 p (λ a b. a ++ sym1 K.DoubleAmpersand ++ b)) ∷
-    at 0x2D (on2 p (λ a b. a ++ sym1 (arithmetic (number-at 0 ns)) ++ b)) ∷
-    at 0x2E (on2 p (λ a b. a ++ sym1 (comparison (number-at 0 ns)) ++ b)) ∷
-    at 0x2F (on1 p (λ e. sym1 K.KwSizeof ++ sym1 K.LParen ++ e .toks ++ sym1 K.RParen)) ∷
-    at 0x30 (λ st. on-list p (λ ts. sym1 K.Hash ++ sym1 K.LBracket ++ ts ++ sym1 K.RBracket) (gather comma (number-at 0 ns) st)) ∷
-    at 0x31 (λ st. on-list p (λ ts. sym1 K.Hash ++ sym1 K.LBrace ++ ts ++ sym1 K.RBrace) (gather comma (number-at 0 ns) st)) ∷
-    at 0x32 (on1 p (λ e. (named K.Identifier tx ∷ []) ++ sym1 K.Equals ++ e .toks)) ∷
-    at 0x33 (leaf p []) ∷
-    at 0x34 (on1 p (λ e. sym1 K.Equals ++ e .toks)) ∷
-    at 0x35 (on1 p (λ e. sym1 K.LArrow ++ e .toks)) ∷
-    at 0x40 (λ st. on-list p (λ ts. sym1 K.LBrace ++ ts ++ sym1 K.RBrace) (gather [] (number-at 0 ns) st)) ∷
-    at 0x41 (on1 p (λ e. e .toks ++ sym1 K.Semicolon)) ∷
-    at 0x42 (on2 p (λ a b. sym1 K.KwVar ++ (named K.Identifier tx ∷ []) ++ sym1 K.Colon ++ a ++ b ++ sym1 K.Semicolon)) ∷
-    at 0x43 (on2 p (λ a b. a ++ sym1 K.Equals ++ b ++ sym1 K.Semicolon)) ∷
-    at 0x44 (on2 p (λ a b. a ++ sym1 K.LArrow ++ b ++ sym1 K.Semicolon)) ∷
-    at 0x45 (λ st. pick (eqb (number-at 0 ns) 0) (leaf p (sym1 K.KwReturn ++ sym1 K.Semicolon) st)
+    at Tag.Name (leaf p (named K.Identifier tx ∷ [])) ∷
+    at Tag.Void (leaf p []) ∷
+    at Tag.Pointer (on1 p (λ e. sym1 K.Star ++ e .toks)) ∷
+    at Tag.Array
+    (on1 p (λ e. sym1 K.LBracket ++ (sized K.Integer (number-at 0 ns) ∷ []) ++ sym1 K.RBracket ++ e .toks)) ∷
+    at Tag.Struct (λ st. on-list p (λ ts. sym1 K.KwStruct ++ sym1 K.LBrace ++ ts ++ sym1 K.RBrace)
+    (gather comma (number-at 0 ns) st)) ∷
+    at Tag.NamedType (on1 p (λ e. (named K.Identifier tx ∷ []) ++ sym1 K.Colon ++ e .toks)) ∷
+    at Tag.Identifier (leaf p (named K.Identifier tx ∷ [])) ∷
+    at Tag.Integer (leaf p (integer (number-at 0 ns) tx ∷ [])) ∷
+    at Tag.Boolean (leaf p (sym1 (pick (eqb (number-at 0 ns) 1) K.KwTrue K.KwFalse))) ∷
+    at Tag.String (leaf p (named K.String tx ∷ [])) ∷
+    at Tag.Call (λ st. on-call p (gather comma (number-at 0 ns) st)) ∷
+    at Tag.Index (on2 p (λ a b. a ++ sym1 K.LBracket ++ b ++ sym1 K.RBracket)) ∷
+    at Tag.Cast (on2 p (λ a b. a ++ sym1 K.KwAs ++ b)) ∷
+    at Tag.PointerTake (on1 p (λ e. sym1 K.Ampersand ++ e .toks)) ∷
+    at Tag.PointerDereference (on1 p (dereference p)) ∷
+    at Tag.FieldAccess (on1 p (λ e. e .toks ++ sym1 K.Dot ++ (named K.Identifier tx ∷ []))) ∷
+    at Tag.BitwiseNot (on1 p (λ e. sym1 K.Tilde ++ e .toks)) ∷
+    at Tag.BooleanNot (on1 p (λ e. sym1 K.Bang ++ e .toks)) ∷
+    at Tag.BooleanAnd (on2 p (λ a b. a ++ sym1 K.DoubleAmpersand ++ b)) ∷
+    at Tag.ArithmeticBinOp (on2 p (λ a b. a ++ sym1 (arithmetic (number-at 0 ns)) ++ b)) ∷
+    at Tag.ComparisonBinOp (on2 p (λ a b. a ++ sym1 (comparison (number-at 0 ns)) ++ b)) ∷
+    at Tag.Sizeof (on1 p (λ e. sym1 K.KwSizeof ++ sym1 K.LParen ++ e .toks ++ sym1 K.RParen)) ∷
+    at Tag.CompoundArray (λ st. on-list p (λ ts. sym1 K.Hash ++ sym1 K.LBracket ++ ts ++ sym1 K.RBracket)
+    (gather comma (number-at 0 ns) st)) ∷
+    at Tag.CompoundStruct (λ st. on-list p (λ ts. sym1 K.Hash ++ sym1 K.LBrace ++ ts ++ sym1 K.RBrace)
+    (gather comma (number-at 0 ns) st)) ∷
+    at Tag.CompoundField (on1 p (λ e. (named K.Identifier tx ∷ []) ++ sym1 K.Equals ++ e .toks)) ∷
+    at Tag.NoValue (leaf p []) ∷
+    at Tag.AssignedValue (on1 p (λ e. sym1 K.Equals ++ e .toks)) ∷
+    at Tag.CompoundValue (on1 p (λ e. sym1 K.LArrow ++ e .toks)) ∷
+    at Tag.Block (λ st. on-list p (λ ts. sym1 K.LBrace ++ ts ++ sym1 K.RBrace) (gather [] (number-at 0 ns) st)) ∷
+    at Tag.Expression (on1 p (λ e. e .toks ++ sym1 K.Semicolon)) ∷
+    at Tag.VariableDeclaration
+    (on2 p (λ a b. sym1 K.KwVar ++ (named K.Identifier tx ∷ []) ++ sym1 K.Colon ++ a ++ b ++ sym1 K.Semicolon)) ∷
+    at Tag.Assignment (on2 p (λ a b. a ++ sym1 K.Equals ++ b ++ sym1 K.Semicolon)) ∷
+    at Tag.CompoundAssignment (on2 p (λ a b. a ++ sym1 K.LArrow ++ b ++ sym1 K.Semicolon)) ∷
+    at Tag.Return (λ st. pick (eqb (number-at 0 ns) 0) (leaf p (sym1 K.KwReturn ++ sym1 K.Semicolon) st)
     (on1 p (λ e. sym1 K.KwReturn ++ e .toks ++ sym1 K.Semicolon) st)) ∷
-    at 0x46 (on1 p (λ e. sym1 K.KwLoop ++ e .toks)) ∷
-    at 0x47 (on2 p (λ a b. sym1 K.KwWhile ++ a ++ b)) ∷
-    at 0x48 (leaf p (sym1 K.KwBreak ++ sym1 K.Semicolon)) ∷
-    at 0x49 (λ st. pick (eqb (number-at 0 ns) 2) (on2 p (λ a b. sym1 K.KwIf ++ a ++ b) st)
+    at Tag.Loop (on1 p (λ e. sym1 K.KwLoop ++ e .toks)) ∷
+    at Tag.While (on2 p (λ a b. sym1 K.KwWhile ++ a ++ b)) ∷
+    at Tag.Break (leaf p (sym1 K.KwBreak ++ sym1 K.Semicolon)) ∷
+    at Tag.If (λ st. pick (eqb (number-at 0 ns) 2) (on2 p (λ a b. sym1 K.KwIf ++ a ++ b) st)
     (on3 p (λ a b c. sym1 K.KwIf ++ a ++ b ++ sym1 K.KwElse ++ c) st)) ∷
-    at 0x4A (leaf p (named K.InlineAssemblyFragment tx ∷ [])) ∷
-    at 0x50 (λ st. pick (eqb (number-at 0 ns) 0) (with-body p tx (number-at 1 ns) st) (external p tx (number-at 1 ns) st)) ∷
-    at 0x51 (on1 p (λ e. sym1 K.KwType ++ (named K.Identifier tx ∷ []) ++ sym1 K.Equals ++ e .toks ++ sym1 K.Semicolon)) ∷
-    at 0x52 (leaf p (sym1 K.KwUse ++ (named K.String tx ∷ []) ++ sym1 K.Semicolon)) ∷
-    at 0x53 (on2 p (λ a b. sym1 K.KwVar ++ (named K.Identifier tx ∷ []) ++ sym1 K.Colon ++ a ++ b ++ sym1 K.Semicolon)) ∷
-    at 0x54 (leaf p (named K.InlineAssemblyFragment tx ∷ [])) ∷ []
+    at Tag.InlineAssembly (leaf p (named K.InlineAssemblyFragment tx ∷ [])) ∷
+    at Tag.FunctionDefinition (λ st. pick (eqb (number-at 0 ns) 0) (with-body p tx (number-at 1 ns) st)
+    (external p tx (number-at 1 ns) st)) ∷
+    at Tag.TypeAlias
+    (on1 p (λ e. sym1 K.KwType ++ (named K.Identifier tx ∷ []) ++ sym1 K.Equals ++ e .toks ++ sym1 K.Semicolon)) ∷
+    at Tag.Use (leaf p (sym1 K.KwUse ++ (named K.String tx ∷ []) ++ sym1 K.Semicolon)) ∷
+    at Tag.TopLevelVariable
+    (on2 p (λ a b. sym1 K.KwVar ++ (named K.Identifier tx ∷ []) ++ sym1 K.Colon ++ a ++ b ++ sym1 K.Semicolon)) ∷
+    at Tag.TopLevelAssembly (leaf p (named K.InlineAssemblyFragment tx ∷ [])) ∷ []
 
 unfoldable pub handle : ℕ → List Handler → List Entry → List Entry
 handle t [] st = []

@@ -6,6 +6,7 @@ use mathlib.Core.Option.{none, some}
 use Prim.Native.Nat.{ℕ, zero, suc, _+_, _*_}
 use lib.Dec.{eqb}
 use lib.ListN.{length, take, drop, getD}
+use Rattle.definition.specs.Tag as Tag
 use Rattle.definition.specs.Source.{characters}
 use Rattle.definition.specs.Kind as K
 use Rattle.definition.specs.Token.{Tok, number}
@@ -24,7 +25,9 @@ field-size bs = 3 + getD bs 1 0 * 256 + getD bs 2 0
 -- the bytes up to the end of the first field 5F, among n fields
 unfoldable pub tree-from : ℕ → List ℕ → List ℕ
 tree-from zero bs = []
-tree-from (suc n) bs = take (field-size bs) bs ++ elim (eqb (getD bs 0 0) 0x5F) [ true ↦ [] | false ↦ tree-from n (drop (field-size bs) bs) ]
+tree-from (suc n) bs =
+    take (field-size bs) bs
+    ++ elim (eqb (getD bs 0 0) Tag.Module) [ true ↦ [] | false ↦ tree-from n (drop (field-size bs) bs) ]
 
 -- the tree of a file
 unfoldable pub tree : List ℕ → List ℕ
@@ -40,7 +43,7 @@ entries-from tag (suc n) (b ∷ bs) = elim (eqb b tag) [ true ↦ 1 | false ↦ 
 -- how many entries the full list of a file has
 unfoldable pub full-entries : List ℕ → ℕ
 unfolding entries-from
-full-entries bs = entries-from 0x61 (length bs) bs
+full-entries bs = entries-from Tag.FullError (length bs) bs
 
 -- the file that the whole operation writes of a script
 abbrev pub file-of : List ℕ → List ℕ → List ℕ

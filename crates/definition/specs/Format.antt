@@ -1,16 +1,17 @@
--- The format of a tree file's records, in one table by tag: what the body of a field holds, and the kinds of its children
--- as `node.rs` types them. Error fields are `err-body`. Assumes nothing.
+-- The format of a tree file's records, in one table by tag: what the body of a field holds, and the kinds of its
+-- children as `node.rs` types them. The body of an error field is `err-body`. Assumes nothing.
 use mathlib.Core.Bool.{true, false}
 use mathlib.Core.List.{List, [], _∷_, _++_}
 use mathlib.Core.Option.{Option, none, some}
 use Prim.Native.Nat.{ℕ, _-_}
 use lib.Dec.{eqb}
 use lib.ListN.{replicate}
+use Rattle.definition.specs.Tag as T
 use Rattle.definition.specs.Node as N
 use Rattle.definition.specs.Node.{Num, Rec}
 
--- A part of a body: a place; a number in one byte, from the one bound to the other; the base of an Integer, in one byte;
--- a count, in two; a number in eight; a text, up to the body's end
+-- A part of a body: a place; a number in one byte, from the one bound to the other; the base of an Integer, in one
+-- byte; a count, in two; a number in eight; a text, up to the body's end
 pub data Part : Type 0 where
   place : Part
   byte : ℕ → ℕ → Part
@@ -19,29 +20,29 @@ pub data Part : Type 0 where
 -- ---- the kinds of nodes, each numbered by its first tag
 
 abbrev pub type : ℕ
-type = 0x10
+type = T.Name
 
 -- a parameter, or a field of a struct type
 abbrev pub named-type : ℕ
-named-type = 0x15
+named-type = T.NamedType
 
 abbrev pub expression : ℕ
-expression = 0x20
+expression = T.Identifier
 
 abbrev pub compound : ℕ
-compound = 0x30
+compound = T.CompoundArray
 
 abbrev pub compound-field : ℕ
-compound-field = 0x32
+compound-field = T.CompoundField
 
 abbrev pub initial-value : ℕ
-initial-value = 0x33
+initial-value = T.NoValue
 
 abbrev pub statement : ℕ
-statement = 0x40
+statement = T.Block
 
 abbrev pub item : ℕ
-item = 0x50
+item = T.FunctionDefinition
 
 -- ---- the table
 
@@ -50,8 +51,8 @@ pub data Sort : Type 0 where
   node : ℕ → Sort
   root : Sort
 
--- A tag, what its fields are, what their body holds, and the kinds of their children in order, where the body's byte is b
--- and its count is c
+-- A tag, what its fields are, what their body holds, and the kinds of their children in order, where the body's byte is
+-- b and its count is c
 pub record Row : Type 0 where
   pub tag : ℕ
   pub sort : Sort
@@ -64,52 +65,52 @@ row t s ps f = record { tag = t; sort = s; body = ps; children = f }
 unfoldable pub rows : List Row
 unfolding row
 rows =
-    row 0x10 (node type) (place ∷ text ∷ []) (λ b c. []) ∷
-    row 0x11 (node type) (place ∷ []) (λ b c. []) ∷
-    row 0x12 (node type) (place ∷ []) (λ b c. type ∷ []) ∷
-    row 0x13 (node type) (place ∷ eight ∷ []) (λ b c. type ∷ []) ∷
-    row 0x14 (node type) (place ∷ count ∷ []) (λ b c. replicate c named-type) ∷
-    row 0x15 (node named-type) (text ∷ []) (λ b c. type ∷ []) ∷
-    row 0x20 (node expression) (place ∷ text ∷ []) (λ b c. []) ∷
-    row 0x21 (node expression) (place ∷ base ∷ text ∷ []) (λ b c. []) ∷
-    row 0x22 (node expression) (place ∷ byte 0 1 ∷ []) (λ b c. []) ∷
-    row 0x23 (node expression) (place ∷ text ∷ []) (λ b c. []) ∷
-    row 0x24 (node expression) (place ∷ count ∷ []) (λ b c. expression ∷ replicate c expression) ∷
-    row 0x25 (node expression) (place ∷ []) (λ b c. expression ∷ expression ∷ []) ∷
-    row 0x26 (node expression) (place ∷ []) (λ b c. expression ∷ type ∷ []) ∷
-    row 0x27 (node expression) (place ∷ []) (λ b c. expression ∷ []) ∷
-    row 0x28 (node expression) (place ∷ []) (λ b c. expression ∷ []) ∷
-    row 0x29 (node expression) (place ∷ text ∷ []) (λ b c. expression ∷ []) ∷
-    row 0x2A (node expression) (place ∷ []) (λ b c. expression ∷ []) ∷
-    row 0x2B (node expression) (place ∷ []) (λ b c. expression ∷ []) ∷
-    row 0x2C (node expression) (place ∷ []) (λ b c. expression ∷ expression ∷ []) ∷
-    row 0x2D (node expression) (place ∷ byte 0 7 ∷ []) (λ b c. expression ∷ expression ∷ []) ∷
-    row 0x2E (node expression) (place ∷ byte 0 4 ∷ []) (λ b c. expression ∷ expression ∷ []) ∷
-    row 0x2F (node expression) (place ∷ []) (λ b c. type ∷ []) ∷
-    row 0x30 (node compound) (place ∷ count ∷ []) (λ b c. replicate c expression) ∷
-    row 0x31 (node compound) (place ∷ count ∷ []) (λ b c. replicate c compound-field) ∷
-    row 0x32 (node compound-field) (place ∷ text ∷ []) (λ b c. expression ∷ []) ∷
-    row 0x33 (node initial-value) [] (λ b c. []) ∷
-    row 0x34 (node initial-value) [] (λ b c. expression ∷ []) ∷
-    row 0x35 (node initial-value) [] (λ b c. compound ∷ []) ∷
-    row 0x40 (node statement) (place ∷ count ∷ []) (λ b c. replicate c statement) ∷
-    row 0x41 (node statement) (place ∷ []) (λ b c. expression ∷ []) ∷
-    row 0x42 (node statement) (place ∷ text ∷ []) (λ b c. type ∷ initial-value ∷ []) ∷
-    row 0x43 (node statement) (place ∷ []) (λ b c. expression ∷ expression ∷ []) ∷
-    row 0x44 (node statement) (place ∷ []) (λ b c. expression ∷ compound ∷ []) ∷
-    row 0x45 (node statement) (place ∷ byte 0 1 ∷ []) (λ b c. replicate b expression) ∷
-    row 0x46 (node statement) (place ∷ []) (λ b c. statement ∷ []) ∷
-    row 0x47 (node statement) (place ∷ []) (λ b c. expression ∷ statement ∷ []) ∷
-    row 0x48 (node statement) (place ∷ []) (λ b c. []) ∷
-    row 0x49 (node statement) (place ∷ byte 2 3 ∷ []) (λ b c. expression ∷ replicate (b - 1) statement) ∷
-    row 0x4A (node statement) (place ∷ text ∷ []) (λ b c. []) ∷
-    row 0x50 (node item) (place ∷ byte 0 1 ∷ count ∷ text ∷ [])
+    row T.Name (node type) (place ∷ text ∷ []) (λ b c. []) ∷
+    row T.Void (node type) (place ∷ []) (λ b c. []) ∷
+    row T.Pointer (node type) (place ∷ []) (λ b c. type ∷ []) ∷
+    row T.Array (node type) (place ∷ eight ∷ []) (λ b c. type ∷ []) ∷
+    row T.Struct (node type) (place ∷ count ∷ []) (λ b c. replicate c named-type) ∷
+    row T.NamedType (node named-type) (text ∷ []) (λ b c. type ∷ []) ∷
+    row T.Identifier (node expression) (place ∷ text ∷ []) (λ b c. []) ∷
+    row T.Integer (node expression) (place ∷ base ∷ text ∷ []) (λ b c. []) ∷
+    row T.Boolean (node expression) (place ∷ byte 0 1 ∷ []) (λ b c. []) ∷
+    row T.String (node expression) (place ∷ text ∷ []) (λ b c. []) ∷
+    row T.Call (node expression) (place ∷ count ∷ []) (λ b c. expression ∷ replicate c expression) ∷
+    row T.Index (node expression) (place ∷ []) (λ b c. expression ∷ expression ∷ []) ∷
+    row T.Cast (node expression) (place ∷ []) (λ b c. expression ∷ type ∷ []) ∷
+    row T.PointerTake (node expression) (place ∷ []) (λ b c. expression ∷ []) ∷
+    row T.PointerDereference (node expression) (place ∷ []) (λ b c. expression ∷ []) ∷
+    row T.FieldAccess (node expression) (place ∷ text ∷ []) (λ b c. expression ∷ []) ∷
+    row T.BitwiseNot (node expression) (place ∷ []) (λ b c. expression ∷ []) ∷
+    row T.BooleanNot (node expression) (place ∷ []) (λ b c. expression ∷ []) ∷
+    row T.BooleanAnd (node expression) (place ∷ []) (λ b c. expression ∷ expression ∷ []) ∷
+    row T.ArithmeticBinOp (node expression) (place ∷ byte 0 7 ∷ []) (λ b c. expression ∷ expression ∷ []) ∷
+    row T.ComparisonBinOp (node expression) (place ∷ byte 0 4 ∷ []) (λ b c. expression ∷ expression ∷ []) ∷
+    row T.Sizeof (node expression) (place ∷ []) (λ b c. type ∷ []) ∷
+    row T.CompoundArray (node compound) (place ∷ count ∷ []) (λ b c. replicate c expression) ∷
+    row T.CompoundStruct (node compound) (place ∷ count ∷ []) (λ b c. replicate c compound-field) ∷
+    row T.CompoundField (node compound-field) (place ∷ text ∷ []) (λ b c. expression ∷ []) ∷
+    row T.NoValue (node initial-value) [] (λ b c. []) ∷
+    row T.AssignedValue (node initial-value) [] (λ b c. expression ∷ []) ∷
+    row T.CompoundValue (node initial-value) [] (λ b c. compound ∷ []) ∷
+    row T.Block (node statement) (place ∷ count ∷ []) (λ b c. replicate c statement) ∷
+    row T.Expression (node statement) (place ∷ []) (λ b c. expression ∷ []) ∷
+    row T.VariableDeclaration (node statement) (place ∷ text ∷ []) (λ b c. type ∷ initial-value ∷ []) ∷
+    row T.Assignment (node statement) (place ∷ []) (λ b c. expression ∷ expression ∷ []) ∷
+    row T.CompoundAssignment (node statement) (place ∷ []) (λ b c. expression ∷ compound ∷ []) ∷
+    row T.Return (node statement) (place ∷ byte 0 1 ∷ []) (λ b c. replicate b expression) ∷
+    row T.Loop (node statement) (place ∷ []) (λ b c. statement ∷ []) ∷
+    row T.While (node statement) (place ∷ []) (λ b c. expression ∷ statement ∷ []) ∷
+    row T.Break (node statement) (place ∷ []) (λ b c. []) ∷
+    row T.If (node statement) (place ∷ byte 2 3 ∷ []) (λ b c. expression ∷ replicate (b - 1) statement) ∷
+    row T.InlineAssembly (node statement) (place ∷ text ∷ []) (λ b c. []) ∷
+    row T.FunctionDefinition (node item) (place ∷ byte 0 1 ∷ count ∷ text ∷ [])
     (λ b c. replicate c named-type ++ (type ∷ replicate (1 - b) statement)) ∷
-    row 0x51 (node item) (place ∷ byte 0 3 ∷ text ∷ []) (λ b c. type ∷ []) ∷
-    row 0x52 (node item) (place ∷ text ∷ []) (λ b c. []) ∷
-    row 0x53 (node item) (place ∷ text ∷ []) (λ b c. type ∷ initial-value ∷ []) ∷
-    row 0x54 (node item) (place ∷ text ∷ []) (λ b c. []) ∷
-    row 0x5F root (count ∷ []) (λ b c. replicate c item) ∷
+    row T.TypeAlias (node item) (place ∷ byte 0 3 ∷ text ∷ []) (λ b c. type ∷ []) ∷
+    row T.Use (node item) (place ∷ text ∷ []) (λ b c. []) ∷
+    row T.TopLevelVariable (node item) (place ∷ text ∷ []) (λ b c. type ∷ initial-value ∷ []) ∷
+    row T.TopLevelAssembly (node item) (place ∷ text ∷ []) (λ b c. []) ∷
+    row T.Module root (count ∷ []) (λ b c. replicate c item) ∷
     []
 
 -- the row of a tag
@@ -140,4 +141,4 @@ children-of w r = let n = numbers-of (r .numbers) no-numbers in w .children (n .
 
 -- the module's record, which stands last
 abbrev pub module-rec : ℕ → Rec
-module-rec n = record { tag = 0x5F; place = none; numbers = N.two n ∷ []; text = [] }
+module-rec n = record { tag = T.Module; place = none; numbers = N.two n ∷ []; text = [] }

@@ -5,6 +5,7 @@ use mathlib.Core.Option.{Option, none, some}
 use Prim.Native.Nat.{ℕ, _*_, _-_}
 use lib.Dec.{ltb, leb}
 use lib.ListN.{length, replicate}
+use Rattle.definition.specs.Tag as Tag
 use Rattle.definition.specs.Source.{nowhere, characters}
 use Rattle.definition.specs.Node.{u16, field, recs-bytes}
 use Rattle.definition.specs.Fallible.{Err, errs-bytes}
@@ -59,7 +60,9 @@ pub data Outcome : Type 0 where
 -- the tree, the token errors, the reported errors, the full list
 unfoldable pub file-bytes : List Err → Items → List Err → List ℕ
 unfolding recs-bytes errs-bytes
-file-bytes es i full = recs-bytes (i .recs) ++ field 0x5F (u16 (i .count)) ++ errs-bytes 0x62 es ++ errs-bytes 0x60 (i .errors) ++ errs-bytes 0x61 full
+file-bytes es i full =
+    recs-bytes (i .recs) ++ field Tag.Module (u16 (i .count)) ++ errs-bytes Tag.TokenError es
+    ++ errs-bytes Tag.ReportedError (i .errors) ++ errs-bytes Tag.FullError full
 
 -- where at most n calls of the parser's four functions may be open
 unfoldable pub read-tokens-within : ℕ → List Tok → List Err → Outcome

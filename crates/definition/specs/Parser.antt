@@ -6,6 +6,8 @@ use Prim.Native.Nat.{ℕ, zero, suc, _+_, _^_}
 use lib.Dec.{leb, ltb}
 use lib.ListN.{length}
 use Rattle.definition.specs.Ascii.{ascii}
+use Rattle.definition.specs.Tag as T
+use Rattle.definition.specs.ParseError as E
 use Rattle.definition.specs.Kind as K
 use Rattle.definition.specs.Source.{Place, nowhere}
 use Rattle.definition.specs.Node.{Rec, Num, byte, two, eight}
@@ -55,8 +57,8 @@ abbrev pub expect-as : Role → ℕ → Act (Ans Tok)
 expect-as r k =
     next-as r λ t.
     if t is k then good t [] else
-    if t is K.End then raise (error 3 nowhere k 0) else
-    raise (error 2 (t .place) k (t .kind))
+    if t is K.End then raise (error E.ExpectedAtEnd nowhere k 0) else
+    raise (error E.Expected (t .place) k (t .kind))
 
 abbrev pub expect : ℕ → Act (Ans Tok)
 expect k = expect-as plain k
@@ -65,8 +67,8 @@ abbrev pub expect-identifier : Act (Ans Tok)
 expect-identifier =
     next λ t.
     if t is K.Identifier then good t [] else
-    if t is K.End then raise (error 5 nowhere 0 0) else
-    raise (error 4 (t .place) 0 0)
+    if t is K.End then raise (error E.EndOfFile nowhere 0 0) else
+    raise (error E.Identifier (t .place) 0 0)
 
 abbrev pub parse-statement : Act (Ans Node)
 parse-statement = call Statement done
@@ -96,8 +98,8 @@ unfoldable pub parse-typed-identifier : Act (Ans Typed)
 parse-typed-identifier =
     next λ t.
     if t is K.Identifier then typed (t .text) [] else
-    if t is K.End then raise (error 5 nowhere 0 0) else
-    (let e = error 4 (t .place) 0 0 in make e (typed (ascii "<?>") (e ∷ [])))
+    if t is K.End then raise (error E.EndOfFile nowhere 0 0) else
+    (let e = error E.Identifier (t .place) 0 0 in make e (typed (ascii "<?>") (e ∷ [])))
 
 -- ---- parse_bounded_list_of
 
@@ -119,14 +121,14 @@ closer StructValues = K.RBrace
 unfoldable pub parse-named-type : Act (Ans Node)
 parse-named-type =
     parse-typed-identifier >>? λ x.
-    good (bare (x .item .type) 0x15 (x .item .name)) (x .errors)
+    good (bare (x .item .type) T.NamedType (x .item .name)) (x .errors)
 
 unfoldable pub parse-compound-struct-field : Act (Ans Node)
 parse-compound-struct-field =
     expect-identifier >>? λ id.
     expect K.Equals >>? λ _.
     parse-expression >>? λ e.
-    good (node (e .item .recs) 0x32 (id .item .place) [] (id .item .text)) (e .errors)
+    good (node (e .item .recs) T.CompoundField (id .item .place) [] (id .item .text)) (e .errors)
 
 abbrev pub item : Listed → Act (Ans Node)
 item Parameters = parse-named-type
@@ -149,12 +151,12 @@ after-item k i =
     if t is K.Comma then (take (comma-role k) λ _. loop (ListOf k i) done) else
     if t is closer k then loop (ListOf k i) done else
     if t is K.End then loop (ListOf k i) done else
-    (next λ t. let e = error 15 (t .place) 0 (t .kind) in make e (loop (ListOf k (with-error i e)) done))
+    (next λ t. let e = error E.InList (t .place) 0 (t .kind) in make e (loop (ListOf k (with-error i e)) done))
 
 unfoldable pub list-turn : Listed → Items → Act Items
 list-turn k i =
     peek λ t.
-    if t is K.End then (let e = error 14 nowhere 0 0 in make e (done (with-error i e))) else
+    if t is K.End then (let e = error E.ListAtEnd nowhere 0 0 in make e (done (with-error i e))) else
     if t is closer k then (next λ _. done i) else
     (item k >>= λ a. after-item k (integrate i a))
 
@@ -163,21 +165,23 @@ list-turn k i =
 unfoldable pub parse-array-type : Place → Act (Ans Node)
 parse-array-type p =
     next-as size λ n.
-    if not (n is K.Integer) then raise (error 9 p 0 0) else
-    if dashed (n .text) || not (ltb (number (n .base) 0 (n .text)) (2 ^ 64)) then raise (error 10 p 0 0) else
+    if not (n is K.Integer) then raise (error E.ArraySize p 0 0) else
+    if dashed (n .text) || not (ltb (number (n .base) 0 (n .text)) (2 ^ 64)) then
+    raise (error E.ArraySizePositive p 0 0) else
     (expect K.RBracket >>? λ _.
     parse-type >>? λ ty.
-    good (node (ty .item .recs) 0x13 p (eight (number (n .base) 0 (n .text)) ∷ []) []) (ty .errors))
+    good (node (ty .item .recs) T.Array p (eight (number (n .base) 0 (n .text)) ∷ []) []) (ty .errors))
 
 unfoldable pub type-rule : Act (Ans Node)
 type-rule =
     next λ t.
-    if t is K.Identifier then good (node [] 0x10 (t .place) [] (t .text)) [] else
-    if t is K.Star then (parse-type >>? λ ty. good (node (ty .item .recs) 0x12 (t .place) [] []) (ty .errors)) else
+    if t is K.Identifier then good (node [] T.Name (t .place) [] (t .text)) [] else
+    if t is K.Star then (parse-type >>? λ ty. good (node (ty .item .recs) T.Pointer (t .place) [] []) (ty .errors)) else
     if t is K.LBracket then parse-array-type (t .place) else
-    if t is K.KwStruct then (parse-list StructFields >>= λ i. good (node (i .recs) 0x14 (t .place) (two (i .count) ∷ []) []) []) else
-    if t is K.End then raise (error 12 nowhere 0 0) else
-    raise (error 11 (t .place) 0 (t .kind))
+    if t is K.KwStruct then
+    (parse-list StructFields >>= λ i. good (node (i .recs) T.Struct (t .place) (two (i .count) ∷ []) []) []) else
+    if t is K.End then raise (error E.TypeAtEnd nowhere 0 0) else
+    raise (error E.Type' (t .place) 0 (t .kind))
 
 -- ---- expressions
 
@@ -204,13 +208,15 @@ parse-group =
 unfoldable pub parse-atom : Act (Ans Node)
 parse-atom =
     peek λ t.
-    if t is K.Integer then (next λ t. good (node [] 0x21 (t .place) (byte (t .base) ∷ []) (t .text)) []) else
-    if t is K.Identifier then (next λ t. good (node [] 0x20 (t .place) [] (t .text)) []) else
-    if t is K.String then (next λ t. good (node [] 0x23 (t .place) [] (t .text)) []) else
-    if t is K.KwTrue then (next λ t. good (node [] 0x22 (t .place) (byte 1 ∷ []) []) []) else
-    if t is K.KwFalse then (next λ t. good (node [] 0x22 (t .place) (byte 0 ∷ []) []) []) else
+    if t is K.Integer then (next λ t. good (node [] T.Integer (t .place) (byte (t .base) ∷ []) (t .text)) []) else
+    if t is K.Identifier then (next λ t. good (node [] T.Identifier (t .place) [] (t .text)) []) else
+    if t is K.String then (next λ t. good (node [] T.String (t .place) [] (t .text)) []) else
+    if t is K.KwTrue then (next λ t. good (node [] T.Boolean (t .place) (byte 1 ∷ []) []) []) else
+    if t is K.KwFalse then (next λ t. good (node [] T.Boolean (t .place) (byte 0 ∷ []) []) []) else
     if t is K.LParen then parse-group else
-    (next λ t. if t is K.End then raise (error 8 nowhere 0 0) else raise (error 7 (t .place) 0 (t .kind)))
+    (next λ t.
+    if t is K.End then raise (error E.ExpressionAtEnd nowhere 0 0) else
+    raise (error E.Expression (t .place) 0 (t .kind)))
 
 -- parse_field_access_or_index
 unfoldable pub parse-field-access-or-index : Act (Ans Node)
@@ -222,11 +228,12 @@ suffixes-turn e =
     if t is K.Dot then
     (next λ op. next λ n.
     if n is K.End then panic else
-    if n is K.Identifier then loop (Suffixes (wrap 0x29 (op .place) (n .text) e)) done else
-    (let x = error 4 (n .place) 0 0 in make x (good (e .item) (e .errors ++ (x ∷ []))))) else
-    if t is K.DotStar then (next λ op. loop (Suffixes (wrap 0x28 (op .place) [] e)) done) else
+    if n is K.Identifier then loop (Suffixes (wrap T.FieldAccess (op .place) (n .text) e)) done else
+    (let x = error E.Identifier (n .place) 0 0 in make x (good (e .item) (e .errors ++ (x ∷ []))))) else
+    if t is K.DotStar then (next λ op. loop (Suffixes (wrap T.PointerDereference (op .place) [] e)) done) else
     if t is K.LBracket then
-    (next λ op. parse-expression >>? λ i. expect K.RBracket >>? λ _. loop (Suffixes (binary 0x25 [] (op .place) e i)) done) else
+    (next λ op. parse-expression >>? λ i. expect K.RBracket >>? λ _.
+    loop (Suffixes (binary T.Index [] (op .place) e i)) done) else
     done (ok e)
 
 unfoldable pub parse-sizeof : Act (Ans Node)
@@ -234,7 +241,7 @@ parse-sizeof =
     peek λ t.
     if t is K.KwSizeof then
     (next λ op. expect K.LParen >>? λ _. parse-type >>? λ ty. expect K.RParen >>? λ _.
-    good (node (ty .item .recs) 0x2F (op .place) [] []) (ty .errors)) else
+    good (node (ty .item .recs) T.Sizeof (op .place) [] []) (ty .errors)) else
     parse-field-access-or-index
 
 -- the errors of the arguments are dropped
@@ -244,7 +251,7 @@ parse-call =
     peek λ t.
     if t is K.LParen then
     (parse-list Arguments >>= λ i.
-    good (node (e .item .recs ++ i .recs) 0x24 (e .item .place) (two (i .count) ∷ []) []) (e .errors)) else
+    good (node (e .item .recs ++ i .recs) T.Call (e .item .place) (two (i .count) ∷ []) []) (e .errors)) else
     done (ok e)
 
 unfoldable pub prefix : ℕ → Act (Ans Node)
@@ -253,10 +260,10 @@ prefix tag = next λ _. parse-unary >>? λ e. done (ok (wrap tag (e .item .place
 unfoldable pub unary-rule : Act (Ans Node)
 unary-rule =
     peek λ t.
-    if t is K.Ampersand then prefix 0x27 else
-    if t is K.Star then prefix 0x28 else
-    if t is K.Tilde then prefix 0x2A else
-    if t is K.Bang then prefix 0x2B else
+    if t is K.Ampersand then prefix T.PointerTake else
+    if t is K.Star then prefix T.PointerDereference else
+    if t is K.Tilde then prefix T.BitwiseNot else
+    if t is K.Bang then prefix T.BooleanNot else
     parse-call
 
 unfoldable pub parse-cast : Act (Ans Node)
@@ -265,7 +272,7 @@ parse-cast = parse-unary >>? λ e. loop (Casts e) done
 unfoldable pub casts-turn : Fallible Node → Act (Ans Node)
 casts-turn e =
     peek λ t.
-    if t is K.KwAs then (next λ op. parse-type >>? λ ty. loop (Casts (binary 0x26 [] (op .place) e ty)) done) else
+    if t is K.KwAs then (next λ op. parse-type >>? λ ty. loop (Casts (binary T.Cast [] (op .place) e ty)) done) else
     done (ok e)
 
 -- an operator's token, and its position in its enum
@@ -319,7 +326,9 @@ cascade Mul = parse-cast
 unfoldable pub operators-turn : Level → Fallible Node → Act (Ans Node)
 operators-turn l e =
     peek λ t.
-    find t (mapping l) (λ o. next λ op. cascade l >>? λ r. loop (Operators l (binary 0x2D (byte o ∷ []) (op .place) e r)) done)
+    find t (mapping l)
+    (λ o. next λ op. cascade l >>? λ r.
+    loop (Operators l (binary T.ArithmeticBinOp (byte o ∷ []) (op .place) e r)) done)
     (done (ok e))
 
 abbrev pub comparisons : List Op
@@ -330,14 +339,15 @@ parse-comparison =
     parse-bitwise-or >>? λ e.
     peek λ t.
     find t comparisons
-    (λ o. next λ op. parse-bitwise-or >>? λ r. done (ok (binary 0x2E (byte o ∷ []) (op .place) e r)))
+    (λ o. next λ op. parse-bitwise-or >>? λ r. done (ok (binary T.ComparisonBinOp (byte o ∷ []) (op .place) e r)))
     (done (ok e))
 
 unfoldable pub expression-rule : Act (Ans Node)
 expression-rule =
     parse-comparison >>? λ e.
     peek λ t.
-    if t is K.DoubleAmpersand then (next λ op. parse-comparison >>? λ r. done (ok (binary 0x2C [] (op .place) e r))) else
+    if t is K.DoubleAmpersand then
+    (next λ op. parse-comparison >>? λ r. done (ok (binary T.BooleanAnd [] (op .place) e r))) else
     done (ok e)
 
 -- ---- parse_compound, parse_var_like_declaration
@@ -346,10 +356,14 @@ unfoldable pub parse-compound : Act (Ans Node)
 parse-compound =
     expect K.Hash >>? λ _.
     peek λ t.
-    if t is K.End then raise (error 18 nowhere 0 0) else
-    if t is K.LBracket then (parse-list ArrayValues >>= λ i. good (node (i .recs) 0x30 (t .place) (two (i .count) ∷ []) []) (i .errors)) else
-    if t is K.LBrace then (parse-list StructValues >>= λ i. good (node (i .recs) 0x31 (t .place) (two (i .count) ∷ []) []) (i .errors)) else
-    raise (error 19 (t .place) 0 (t .kind))
+    if t is K.End then raise (error E.CompoundAtEnd nowhere 0 0) else
+    if t is K.LBracket then
+    (parse-list ArrayValues >>= λ i.
+    good (node (i .recs) T.CompoundArray (t .place) (two (i .count) ∷ []) []) (i .errors)) else
+    if t is K.LBrace then
+    (parse-list StructValues >>= λ i.
+    good (node (i .recs) T.CompoundStruct (t .place) (two (i .count) ∷ []) []) (i .errors)) else
+    raise (error E.Compound (t .place) 0 (t .kind))
 
 abbrev pub declared : Fallible Typed → Node → List Err → Act (Ans Typed)
 declared x v es = good (record { name = x .item .name; type = x .item .type ++ v .recs }) (x .errors ++ es)
@@ -359,9 +373,11 @@ unfoldable pub parse-var-like-declaration : Act (Ans Typed)
 parse-var-like-declaration =
     parse-typed-identifier >>? λ x.
     peek λ t.
-    if t is K.Equals then (next λ _. parse-expression >>? λ e. declared x (bare (e .item .recs) 0x34 []) (e .errors)) else
-    if t is K.LArrow then (next λ _. parse-compound >>? λ c. declared x (bare (c .item .recs) 0x35 []) (c .errors)) else
-    declared x (bare [] 0x33 []) []
+    if t is K.Equals then
+    (next λ _. parse-expression >>? λ e. declared x (bare (e .item .recs) T.AssignedValue []) (e .errors)) else
+    if t is K.LArrow then
+    (next λ _. parse-compound >>? λ c. declared x (bare (c .item .recs) T.CompoundValue []) (c .errors)) else
+    declared x (bare [] T.NoValue []) []
 
 -- a declaration's record, behind those of its type and its value
 unfoldable pub declaration : ℕ → Place → Act (Ans Node)
@@ -384,14 +400,15 @@ unfoldable pub body-turn : Items → Act Items
 body-turn i =
     peek λ t.
     if t is K.RBrace then (next λ _. done i) else
-    if t is K.End then (let e = error 13 nowhere 0 0 in make e (done (with-error i e))) else
+    if t is K.End then (let e = error E.BodyAtEnd nowhere 0 0 in make e (done (with-error i e))) else
     call Statement λ a. loop (Body (integrate i a)) done
 
 unfoldable pub parse-return : Place → Act (Ans Node)
 parse-return p =
     peek λ t.
-    if t is K.Semicolon then (next λ _. good (node [] 0x45 p (byte 0 ∷ []) []) []) else
-    (parse-expression >>? λ e. expect K.Semicolon >>? λ _. good (node (e .item .recs) 0x45 p (byte 1 ∷ []) []) (e .errors))
+    if t is K.Semicolon then (next λ _. good (node [] T.Return p (byte 0 ∷ []) []) []) else
+    (parse-expression >>? λ e. expect K.Semicolon >>? λ _.
+    good (node (e .item .recs) T.Return p (byte 1 ∷ []) []) (e .errors))
 
 unfoldable pub parse-if : Place → Act (Ans Node)
 parse-if p =
@@ -400,18 +417,21 @@ parse-if p =
     peek λ t.
     if t is K.KwElse then
     (next λ _. parse-statement >>? λ b.
-    good (node (c .item .recs ++ a .item .recs ++ b .item .recs) 0x49 p (byte 3 ∷ []) []) (c .errors ++ a .errors ++ b .errors)) else
-    good (node (c .item .recs ++ a .item .recs) 0x49 p (byte 2 ∷ []) []) (c .errors ++ a .errors)
+    good (node (c .item .recs ++ a .item .recs ++ b .item .recs) T.If p (byte 3 ∷ []) [])
+    (c .errors ++ a .errors ++ b .errors)) else
+    good (node (c .item .recs ++ a .item .recs) T.If p (byte 2 ∷ []) []) (c .errors ++ a .errors)
 
 -- an expression with errors ends the statement at once
 unfoldable pub after-expression : Place → Node → Act (Ans Node)
 after-expression p e =
     peek λ t.
     if t is K.Equals then
-    (next λ _. parse-expression >>? λ v. expect K.Semicolon >>? λ _. good (node (e .recs ++ v .item .recs) 0x43 p [] []) (v .errors)) else
+    (next λ _. parse-expression >>? λ v. expect K.Semicolon >>? λ _.
+    good (node (e .recs ++ v .item .recs) T.Assignment p [] []) (v .errors)) else
     if t is K.LArrow then
-    (next λ _. parse-compound >>? λ v. expect K.Semicolon >>? λ _. good (node (e .recs ++ v .item .recs) 0x44 p [] []) (v .errors)) else
-    (expect K.Semicolon >>? λ _. good (node (e .recs) 0x41 p [] []) [])
+    (next λ _. parse-compound >>? λ v. expect K.Semicolon >>? λ _.
+    good (node (e .recs ++ v .item .recs) T.CompoundAssignment p [] []) (v .errors)) else
+    (expect K.Semicolon >>? λ _. good (node (e .recs) T.Expression p [] []) [])
 
 abbrev pub is-empty : List Err → Bool
 is-empty [] = true
@@ -421,20 +441,22 @@ unfoldable pub expression-statement : Place → Act (Ans Node)
 expression-statement p =
     parse-expression >>? λ e.
     if is-empty (e .errors) then after-expression p (e .item) else
-    done (ok (wrap 0x41 p [] e))
+    done (ok (wrap T.Expression p [] e))
 
 unfoldable pub statement-rule : Act (Ans Node)
 statement-rule =
     peek λ t.
     if t is K.KwReturn then (next λ _. parse-return (t .place)) else
-    if t is K.KwVar then (next λ _. declaration 0x42 (t .place)) else
-    if t is K.LBrace then (parse-body >>= λ i. good (node (i .recs) 0x40 (t .place) (two (i .count) ∷ []) []) (i .errors)) else
-    if t is K.KwLoop then (next λ _. parse-statement >>? λ b. done (ok (wrap 0x46 (t .place) [] b))) else
-    if t is K.KwWhile then (next λ _. parse-expression >>? λ c. parse-statement >>? λ b. done (ok (binary 0x47 [] (t .place) c b))) else
-    if t is K.KwBreak then (next λ _. expect K.Semicolon >>? λ _. good (node [] 0x48 (t .place) [] []) []) else
+    if t is K.KwVar then (next λ _. declaration T.VariableDeclaration (t .place)) else
+    if t is K.LBrace then
+    (parse-body >>= λ i. good (node (i .recs) T.Block (t .place) (two (i .count) ∷ []) []) (i .errors)) else
+    if t is K.KwLoop then (next λ _. parse-statement >>? λ b. done (ok (wrap T.Loop (t .place) [] b))) else
+    if t is K.KwWhile then
+    (next λ _. parse-expression >>? λ c. parse-statement >>? λ b. done (ok (binary T.While [] (t .place) c b))) else
+    if t is K.KwBreak then (next λ _. expect K.Semicolon >>? λ _. good (node [] T.Break (t .place) [] []) []) else
     if t is K.KwIf then (next λ _. parse-if (t .place)) else
-    if t is K.InlineAssemblyFragment then (next λ _. good (node [] 0x4A (t .place) [] (t .text)) []) else
-    if t is K.End then raise (error 6 nowhere 0 0) else
+    if t is K.InlineAssemblyFragment then (next λ _. good (node [] T.InlineAssembly (t .place) [] (t .text)) []) else
+    if t is K.End then raise (error E.StatementAtEnd nowhere 0 0) else
     expression-statement (t .place)
 
 -- ---- the items of a module
@@ -444,9 +466,12 @@ unfoldable pub function-body : Place → ℕ → Tok → Items → Fallible Node
 function-body p external name ps r =
     if leb 1 external then
     (expect K.Semicolon >>? λ _.
-    good (node (ps .recs ++ r .item .recs) 0x50 p (byte 1 ∷ two (ps .count) ∷ []) (name .text)) (r .errors ++ ps .errors)) else
+    good (node (ps .recs ++ r .item .recs) T.FunctionDefinition p (byte 1 ∷ two (ps .count) ∷ []) (name .text))
+    (r .errors ++ ps .errors)) else
     (parse-body >>= λ b.
-    good (node (ps .recs ++ r .item .recs ++ node (b .recs) 0x40 p (two (b .count) ∷ []) [] .recs) 0x50 p (byte 0 ∷ two (ps .count) ∷ []) (name .text))
+    good
+    (node (ps .recs ++ r .item .recs ++ node (b .recs) T.Block p (two (b .count) ∷ []) [] .recs) T.FunctionDefinition p
+    (byte 0 ∷ two (ps .count) ∷ []) (name .text))
     (b .errors ++ r .errors ++ ps .errors))
 
 unfoldable pub function : Place → ℕ → Act (Ans Node)
@@ -456,7 +481,7 @@ function p external =
     parse-list Parameters >>= λ ps.
     peek λ t.
     if t is K.RArrow then (next λ _. parse-type >>? λ r. function-body p external (name .item) ps r) else
-    function-body p external (name .item) ps (record { item = node [] 0x11 p [] []; errors = [] })
+    function-body p external (name .item) ps (record { item = node [] T.Void p [] []; errors = [] })
 
 unfoldable pub parse-function-definition : Act (Ans Node)
 parse-function-definition =
@@ -476,11 +501,11 @@ unfoldable pub alias-rule : ℕ → Place → Act (Ans Node)
 alias-rule words p =
     next λ n.
     if n is K.End then panic else
-    if not (n is K.Identifier) then raise (error 16 (n .place) 0 0) else
+    if not (n is K.Identifier) then raise (error E.NameAfterType (n .place) 0 0) else
     (expect K.Equals >>? λ _.
     parse-type >>? λ ty.
     expect K.Semicolon >>? λ _.
-    good (node (ty .item .recs) 0x51 p (byte words ∷ []) (n .text)) (ty .errors))
+    good (node (ty .item .recs) T.TypeAlias p (byte words ∷ []) (n .text)) (ty .errors))
 
 unfoldable pub parse-type-alias : Act (Ans Node)
 parse-type-alias =
@@ -494,15 +519,15 @@ unfoldable pub path-rule : Place → Act (Ans Node)
 path-rule p =
     next λ n.
     if n is K.End then panic else
-    if not (n is K.String) then raise (error 17 (n .place) 0 0) else
+    if not (n is K.String) then raise (error E.PathAfterUse (n .place) 0 0) else
     (expect K.Semicolon >>? λ _.
-    good (node [] 0x52 p [] (n .text)) [])
+    good (node [] T.Use p [] (n .text)) [])
 
 unfoldable pub parse-use : Act (Ans Node)
 parse-use = peek λ t. expect K.KwUse >>? λ _. path-rule (t .place)
 
 unfoldable pub parse-top-level-var-declaration : Act (Ans Node)
-parse-top-level-var-declaration = peek λ t. expect K.KwVar >>? λ _. declaration 0x53 (t .place)
+parse-top-level-var-declaration = peek λ t. expect K.KwVar >>? λ _. declaration T.TopLevelVariable (t .place)
 
 unfoldable pub parse-top-level-item : Act (Ans Node)
 parse-top-level-item =
@@ -511,8 +536,8 @@ parse-top-level-item =
     if t is K.KwType || t is K.KwDistinct || t is K.KwInternal then parse-type-alias else
     if t is K.KwUse then parse-use else
     if t is K.KwVar then parse-top-level-var-declaration else
-    if t is K.InlineAssemblyFragment then (next λ t. good (node [] 0x54 (t .place) [] (t .text)) []) else
-    (next λ t. raise (error 1 (t .place) 0 (t .kind)))
+    if t is K.InlineAssemblyFragment then (next λ t. good (node [] T.TopLevelAssembly (t .place) [] (t .text)) []) else
+    (next λ t. raise (error E.TopLevel (t .place) 0 (t .kind)))
 
 unfoldable pub module-turn : Items → Act Items
 module-turn i =

@@ -8,6 +8,7 @@ use lib.ListN.{length, replicate}
 use Rattle.definition.specs.Ascii.{ascii, char}
 use Rattle.definition.specs.Choice.{_⇒_, pick, first}
 use Rattle.definition.specs.Classes.{is-white, is-digit, is-letter, is-word, is-digit-of}
+use Rattle.definition.specs.TokenError as E
 use Rattle.definition.specs.Source.{Place, Ch}
 use Rattle.definition.specs.Fallible.{Err}
 use Rattle.definition.specs.Kind as K
@@ -168,8 +169,9 @@ quoted true (c ∷ cs) = elim (escape (c .byte)) [ zero ↦ one-unknown (quoted 
 unfoldable pub string-turn : Place → Quoted → Turn
 string-turn p q =
     elim (q .closed) [
-      | true ↦ goes (q .rest) (replicate (q .unknown) (token-error 1 p)) (tok K.String p (q .text) 0 ∷ [])
-      | false ↦ goes (q .rest) (replicate (q .unknown) (token-error 1 p) ++ (token-error 2 p ∷ [])) []
+      | true ↦ goes (q .rest) (replicate (q .unknown) (token-error E.UnknownEscape p)) (tok K.String p (q .text) 0 ∷ [])
+      | false ↦ goes (q .rest)
+          (replicate (q .unknown) (token-error E.UnknownEscape p) ++ (token-error E.UnclosedString p ∷ [])) []
     ]
 
 -- ---- words
@@ -209,7 +211,7 @@ assembly-turn p foreign = refused 4
 assembly-turn p (ends s) =
     elim (eqb (look (s .rest)) (char "{")) [
       | true ↦ let a = assembly (drop-one (s .rest)) in token-text (a .rest) K.InlineAssemblyFragment p (a .text) 0
-      | false ↦ goes (drop-one (s .rest)) (token-error 3 p ∷ []) []
+      | false ↦ goes (drop-one (s .rest)) (token-error E.NoAssembly p ∷ []) []
     ]
 
 unfoldable pub word-turn : Place → Run → Turn
@@ -249,7 +251,7 @@ turn c cs =
       | Dash ↦ dash-turn (c .place) cs
       | Zero ↦ zero-turn (c .place) cs
       | Digit ↦ integer (c .place) 10 (c .byte ∷ []) (digits 10 cs)
-      | Unknown ↦ goes cs (token-error 4 (c .place) ∷ []) []
+      | Unknown ↦ goes cs (token-error E.UnknownCharacter (c .place) ∷ []) []
     ]
 
 -- ---- the loop

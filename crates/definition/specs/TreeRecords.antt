@@ -4,13 +4,14 @@ use mathlib.Core.List.{List}
 use Prim.Native.Nat.{ℕ, zero, suc}
 use lib.Dec.{eqb}
 use lib.ListN.{length, drop, getD}
+use Rattle.definition.specs.Tag as Tag
 use Rattle.definition.specs.Demand.{field-size}
 
 -- the fields up to the first 5F, and that one, among n fields
 unfoldable pub tree-records-from : ℕ → List ℕ → ℕ
 tree-records-from zero bs = 0
 tree-records-from (suc n) bs =
-    suc (elim (eqb (getD bs 0 0) 0x5F) [ true ↦ 0 | false ↦ tree-records-from n (drop (field-size bs) bs) ])
+    suc (elim (eqb (getD bs 0 0) Tag.Module) [ true ↦ 0 | false ↦ tree-records-from n (drop (field-size bs) bs) ])
 
 unfoldable pub tree-records : List ℕ → ℕ
 unfolding tree-records-from
