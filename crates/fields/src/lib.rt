@@ -5,19 +5,16 @@ use fallible::entry;
 use node::Numbers;
 use node::write_bare;
 ghost use mathlib.Core.Path.{_≡_};
-ghost use mathlib.Core.Bool.{true};
 ghost use mathlib.Core.List.{[], _∷_};
 ghost use Prim.Native.Nat.{_+_, _*_, _≤_};
 ghost use lib.ListN.{length};
-ghost use Rattle.definition.specs.Records.{errors-of};
-ghost use Rattle.definition.specs.Source.{is-some};
 ghost use Rattle.fallible.specs.Lists.{unpack, errs};
-ghost use Rattle.fields.specs.Errors.{Fielded, TokenFields};
+ghost use Rattle.fields.specs.Contract.{GoodErrors, Fielded, TokenFields};
 
 // An error's field; the entry's seven bytes are its body.
 fn error_field(file: &mut [u8], pos: usize, tag: u8, e: usize) -> usize
     requires { ⌜ pos + 23 ≤ length (now file) ⌝ }
-    ensures { λ r. ⌜ Fielded (now (file .entry)) pos tag (unpack e ∷ []) (now (file .exit)) r ⌝ }
+    ensures { λ r. ⌜ Fielded (unpack e ∷ []) file pos tag r ⌝ }
 {
     let body = [
         (e / 0x1_0000_0000_0000 % 256) as u8,
@@ -34,7 +31,7 @@ fn error_field(file: &mut [u8], pos: usize, tag: u8, e: usize) -> usize
 // The fields of a list of `count` errors.
 pub fn error_fields(file: &mut [u8], pos: usize, tag: u8, list: &[usize], count: usize) -> usize
     requires { ⌜ (pos + 10 * count + 13 ≤ length (now file)) × (count ≤ length (now list)) ⌝ }
-    ensures { λ r. ⌜ Fielded (now (file .entry)) pos tag (errs (now (list .entry)) count) (now (file .exit)) r ⌝ }
+    ensures { λ r. ⌜ Fielded (errs (now (list .entry)) count) file pos tag r ⌝ }
 {
     let mut i = 0;
     let mut p = pos;
@@ -53,8 +50,8 @@ fn wide(x: u32) -> usize
 
 // The fields of the token errors, whose records are good: number, place, 0, 0.
 pub fn token_error_fields(file: &mut [u8], pos: usize, errors: &[u32], count: usize) -> usize
-    requires { ⌜ (pos + 10 * count + 13 ≤ length (now file)) × ((4 * count ≤ length (now errors)) × (is-some (errors-of (now errors) 0 count) ≡ true)) ⌝ }
-    ensures { λ r. ⌜ TokenFields (now (file .entry)) pos (now (errors .entry)) count (now (file .exit)) r ⌝ }
+    requires { ⌜ (pos + 10 * count + 13 ≤ length (now file)) × GoodErrors errors count ⌝ }
+    ensures { λ r. ⌜ TokenFields file pos errors count r ⌝ }
 {
     let mut i = 0;
     let mut p = pos;

@@ -1,27 +1,36 @@
 -- The records of Post over the parameters of the functions. Assumes nothing.
 use Prim.Native.Nat.{ℕ}
 use denote.Ref.{now}
+use Rattle.definition.specs.Slices.{Slice, Lent, at-entry, at-exit}
 use Rattle.definition.specs.Act as A
 use Rattle.definition.specs.Act.{Items, Act}
 use Rattle.fallible.specs.declared.State.{State}
 use Rattle.fallible.specs.declared.Answer.{Answer}
-use Rattle.steps.specs.Contract.{Slice, Lent}
 use Rattle.grammar.specs.Post as G
 
 abbrev pub NameRoom : Slice → Slice → ℕ → Slice → Answer → ℕ → Type 0
 NameRoom tokens text n file a at = G.NameRoom (now tokens) (now text) n (now file) a at
 
 abbrev pub BareNamed : Lent → Lent → ℕ → Lent → Answer → ℕ → ℕ → Answer → Type 0
-BareNamed tokens text n file a tag at r = G.BareNamed (now (tokens .entry)) (now (text .entry)) n (now (file .entry)) a tag at (now (file .exit)) r
+BareNamed tokens text n file a tag at r =
+    G.BareNamed (at-entry tokens) (at-entry text) n (at-entry file) a tag at (at-exit file) r
 
 abbrev pub ReadsTyped : Lent → Lent → ℕ → Lent → Lent → Lent → State → ℕ → Answer → Type 0
-ReadsTyped tokens text n file rep full st left r = G.ReadsTyped (now (tokens .entry)) (now (text .entry)) n left (now (file .entry)) (now (rep .entry)) (now (full .entry)) st (now (file .exit)) (now (rep .exit)) (now (full .exit)) r
+ReadsTyped tokens text n file rep full st left r =
+    G.ReadsTyped (at-entry tokens) (at-entry text) n left (at-entry file) (at-entry rep) (at-entry full) st
+    (at-exit file) (at-exit rep) (at-exit full) r
 
 abbrev pub TypedOn : Lent → Lent → ℕ → Lent → Lent → Lent → ℕ → State → ℕ → Answer → Type 0
-TypedOn tokens text n file rep full j st left r = G.TypedOn (now (tokens .entry)) (now (text .entry)) n left j (now (file .entry)) (now (rep .entry)) (now (full .entry)) st (now (file .exit)) (now (rep .exit)) (now (full .exit)) r
+TypedOn tokens text n file rep full j st left r =
+    G.TypedOn (at-entry tokens) (at-entry text) n left j (at-entry file) (at-entry rep) (at-entry full) st
+    (at-exit file) (at-exit rep) (at-exit full) r
 
 abbrev pub ReadsList : A.Listed → Lent → Lent → ℕ → Lent → Lent → Lent → State → ℕ → Answer → Type 0
-ReadsList k tokens text n file rep full st left r = G.ReadsList (now (tokens .entry)) (now (text .entry)) n left k (now (file .entry)) (now (rep .entry)) (now (full .entry)) st (now (file .exit)) (now (rep .exit)) (now (full .exit)) r
+ReadsList k tokens text n file rep full st left r =
+    G.ReadsList (at-entry tokens) (at-entry text) n left k (at-entry file) (at-entry rep) (at-entry full) st
+    (at-exit file) (at-exit rep) (at-exit full) r
 
 abbrev pub LoopOn : (Items → Act Items) → ℕ → Lent → Lent → ℕ → Lent → Lent → Lent → State → ℕ → Answer → Type 0
-LoopOn on count tokens text n file rep full st left r = G.LoopOn on (now (tokens .entry)) (now (text .entry)) n left count (now (file .entry)) (now (rep .entry)) (now (full .entry)) st (now (file .exit)) (now (rep .exit)) (now (full .exit)) r
+LoopOn on count tokens text n file rep full st left r =
+    G.LoopOn on (at-entry tokens) (at-entry text) n left count (at-entry file) (at-entry rep) (at-entry full) st
+    (at-exit file) (at-exit rep) (at-exit full) r

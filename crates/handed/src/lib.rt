@@ -10,11 +10,12 @@ use records::words_at;
 ghost use mathlib.Core.Path.{_≡_};
 ghost use Prim.Native.Nat.{_*_, _≤_};
 ghost use lib.ListN.{length};
+ghost use Rattle.definition.specs.Slices.{at-entry};
 ghost use Rattle.definition.specs.Records as R;
 ghost use Rattle.definition.specs.Operations as O;
 ghost use Rattle.definition.specs.Source.{nowhere, is-some};
-ghost use Rattle.records.specs.Push.{spot};
 ghost use Rattle.records.specs.Tested.{words-of};
+ghost use Rattle.handed.specs.Contract.{former-place};
 
 // ---- tokens
 
@@ -27,14 +28,14 @@ struct Former {
 
 // Whether a place comes after the former one.
 fn comes_after(f: Former, line: u32, column: u32) -> bool
-    ensures { λ r. ⌜ r ≡ R.comes-after (spot (f .line) (f .column)) line column ⌝ }
+    ensures { λ r. ⌜ r ≡ R.comes-after (former-place f) line column ⌝ }
 {
     (f.line < line) | ((f.line == line) & (f.column < column))
 }
 
 // The rules for a token record beside the former one.
 fn good_behind(f: Former, w: Words) -> bool
-    ensures { λ r. ⌜ r ≡ R.good-behind (spot (f .line) (f .column)) (f .end) (words-of w) ⌝ }
+    ensures { λ r. ⌜ r ≡ R.good-behind (former-place f) (f .end) (words-of w) ⌝ }
 {
     if !comes_after(f, w.line, w.column) {
         return false;
@@ -47,7 +48,7 @@ fn good_behind(f: Former, w: Words) -> bool
 
 // What the next record is compared with.
 fn remember(f: Former, w: Words) -> Former
-    ensures { λ r. ⌜ (spot (r .line) (r .column) ≡ R.place-of (words-of w)) × (r .end ≡ R.text-end (f .end) (words-of w)) ⌝ }
+    ensures { λ r. ⌜ (former-place r ≡ R.place-of (words-of w)) × (r .end ≡ R.text-end (f .end) (words-of w)) ⌝ }
 {
     if has_text(w.kind) {
         return Former {
@@ -66,7 +67,7 @@ fn remember(f: Former, w: Words) -> Former
 // Whether each of `count` token records is good.
 fn good_tokens(tokens: &[u32], count: usize, text: &[u8]) -> bool
     requires { ⌜ 8 * count ≤ length (now tokens) ⌝ }
-    ensures { λ r. ⌜ r ≡ is-some (R.tokens-of (now (tokens .entry)) (now (text .entry)) nowhere 0 0 count) ⌝ }
+    ensures { λ r. ⌜ r ≡ is-some (R.tokens-of (at-entry tokens) (at-entry text) nowhere 0 0 count) ⌝ }
 {
     let mut f = Former {
         line: 0,
@@ -104,7 +105,7 @@ fn good_error(number: u32, line: u32, column: u32, fourth: u32) -> bool
 // Whether each of `count` error records is good.
 fn good_errors(errors: &[u32], count: usize) -> bool
     requires { ⌜ 4 * count ≤ length (now errors) ⌝ }
-    ensures { λ r. ⌜ r ≡ is-some (R.errors-of (now (errors .entry)) 0 count) ⌝ }
+    ensures { λ r. ⌜ r ≡ is-some (R.errors-of (at-entry errors) 0 count) ⌝ }
 {
     let mut i = 0;
     while i < count {
@@ -122,7 +123,7 @@ fn good_errors(errors: &[u32], count: usize) -> bool
 
 // Whether so many records are there, and each is good.
 pub fn handed(tokens: &[u32], count: usize, errors: &[u32], error_count: usize, text: &[u8]) -> bool
-    ensures { λ r. ⌜ r ≡ is-some (O.handed (now (tokens .entry)) count (now (errors .entry)) «error_count» (now (text .entry))) ⌝ }
+    ensures { λ r. ⌜ r ≡ is-some (O.handed (at-entry tokens) count (at-entry errors) «error_count» (at-entry text)) ⌝ }
 {
     if (limit::TOKENS < count) | (limit::TOKEN_ERRORS < error_count) {
         return false;

@@ -1,23 +1,31 @@
 -- The records of Items over the parameters of the functions. Assumes nothing.
 use Prim.Native.Nat.{ℕ}
 use denote.Ref.{now}
+use Rattle.definition.specs.Slices.{Slice, Lent, at-entry, at-exit}
 use Rattle.definition.specs.Source.{Place}
 use Rattle.fallible.specs.declared.State.{State}
 use Rattle.fallible.specs.declared.Answer.{Answer}
-use Rattle.steps.specs.Contract.{Slice, Lent}
 use Rattle.items.specs.Items as I
 
 abbrev pub ReadsType : Place → Lent → Lent → ℕ → Lent → Lent → Lent → State → ℕ → Answer → Type 0
-ReadsType p tokens text n file rep full st left r = I.ReadsType (now (tokens .entry)) (now (text .entry)) n left p (now (file .entry)) (now (rep .entry)) (now (full .entry)) st (now (file .exit)) (now (rep .exit)) (now (full .exit)) r
+ReadsType p tokens text n file rep full st left r =
+    I.ReadsType (at-entry tokens) (at-entry text) n left p (at-entry file) (at-entry rep) (at-entry full) st
+    (at-exit file) (at-exit rep) (at-exit full) r
 
 abbrev pub ReadsSignature : Place → Lent → Lent → ℕ → Lent → Lent → Lent → State → ℕ → Answer → Type 0
-ReadsSignature p tokens text n file rep full st left r = I.ReadsSignature (now (tokens .entry)) (now (text .entry)) n left p (now (file .entry)) (now (rep .entry)) (now (full .entry)) st (now (file .exit)) (now (rep .exit)) (now (full .exit)) r
+ReadsSignature p tokens text n file rep full st left r =
+    I.ReadsSignature (at-entry tokens) (at-entry text) n left p (at-entry file) (at-entry rep) (at-entry full) st
+    (at-exit file) (at-exit rep) (at-exit full) r
 
 abbrev pub FunctionAsked : Slice → Slice → ℕ → Slice → Slice → Slice → ℕ → Answer → State → Type 0
-FunctionAsked tokens text n file rep full name a from = I.FunctionAsked (now tokens) (now text) n (now file) (now rep) (now full) name a (from .pos) (from .reported)
+FunctionAsked tokens text n file rep full name a from =
+    I.FunctionAsked (now tokens) (now text) n (now file) (now rep) (now full) name a (from .pos) (from .reported)
 
 abbrev pub FunctionOn : ℕ → Place → Lent → Lent → ℕ → Lent → Lent → Lent → ℕ → Answer → State → ℕ → Answer → Type 0
-FunctionOn external p tokens text n file rep full name a from left r = I.FunctionOn (now (tokens .entry)) (now (text .entry)) n left external p name (from .pos) (from .reported) (now (file .entry)) (now (rep .entry)) (now (full .entry)) a (now (file .exit)) (now (rep .exit)) (now (full .exit)) r
+FunctionOn external p tokens text n file rep full name a from left r =
+    I.FunctionOn (at-entry tokens) (at-entry text) n left external p name (from .pos) (from .reported) (at-entry file)
+    (at-entry rep) (at-entry full) a (at-exit file) (at-exit rep) (at-exit full) r
 
 abbrev pub ReadsModule : Lent → Lent → ℕ → Lent → Lent → Lent → ℕ → Answer → Type 0
-ReadsModule tokens text n file rep full left r = I.ReadsModule (now (tokens .entry)) (now (text .entry)) n left (now (file .exit)) (now (rep .exit)) (now (full .exit)) r
+ReadsModule tokens text n file rep full left r =
+    I.ReadsModule (at-entry tokens) (at-entry text) n left (at-exit file) (at-exit rep) (at-exit full) r

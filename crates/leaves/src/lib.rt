@@ -19,7 +19,7 @@ ghost use Prim.Native.Nat.{ℕ, _+_, _<_, _≤_};
 ghost use lib.ListN.{length, take, drop};
 ghost use Rattle.definition.specs.Parser as P;
 ghost use Rattle.definition.specs.Token.{digit};
-ghost use Rattle.node.specs.Put.{Room};
+ghost use Rattle.node.specs.Contract.{Room};
 ghost use Rattle.steps.specs.Shows.{texted};
 ghost use Rattle.leaves.specs.Leaves.{is-arithmetic, listed-of, Counted, Valued, level-of, level-at, Operator, Prefix, there, identifier, is-name-alone};
 ghost use Rattle.steps.specs.Contract.{Asks, Parses, Finishes};
@@ -279,7 +279,7 @@ pub fn prefix(k: u32) -> u8
 
 // A leaf of the tree: the token's record, the state behind it.
 fn leaf(file: &mut [u8], text: &[u8], st: State, t: Front, tag: u8, numbers: Numbers) -> Answer
-    requires { ⌜ Room (now file) (now text) (st .pos) (16 + t .len) (t .start) (t .len) ⌝ }
+    requires { ⌜ Room file text (st .pos) (16 + t .len) (t .start) (t .len) ⌝ }
     ensures { λ r. ⌜ Finishes (texted t tag numbers t) file text (there st t) r ⌝ }
 {
     let v = Record {
@@ -305,7 +305,7 @@ fn leaf(file: &mut [u8], text: &[u8], st: State, t: Front, tag: u8, numbers: Num
 
 // A name.
 pub fn name(file: &mut [u8], text: &[u8], st: State, t: Front) -> Answer
-    requires { ⌜ Room (now file) (now text) (st .pos) (16 + t .len) (t .start) (t .len) ⌝ }
+    requires { ⌜ Room file text (st .pos) (16 + t .len) (t .start) (t .len) ⌝ }
     ensures { λ r. ⌜ Finishes (identifier t) file text (there st t) r ⌝ }
 {
     leaf(file, text, st, t, tag::IDENTIFIER, Numbers::None)

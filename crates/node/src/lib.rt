@@ -2,9 +2,10 @@
 ghost use mathlib.Core.Path.{_≡_};
 ghost use mathlib.Core.List.{[], _∷_};
 ghost use Prim.Native.Nat.{_+_, _<_, _≤_};
-ghost use lib.ListN.{length, take, drop};
+ghost use lib.ListN.{length};
 ghost use Rattle.definition.specs.Node.{u16, u64, nums-bytes};
-ghost use Rattle.node.specs.Put.{Grew, Room, nums-of, width-of, placed, Wrote, rec-of, size-of, bare-of, bare-size};
+ghost use Rattle.node.specs.Put.{nums-of, width-of, placed, rec-of, size-of, bare-of, bare-size};
+ghost use Rattle.node.specs.Contract.{Room, part, Grew, Wrote};
 
 // The numbers of a record: none, one byte, two bytes, eight bytes, or one byte and two.
 pub enum Numbers {
@@ -27,7 +28,7 @@ pub struct Record {
 
 fn put(file: &mut [u8], pos: usize, b: u8) -> usize
     requires { ⌜ pos < length (now file) ⌝ }
-    ensures { λ r. ⌜ Grew (now (file .entry)) pos (b ∷ []) 1 (now (file .exit)) r ⌝ }
+    ensures { λ r. ⌜ Grew (b ∷ []) 1 file pos r ⌝ }
 {
     file[pos] = b;
     pos + 1
@@ -35,7 +36,7 @@ fn put(file: &mut [u8], pos: usize, b: u8) -> usize
 
 fn put_two(file: &mut [u8], pos: usize, n: usize) -> usize
     requires { ⌜ pos + 2 ≤ length (now file) ⌝ }
-    ensures { λ r. ⌜ Grew (now (file .entry)) pos (u16 n) 2 (now (file .exit)) r ⌝ }
+    ensures { λ r. ⌜ Grew (u16 n) 2 file pos r ⌝ }
 {
     let p = put(file, pos, (n / 256 % 256) as u8);
     put(file, p, (n % 256) as u8)
@@ -43,7 +44,7 @@ fn put_two(file: &mut [u8], pos: usize, n: usize) -> usize
 
 fn put_eight(file: &mut [u8], pos: usize, n: usize) -> usize
     requires { ⌜ pos + 8 ≤ length (now file) ⌝ }
-    ensures { λ r. ⌜ Grew (now (file .entry)) pos (u64 n) 8 (now (file .exit)) r ⌝ }
+    ensures { λ r. ⌜ Grew (u64 n) 8 file pos r ⌝ }
 {
     let p = put_two(file, pos, n / 0x1_0000_0000_0000);
     let p = put_two(file, p, n / 0x1_0000_0000);
@@ -53,7 +54,7 @@ fn put_eight(file: &mut [u8], pos: usize, n: usize) -> usize
 
 fn put_numbers(file: &mut [u8], pos: usize, numbers: Numbers) -> usize
     requires { ⌜ pos + 8 ≤ length (now file) ⌝ }
-    ensures { λ r. ⌜ Grew (now (file .entry)) pos (nums-bytes (nums-of numbers)) (width-of numbers) (now (file .exit)) r ⌝ }
+    ensures { λ r. ⌜ Grew (nums-bytes (nums-of numbers)) (width-of numbers) file pos r ⌝ }
 {
     match numbers {
         Numbers::None => pos,
@@ -81,8 +82,8 @@ fn width(numbers: Numbers) -> usize
 
 // A part of a text slice.
 fn put_part(file: &mut [u8], text: &[u8], pos: usize, start: usize, len: usize) -> usize
-    requires { ⌜ Room (now file) (now text) pos len start len ⌝ }
-    ensures { λ r. ⌜ Grew (now (file .entry)) pos (take len (drop start (now (text .entry)))) len (now (file .exit)) r ⌝ }
+    requires { ⌜ Room file text pos len start len ⌝ }
+    ensures { λ r. ⌜ Grew (part text start len) len file pos r ⌝ }
 {
     let mut i = 0;
     while i < len {
@@ -95,7 +96,7 @@ fn put_part(file: &mut [u8], text: &[u8], pos: usize, start: usize, len: usize) 
 // The front of a record with a place, whose body has `size` bytes.
 fn opening(file: &mut [u8], pos: usize, tag: u8, size: usize, line: usize, column: usize) -> usize
     requires { ⌜ pos + 7 ≤ length (now file) ⌝ }
-    ensures { λ r. ⌜ Grew (now (file .entry)) pos (placed tag size line column) 7 (now (file .exit)) r ⌝ }
+    ensures { λ r. ⌜ Grew (placed tag size line column) 7 file pos r ⌝ }
 {
     let p = put(file, pos, tag);
     let p = put_two(file, p, size);
@@ -105,8 +106,8 @@ fn opening(file: &mut [u8], pos: usize, tag: u8, size: usize, line: usize, colum
 
 // A record with a place.
 pub fn write_record(file: &mut [u8], text: &[u8], pos: usize, r: Record) -> usize
-    requires { ⌜ Room (now file) (now text) pos (16 + r .len) (r .start) (r .len) ⌝ }
-    ensures { λ q. ⌜ Wrote (now (file .entry)) pos (rec-of (now (text .entry)) r) (size-of r) (now (file .exit)) q ⌝ }
+    requires { ⌜ Room file text pos (16 + r .len) (r .start) (r .len) ⌝ }
+    ensures { λ q. ⌜ Wrote (rec-of (now (text .entry)) r) (size-of r) file pos q ⌝ }
 {
     let numbers = r.numbers;
     let p = opening(
@@ -131,8 +132,8 @@ pub fn write_bare(
     start: usize,
     len: usize,
 ) -> usize
-    requires { ⌜ Room (now file) (now text) pos (16 + len) start len ⌝ }
-    ensures { λ q. ⌜ Wrote (now (file .entry)) pos (bare-of tag numbers (take len (drop start (now (text .entry))))) (bare-size numbers len) (now (file .exit)) q ⌝ }
+    requires { ⌜ Room file text pos (16 + len) start len ⌝ }
+    ensures { λ q. ⌜ Wrote (bare-of tag numbers (part text start len)) (bare-size numbers len) file pos q ⌝ }
 {
     let p = put(file, pos, tag);
     let p = put_two(file, p, width(numbers) + len);

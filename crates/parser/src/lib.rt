@@ -11,12 +11,11 @@ use node::Numbers;
 use node::write_bare;
 use zeros::clear_bytes;
 ghost use mathlib.Core.Path.{_≡_};
-ghost use mathlib.Core.Bool.{true};
 ghost use Prim.Native.Nat.{_<_, _≤_};
 ghost use lib.ListN.{length};
-ghost use Rattle.definition.specs.Source.{is-some};
 ghost use Rattle.definition.specs.Operations as O;
-ghost use Rattle.parser.specs.Answer.{answer, refusal-of, refusal-number, RestRoom, RestWritten, ReadHanded};
+ghost use Rattle.parser.specs.Answer.{answer, refusal-of, refusal-number};
+ghost use Rattle.parser.specs.Contract.{RestRoom, RestWritten, Accepted, ReadHanded};
 
 // The number of a refusal, or 0, and the count of file bytes.
 pub struct Written {
@@ -53,8 +52,8 @@ fn end_file(
     full: &[usize],
     made: usize,
 ) -> usize
-    requires { ⌜ RestRoom (now file) pos (now errors) «error_count» (now rep) reported (now full) made ⌝ }
-    ensures { λ r. ⌜ RestWritten (now (file .entry)) pos count (now (errors .entry)) «error_count» (now (rep .entry)) reported (now (full .entry)) made (now (file .exit)) r ⌝ }
+    requires { ⌜ RestRoom file pos errors «error_count» rep reported full made ⌝ }
+    ensures { λ r. ⌜ RestWritten file pos count errors «error_count» rep reported full made r ⌝ }
 {
     let p = write_bare(file, b"", pos, tag::MODULE, Numbers::Two(count), 0, 0);
     let q = token_error_fields(file, p, errors, error_count);
@@ -73,8 +72,8 @@ pub fn read_tokens(
     text: &[u8],
     file: &mut [u8],
 ) -> Written
-    requires { ⌜ (65536 ≤ length (now file)) × ((0 < count) × (is-some (O.handed (now tokens) count (now errors) «error_count» (now text)) ≡ true)) ⌝ }
-    ensures { λ r. ⌜ ReadHanded (now (tokens .entry)) count (now (errors .entry)) «error_count» (now (text .entry)) (now (file .entry)) (now (file .exit)) r ⌝ }
+    requires { ⌜ (65536 ≤ length (now file)) × ((0 < count) × Accepted tokens count errors «error_count» text) ⌝ }
+    ensures { λ r. ⌜ ReadHanded tokens count errors «error_count» text file r ⌝ }
 {
     let mut rep: [usize; 256] = [0; 256];
     let mut full: [usize; 256] = [0; 256];
@@ -116,7 +115,8 @@ pub fn read(
     text: &[u8],
     file: &mut [u8],
 ) -> Written
-    ensures { λ r. ⌜ answer r (now (file .exit)) ≡ O.read (now (tokens .entry)) count (now (errors .entry)) «error_count» (now (text .entry)) (now (file .entry)) ⌝ }
+    ensures { λ r. ⌜ answer r (now (file .exit))
+        ≡ O.read (now (tokens .entry)) count (now (errors .entry)) «error_count» (now (text .entry)) (now (file .entry)) ⌝ }
 {
     if file.len() < limit::FILE_BYTES {
         return refused(refusal::SLICE_LENGTH);

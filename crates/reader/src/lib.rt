@@ -68,7 +68,8 @@ pub fn read_script(script: &[u8], file: &mut [u8]) -> Written
 // The entry for C: the number, the file's bytes through `bytes`.
 #[no_mangle]
 pub extern "C" fn dn_read(script: &[u8], file: &mut [u8], bytes: &mut usize) -> u32
-    ensures { λ r. ⌜ record { number = r; bytes = now (bytes .exit); file = now (file .exit) } ≡ O.whole (now (script .entry)) (now (file .entry)) ⌝ }
+    ensures { λ r. ⌜ record { number = r; bytes = now (bytes .exit); file = now (file .exit) }
+        ≡ O.whole (now (script .entry)) (now (file .entry)) ⌝ }
 {
     let w = read_script(script, file);
     *bytes = w.bytes;
@@ -89,7 +90,8 @@ pub fn two_scripts_one_tree(
     second: &[u8],
     right: &mut [u8],
 ) -> TwoAnswers
-    ensures { λ r. ⌜ OneTree (now (first .entry)) (now (left .exit)) (r .first) (now (second .entry)) (now (right .exit)) (r .second) ⌝ }
+    ensures { λ r. ⌜ OneTree (now (first .entry)) (now (left .exit)) (r .first)
+        (now (second .entry)) (now (right .exit)) (r .second) ⌝ }
 {
     let a = read_script(first, left);
     let b = read_script(second, right);

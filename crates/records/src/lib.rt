@@ -14,9 +14,10 @@ ghost use Rattle.definition.specs.Classes as C;
 ghost use Rattle.definition.specs.Records as R;
 ghost use Rattle.definition.specs.Token as T;
 ghost use Rattle.definition.specs.Tokenizer as Z;
-ghost use Rattle.scan.specs.Scan.{Wrote};
-ghost use Rattle.records.specs.Push.{spot, ErrorsPushed, TokenPushed};
+ghost use Rattle.scan.specs.Contract.{Wrote};
+ghost use Rattle.records.specs.Push.{spot};
 ghost use Rattle.records.specs.Tested.{fields-fit, part-fits, words-of};
+ghost use Rattle.records.specs.Contract.{TokenPushed, ErrorsPushed};
 
 // ---- written
 
@@ -32,7 +33,7 @@ pub struct State {
 // Half of a token's record, or an error's.
 fn put_four(words: &mut [u32], at: usize, a: u32, b: u32, c: u32, d: u32) -> usize
     requires { ⌜ at + 4 ≤ length (now words) ⌝ }
-    ensures { λ r. ⌜ Wrote (now (words .entry)) at (a ∷ b ∷ c ∷ d ∷ []) (now (words .exit)) r ⌝ }
+    ensures { λ r. ⌜ Wrote (a ∷ b ∷ c ∷ d ∷ []) words at r ⌝ }
 {
     let second = put32(words, at, a);
     let third = put32(words, second, b);
@@ -51,7 +52,7 @@ fn put_token(
     base: u32,
 ) -> usize
     requires { ⌜ at + 8 ≤ length (now words) ⌝ }
-    ensures { λ r. ⌜ Wrote (now (words .entry)) at (kind ∷ line ∷ column ∷ start ∷ size ∷ base ∷ 0 ∷ 0 ∷ []) (now (words .exit)) r ⌝ }
+    ensures { λ r. ⌜ Wrote (kind ∷ line ∷ column ∷ start ∷ size ∷ base ∷ 0 ∷ 0 ∷ []) words at r ⌝ }
 {
     let half = put_four(words, at, kind, line, column, start);
     put_four(words, half, size, base, 0, 0)
@@ -70,7 +71,7 @@ pub fn push_token(
     base: u32,
 ) -> State
     requires { ⌜ (8 * most ≤ length (now tokens)) × (st .tokens ≤ most) × (start ≤ 16384) × (size ≤ 16384) ⌝ }
-    ensures { λ r. ⌜ TokenPushed most (now (tokens .entry)) st (kind ∷ line ∷ column ∷ start ∷ size ∷ base ∷ 0 ∷ 0 ∷ []) (now (tokens .exit)) r ⌝ }
+    ensures { λ r. ⌜ TokenPushed (kind ∷ line ∷ column ∷ start ∷ size ∷ base ∷ 0 ∷ 0 ∷ []) most tokens st r ⌝ }
 {
     let k = st.tokens;
     if most <= k {
@@ -103,7 +104,7 @@ pub fn push_errors(
     column: u32,
 ) -> State
     requires { ⌜ (1024 ≤ length (now errors)) × (st .errors ≤ 255) × (count ≤ 16384) ⌝ }
-    ensures { λ r. ⌜ ErrorsPushed (now (errors .entry)) st (replicate count (Z.token-error number (spot line column))) (now (errors .exit)) r ⌝ }
+    ensures { λ r. ⌜ ErrorsPushed (replicate count (Z.token-error number (spot line column))) errors st r ⌝ }
 {
     let total = st.errors + count;
     if limit::TOKEN_ERRORS < total {

@@ -13,14 +13,15 @@ ghost use Prim.Native.Nat.{_+_, _-_, _<_, _≤_};
 ghost use lib.ListN.{length, take, drop};
 ghost use Rattle.definition.specs.Tokenizer as Z;
 ghost use Rattle.source.specs.Place.{Stands, rest};
-ghost use Rattle.scan.specs.Scan.{Wrote, Asks, Spanned, Passes, Passed, letters, blanks, QuotedAs};
+ghost use Rattle.scan.specs.Scan.{letters, blanks};
+ghost use Rattle.scan.specs.Contract.{Passes, Asks, Wrote, Passed, Spanned, QuotedAs};
 
 // ---- what is written
 
 // One byte.
 pub fn put8(text: &mut [u8], at: usize, b: u8) -> usize
     requires { ⌜ at < length (now text) ⌝ }
-    ensures { λ r. ⌜ Wrote (now (text .entry)) at (b ∷ []) (now (text .exit)) r ⌝ }
+    ensures { λ r. ⌜ Wrote (b ∷ []) text at r ⌝ }
 {
     text[at] = b;
     at + 1
@@ -29,7 +30,7 @@ pub fn put8(text: &mut [u8], at: usize, b: u8) -> usize
 // One word.
 pub fn put32(words: &mut [u32], at: usize, v: u32) -> usize
     requires { ⌜ at < length (now words) ⌝ }
-    ensures { λ r. ⌜ Wrote (now (words .entry)) at (v ∷ []) (now (words .exit)) r ⌝ }
+    ensures { λ r. ⌜ Wrote (v ∷ []) words at r ⌝ }
 {
     words[at] = v;
     at + 1
@@ -38,7 +39,7 @@ pub fn put32(words: &mut [u32], at: usize, v: u32) -> usize
 // The bytes of `s` from `from` to `to`, written at `at`.
 pub fn copy(s: &[u8], from: usize, to: usize, text: &mut [u8], at: usize) -> usize
     requires { ⌜ (from ≤ to) × (to ≤ length (now s)) × (at + (to - from) ≤ length (now text)) ⌝ }
-    ensures { λ r. ⌜ Wrote (now (text .entry)) at (take (to - from) (drop from (now (s .entry)))) (now (text .exit)) r ⌝ }
+    ensures { λ r. ⌜ Wrote (take (to - from) (drop from (now (s .entry)))) text at r ⌝ }
 {
     let mut i = from;
     let mut n = at;
@@ -65,8 +66,8 @@ pub fn look(s: &[u8], c: Cursor) -> u8
 
 // The place behind the character at `c`, if there is one.
 pub fn skip(s: &[u8], c: Cursor) -> Cursor
-    requires { ⌜ Passes (now s) c ⌝ }
-    ensures { λ r. ⌜ Passed (now (s .entry)) c (Z.drop-one (rest (now (s .entry)) c)) r ⌝ }
+    requires { ⌜ Passes s c ⌝ }
+    ensures { λ r. ⌜ Passed Z.drop-one s c r ⌝ }
 {
     let at = c.at;
     if s.len() <= at {
@@ -79,8 +80,8 @@ pub fn skip(s: &[u8], c: Cursor) -> Cursor
 
 // Behind the newline that ends a comment, or the end.
 pub fn comment(s: &[u8], from: Cursor) -> Cursor
-    requires { ⌜ Passes (now s) from ⌝ }
-    ensures { λ r. ⌜ Passed (now (s .entry)) from (Z.comment (rest (now (s .entry)) from)) r ⌝ }
+    requires { ⌜ Passes s from ⌝ }
+    ensures { λ r. ⌜ Passed Z.comment s from r ⌝ }
 {
     let mut c = from;
     loop {
@@ -99,8 +100,8 @@ pub fn comment(s: &[u8], from: Cursor) -> Cursor
 
 // Behind white space.
 pub fn white(s: &[u8], from: Cursor) -> Cursor
-    requires { ⌜ Passes (now s) from ⌝ }
-    ensures { λ r. ⌜ Passed (now (s .entry)) from (blanks (rest (now (s .entry)) from)) r ⌝ }
+    requires { ⌜ Passes s from ⌝ }
+    ensures { λ r. ⌜ Passed blanks s from r ⌝ }
 {
     let mut c = from;
     loop {
@@ -126,8 +127,8 @@ pub struct Scan {
 
 // The digits of a base.
 pub fn digits(s: &[u8], from: Cursor, base: u32, text: &mut [u8], start: usize) -> Scan
-    requires { ⌜ Asks (now s) from (now text) start ⌝ }
-    ensures { λ r. ⌜ Spanned (now (s .entry)) from (now (text .entry)) start (Z.digits base (rest (now (s .entry)) from)) (now (text .exit)) r ⌝ }
+    requires { ⌜ Asks s from text start ⌝ }
+    ensures { λ r. ⌜ Spanned (Z.digits base) s from text start r ⌝ }
 {
     let mut c = from;
     let mut n = start;
@@ -148,8 +149,8 @@ pub fn digits(s: &[u8], from: Cursor, base: u32, text: &mut [u8], start: usize) 
 
 // The letters and digits of a word.
 pub fn word(s: &[u8], from: Cursor, text: &mut [u8], start: usize) -> Scan
-    requires { ⌜ Asks (now s) from (now text) start ⌝ }
-    ensures { λ r. ⌜ Spanned (now (s .entry)) from (now (text .entry)) start (letters (rest (now (s .entry)) from)) (now (text .exit)) r ⌝ }
+    requires { ⌜ Asks s from text start ⌝ }
+    ensures { λ r. ⌜ Spanned letters s from text start r ⌝ }
 {
     let mut c = from;
     let mut n = start;
@@ -170,8 +171,8 @@ pub fn word(s: &[u8], from: Cursor, text: &mut [u8], start: usize) -> Scan
 
 // The text of inline assembly, up to `}` or the end; the place is behind the `}`.
 pub fn assembly(s: &[u8], from: Cursor, text: &mut [u8], start: usize) -> Scan
-    requires { ⌜ Asks (now s) from (now text) start ⌝ }
-    ensures { λ r. ⌜ Spanned (now (s .entry)) from (now (text .entry)) start (Z.assembly (rest (now (s .entry)) from)) (now (text .exit)) r ⌝ }
+    requires { ⌜ Asks s from text start ⌝ }
+    ensures { λ r. ⌜ Spanned Z.assembly s from text start r ⌝ }
 {
     let mut c = from;
     let mut n = start;
@@ -202,8 +203,8 @@ pub struct Body {
 
 // The text of a string, behind its opening quote.
 pub fn quoted(s: &[u8], from: Cursor, text: &mut [u8], start: usize) -> Body
-    requires { ⌜ Asks (now s) from (now text) start ⌝ }
-    ensures { λ r. ⌜ QuotedAs (now (s .entry)) from (now (text .entry)) start (Z.quoted false (rest (now (s .entry)) from)) (now (text .exit)) r ⌝ }
+    requires { ⌜ Asks s from text start ⌝ }
+    ensures { λ r. ⌜ QuotedAs (Z.quoted false) s from text start r ⌝ }
 {
     let mut c = from;
     let mut n = start;

@@ -21,7 +21,7 @@ use steps::finish;
 use steps::finish_text;
 use steps::head;
 ghost use Rattle.definition.specs.Parser as P;
-ghost use Rattle.node.specs.Put.{Room};
+ghost use Rattle.node.specs.Contract.{Room};
 ghost use Rattle.leaves.specs.Leaves.{listed-of};
 ghost use Rattle.grammar.specs.Post.{place-of};
 ghost use Rattle.statement.specs.Rules.{values-rule};
@@ -91,7 +91,7 @@ fn values(
 
 // A record with nothing but its tag behind an answer, if it is there.
 fn bare(file: &mut [u8], text: &[u8], a: Answer, tag: u8) -> Answer
-    requires { ⌜ Room (now file) (now text) (a .state .pos) 16 0 0 ⌝ }
+    requires { ⌜ Room file text (a .state .pos) 16 0 0 ⌝ }
     ensures { λ r. ⌜ Bared file a tag r ⌝ }
 {
     let how = a.how;

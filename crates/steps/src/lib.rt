@@ -13,7 +13,7 @@ use node::write_record;
 ghost use mathlib.Core.Path.{_≡_};
 ghost use Prim.Native.Nat.{_+_, _<_, _≤_};
 ghost use Rattle.definition.specs.Parser as P;
-ghost use Rattle.node.specs.Put.{Room};
+ghost use Rattle.node.specs.Contract.{Room};
 ghost use Rattle.steps.specs.Tokens.{Held, Seen};
 ghost use Rattle.steps.specs.Shows.{texted, untexted};
 ghost use Rattle.steps.specs.Contract.{Asks, Follows, Expects, Expected, Finishes};
@@ -166,7 +166,7 @@ pub fn finish_text(
     numbers: Numbers,
     name: Front,
 ) -> Answer
-    requires { ⌜ Room (now file) (now text) (a .state .pos) (16 + name .len) (name .start) (name .len) ⌝ }
+    requires { ⌜ Room file text (a .state .pos) (16 + name .len) (name .start) (name .len) ⌝ }
     ensures { λ r. ⌜ Finishes (texted t tag numbers name) file text a r ⌝ }
 {
     let how = a.how;
@@ -200,7 +200,7 @@ pub fn finish(
     tag: u8,
     numbers: Numbers,
 ) -> Answer
-    requires { ⌜ Room (now file) (now text) (a .state .pos) 16 0 0 ⌝ }
+    requires { ⌜ Room file text (a .state .pos) 16 0 0 ⌝ }
     ensures { λ r. ⌜ Finishes (untexted t tag numbers) file text a r ⌝ }
 {
     let none = Front {

@@ -25,13 +25,9 @@ use turns::zero_turn;
 use zeros::clear_bytes;
 use zeros::clear_words;
 ghost use mathlib.Core.Path.{_≡_};
-ghost use Prim.Native.Nat.{_*_, _<_, _≤_};
-ghost use lib.ListN.{length};
 ghost use Rattle.definition.specs.Operations as O;
-ghost use Rattle.source.specs.Place.{Stands, rest, origin};
-ghost use Rattle.turns.specs.Contract.{Ready};
-ghost use Rattle.tokenizer.specs.Run.{Ran, answer, refusal-of};
-ghost use Rattle.tokenizer.specs.Contract.{Taken};
+ghost use Rattle.tokenizer.specs.Run.{answer, refusal-of};
+ghost use Rattle.tokenizer.specs.Contract.{TurnAsks, Taken, RunAsks, Ran};
 
 // ---- the loop
 
@@ -44,7 +40,7 @@ fn turn(
     errors: &mut [u32],
     text: &mut [u8],
 ) -> State
-    requires { ⌜ Ready most s st (st .cursor) tokens text × (st .cursor .at < length (now s)) × (1024 ≤ length (now errors)) ⌝ }
+    requires { ⌜ TurnAsks most s st tokens errors text ⌝ }
     ensures { λ r. ⌜ Taken most s st tokens errors text r ⌝ }
 {
     let from = st.cursor;
@@ -78,8 +74,8 @@ fn turn(
 
 // The loop: a turn at each character that is reached, until the end or a refusal. What stands behind the records is not cleared.
 pub fn run(most: usize, s: &[u8], tokens: &mut [u32], errors: &mut [u32], text: &mut [u8]) -> State
-    requires { ⌜ Stands (now s) origin × (length (now s) ≤ 16384) × (8 * most ≤ length (now tokens)) × (1024 ≤ length (now errors)) × (16384 ≤ length (now text)) ⌝ }
-    ensures { λ r. ⌜ Ran most (rest (now (s .entry)) origin) (now (tokens .exit)) (now (errors .exit)) (now (text .exit)) r ⌝ }
+    requires { ⌜ RunAsks most s tokens errors text ⌝ }
+    ensures { λ r. ⌜ Ran most s tokens errors text r ⌝ }
 {
     let start = Cursor {
         at: 0,
@@ -128,7 +124,8 @@ fn refused(number: u32) -> Tokenized
 }
 
 pub fn tokenize(script: &[u8], tokens: &mut [u32], errors: &mut [u32], text: &mut [u8]) -> Tokenized
-    ensures { λ r. ⌜ answer r (now (tokens .exit)) (now (errors .exit)) (now (text .exit)) ≡ O.tokenise (now (script .entry)) (now (tokens .entry)) (now (errors .entry)) (now (text .entry)) ⌝ }
+    ensures { λ r. ⌜ answer r (now (tokens .exit)) (now (errors .exit)) (now (text .exit))
+        ≡ O.tokenise (now (script .entry)) (now (tokens .entry)) (now (errors .entry)) (now (text .entry)) ⌝ }
 {
     if limit::SCRIPT_BYTES < script.len() {
         return refused(refusal::SCRIPT_LENGTH);

@@ -1,7 +1,7 @@
 -- What a turn of the tokenizer's loop does to the state and the slices. Assumes nothing.
 use mathlib.Core.Path.{_≡_}
 use mathlib.Core.Logic.{_⊎_}
-use mathlib.Core.List.{List}
+use mathlib.Core.List.{List, [], _∷_}
 use Prim.Native.Nat.{ℕ, _+_, _*_, _≤_}
 use lib.Dec.{leb}
 use lib.ListN.{length}
@@ -21,6 +21,10 @@ at-text f c n = record { cursor = c; tokens = f .tokens; errors = f .errors; tex
 
 abbrev pub at-cursor : State → Cursor → State
 at-cursor f c = at-text f c (f .text)
+
+-- the words of a token that begins at c
+abbrev pub token-record : Cursor → ℕ → ℕ → ℕ → ℕ → List ℕ
+token-record c kind start size base = kind ∷ c .line ∷ c .column ∷ start ∷ size ∷ base ∷ 0 ∷ 0 ∷ []
 
 -- not refused, and within the limits
 pub record Few (most : ℕ) (f : State) : Type 0 where

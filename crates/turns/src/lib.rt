@@ -25,8 +25,8 @@ ghost use Prim.Native.Nat.{_*_, _-_, _<_, _≤_};
 ghost use lib.ListN.{length, replicate};
 ghost use Rattle.definition.specs.Tokenizer as Z;
 ghost use Rattle.source.specs.Place.{placed};
-ghost use Rattle.records.specs.Push.{ErrorsPushed, TokenPushed};
-ghost use Rattle.turns.specs.Turn.{at-cursor, at-text, Few};
+ghost use Rattle.records.specs.Contract.{TokenPushed, ErrorsPushed};
+ghost use Rattle.turns.specs.Turn.{at-cursor, at-text, token-record, Few};
 ghost use Rattle.turns.specs.Contract.{Ready, Turned, TurnedClean};
 
 // ---- how a turn ends
@@ -47,7 +47,7 @@ pub fn moved(st: State, c: Cursor) -> State
 // A token with no text.
 pub fn plain(most: usize, tokens: &mut [u32], st: State, c: Cursor, kind: u32) -> State
     requires { ⌜ Few most st × (8 * most ≤ length (now tokens)) ⌝ }
-    ensures { λ r. ⌜ TokenPushed most (now (tokens .entry)) (at-cursor st c) (kind ∷ st .cursor .line ∷ st .cursor .column ∷ 0 ∷ 0 ∷ 0 ∷ 0 ∷ 0 ∷ []) (now (tokens .exit)) r ⌝ }
+    ensures { λ r. ⌜ TokenPushed (token-record (st .cursor) kind 0 0 0) most tokens (at-cursor st c) r ⌝ }
 {
     let from = st.cursor;
     let on = State { cursor: c, ..st };
@@ -66,7 +66,8 @@ fn with_text(
     base: u32,
 ) -> State
     requires { ⌜ Few most st × (8 * most ≤ length (now tokens)) × (st .text ≤ n) × (n ≤ 16384) ⌝ }
-    ensures { λ r. ⌜ TokenPushed most (now (tokens .entry)) (at-text st c n) (kind ∷ from .line ∷ from .column ∷ st .text ∷ (n - (st .text)) ∷ base ∷ 0 ∷ 0 ∷ []) (now (tokens .exit)) r ⌝ }
+    ensures { λ r. ⌜ TokenPushed (token-record from kind (st .text) (n - st .text) base)
+        most tokens (at-text st c n) r ⌝ }
 {
     let start = st.text;
     let on = State {
@@ -98,7 +99,7 @@ pub fn with_errors(
     number: u32,
 ) -> State
     requires { ⌜ (1024 ≤ length (now errors)) × (st .errors ≤ 255) × (count ≤ 16384) ⌝ }
-    ensures { λ r. ⌜ ErrorsPushed (now (errors .entry)) (at-text st c n) (replicate count (Z.token-error number (placed from))) (now (errors .exit)) r ⌝ }
+    ensures { λ r. ⌜ ErrorsPushed (replicate count (Z.token-error number (placed from))) errors (at-text st c n) r ⌝ }
 {
     let on = State {
         cursor: c,
@@ -121,7 +122,7 @@ pub fn number_turn(
     text: &mut [u8],
 ) -> State
     requires { ⌜ Ready most s st c tokens text × (st .text < c .at) ⌝ }
-    ensures { λ r. ⌜ TurnedClean (λ cs. Z.integer (placed (st .cursor)) 10 (first ∷ []) (Z.digits 10 cs)) most s st c tokens text r ⌝ }
+    ensures { λ r. ⌜ TurnedClean (λ p cs. Z.integer p 10 (first ∷ []) (Z.digits 10 cs)) most s st c tokens text r ⌝ }
 {
     let from = st.cursor;
     let start = st.text;
@@ -142,7 +143,7 @@ fn based_turn(
     text: &mut [u8],
 ) -> State
     requires { ⌜ Ready most s st c tokens text × (st .text < c .at) ⌝ }
-    ensures { λ r. ⌜ TurnedClean (λ cs. Z.integer (placed (st .cursor)) base [] (Z.digits base cs)) most s st c tokens text r ⌝ }
+    ensures { λ r. ⌜ TurnedClean (λ p cs. Z.integer p base [] (Z.digits base cs)) most s st c tokens text r ⌝ }
 {
     let from = st.cursor;
     let start = st.text;
@@ -166,7 +167,7 @@ pub fn zero_turn(
     text: &mut [u8],
 ) -> State
     requires { ⌜ Ready most s st c tokens text × (st .text < c .at) ⌝ }
-    ensures { λ r. ⌜ TurnedClean (Z.zero-turn (placed (st .cursor))) most s st c tokens text r ⌝ }
+    ensures { λ r. ⌜ TurnedClean Z.zero-turn most s st c tokens text r ⌝ }
 {
     let b = look(s, c);
     if b == b'x' {
@@ -190,7 +191,7 @@ pub fn dash_turn(
     text: &mut [u8],
 ) -> State
     requires { ⌜ Ready most s st c tokens text × (st .text < c .at) ⌝ }
-    ensures { λ r. ⌜ TurnedClean (Z.dash-turn (placed (st .cursor))) most s st c tokens text r ⌝ }
+    ensures { λ r. ⌜ TurnedClean Z.dash-turn most s st c tokens text r ⌝ }
 {
     let at = c.at;
     if s.len() <= at {
@@ -220,7 +221,7 @@ fn asm_turn(
     text: &mut [u8],
 ) -> State
     requires { ⌜ Ready most s st c tokens text × (1024 ≤ length (now errors)) ⌝ }
-    ensures { λ r. ⌜ Turned (λ cs. Z.assembly-turn (placed (st .cursor)) (Z.white cs)) most s st c tokens errors text r ⌝ }
+    ensures { λ r. ⌜ Turned (λ p cs. Z.assembly-turn p (Z.white cs)) most s st c tokens errors text r ⌝ }
 {
     let from = st.cursor;
     let w = white(s, c);
@@ -258,7 +259,8 @@ pub fn word_turn(
     text: &mut [u8],
 ) -> State
     requires { ⌜ Ready most s st c tokens text × (st .text < c .at) × (1024 ≤ length (now errors)) ⌝ }
-    ensures { λ r. ⌜ Turned (λ cs. Z.word-turn (placed (st .cursor)) (Z.run-ahead (first ∷ []) (Z.word cs))) most s st c tokens errors text r ⌝ }
+    ensures { λ r. ⌜ Turned (λ p cs. Z.word-turn p (Z.run-ahead (first ∷ []) (Z.word cs)))
+        most s st c tokens errors text r ⌝ }
 {
     let from = st.cursor;
     let start = st.text;
@@ -292,7 +294,7 @@ pub fn string_turn(
     text: &mut [u8],
 ) -> State
     requires { ⌜ Ready most s st c tokens text × (1024 ≤ length (now errors)) ⌝ }
-    ensures { λ r. ⌜ Turned (λ cs. Z.string-turn (placed (st .cursor)) (Z.quoted false cs)) most s st c tokens errors text r ⌝ }
+    ensures { λ r. ⌜ Turned (λ p cs. Z.string-turn p (Z.quoted false cs)) most s st c tokens errors text r ⌝ }
 {
     let from = st.cursor;
     let start = st.text;

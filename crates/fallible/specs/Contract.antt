@@ -1,0 +1,48 @@
+-- The records of Tallies, Answers and Orders over the parameters of the functions. Assumes nothing.
+use mathlib.Core.Path.{_≡_}
+use mathlib.Core.List.{_++_}
+use Prim.Native.Nat.{ℕ, _+_, _-_}
+use denote.Ref.{now}
+use lib.ListN.{take, drop}
+use Rattle.definition.specs.Slices.{Slice, Lent, at-entry, at-exit}
+use Rattle.fallible.specs.declared.State.{State}
+use Rattle.fallible.specs.declared.Answer.{Answer}
+use Rattle.fallible.specs.declared.Tally.{Tally}
+use Rattle.fallible.specs.Tallies as T
+use Rattle.fallible.specs.Answers as A
+use Rattle.fallible.specs.Orders as O
+
+-- ---- a tally
+
+abbrev pub Pushed : Tally → Lent → Lent → ℕ → Tally → Type 0
+Pushed t rep full e r = T.Pushed (at-entry rep) (at-entry full) t e (at-exit rep) (at-exit full) r
+
+abbrev pub Propagated : Tally → Lent → ℕ → ℕ → Tally → Type 0
+Propagated t rep from end r = T.Propagated (at-entry rep) t from end (at-exit rep) r
+
+-- the entries from `from` to `end` stand from `to` on, and end at r
+abbrev pub Shifted : Lent → ℕ → ℕ → ℕ → ℕ → Type 0
+Shifted rep to from end r =
+    (r ≡ to + (end - from)) × (take r (at-exit rep) ≡ take to (at-entry rep) ++ drop from (take end (at-entry rep)))
+
+-- ---- an answer
+
+abbrev pub Raised : Answer → Lent → Lent → State → ℕ → Answer → Type 0
+Raised expected rep full st e r =
+    A.Raised expected (at-entry rep) (at-entry full) st e (at-exit rep) (at-exit full) r
+
+-- what `?` drops: what was written since the state `from`, and the errors from its count to that of `before`
+abbrev pub Cuts : Slice → Answer → State → State → Type 0
+Cuts rep a from before = A.Cuts (now rep) a (from .pos) (from .reported) (before .reported)
+
+abbrev pub Abandoned : Lent → Answer → State → State → Answer → Type 0
+Abandoned rep a from before r =
+    A.Abandoned (at-entry rep) a (from .pos) (from .reported) (before .reported) (at-exit rep) r
+
+-- ---- the order
+
+abbrev pub Copied : Lent → ℕ → Lent → ℕ → ℕ → Type 0
+Copied from at to place len = O.Copied (at-entry from) at (at-entry to) place len (at-exit to)
+
+abbrev pub Exchanged : Lent → ℕ → ℕ → ℕ → Type 0
+Exchanged rep j k m = O.Exchanged (at-entry rep) j k m (at-exit rep)

@@ -1,0 +1,26 @@
+-- The records of Answer over the parameters of the functions. Assumes nothing.
+use mathlib.Core.Path.{_≡_}
+use mathlib.Core.Bool.{true}
+use Prim.Native.Nat.{ℕ}
+use denote.Ref.{now}
+use Rattle.definition.specs.Slices.{Slice, Lent, at-entry, at-exit}
+use Rattle.definition.specs.Source.{is-some}
+use Rattle.definition.specs.Operations as O
+use Rattle.parser.specs.declared.Written.{Written}
+use Rattle.parser.specs.Answer as A
+
+abbrev pub RestRoom : Slice → ℕ → Slice → ℕ → Slice → ℕ → Slice → ℕ → Type 0
+RestRoom file pos errors m rep reported full made =
+    A.RestRoom (now file) pos (now errors) m (now rep) reported (now full) made
+
+abbrev pub RestWritten : Lent → ℕ → ℕ → Lent → ℕ → Lent → ℕ → Lent → ℕ → ℕ → Type 0
+RestWritten file pos count errors m rep reported full made r =
+    A.RestWritten (at-entry file) pos count (at-entry errors) m (at-entry rep) reported (at-entry full) made (at-exit file) r
+
+-- the records that Read is given are good
+abbrev pub Accepted : Slice → ℕ → Slice → ℕ → Slice → Type 0
+Accepted tokens count errors m text = is-some (O.handed (now tokens) count (now errors) m (now text)) ≡ true
+
+abbrev pub ReadHanded : Lent → ℕ → Lent → ℕ → Lent → Lent → Written → Type 0
+ReadHanded tokens count errors m text file r =
+    A.ReadHanded (at-entry tokens) count (at-entry errors) m (at-entry text) (at-entry file) (at-exit file) r
