@@ -90,7 +90,7 @@ at-most m (x ∷ xs) e (suc k) = at-most m xs (right-true (leb x m) (small m xs)
 
 -- ---- what a character begins, test by test
 
--- behind the test for letters
+-- after the test for letters
 abbrev no-word : ℕ → Z.Class
 no-word c = pick (eqb c (char "-")) Z.Dash (pick (eqb c (char "0")) Z.Zero (pick (is-digit c) Z.Digit Z.Unknown))
 

@@ -12,7 +12,7 @@ ghost use mathlib.Core.Path.{_≡_};
 ghost use Rattle.definition.specs.Tokenizer as Z;
 ghost use Rattle.classes.specs.Begins.{class-of};
 
-// What the character `c` begins, `d` behind it; 0 stands for the end. What begins most often is tested first.
+// What the character `c` begins, `d` after it; 0 stands for the end. What begins most often is tested first.
 pub fn class(c: u8, d: u8) -> Class
     ensures { λ r. ⌜ class-of r ≡ Z.class c d ⌝ }
 {

@@ -77,7 +77,7 @@ plain-formed k p f h =
     let e : eqb k 2 ≡ false = ne-eqb k 2 (λ z. omega arith) in
     record { low = omega arith; high = omega arith; base = rw e; textless = λ _. refl; utf8 = utf8-true [] utf8-none; integer = rw e }
 
--- what the class of a character says of it, by the one behind it
+-- what the class of a character says of it, by the one after it
 pub data Classed (c d : ℕ) : Class → Type 0 where
   is-foreign : Classed c d Foreign
   is-white : Classed c d White

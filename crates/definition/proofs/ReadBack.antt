@@ -23,7 +23,7 @@ use Rattle.definition.proofs.Tokens.{Placed, Good, Fault, Behind, texts
 
 -- ---- records in a slice
 
--- the j-th word of those behind others
+-- the j-th word of those after others
 word-behind : (before ws : List ℕ) (k j : ℕ) → k ≡ length before + j → getD (before ++ ws) k 0 ≡ getD ws j 0
 word-behind before ws k j e = rw e (getD-append-add before ws j 0)
 
@@ -84,7 +84,7 @@ line-fits p h = between-true (h .line-low) (omega arith)
 column-fits : (p : Place) → Placed 1 p → between 1 16384 (p .column) ≡ true
 column-fits p h = between-true (h .column-low) (omega arith)
 
--- in the text slice, behind n bytes
+-- in the text slice, after n bytes
 module _ (t : Tok) (g : Good t) (text before rest : List ℕ) (n : ℕ) (e : text ≡ before ++ (t .text ++ rest))
     (l : length before ≡ n) (m : n + length (t .text) ≤ 16384) where
   part-is : part text (words n t) ≡ t .text
@@ -150,7 +150,7 @@ token-step ws text p e i m w q a b =
     ≡ token-before (token-of text w) (tokens-of ws text (place-of w) (text-end e w) (suc i) m)) q
     (λ a b. rw (tokens-of, both-true a b)) a b
 
--- The tokens of records from the i-th on, and texts behind n bytes: those that were written. The former token's place is p, its text ends at e.
+-- The tokens of records from the i-th on, and texts after n bytes: those that were written. The former token's place is p, its text ends at e.
 module _ (ws text : List ℕ) where
   tokens-back : (ts : List Tok) (p : Place) (e n i : ℕ) (before rest before′ rest′ : List ℕ)
       → ws ≡ before ++ (tokens-words n ts ++ rest) → length before ≡ 8 * i

@@ -187,7 +187,7 @@ pub record Shows (rs : List Rec) (p : Place) (ts : List Norm) : Type 0 where
 pub shows-as : {rs : List Rec} {p : Place} {ts us : List Norm} → Shows rs p ts → ts ≡ us → Shows rs p us
 shows-as {rs} {p} h e = subst (λ (l : List Norm). Shows rs p l) e h
 
--- a record behind no part, one, two and three
+-- a record after no part, one, two and three
 pub after0 : (r : Rec) (st : List Entry) → unparse (r ∷ []) st ≡ step r st
 unfolding unparse
 after0 r st = refl

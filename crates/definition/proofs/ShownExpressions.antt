@@ -223,7 +223,7 @@ pub record Item-shown (s : St) (x : Fallible Node) (s′ : St) : Type 0 where
 abbrev pub ItemOf : St → Ans Node → St → Type 0
 ItemOf s a s′ = Sure (Item-shown s) a s′
 
--- behind an item: the tokens that are due are those shown, and a comma is not yet read
+-- after an item: the tokens that are due are those shown, and a comma is not yet read
 record After-item (k : Listed) (i : Items) (s : St) (a : Items) (s′ : St) : Type 0 where
   toks : List Norm
   grew : Grew s toks s′
@@ -365,7 +365,7 @@ list-turn-shown k i s = (
         }) (after-item-shown k (P.integrate i (ok x)) (i .count) refl t)
     go here c (fatal es) t l p = absurd p
 
--- a record behind items, and behind one part and items
+-- a record after items, and after one part and items
 pub after-items : {sep : List Norm} {i : Items} {ts : List Norm} → ShowsItems sep i ts → (r : Rec) (f : Gathered → List Entry)
     → ((st : List Entry) → step r st ≡ f (gather sep (i .count) st)) → (st : List Entry)
     → unparse (i .recs ++ (r ∷ [])) st ≡ f (gathered ts st)

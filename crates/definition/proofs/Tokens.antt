@@ -1,4 +1,4 @@
--- The tokens and token errors of a script: each is well formed, the tokens stand one behind the other, and all fit their records. Assumes nothing.
+-- The tokens and token errors of a script: each is well formed, the tokens stand one after the other, and all fit their records. Assumes nothing.
 use mathlib.Core.Path.{_≡_, refl, sym, ap, subst}
 use mathlib.Core.Bool.{Bool, true, false, _&&_, _||_}
 use mathlib.Core.Option.{some}
@@ -40,7 +40,7 @@ pub record Placed (n : ℕ) (p : Place) : Type 0 where
 placed-less : (m n : ℕ) (p : Place) → m ≤ n → Placed n p → Placed m p
 placed-less m n p h r = omega arith
 
--- each behind the former, the first behind the key k, at places that records may have, and whole
+-- each after the former, the first after the key k, at places that records may have, and whole
 abbrev Chars : ℕ → List Ch → Type 0
 Chars k [] = Unit {0}
 Chars k (c ∷ cs) = (k < key (c .place)) × Placed 1 (c .place) × Whole c × Chars (key (c .place)) cs
@@ -121,7 +121,7 @@ ran-trans p q =
       fewer = omega (arith, p .fewer, q .fewer);
     }
 
--- m bytes of the first character, and n behind it
+-- m bytes of the first character, and n after it
 ran-char : (c : Ch) (cs rest : List Ch) (n m l : ℕ) → m ≤ 1 + length (c .more) → l ≤ m + n → Ran cs rest n → Ran (c ∷ cs) rest l
 ran-char c cs rest n m l h k p =
     record {
@@ -223,7 +223,7 @@ run-skip : (c : Ch) (cs : List Ch) (r : Run) → RunOf cs r → RunOf (c ∷ cs)
 run-skip c cs (ends s) p = spans-skip c cs (s .text) (s .rest) p
 run-skip c cs foreign p = tt
 
--- behind characters that are passed over
+-- after characters that are passed over
 run-behind : (cs rest : List Ch) (n : ℕ) (r : Run) → Ran cs rest n → RunOf rest r → RunOf cs r
 run-behind cs rest n (ends s) p q = record { ran = ran-trans p (q .ran); utf8 = λ k h. q .utf8 k (p .keeps k h) }
 run-behind cs rest n foreign p q = tt
@@ -247,7 +247,7 @@ white-spans (c ∷ cs) =
 
 -- ---- one turn: at most one token, and errors, at the place of its first character
 
--- a token at the place p, where of n bytes at most r are left behind its text
+-- a token at the place p, where of n bytes at most r are left after its text
 record New (p : Place) (r n : ℕ) (t : Tok) : Type 0 where
   place : t .place ≡ p
   size : length (t .text) + r ≤ n
@@ -350,7 +350,7 @@ module _ (c : Ch) (cs : List Ch) where
       → length text ≤ 1 + n → Numeral base text → TurnOf c cs (Z.token-text rest K.Integer (c .place) text base)
   integer-turned base text rest n b r l t = gives-token rest n [] _ r refl l (integer-formed base (c .place) text b t) tt
 
-  -- of digits behind a prefix that is no text
+  -- of digits after a prefix that is no text
   based-turned : (base : ℕ) (rest : List Ch) → base-fits 2 base ≡ true → C.is-digit-of base 48 ≡ true → Ran cs rest 0
       → TurnOf c cs (Z.integer (c .place) base [] (digits base rest))
   based-turned base rest b z r =
@@ -413,7 +413,7 @@ turned c cs k h = go (Z.class (c .byte) (look cs)) (classed (c .byte) (look cs))
 
 -- ---- all the tokens
 
--- each behind the former, from the key j to the key k
+-- each after the former, from the key j to the key k
 abbrev Rising : ℕ → List Tok → ℕ → Type 0
 Rising j [] k = j ≤ k
 Rising j (t ∷ ts) k = (j < key (t .place)) × Rising (key (t .place)) ts k
@@ -439,7 +439,7 @@ pub record Fault (e : Err) : Type 0 where
 abbrev pub Kinds : List Tok → Type 0
 Kinds ts = All (λ t. 0 < t .kind) ts
 
--- each token comes behind the former, the first behind the place p
+-- each token comes after the former, the first after the place p
 abbrev pub Behind : Place → List Tok → Type 0
 Behind p [] = Unit {0}
 Behind p (t ∷ ts) = (comes-after p (t .place .line) (t .place .column) ≡ true) × Behind (t .place) ts

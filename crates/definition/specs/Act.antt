@@ -64,7 +64,7 @@ pub data Role : Type 0 where
 pub data Act (A : Type 0) : Type 0 where
   done : A → Act A  -- return
   peek : (Tok → Act A) → Act A  -- self.tokens.peek()
-  take : (Tok → Role) → (Tok → Act A) → Act A  -- self.tokens.next(), and the token's role, by the token behind it
+  take : (Tok → Role) → (Tok → Act A) → Act A  -- self.tokens.next(), and the token's role, by the token after it
   make : Err → Act A → Act A  -- ParseError::new(..)
   if_then_else_ : Bool → Act A → Act A → Act A
   call : Goal → (Ans Node → Act A) → Act A  -- a call of one of the four

@@ -32,7 +32,7 @@ abbrev pub errors-of : {A : Type 0} → Ans A → List Err
 errors-of (ok x) = x .errors
 errors-of (fatal es) = es
 
--- one record at a place, behind its children's; the node has that place
+-- one record at a place, after its children's; the node has that place
 abbrev pub node : List Rec → ℕ → Place → List Num → List ℕ → Node
 node rs tag p ns text = record { place = p; recs = rs ++ (record { tag = tag; place = some p; numbers = ns; text = text } ∷ []) }
 
@@ -140,7 +140,7 @@ item StructValues = parse-compound-struct-field
 unfoldable pub parse-list : Listed → Act Items
 parse-list k = expect (opener k) >>= λ a. loop (ListOf k (no-items (errors-of a))) done
 
--- a comma is final where the token behind it closes the list
+-- a comma is final where the token after it closes the list
 abbrev pub comma-role : Listed → Tok → Role
 comma-role k t = pick (t is closer k) final plain
 
@@ -185,11 +185,11 @@ type-rule =
 
 -- ---- expressions
 
--- an operator's record, behind both operands', at the operator's place
+-- an operator's record, after both operands', at the operator's place
 abbrev pub binary : ℕ → List Num → Place → Fallible Node → Fallible Node → Fallible Node
 binary tag ns p l r = record { item = node (l .item .recs ++ r .item .recs) tag p ns []; errors = l .errors ++ r .errors }
 
--- a record behind its one operand's
+-- a record after its one operand's
 abbrev pub wrap : ℕ → Place → List ℕ → Fallible Node → Fallible Node
 wrap tag p text e = record { item = node (e .item .recs) tag p [] text; errors = e .errors }
 
@@ -379,7 +379,7 @@ parse-var-like-declaration =
     (next λ _. parse-compound >>? λ c. declared x (bare (c .item .recs) T.CompoundValue []) (c .errors)) else
     declared x (bare [] T.NoValue []) []
 
--- a declaration's record, behind those of its type and its value
+-- a declaration's record, after those of its type and its value
 unfoldable pub declaration : ℕ → Place → Act (Ans Node)
 declaration tag p =
     parse-var-like-declaration >>? λ x.

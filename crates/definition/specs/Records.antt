@@ -90,7 +90,7 @@ good-behind p e w = comes-after p (w .line) (w .column) && pick (has-text (w .ki
 abbrev pub place-of : TokenWords → Place
 place-of w = record { line = w .line; column = w .column }
 
--- where the former text ends, behind this record
+-- where the former text ends, after this record
 abbrev pub text-end : ℕ → TokenWords → ℕ
 text-end e w = pick (has-text (w .kind)) (w .start + w .size) e
 

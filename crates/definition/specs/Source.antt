@@ -20,7 +20,7 @@ spot line column = record { line = line; column = column }
 abbrev pub nowhere : Place
 nowhere = record { line = 0; column = 0 }
 
--- the place behind the character that begins with the byte b; a newline belongs to the line it ends
+-- the place after the character that begins with the byte b; a newline belongs to the line it ends
 abbrev pub after : ℕ → Place → Place
 after b p = pick (eqb b 10) (record { line = suc (p .line); column = 1 }) (record { line = p .line; column = suc (p .column) })
 
@@ -32,7 +32,7 @@ pub record Ch : Type 0 where
   pub more : List ℕ
   pub place : Place
 
--- What a first byte asks for: how many more bytes, and the bounds of the next of them; those behind that are 128 to 191
+-- What a first byte asks for: how many more bytes, and the bounds of the next of them; those after that are 128 to 191
 pub data Lead : Type 0 where
   single : Lead
   with-more : ℕ → ℕ → ℕ → Lead

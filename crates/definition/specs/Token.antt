@@ -38,7 +38,7 @@ tail (t ∷ ts) = ts
 abbrev pub digit : ℕ → ℕ
 digit c = elim (leb c (char "9")) [ true ↦ c - char "0" | false ↦ elim (leb c (char "Z")) [ true ↦ c - 55 | false ↦ c - 87 ] ]
 
--- digits read in a base, behind those of the value n
+-- digits read in a base, after those of the value n
 unfoldable pub number : ℕ → ℕ → List ℕ → ℕ
 number base n [] = n
 number base n (c ∷ cs) = number base (n * base + digit c) cs

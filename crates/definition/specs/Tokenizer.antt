@@ -91,12 +91,12 @@ abbrev pub drop-one : List Ch → List Ch
 drop-one [] = []
 drop-one (c ∷ cs) = cs
 
--- behind `//`
+-- after `//`
 unfoldable pub comment : List Ch → List Ch
 comment [] = []
 comment (c ∷ cs) = elim (eqb (c .byte) 10) [ true ↦ cs | false ↦ comment cs ]
 
--- a text, and what is left behind it
+-- a text, and what is left after it
 pub record Span : Type 0 where
   pub text : List ℕ
   pub rest : List Ch
@@ -118,7 +118,7 @@ or-zero (d ∷ ds) = d ∷ ds
 abbrev pub integer : Place → ℕ → List ℕ → Span → Turn
 integer p base before s = token-text (s .rest) K.Integer p (or-zero (before ++ s .text)) base
 
--- behind a dash; where it is Minus, the next character is swallowed
+-- after a dash; where it is Minus, the next character is swallowed
 unfoldable pub dash-turn : Place → List Ch → Turn
 unfolding digits
 dash-turn p [] = refused 5
@@ -128,7 +128,7 @@ dash-turn p (c ∷ cs) =
       | false ↦ elim (is-digit (c .byte)) [ true ↦ integer p 10 (char "-" ∷ []) (digits 10 (c ∷ cs)) | false ↦ token cs K.Minus p ]
     ]
 
--- behind a `0` that opens the number, and is dropped
+-- after a `0` that opens the number, and is dropped
 unfoldable pub zero-turn : Place → List Ch → Turn
 unfolding digits
 zero-turn p cs =
@@ -139,7 +139,7 @@ zero-turn p cs =
 
 -- ---- strings
 
--- behind the opening quote: the text, how many escapes were unknown, whether the closing quote was there
+-- after the opening quote: the text, how many escapes were unknown, whether the closing quote was there
 pub record Quoted : Type 0 where
   pub text : List ℕ
   pub unknown : ℕ
@@ -194,7 +194,7 @@ word (c ∷ cs) =
       | false ↦ elim (is-word (c .byte)) [ true ↦ run-ahead (c .byte ∷ []) (word cs) | false ↦ ends (record { text = []; rest = c ∷ cs }) ]
     ]
 
--- white space behind `asm`
+-- white space after `asm`
 unfoldable pub white : List Ch → Run
 white [] = ends (record { text = []; rest = [] })
 white (c ∷ cs) = elim (ltb 127 (c .byte)) [ true ↦ foreign | false ↦ elim (is-white (c .byte)) [ true ↦ white cs | false ↦ ends (record { text = []; rest = c ∷ cs }) ] ]
@@ -204,7 +204,7 @@ unfoldable pub assembly : List Ch → Span
 assembly [] = record { text = []; rest = [] }
 assembly (c ∷ cs) = elim (eqb (c .byte) (char "}")) [ true ↦ record { text = []; rest = cs } | false ↦ ahead (c .byte ∷ c .more) (assembly cs) ]
 
--- behind `asm` and white space: what comes is `{`, or is consumed
+-- after `asm` and white space: what comes is `{`, or is consumed
 unfoldable pub assembly-turn : Place → Run → Turn
 unfolding assembly
 assembly-turn p foreign = refused 4
@@ -225,7 +225,7 @@ word-turn p (ends s) =
 
 -- ---- the turn
 
--- what a character begins, by the one behind it
+-- what a character begins, by the one after it
 pub data Class : Type 0 where
   Foreign White Comment Pair Symbol Quote Word Dash Zero Digit Unknown : Class
 

@@ -128,7 +128,7 @@ fn comparison(
 }
 
 // parse_bitwise_or: bit_xor {`|` bit_xor}. All levels begin with the operand that is read here: where no operator of theirs
-// is behind it, it is the answer of each; else the loop of each goes on behind the answer of the level below, the tightest first.
+// is after it, it is the answer of each; else the loop of each goes on after the answer of the level below, the tightest first.
 fn bit_or(
     tokens: &[u32],
     text: &[u8],
@@ -279,7 +279,7 @@ fn cascade(
     }
 }
 
-// The loop of parse_arithmetic_binop, behind an operand.
+// The loop of parse_arithmetic_binop, after an operand.
 fn operators(
     tokens: &[u32],
     text: &[u8],
@@ -560,7 +560,7 @@ fn atom(
 
 // ---- names
 
-// A record with no place behind an answer, whose text is the name at the place `at`, or `<?>` where none stands there.
+// A record with no place after an answer, whose text is the name at the place `at`, or `<?>` where none stands there.
 fn bare_name(
     tokens: &[u32],
     text: &[u8],
@@ -691,7 +691,7 @@ fn array(
     finish(file, text, b, lead, tag::ARRAY, numbers)
 }
 
-// A typed identifier, behind its name, whose construct reports from `j` on.
+// A typed identifier, after its name, whose construct reports from `j` on.
 fn typed(
     tokens: &[u32],
     text: &[u8],

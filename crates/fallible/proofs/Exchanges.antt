@@ -86,7 +86,7 @@ module _ {r held r₁ r₂ : List ℕ} {j k m : ℕ} (held₀ : List ℕ) where
             ∙ rw (back, front);
       }
 
--- the errors from n on are those that stand behind the first n
+-- the errors from n on are those that stand after the first n
 behind : (r : List ℕ) (n m : ℕ) (E fs : List Err) → n ≤ m → errs r n ≡ E → errs r m ≡ E ++ fs → map (λ e. unpack e) (drop n (take m r)) ≡ fs
 unfolding errs
 behind r n m E fs h p q =

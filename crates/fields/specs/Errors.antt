@@ -7,7 +7,7 @@ use lib.ListN.{length, take}
 use Rattle.definition.specs.Fallible.{Err, errs-bytes}
 use Rattle.definition.specs.Records.{errors-of}
 
--- the fields of the errors es stand behind what stands up to p
+-- the fields of the errors es stand after what stands up to p
 pub record Fielded (o : List ℕ) (p tag : ℕ) (es : List Err) (o′ : List ℕ) (q : ℕ) : Type 0 where
   pub end : q ≡ p + 10 * length es
   pub is : take q o′ ≡ take p o ++ errs-bytes tag es

@@ -1,4 +1,4 @@
-// The errors as fields behind the tree: token errors (tag 62), reported errors (60) and the full list (61).
+// The errors as fields after the tree: token errors (tag 62), reported errors (60) and the full list (61).
 // The body of each is seven bytes: number, line and column in two bytes each, expected kind, kind got.
 use definition::tag;
 use fallible::entry;

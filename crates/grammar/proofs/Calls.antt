@@ -40,7 +40,7 @@ use Rattle.grammar.specs.Post.{ReadsList}
 use Rattle.grammar.proofs.Types.{past, drops, dropping}
 use Rattle.grammar.proofs.Joins.{goes-none}
 
--- ---- a token, an operand, and the record behind it
+-- ---- a token, an operand, and the record after it
 
 module _ {A : Type 0} {K : View A} {w x : List ℕ} {n d : ℕ} {o r f o1 r1 f1 o2 : List ℕ} {s : State} {b y : Answer} {t : Front} {v : Record} {m : Act (Ans A)} {M : Act (Ans Node)} (p : A → Place) (ns : A → List Num) (text : List ℕ)
     (q : Asked w x n o r f s) (u : Seen w x n (s .at) t) (B : Reads K w x n d m o r f (fore s t) o1 r1 f1 b) (F : Finished x o1 b v o2 y)
@@ -96,7 +96,7 @@ module _ {w x : List ℕ} {n d : ℕ} {o r f : List ℕ} {s : State} {t : Front}
       (ap (λ (S : St). go (d - 1) (P.parse-unary >>? wrapped node [] [] tag (λ i. i .place) (λ _. []) []) S)
       (adv s u (λ _. plain) f rd))))
 
--- ---- calls: the arguments behind what is called; their errors are dropped
+-- ---- calls: the arguments after what is called; their errors are dropped
 
 abbrev pub call-on : Fallible Node → Act (Ans Node)
 call-on e =
@@ -105,7 +105,7 @@ call-on e =
     (done (ok e))
 
 module _ {A : Type 0} {K : View A} {w x : List ℕ} {n : ℕ} {o r f : List ℕ} {b : Answer} {q : Res (Ans A)} (never : b .how ≡ Fatal → ⊥) where
-  -- behind what the construct has before
+  -- after what the construct has before
   pub rebased : {T T′ : List ℕ} {E E′ : List Err} (rs : List Rec) (es : List Err) → T′ ≡ T ++ recs-bytes rs → E′ ≡ E ++ es
       → Shows K T′ E′ [] [] w x n o r f b q → Shows K T E rs es w x n o r f b q
   rebased {T} {T′} {E} {E′} rs es t e v = record { told = one (b .how) refl (v .told) }
@@ -174,7 +174,7 @@ module _ {w x : List ℕ} {n d i j : ℕ} {o r f : List ℕ} {a : Answer} {t : F
       (record { tag = 0x24; line = a .line; column = a .column; numbers = Two (b .line); start = 0; len = 0 })
       o2 y) C F)
 
--- what the list is asked with: a place behind the operand's, and room for the record behind it
+-- what the list is asked with: a place after the operand's, and room for the record after it
 pub call-later : {w x : List ℕ} {n d : ℕ} {m : Act (Ans Node)} {o r f o1 r1 f1 : List ℕ} {s : State} {a : Answer} {t : Front}
     → Asked w x n o r f s → Reads node w x n d m o r f s o1 r1 f1 a → Seen w x n (a .state .at) t → t .kind ≡ 41
     → s .at < a .state .at
@@ -301,7 +301,7 @@ abbrev pub closing : Ans Node → Act (Ans Node)
 closing e = P.expect-as group 42 >>= λ c. done (P.both e c)
 
 module _ {w x : List ℕ} {n : ℕ} {o r f r1 f1 : List ℕ} {a y : Answer} (d : ℕ) {T : List ℕ} {E : List Err} {q : Res (Ans Node)} where
-  -- a node with the errors of the parenthesis behind its own
+  -- a node with the errors of the parenthesis after its own
   pub closes-good : a .how ≡ Done → Good node T E [] [] w x n o r f a q → Closing w x n r f a r1 f1 y
       → Shows node T E [] [] w x n o r1 f1 y (after q (λ z S. go d (closing z) S))
   unfolding go run

@@ -142,7 +142,7 @@ module _ {w x : List ℕ} {n d i j : ℕ} {o r f : List ℕ} {a : Answer} {t : F
 
 -- ---- the six levels, the tightest first
 
--- behind an operand a, at k levels: what was read stands for an operand of these levels
+-- after an operand a, at k levels: what was read stands for an operand of these levels
 pub record Levelled (w x : List ℕ) (n d : ℕ) (s : State) (o r f : List ℕ) (a : Answer) (o1 r1 f1 : List ℕ) (y : Answer) (k : ℕ) : Type 0 where
   pub few : k ≤ 6
   pub forward : s .at ≤ y .state .at

@@ -58,7 +58,7 @@ refusal {A} {K} {T} {E} {w} {x} {n} {o} {r} {f} {o′} {r′} {f′} {T′} {E�
 
 module _ {w x : List ℕ} {n d count : ℕ} (on : Items → Act Items) {o r f : List ℕ} {s : State} {t : Front}
     (q : Asked w x n o r f s × (count ≤ s .at)) (v : Seen w x n (s .at) t) where
-  -- behind the token that closes it
+  -- after the token that closes it
   pub loop-closed : ((rd : List Consumed) (l : Items)
       → go d (on l) (st-of w x n f rd s) ≡ gives l (st-of w x n f (past w x n (s .at) rd) (fore s t)))
       → LoopOn on w x n d count o r f s o r f (record { how = Done; state = fore s t; line = count; column = 0 })

@@ -122,7 +122,7 @@ kept-done {r} {r′} {b} {c} {i} {j} {k} v z = one (b .how) refl (v .is)
     one Fatal y m = let g = m .how in let e : _≡_ {A = ℕ} 0 1 = cc in absurd (omega arith)
     one (Refused u) y m = m
 
--- behind the type, and behind `:`
+-- after the type, and after `:`
 abbrev type-on : List ℕ → List Err → Fallible Node → Act (Ans P.Typed)
 type-on name es y = P.good (record { name = name; type = y .item .recs }) (es ++ y .errors)
 
@@ -307,7 +307,7 @@ module _ {w x : List ℕ} {n : ℕ} {o r f : List ℕ} {s : State} {t : Front} (
 
 -- ---- `named`
 
--- behind a typed identifier
+-- after a typed identifier
 abbrev name-on : Fallible P.Typed → Act (Ans Node)
 name-on y = P.good (P.bare (y .item .type) 21 (y .item .name)) (y .errors)
 
@@ -362,7 +362,7 @@ module _ {w x : List ℕ} {n d : ℕ} {o r f o1 r1 f1 : List ℕ} {s : State} {a
   pub named-room : length o1 ≡ length o → NameRoom w x n o1 a (s .at)
   named-room l = record { held = q .asks .held; within = q .asks .at; room = omega (arith, q .room, u .spare) }
 
--- ---- `expect` behind an answer
+-- ---- `expect` after an answer
 
 -- it is there
 pub record Met (w x : List ℕ) (n k : ℕ) (r f : List ℕ) (a : Answer) (r′ f′ : List ℕ) (y : Answer) : Type 0 where
@@ -451,7 +451,7 @@ expected-stops {A} {B} {K} {L} {T} {E} {w} {x} {n} {k} {i} {j} {o} {r} {f} {r′
 
 -- ---- `field`
 
--- behind the value, and behind `=`
+-- after the value, and after `=`
 abbrev value-on : Fallible Tok → Fallible Node → Act (Ans Node)
 value-on id y = wrapped node [] [] 50 (λ _. id .item .place) (λ _. []) (id .item .text) y
 
@@ -557,7 +557,7 @@ module _ {w x : List ℕ} {n j : ℕ} {o r f r1 f1 : List ℕ} {s : State} {a : 
         → Cuts r3 c (s .pos) j (b .state .reported)
     type-cuts u l k g = cuts-moved (type-asked l k .asks) (u .moved) (v .low) (v .first) g
 
--- behind an error noted
+-- after an error noted
 module _ {w x : List ℕ} {n e : ℕ} {o r f r1 f1 : List ℕ} {s : State} {t : Front} {b : Answer}
     (q : Asked w x n o r f s) (v : Seen w x n (s .at) t)
     (g : Raised (noted n (fore s t)) r f (fore s t) e r1 f1 b) where

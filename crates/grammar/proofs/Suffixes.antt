@@ -41,7 +41,7 @@ use Rattle.grammar.proofs.Calls.{expect-seam}
 abbrev past-two : List ℕ → List ℕ → ℕ → ℕ → ℕ → List Consumed → List Consumed
 past-two w x n at next rd = past w x n next (past w x n at rd)
 
--- behind the dot, whose place is p
+-- after the dot, whose place is p
 abbrev dotted : Place → Fallible Node → Tok → Act (Ans Node)
 dotted p e n =
     Act.if_then_else_ (n is K.End) Act.panic
@@ -59,7 +59,7 @@ dot-step {w} {x} {n} d f s u h e rd =
     ∙ rw (run, yes u h)
     (ap (λ (S : St). go d (Act.next (dotted (head (rest w x n (s .at)) .place) e)) S) (adv s u (λ _. plain) f rd))
 
--- ---- a record behind the operand itself, and the next turn
+-- ---- a record after the operand itself, and the next turn
 
 module _ {w x : List ℕ} {n d i j : ℕ} {o r f o2 o3 r3 f3 : List ℕ} {a y y′ : Answer} {on : State} {v : Record} (p : Place) (text : List ℕ) (q : GoesOn w x n o r f a i j) (z : a .how ≡ Done)
     (F : Finished x o (record { how = a .how; state = on; line = a .line; column = a .column }) v o2 y) (made : rec-of x v ≡ record { tag = v .tag; place = some p; numbers = []; text = text }) where

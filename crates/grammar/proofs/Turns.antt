@@ -37,7 +37,7 @@ one-turn t a b c h q =
       rest = λ g. t .rest (q _ _ _ _ g);
     }
 
--- the loops behind an operand
+-- the loops after an operand
 abbrev pub GoesTurned : (k : Fallible Node → Act (Ans Node)) (w x : List ℕ) (n d i j : ℕ) (o r f : List ℕ) (a : Answer)
     (o1 r1 f1 : List ℕ) (b : Answer)
     → Type 0

@@ -105,7 +105,7 @@ pub shown-from : {A : Type 0} {K : View A} {w x : List ℕ} {n d p : ℕ} {E : L
     → (rd : List Consumed) → Shows K (take p o) E [] [] w x n o′ r′ f′ a (go d m (st-of w x n f rd s))
 shown-from u e h rd = rw (← e, ← h) (u .is rd)
 
--- ---- a record behind one answer
+-- ---- a record after one answer
 
 -- the numbers, where the record is paid for
 pub finished-moved : {w x : List ℕ} {n i j : ℕ} {o o′ : List ℕ} {s : State} {a y : Answer} {v : Record}
@@ -125,7 +125,7 @@ finished-moved {w} {x} {n} m h u =
       few = omega arith;
     }
 
--- Of an act m, what is left is the answer b and the record v behind it.
+-- Of an act m, what is left is the answer b and the record v after it.
 module _ {A : Type 0} {K : View A} {w x : List ℕ} {n d : ℕ} {m : Act (Ans Node)} {o r f o1 r1 f1 o2 : List ℕ}
     {s : State} {b y : Answer} {v : Record} (p : Place) (ns : A → List Num) (text : List ℕ)
     (F : Finished x o1 b v o2 y) where
@@ -213,7 +213,7 @@ module _ {w x : List ℕ} {n d : ℕ} {o r f : List ℕ} {s : State} (q : Asked 
         (d - 1) (λ rd. rw (run, yes v z)))
 
     module _ (m1 : t .kind ≡ 1 → ⊥) where
-      -- behind `*`
+      -- after `*`
       abbrev star-on : Fallible Node → Act (Ans Node)
       star-on e = wrapped node [] [] 18 (λ _. head (rest w x n (s .at)) .place) (λ _. []) [] e
 
@@ -245,7 +245,7 @@ module _ {w x : List ℕ} {n d : ℕ} {o r f : List ℕ} {s : State} (q : Asked 
         })
 
         module _ (m43 : t .kind ≡ 43 → ⊥) where
-          -- behind a list of fields
+          -- after a list of fields
           abbrev struct-on : Fallible Items → Act (Ans Node)
           struct-on e = wrapped items [] [] 20 (λ _. head (rest w x n (s .at)) .place) (λ i. two (i .count) ∷ []) [] e
 
@@ -288,7 +288,7 @@ module _ {w x : List ℕ} {n d : ℕ} {o r f : List ℕ} {s : State} (q : Asked 
                 (λ rd. rw (run, no v m1, no v m24, no v m43, no v m16, no v z)
                 (raise-same (d - 1) (rw (v .place, v .kind) (sym i)) (adv s v (λ _. plain) f rd))))
 
--- ---- `array`, behind `[`, of a type at a line and a column
+-- ---- `array`, after `[`, of a type at a line and a column
 
 not-false : (b : Bool) → not b ≡ false → b ≡ true
 not-false true e = refl
@@ -319,7 +319,7 @@ module _ {w x : List ℕ} {n : ℕ} (line column : ℕ) {o r f : List ℕ} {s : 
 
     module _ {r1 f1 : List ℕ} {a : Answer} (fits : not (u .fits) ≡ false)
         (e : Expects w x n (λ role. P.expect-as role 44) r f (fore s t) r1 f1 a) where
-      -- behind the type, and behind `]`
+      -- after the type, and after `]`
       abbrev array-on : Fallible Node → Act (Ans Node)
       array-on b =
           wrapped node [] [] 19 (λ _. place-at line column)
@@ -368,7 +368,7 @@ module _ {w x : List ℕ} {n : ℕ} (line column : ℕ) {o r f : List ℕ} {s : 
 
 -- ---- what their calls ask for
 
--- an error behind a token
+-- an error after a token
 pub raise-asked : {w x : List ℕ} {n : ℕ} {o r f : List ℕ} {s : State} → Asked w x n o r f s → (s .reported < length r) × (255 ≤ length f)
 raise-asked q = (omega (arith, q .asks), omega (arith, q .asks))
 

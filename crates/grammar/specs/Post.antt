@@ -31,7 +31,7 @@ use Rattle.steps.specs.Shows.{st-of, Moved, Shows, done-of, typed, items}
 abbrev pub place-of : Front → Place
 place-of t = place-at (t .line) (t .column)
 
--- ---- the loops, behind an operand
+-- ---- the loops, after an operand
 
 abbrev pub operators-on : A.Level → Fallible Node → Act (Ans Node)
 operators-on l e = loop (Operators l e) done
@@ -79,7 +79,7 @@ pub record ReadsTyped (w x : List ℕ) (n d : ℕ) (o r f : List ℕ) (s : State
   pub spare : a .state .pos + budget w x n (a .state .at) + 32 * done-of (a .how) + length (head (rest w x n (s .at)) .text) ≤ s .pos + budget w x n (s .at)
   pub is : (rd : List Consumed) → Shows (typed (name-of (head (rest w x n (s .at))))) (take (s .pos) o) (errs r (s .reported)) [] [] w x n o′ r′ f′ a (go d P.parse-typed-identifier (st-of w x n f rd s))
 
--- behind the name: the construct has the errors since j
+-- after the name: the construct has the errors since j
 pub record TypedOn (w x : List ℕ) (n d j : ℕ) (o r f : List ℕ) (s : State) (o′ r′ f′ : List ℕ) (a : Answer) : Type 0 where
   pub moved : Moved w x n (s .pos) j s (a .state)
   pub spare : a .state .pos + budget w x n (a .state .at) + 16 * done-of (a .how) ≤ s .pos + budget w x n (s .at)

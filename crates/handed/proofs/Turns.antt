@@ -41,7 +41,7 @@ abbrev tokens-before : (t : Tok) (o : Option (List Tok)) → is-some (token-befo
 tokens-before t none = refl
 tokens-before t (some ts) = refl
 
--- one record's test, then the test of those behind it
+-- one record's test, then the test of those after it
 token-turn : (T X : List ℕ) (p : Place) (e i m : ℕ) (w : TokenWords) → w ≡ words-at T i
     → is-some (tokens-of T X p e i (suc m))
     ≡ (good-alone X w && good-behind p e w) && is-some (tokens-of T X (place-of w) (text-end e w) (suc i) m)

@@ -149,7 +149,7 @@ module _ (d k number : ℕ) (m : Tok → Act (Ans Node)) {w x : List ℕ} {n : �
 
 -- ---- `alias`
 
--- behind the type, behind `=`, and behind the name
+-- after the type, after `=`, and after the name
 abbrev aliased : ℕ → Place → Tok → Fallible Node → Act (Ans Node)
 aliased words p n ty = wrapped node [] [] 0x51 (λ _. p) (λ _. byte words ∷ []) (n .text) ty
 
@@ -306,7 +306,7 @@ module _ (d : ℕ) {w x : List ℕ} {n : ℕ} {o r f : List ℕ} {s : State} {t 
 
 -- ---- `path`
 
--- behind the string
+-- after the string
 abbrev string-on : Place → Tok → Act (Ans Node)
 string-on p n = P.expect 50 >>? λ _. P.good (P.node [] 0x52 p [] (n .text)) []
 

@@ -42,7 +42,7 @@ use Rattle.items.proofs.Orders.{answered, expected-line, turned, real}
 
 -- ---- `external_function`
 
--- the record of an external function, behind its signature
+-- the record of an external function, after its signature
 abbrev outside : Place → Tok → Fallible Items → Act (Ans Node)
 outside p name = wrapped items [] [] 0x50 (λ _. p) (λ i. byte 1 ∷ two (i .count) ∷ []) (name .text)
 
@@ -97,7 +97,7 @@ module _ {w x : List ℕ} {n name i j : ℕ} {o r f : List ℕ} {a : Answer} (q 
 
 -- ---- `whole_function`
 
--- a body behind the signature e, with the block's record and the function's
+-- a body after the signature e, with the block's record and the function's
 abbrev bodied : Place → Tok → Fallible Items → Fallible Items → Act (Ans Node)
 bodied p name e b =
     P.good (P.node (e .item .recs ++ P.node (b .item .recs) 0x40 p (two (b .item .count) ∷ []) [] .recs) 0x50 p
@@ -202,7 +202,7 @@ module _ {w x : List ℕ} {n d name i j line column : ℕ} {o r f : List ℕ} {a
           few = omega (arith, G .full, F .full, B .moved);
         }
 
-    -- behind the signature g, with the body s
+    -- after the signature g, with the body s
     module _ {T : List ℕ} {E : List Err} {k : Res (Ans Items)} (lj : length E ≡ j)
         (g : Good items T E [] [] w x n o r f a k)
         (s : Good items T E (g .item .recs) (g .errors) w x n o1 r1 f1 b (go d (P.parse-body >>= as-answer) (st-of w x n f (g .read) (a .state)))) where
@@ -251,19 +251,19 @@ module _ {w x : List ℕ} {n d name i j line column : ℕ} {o r f : List ℕ} {a
 abbrev void-at : Place → Fallible Node
 void-at p = record { item = P.node [] 0x11 p [] []; errors = [] }
 
--- behind the parameters
+-- after the parameters
 abbrev returning : Place → ℕ → Tok → Items → Act (Ans Node)
 returning p external name ps =
     peek λ t. if_then_else_ (t is K.RArrow)
     (next λ _. P.parse-type >>? λ r. P.function-body p external name ps r)
     (P.function-body p external name ps (void-at p))
 
--- behind the name
+-- after the name
 abbrev headed : Place → ℕ → Fallible Tok → Act (Ans Node)
 headed p external name = P.parse-list A.Parameters >>= λ ps. returning p external (name .item) ps
 
 module _ (d : ℕ) (p : Place) (external : ℕ) (name : Tok) where
-  -- the body behind the items of a signature
+  -- the body after the items of a signature
   signed-body : (ps : Items) (r : Fallible Node) (S : St)
       → go d (P.function-body p external name ps r) S
       ≡ go d (function-on p external name (record { item = signed ps r; errors = r .errors ++ ps .errors })) S

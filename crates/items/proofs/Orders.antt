@@ -48,7 +48,7 @@ still {r} {r′} {i} {j} {k} {b} {c} v z = one (b .how) (v .is)
     one Fatal m = let y : done-of (c .how) ≡ 0 = rw (m .how) in let u : done-of (c .how) ≡ 1 = rw z in absurd (omega (arith, y, u))
     one (Refused n) m = m .0
 
--- `expect` behind an answer keeps its numbers
+-- `expect` after an answer keeps its numbers
 pub expected-line : {w x : List ℕ} {n k i j : ℕ} {r f r′ f′ : List ℕ} {a y : Answer} → Expected w x n k i j r f a r′ f′ y
     → y .line ≡ a .line
 expected-line {w} {x} {n} {k} {i} {j} {r} {f} {r′} {f′} {a} {y} v = one (a .how) (v .is)

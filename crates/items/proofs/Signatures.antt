@@ -165,7 +165,7 @@ module _ {w x : List ℕ} {n d : ℕ} {p : Place} {o r f o1 r1 f1 : List ℕ} {s
 
       module _ (rd : List Consumed)
           (g : Good items (take (s .pos) o) (errs r (s .reported)) [] [] w x n o1 r1 f1 a (go d (P.parse-list A.Parameters >>= as-answer) (st-of w x n f rd s))) where
-        -- the type behind the parameters
+        -- the type after the parameters
         typed-behind : Shows node (take (s .pos) o) (errs r (s .reported)) (g .item .recs) (g .errors) w x n o2 r3 f2 c
             (go d (return-rule p) (st-of w x n f1 (g .read) (a .state)))
         typed-behind =

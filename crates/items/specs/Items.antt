@@ -52,7 +52,7 @@ pub record FunctionOn (w x : List ℕ) (n d external : ℕ) (p : Place) (name i 
 
 -- ---- aliases and paths
 
--- the loop of the words before `type`, at any nesting: the words, and the place behind them
+-- the loop of the words before `type`, at any nesting: the words, and the place after them
 pub record Modified (w x : List ℕ) (n distinct internal at : ℕ) (m : AliasWords) : Type 0 where
   pub words : A.Words
   pub sum : words .distinct + words .internal ≡ m .words

@@ -25,7 +25,7 @@ ghost use Rattle.items.specs.Items.{Modified};
 ghost use Rattle.items.specs.Rules.{alias-rule, path-rule};
 ghost use Rattle.steps.specs.Contract.{Asked, Parses};
 
-// The words before `type`, 1 for `distinct` and 2 for `internal`, and the place behind them.
+// The words before `type`, 1 for `distinct` and 2 for `internal`, and the place after them.
 struct AliasWords {
     words: u8,
     next: usize,
@@ -58,7 +58,7 @@ fn modifiers(tokens: &[u32], text: &[u8], n: usize, from: usize) -> AliasWords
     }
 }
 
-// An alias behind `type`: name `=` type `;`. The end instead of the name is refused.
+// An alias after `type`: name `=` type `;`. The end instead of the name is refused.
 fn alias(
     tokens: &[u32],
     text: &[u8],

@@ -33,7 +33,7 @@ use Rattle.steps.proofs.Answers.{say, finishes, raise-same}
 use Rattle.leaves.specs.Leaves.{there, identifier, Literal, ClosingOf, ClosedOf, Closed}
 use Rattle.leaves.proofs.Errors.{raise-reads}
 
--- ---- a token alone is a node: the record z is written behind it
+-- ---- a token alone is a node: the record z is written after it
 
 module _ {w x : List ℕ} {n : ℕ} {o o′ r f : List ℕ} {s : State} {t : Front} {z : Record} {y : Answer}
     {m : Act (Ans Node)} (q : Asks w x n r f s) (v : Seen w x n (s .at) t) (ns : List Num) (text : List ℕ)

@@ -53,7 +53,7 @@ module _ {A : Type 0} {w x : List ℕ} {n : ℕ} {r f r′ f′ : List ℕ} {s :
   unfolding go run
   makes-none h = rw (few, le-ltb (s .full) 255 h, run)
 
--- an error is raised behind a token
+-- an error is raised after a token
 module _ {A : Type 0} {K : View A} {w x : List ℕ} {n : ℕ} {o r f r′ f′ : List ℕ} {s : State} {t : Front}
     {m : Act (Ans A)} {e : ℕ} {a : Answer} (q : Asks w x n r f s) (v : Seen w x n (s .at) t) (role : Role)
     (g : Raised (raised n (fore s t)) r f (fore s t) e r′ f′ a) (d : ℕ) where

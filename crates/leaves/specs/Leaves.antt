@@ -127,7 +127,7 @@ pub record Literal (w x : List ℕ) (n : ℕ) (o r f : List ℕ) (s : State) : T
   pub asked : Asked w x n o r f s
   pub bare : head (rest w x n (s .at)) .kind ≡ 41 → ⊥
 
--- behind the item a, `)` is asked for: b is that answer
+-- after the item a, `)` is asked for: b is that answer
 abbrev pub ClosingOf : How → Answer → Answer → Answer → Type 0
 ClosingOf Done a b y = y ≡ record { how = a .how; state = b .state; line = a .line; column = a .column }
 ClosingOf Fatal a b y = y ≡ record { how = a .how; state = b .state; line = a .line; column = a .column }

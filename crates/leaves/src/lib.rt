@@ -277,7 +277,7 @@ pub fn prefix(k: u32) -> u8
     if k == kind::BANG { tag::BOOLEAN_NOT } else { 0 }
 }
 
-// A leaf of the tree: the token's record, the state behind it.
+// A leaf of the tree: the token's record, the state after it.
 fn leaf(file: &mut [u8], text: &[u8], st: State, t: Front, tag: u8, numbers: Numbers) -> Answer
     requires { ⌜ Room file text (st .pos) (16 + t .len) (t .start) (t .len) ⌝ }
     ensures { λ r. ⌜ Finishes (texted t tag numbers t) file text (there st t) r ⌝ }

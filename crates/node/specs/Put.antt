@@ -9,7 +9,7 @@ use Rattle.node.specs.declared.Numbers.{Numbers}
 use Rattle.node.specs.declared.Numbers.the-variants.{None, Byte, Two, Eight, ByteTwo}
 use Rattle.node.specs.declared.Record.{Record}
 
--- behind what stands up to p, the bytes bs are written; they are k, and end at q
+-- after what stands up to p, the bytes bs are written; they are k, and end at q
 pub record Grew (o : List ℕ) (p : ℕ) (bs : List ℕ) (k : ℕ) (o′ : List ℕ) (q : ℕ) : Type 0 where
   pub end : q ≡ p + k
   pub size : length bs ≡ k
@@ -52,7 +52,7 @@ bare-of tag numbers t = record { tag = tag; place = none; numbers = nums-of numb
 abbrev pub bare-size : Numbers → ℕ → ℕ
 bare-size numbers len = 3 + width-of numbers + len
 
--- behind what stands up to p, the record r is written, of k bytes
+-- after what stands up to p, the record r is written, of k bytes
 pub record Wrote (o : List ℕ) (p : ℕ) (r : Rec) (k : ℕ) (o′ : List ℕ) (q : ℕ) : Type 0 where
   pub end : q ≡ p + k
   pub is : take q o′ ≡ take p o ++ rec-bytes r

@@ -1,4 +1,4 @@
--- What stands behind the tree. Assumes nothing.
+-- What stands after the tree. Assumes nothing.
 use mathlib.Core.Path.{_≡_, refl, sym, ap, _∙_}
 use mathlib.Core.Bool.{true}
 use mathlib.Core.Option.{some}

@@ -65,7 +65,7 @@ module _ (s o : List ℕ) where
     whole-short z l =
         rw (le-ltb 16384 (length s) h, the-characters s z, lt-ltb (length o) 65536 l, whole, O.whole-within)
 
--- ---- behind the tests
+-- ---- after the tests
 
 pub cleared-is : {o o′ : List ℕ} (k : ℕ) → Cleared o 0 o′ → answer (record { number = k; bytes = 0 }) o′ ≡ written o (O.refused k)
 cleared-is {o} k c = ap (λ (v : List ℕ). answer (record { number = k; bytes = 0 }) v) (cleared-filled o 0 [] c refl refl (omega arith))

@@ -14,7 +14,7 @@ ghost use Rattle.source.specs.Place.{Stands, origin};
 ghost use Rattle.parser.specs.Answer.{answer};
 ghost use Rattle.reader.specs.OneTree.{OneTree};
 
-// A refusal behind the tests: the file is zeros.
+// A refusal after the tests: the file is zeros.
 fn cleared(number: u32, file: &mut [u8]) -> Written
     ensures { λ r. ⌜ answer r (now (file .exit)) ≡ O.written (now (file .entry)) (O.refused number) ⌝ }
 {

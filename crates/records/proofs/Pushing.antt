@@ -26,7 +26,7 @@ token-went {f = f} {m = m} h l w =
 error-words : Err → List ℕ
 error-words e = e .number ∷ e .place .line ∷ e .place .column ∷ 0 ∷ []
 
--- one more of the same error, behind the others
+-- one more of the same error, after the others
 errors-snoc : (n : ℕ) (e : Err) → errors-words (replicate n e) ++ error-words e ≡ errors-words (replicate (suc n) e)
 unfolding errors-words error-words
 errors-snoc zero e = refl

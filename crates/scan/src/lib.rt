@@ -64,7 +64,7 @@ pub fn look(s: &[u8], c: Cursor) -> u8
     s[at]
 }
 
-// The place behind the character at `c`, if there is one.
+// The place after the character at `c`, if there is one.
 pub fn skip(s: &[u8], c: Cursor) -> Cursor
     requires { ⌜ Passes s c ⌝ }
     ensures { λ r. ⌜ Passed Z.drop-one s c r ⌝ }
@@ -169,7 +169,7 @@ pub fn word(s: &[u8], from: Cursor, text: &mut [u8], start: usize) -> Scan
     }
 }
 
-// The text of inline assembly, up to `}` or the end; the place is behind the `}`.
+// The text of inline assembly, up to `}` or the end; the place is after the `}`.
 pub fn assembly(s: &[u8], from: Cursor, text: &mut [u8], start: usize) -> Scan
     requires { ⌜ Asks s from text start ⌝ }
     ensures { λ r. ⌜ Spanned Z.assembly s from text start r ⌝ }
@@ -201,7 +201,7 @@ pub struct Body {
     pub closed: bool,
 }
 
-// The text of a string, behind its opening quote.
+// The text of a string, after its opening quote.
 pub fn quoted(s: &[u8], from: Cursor, text: &mut [u8], start: usize) -> Body
     requires { ⌜ Asks s from text start ⌝ }
     ensures { λ r. ⌜ QuotedAs (Z.quoted false) s from text start r ⌝ }

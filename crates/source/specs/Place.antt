@@ -43,7 +43,7 @@ ran-need n (b ∷ bs) = ran-need (next-need n b) bs
 
 -- ---- places
 
--- the bytes of a character behind its first
+-- the bytes of a character after its first
 abbrev pub more : Lead → ℕ
 more single = 0
 more (with-more n lo hi) = n
@@ -76,7 +76,7 @@ pub record Stepped (s : List ℕ) (c r : Cursor) : Type 0 where
   pub stands : Stands s r
   pub wide : r .at ≡ more (lead (getD s (c .at) 0)) + 1 + c .at
 
--- behind a character of one byte that is no newline
+-- after a character of one byte that is no newline
 abbrev pub along-line : Cursor → Cursor
 along-line c = record { at = c .at + 1; line = c .line; column = c .column + 1 }
 

@@ -56,7 +56,7 @@ fn lead_need(b: u8) -> Need
     asks(WRONG, 0, 0)
 }
 
-// What is asked for behind the byte `b`.
+// What is asked for after the byte `b`.
 fn next_need(n: Need, b: u8) -> Need
     ensures { λ r. ⌜ r ≡ next-need n b ⌝ }
 {
@@ -130,7 +130,7 @@ pub fn width(b: u8) -> u32
     missing as u32 + 1
 }
 
-// The place behind the character at `c`. A newline belongs to the line it ends.
+// The place after the character at `c`. A newline belongs to the line it ends.
 pub fn step(s: &[u8], c: Cursor) -> Cursor
     requires { ⌜ Stands (now s) c × (c .at < length (now s)) × (length (now s) ≤ 16384) ⌝ }
     ensures { λ r. ⌜ Stepped (now (s .entry)) c r ⌝ }
@@ -153,7 +153,7 @@ pub fn step(s: &[u8], c: Cursor) -> Cursor
     }
 }
 
-// The place behind a character of one byte that is no newline.
+// The place after a character of one byte that is no newline.
 pub fn along(mut c: Cursor) -> Cursor
     requires { ⌜ (c .at ≤ 16384) × (c .column ≤ 16385) ⌝ }
     ensures { λ r. ⌜ r ≡ along-line c ⌝ }

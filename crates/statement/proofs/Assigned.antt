@@ -40,7 +40,7 @@ use Rattle.statement.proofs.Spare.{expression-spares}
 abbrev pub placed : ℕ → ℕ → ℕ → Record
 placed tag line column = record { tag = tag; line = line; column = column; numbers = None; start = 0; len = 0 }
 
--- ---- behind the expression
+-- ---- after the expression
 
 -- a node, whatever its place
 abbrev any-node : View Node
@@ -103,7 +103,7 @@ module _ {w x : List ℕ} {n d : ℕ} {o r f : List ℕ} {s : State} {t : Front}
         (ap (λ (S : St). go d (P.parse-compound >>? λ v. P.expect 50 >>? λ _. wrapped node (e .recs) [] 0x44
         (λ _. place-at line column) (λ _. []) [] v) S) (adv s u (λ _. plain) f rd)))
 
--- what the steps behind a value ask for
+-- what the steps after a value ask for
 module _ {w x : List ℕ} {n d : ℕ} {o r f : List ℕ} {s : State} {t : Front} {i : ℕ} (q : Asked w x n o r f s)
     (hi : i ≤ s .pos) (u : Seen w x n (s .at) t) where
   module _ {o1 r1 f1 : List ℕ} {a : Answer} {m : Act (Ans Node)} (B : Reads node w x n d m o r f (fore s t) o1 r1 f1 a) where

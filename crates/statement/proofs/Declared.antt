@@ -74,7 +74,7 @@ module _ {w x : List ℕ} {n d : ℕ} {o r f o1 r1 f1 o2 : List ℕ} {s : State}
 
 -- ---- `compound`
 
--- behind `#`
+-- after `#`
 abbrev pub hashed : Act (Ans Node)
 hashed =
     peek λ t.
@@ -235,7 +235,7 @@ module _ {w x : List ℕ} {n : ℕ} {o o2 : List ℕ} {a y : Answer} {tag line c
 
 -- ---- `declaration`
 
--- a declaration's record behind what is declared
+-- a declaration's record after what is declared
 abbrev declares : ℕ → Place → Fallible P.Typed → Act (Ans Node)
 declares tag p x = P.good (P.node (x .item .type) tag p [] (x .item .name)) (x .errors)
 

@@ -177,7 +177,7 @@ module _ (d : ℕ) (m : Fallible Node → Fallible Node → Act (Ans Node)) (k :
       one (gives (fatal es) S) = refl
       one (refused n) = refl
 
--- a node behind another, without a record of their own
+-- a node after another, without a record of their own
 joins : {T : List ℕ} {E : List Err} {w x : List ℕ} {n : ℕ} {o r f : List ℕ} {c : Answer} {q : Res (Ans Node)}
     (d : ℕ) (y : Fallible Node)
     → Shows node T E (y .item .recs) (y .errors) w x n o r f c q
@@ -201,7 +201,7 @@ joins {T} {E} {w} {x} {n} {o} {r} {f} {c} {q} d y v = record { told = one (c .ho
     one Fatal g = record { errors = g .errors; read = g .read; is = rw (g .is); tree = g .tree; rep = g .rep }
     one (Refused m) g = rw g
 
--- ---- `if`, behind its first branch
+-- ---- `if`, after its first branch
 
 abbrev pub else-on : Place → Fallible Node → Act (Ans Node)
 else-on p e =
@@ -595,7 +595,7 @@ module _ {w x : List ℕ} {n d : ℕ} {o r f o1 r1 f1 : List ℕ} {s : State} {a
               (omega (arith, D .moved .reported, B .moved .reported)) (D .is (g .read))));
         }
 
--- ---- what the steps behind a first part ask for
+-- ---- what the steps after a first part ask for
 
 module _ {w x : List ℕ} {n : ℕ} {o r f : List ℕ} {s : State} (q : Asked w x n o r f s) where
   -- a second part, read from t′, which has the counts of the first part's end t

@@ -33,7 +33,7 @@ up k s = record { at = s .at; pos = s .pos + k; reported = s .reported; full = s
 
 -- ---- declarations
 
--- a record with nothing but its tag behind an answer
+-- a record with nothing but its tag after an answer
 abbrev pub BaredOf : How → List ℕ → Answer → ℕ → List ℕ → Answer → Type 0
 BaredOf Done o a tag o′ y = (y .how ≡ Done) × Wrote o (a .state .pos) (bare-of tag None []) 3 o′ (y .state .pos)
 BaredOf Fatal o a tag o′ y = (y ≡ a) × (o′ ≡ o)
@@ -47,7 +47,7 @@ pub record Bared (o : List ℕ) (a : Answer) (tag : ℕ) (o′ : List ℕ) (y : 
   pub high : y .state .pos ≤ a .state .pos + 3 * done-of (a .how)
   pub is : BaredOf (a .how) o a tag o′ y
 
--- behind a typed identifier, of a construct that began at i and j; where no value is given no token pays for its record
+-- after a typed identifier, of a construct that began at i and j; where no value is given no token pays for its record
 pub record ValueOn (w x : List ℕ) (n d i j : ℕ) (o r f : List ℕ) (a : Answer) (o′ r′ f′ : List ℕ) (y : Answer) : Type 0 where
   pub moved : Moved w x n i j (up (3 * done-of (a .how)) (a .state)) (y .state)
   pub there : done-of (y .how) ≤ done-of (a .how)
@@ -92,7 +92,7 @@ statements-on i = loop (Body i) done
 
 -- ---- statements
 
--- behind an expression with no errors, written from i on: what is shown of what follows
+-- after an expression with no errors, written from i on: what is shown of what follows
 pub record Behind (w x : List ℕ) (n d : ℕ) (k : Node → Act (Ans Node)) (i : ℕ) (o r f : List ℕ) (s : State) (o′ r′ f′ : List ℕ) (y : Answer) : Type 0 where
   pub moved : Moved w x n i (s .reported) s (y .state)
   pub is : (rd : List Consumed) (T : List ℕ) (e : Node) → length T ≡ i → take (s .pos) o ≡ T ++ recs-bytes (e .recs)

@@ -89,7 +89,7 @@ fn values(
     finish(file, text, a, lead, tag, Numbers::Two(a.line))
 }
 
-// A record with nothing but its tag behind an answer, if it is there.
+// A record with nothing but its tag after an answer, if it is there.
 fn bare(file: &mut [u8], text: &[u8], a: Answer, tag: u8) -> Answer
     requires { ⌜ Room file text (a .state .pos) 16 0 0 ⌝ }
     ensures { λ r. ⌜ Bared file a tag r ⌝ }
@@ -108,7 +108,7 @@ fn bare(file: &mut [u8], text: &[u8], a: Answer, tag: u8) -> Answer
     }
 }
 
-// The initial value behind an answer: [`=` expression | `<-` compound]
+// The initial value after an answer: [`=` expression | `<-` compound]
 fn initial_value(
     tokens: &[u32],
     text: &[u8],
@@ -161,7 +161,7 @@ fn var_like_declaration(
     initial_value(tokens, text, n, file, rep, full, a, st, left)
 }
 
-// A record with a place behind an answer, if it is there; its text is the name at the place `at`, or `<?>` where none stands there.
+// A record with a place after an answer, if it is there; its text is the name at the place `at`, or `<?>` where none stands there.
 fn named(
     tokens: &[u32],
     text: &[u8],
@@ -191,7 +191,7 @@ fn named(
     finish_text(file, b"<?>", a, lead, tag, Numbers::None, none)
 }
 
-// A declaration behind `var`: var_like_declaration `;`
+// A declaration after `var`: var_like_declaration `;`
 pub fn declaration(
     tokens: &[u32],
     text: &[u8],

@@ -1,4 +1,4 @@
--- How answers follow one another: an error made, an answer returned by `?`, one abandoned, a record behind one. Assumes nothing.
+-- How answers follow one another: an error made, an answer returned by `?`, one abandoned, a record after one. Assumes nothing.
 use mathlib.Core.Path.{_≡_, refl, sym, ap, _∙_, subst}
 use mathlib.Core.Bool.{Bool, true, false}
 use mathlib.Core.Option.{none, some}
@@ -113,7 +113,7 @@ module _ {A : Type 0} (K : View A) {w x : List ℕ} {n : ℕ} {r f r′ f′ : L
           }
       one false l = rw (few, l, run)
 
--- ---- records and errors behind those that stand
+-- ---- records and errors after those that stand
 
 pub tree-join : {T′ l : List ℕ} (T : List ℕ) (rs ys : List Rec) → T′ ≡ T ++ recs-bytes rs → l ≡ T′ ++ recs-bytes ys
     → l ≡ T ++ recs-bytes (rs ++ ys)
@@ -163,7 +163,7 @@ cut-errs {r} {r′} {a} {a′} {i} {j} {k} E es bs c le lk h e =
     ∙ ap (λ (z : List Err). E ++ z)
     (map-drop k (take (a .state .reported) r) ∙ ap (λ (z : List Err). drop k z) e ∙ drop-at (E ++ es) bs k lk)
 
--- The answer b of a call within a construct that has the records rs behind T and the errors es behind E.
+-- The answer b of a call within a construct that has the records rs after T and the errors es after E.
 module _ {A : Type 0} {K : View A} {T T′ : List ℕ} {E E′ : List Err} {rs : List Rec} {es : List Err} {w x : List ℕ} {n : ℕ} {o r r′ f : List ℕ} {b c : Answer} {i j k : ℕ} {q : Res (Ans A)}
     (tree : T′ ≡ T ++ recs-bytes rs) (reps : E′ ≡ E ++ es) (li : length T ≡ i) (lj : length E ≡ j) (lk : length E′ ≡ k) (v : Abandoned r b i j k r′ c) where
   pub abandons : i ≤ b .state .pos → j ≤ b .state .reported → Shows K T′ E′ [] [] w x n o r f b q → Shows K T E rs es w x n o r′ f c q
@@ -193,13 +193,13 @@ module _ {A : Type 0} {K : View A} {T T′ : List ℕ} {E E′ : List Err} {rs :
           })
       one (Refused u) z m g = rw (m .0, z) g
 
--- ---- a record behind an answer
+-- ---- a record after an answer
 
 -- the place of a record that has one
 place-of : Rec → Place
 place-of z = elim (z .place) [ none ↦ nowhere | some p ↦ p ]
 
--- What a record makes of an item, behind the records rs and the errors es that the construct has before; its place and numbers may be the item's.
+-- What a record makes of an item, after the records rs and the errors es that the construct has before; its place and numbers may be the item's.
 abbrev pub wrapped : {A : Type 0} → View A → List Rec → List Err → ℕ → (A → Place) → (A → List Num) → List ℕ → Fallible A → Act (Ans Node)
 wrapped K rs es tag p ns text e = P.good (P.node (rs ++ K .recs (e .item)) tag (p (e .item)) (ns (e .item)) text) (es ++ e .errors)
 

@@ -1,4 +1,4 @@
--- `expect(..)?` behind an answer: it is asked for of what the answer shows. Assumes nothing.
+-- `expect(..)?` after an answer: it is asked for of what the answer shows. Assumes nothing.
 use mathlib.Core.Path.{_≡_, refl, sym, ap, _∙_, subst}
 use mathlib.Core.List.{List, [], _++_}
 use Prim.Native.Nat.{ℕ}

@@ -120,7 +120,7 @@ abandoned-moved {w} {x} {n} m v =
     }
 
 module _ {w x : List ℕ} {n : ℕ} {o r f : List ℕ} {s : State} (q : Asked w x n o r f s) where
-  -- behind a token
+  -- after a token
   pub asked-seen : {t : Front} → Seen w x n (s .at) t → Asked w x n o r f (fore s t)
   asked-seen v = record { asks = asks-fore (q .asks) v; room = omega arith }
 

@@ -77,7 +77,7 @@ module _ {w x : List ℕ} {n : ℕ} {r f : List ℕ} {s : State} {t : Front} (q 
         });
   }
 
-  -- an error is raised behind the token
+  -- an error is raised after the token
   missing : {m : Role → Act (Ans Tok)} {e : ℕ} {r′ f′ : List ℕ} {a : Answer} (of : Role → Role)
       → Raised (raised n (fore s t)) r f (fore s t) e r′ f′ a
       → ((role : Role) (d : ℕ) (rd : List Consumed)
@@ -145,7 +145,7 @@ module _ {w x : List ℕ} {n : ℕ} {r f : List ℕ} {s : State} {t : Front} (q 
         missing (λ role. plain) g
         (λ role d rd. rw (run, no v m, no v z) (raise-same d (rw (v .place) (sym i)) (adv s v (λ _. plain) f rd)))
 
--- ---- `expect` behind an answer
+-- ---- `expect` after an answer
 
 module _ {w x : List ℕ} {n k i j : ℕ} {r f : List ℕ} {a : Answer} (q : Follows w x n r f a i j) where
   pub expected-stop : Stopped a → Expected w x n k i j r f a r f a
@@ -193,7 +193,7 @@ module _ {w x : List ℕ} {n k i j : ℕ} {r f : List ℕ} {a : Answer} (q : Fol
       fewer Fatal y m = rw (m .how) (omega arith)
       fewer (Refused u) y m = rw (m .0) (omega arith)
 
--- ---- a record behind an answer
+-- ---- a record after an answer
 
 module _ {x o : List ℕ} {a : Answer} {v : Record} where
   pub finish-stop : Stopped a → Finished x o a v o a

@@ -98,7 +98,7 @@ yes v e = eq-eqb _ _ (v .kind ∙ e)
 pub no : {w x : List ℕ} {n at k : ℕ} {t : Front} → Seen w x n at t → (t .kind ≡ k → ⊥) → head (rest w x n at) is k ≡ false
 no v e = ne-eqb _ _ (λ z. e (sym (v .kind) ∙ z))
 
--- the state behind a token
+-- the state after a token
 abbrev pub fore : State → Front → State
 fore s t = record { at = t .next; pos = s .pos; reported = s .reported; full = s .full }
 

@@ -20,7 +20,7 @@ Asks tokens text n rep full st = S.Asks (now tokens) (now text) n (now rep) (now
 abbrev pub Asked : Slice → Slice → ℕ → Slice → Slice → Slice → State → Type 0
 Asked tokens text n file rep full st = S.Asked (now tokens) (now text) n (now file) (now rep) (now full) st
 
--- behind an answer, in a construct that began in the state `from`
+-- after an answer, in a construct that began in the state `from`
 abbrev pub Follows : Slice → Slice → ℕ → Slice → Slice → Answer → State → Type 0
 Follows tokens text n rep full a from =
     S.Follows (now tokens) (now text) n (now rep) (now full) a (from .pos) (from .reported)
@@ -47,12 +47,12 @@ Parses m tokens text n file rep full st left r =
     S.Reads S.node (at-entry tokens) (at-entry text) n left m (at-entry file) (at-entry rep) (at-entry full) st
     (at-exit file) (at-exit rep) (at-exit full) r
 
--- behind a node
+-- after a node
 abbrev pub ParsesOn : (Fallible Node → Act (Ans Node)) → Lent → Lent → ℕ → Lent → Lent → Lent → Answer → State → ℕ → Answer → Type 0
 ParsesOn k tokens text n file rep full a from left r =
     S.Goes S.node S.node (at-entry tokens) (at-entry text) n left k (from .pos) (from .reported) (at-entry file)
     (at-entry rep) (at-entry full) a (at-exit file) (at-exit rep) (at-exit full) r
 
--- a record behind an answer
+-- a record after an answer
 abbrev pub Finishes : Record → Lent → Lent → Answer → Answer → Type 0
 Finishes v file text a r = S.Finished (at-entry text) (at-entry file) a v (at-exit file) r

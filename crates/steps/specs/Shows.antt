@@ -57,7 +57,7 @@ pub record View (A : Type 0) : Type 1 where
   pub recs : A → List Rec
   pub fine : ℕ → ℕ → A → Type 0
 
--- an answer q of the definition that is there: behind T stand the records rs that the construct has before and the item's, behind E the errors es and the item's
+-- an answer q of the definition that is there: after T stand the records rs that the construct has before and the item's, after E the errors es and the item's
 pub record Good {A : Type 0} (K : View A) (T : List ℕ) (E : List Err) (rs : List Rec) (es : List Err) (w x : List ℕ) (n : ℕ) (o r f : List ℕ) (a : Answer) (q : Res (Ans A)) : Type 0 where
   pub item : A
   pub errors : List Err
@@ -67,7 +67,7 @@ pub record Good {A : Type 0} (K : View A) (T : List ℕ) (E : List Err) (rs : Li
   pub rep : errs r (a .state .reported) ≡ E ++ (es ++ errors)
   pub holds : K .fine (a .line) (a .column) item
 
--- a fatal one: only its errors stand, behind E
+-- a fatal one: only its errors stand, after E
 pub record Bad {A : Type 0} (T : List ℕ) (E : List Err) (w x : List ℕ) (n : ℕ) (o r f : List ℕ) (a : Answer) (q : Res (Ans A)) : Type 0 where
   pub errors : List Err
   pub read : List Consumed
@@ -143,7 +143,7 @@ pub record Follows (w x : List ℕ) (n : ℕ) (r f : List ℕ) (a : Answer) (i j
   pub pos : i ≤ a .state .pos
   pub reported : j ≤ a .state .reported
 
--- `expect` behind an answer, of a construct that began at i and j: b is its answer, c what `?` leaves of it
+-- `expect` after an answer, of a construct that began at i and j: b is its answer, c what `?` leaves of it
 pub record Followed (w x : List ℕ) (n k i j : ℕ) (r f : List ℕ) (a : Answer) (r′ f′ : List ℕ) (y : Answer) : Type 0 where
   pub b : Answer
   pub c : Answer
@@ -163,7 +163,7 @@ pub record Expected (w x : List ℕ) (n k i j : ℕ) (r f : List ℕ) (a : Answe
   pub pays : budget w x n (y .state .at) + 16 * done-of (y .how) ≤ budget w x n (a .state .at)
   pub is : ExpectedOf (a .how) w x n k i j r f a r′ f′ y
 
--- ---- a record behind an answer
+-- ---- a record after an answer
 
 -- at the place of a token, with the text of one, or with none
 abbrev pub texted : Front → ℕ → Numbers → Front → Record

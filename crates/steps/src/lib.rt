@@ -1,4 +1,4 @@
-// The steps of parser.rs on tokens: a look at the next one, `expect`, `expect_identifier`, and a record behind an answer.
+// The steps of parser.rs on tokens: a look at the next one, `expect`, `expect_identifier`, and a record after an answer.
 use definition::kind;
 use definition::parse_error;
 use fallible::Answer;
@@ -18,7 +18,7 @@ ghost use Rattle.steps.specs.Tokens.{Held, Seen};
 ghost use Rattle.steps.specs.Shows.{texted, untexted};
 ghost use Rattle.steps.specs.Contract.{Asks, Follows, Expects, Expected, Finishes};
 
-// A token as its record has it, and the place behind it. At the end all is 0.
+// A token as its record has it, and the place after it. At the end all is 0.
 pub struct Front {
     pub kind: u32,
     pub line: usize,
@@ -125,7 +125,7 @@ pub fn expect_identifier(
     raise(n, rep, full, on, error)
 }
 
-// `expect(..)?` behind an answer, in a construct that began in the state `from`; the answer's item stays.
+// `expect(..)?` after an answer, in a construct that began in the state `from`; the answer's item stays.
 pub fn and_expect(
     tokens: &[u32],
     text: &[u8],
@@ -156,7 +156,7 @@ pub fn and_expect(
     }
 }
 
-// A record behind what an answer has, if it is there: at the place of `t`, with the text of `name`.
+// A record after what an answer has, if it is there: at the place of `t`, with the text of `name`.
 pub fn finish_text(
     file: &mut [u8],
     text: &[u8],

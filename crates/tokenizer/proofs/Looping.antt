@@ -22,7 +22,7 @@ use Rattle.turns.specs.Turn.{Ready, bounded}
 use Rattle.turns.proofs.Turned.{errors-words-append}
 use Rattle.tokenizer.specs.Run.{Onward, Taken, turn-of, Holds, Ran}
 
--- ---- the records of two lists, one behind the other
+-- ---- the records of two lists, one after the other
 
 text-append : (a b : List Tok) → tokens-text (a ++ b) ≡ tokens-text a ++ tokens-text b
 unfolding tokens-text

@@ -42,7 +42,7 @@ turn-class : (c : Ch) (cs : List Ch) → Z.turn c cs ≡ of-class c cs (Z.class 
 unfolding Z.turn
 turn-class c cs = refl
 
--- the character is passed, the byte behind it is d, and the two begin x
+-- the character is passed, the byte after it is d, and the two begin x
 module _ {s : List ℕ} (st : State) {c : Cursor} {d : ℕ} {k : Class} (x : Class) (told : k ≡ x)
     (z : Stepped s (st .cursor) c) (h : d ≡ Z.look (rest s c))
     (e : class-of k ≡ Z.class (getD s (st .cursor .at) 0) d) where

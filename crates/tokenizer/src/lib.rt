@@ -72,7 +72,7 @@ fn turn(
     }
 }
 
-// The loop: a turn at each character that is reached, until the end or a refusal. What stands behind the records is not cleared.
+// The loop: a turn at each character that is reached, until the end or a refusal. What stands after the records is not cleared.
 pub fn run(most: usize, s: &[u8], tokens: &mut [u32], errors: &mut [u32], text: &mut [u8]) -> State
     requires { ⌜ RunAsks most s tokens errors text ⌝ }
     ensures { λ r. ⌜ Ran most s tokens errors text r ⌝ }

@@ -47,7 +47,7 @@ module _ {most : ℕ} {s : List ℕ} {st : State} {c : Cursor} {T X X₁ T′ : 
       end-token (a .0 .few) (on-text (a .0 .few) (q .passed) y (q .room)) refl
       (with-words (number p 10 (b ∷ Z.digits 10 (rest s c) .text)) refl refl (omega (arith, y .count)) k)
 
-  -- no digit behind the `0`: the number is `0`
+  -- no digit after the `0`: the number is `0`
   pub zero-alone : {X₂ : List ℕ} {base m : ℕ} {d : Scan} → Spanned s c X (st .text) (Z.digits base (rest s c)) X₁ d
       → d .n ≡ st .text → Wrote X₁ (st .text) (48 ∷ []) X₂ m →
       TokenPushed most T (at-text st (d .cursor) m)

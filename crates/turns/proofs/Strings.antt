@@ -35,7 +35,7 @@ string-open : (p : Place) (q : Z.Quoted) → q .closed ≡ false
 unfolding Z.string-turn
 string-open p q e = rw (e, Z.string-turn)
 
--- behind the quote, and the errors of its escapes
+-- after the quote, and the errors of its escapes
 abbrev body : List ℕ → Cursor → Z.Quoted
 body s c = Z.quoted false (rest s c)
 

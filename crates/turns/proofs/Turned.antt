@@ -108,7 +108,7 @@ part-of {X} {n} {t} {X′} {m} h w k =
 
 -- ---- the ends of a turn
 
--- behind what was read and pushed first: the characters left, the errors es and the text t
+-- after what was read and pushed first: the characters left, the errors es and the text t
 pub record On (s : List ℕ) (st : State) (c : Cursor) (E X : List ℕ) (cs : List Ch) (es : List Err) (t : List ℕ) (f : State) (E′ X′ : List ℕ) : Type 0 where
   pub passed : Passed s c cs (f .cursor)
   pub tokens : f .tokens ≡ st .tokens

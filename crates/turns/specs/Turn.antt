@@ -32,7 +32,7 @@ pub record Few (most : ℕ) (f : State) : Type 0 where
   pub errors : f .errors ≤ 255
   pub how : f .how ≡ 0
 
--- what a turn asks: the state before it, and the place c behind what it has read
+-- what a turn asks: the state before it, and the place c after what it has read
 pub record Ready (most : ℕ) (s T X : List ℕ) (f : State) (c : Cursor) : Type 0 where
   pub asks : Asks s c X (f .text)
   pub few : Few most f

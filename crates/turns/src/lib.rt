@@ -1,4 +1,4 @@
-// The turns of the tokenizer's loop, by what they begin with. A turn has the state before it, whose place is the token's, and the place `c` behind what it has read.
+// The turns of the tokenizer's loop, by what they begin with. A turn has the state before it, whose place is the token's, and the place `c` after what it has read.
 use classes::character::is_digit;
 use classes::spelling::keyword;
 use classes::spelling::same;

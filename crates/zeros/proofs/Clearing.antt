@@ -59,7 +59,7 @@ module _ {x₀ : List ℕ} {from : ℕ} {x : List ℕ} {i : ℕ} (q : Clearing x
             ∙ ap (λ (v : ℕ). take from x₀ ++ replicate (v - from) 0) z;
       }
 
--- a slice that is cleared behind what it holds
+-- a slice that is cleared after what it holds
 pub cleared-filled : (x : List ℕ) {x′ y : List ℕ} (n : ℕ) (ws : List ℕ) → Cleared x′ n y → take n x′ ≡ ws → length x′ ≡ length x
     → n ≤ length x′ → y ≡ filled (length x) ws
 cleared-filled x {x′} n ws c e l h =

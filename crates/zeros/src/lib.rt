@@ -1,4 +1,4 @@
-// The zeros that stand behind what is written, from `from` on to the end of a lent slice.
+// The zeros that stand after what is written, from `from` on to the end of a lent slice.
 ghost use Prim.Native.Nat.{_≤_};
 ghost use lib.ListN.{length};
 ghost use Rattle.zeros.specs.Cleared.{Cleared};
