@@ -22,7 +22,8 @@ use Rattle.definition.proofs.Grows.{there, tail-le}
 use Rattle.definition.proofs.Tokens.{Placed, Good}
 use Rattle.definition.proofs.Throughout.{module-known}
 use Rattle.definition.proofs.Leaves.{Leaves, Rooted, none-left, also, made, leaf, one-more, all-three, nothing, with-text, with-byte, with-count, bare, at}
-use Rattle.definition.proofs.LeavesExpressions.{Known, known-tail, known-later, good, good-of, Item, Whole, Listing, If, G, L, R, M, awp, reads, expects, identifier, calls, uses, suffixes-leaves, Opened, list-leaves, Typed, typed-identifier-leaves, list-turn-leaves, unary-leaves, casts-leaves, operators-leaves, expression-leaves, type-leaves}
+use Rattle.definition.proofs.LeavesAnswers.{Known, known-tail, known-later, good, good-of, Item, Whole, Listing, If, G, L, R, M, awp, reads, expects, identifier, calls, uses}
+use Rattle.definition.proofs.LeavesExpressions.{suffixes-leaves, Opened, list-leaves, Typed, typed-identifier-leaves, list-turn-leaves, unary-leaves, casts-leaves, operators-leaves, expression-leaves, type-leaves}
 
 -- ---- declarations
 

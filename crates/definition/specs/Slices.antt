@@ -1,4 +1,5 @@
--- Slices as contracts name them. In a `requires` a parameter is a slice, in an `ensures` a slice at both moments. Assumes nothing.
+-- Slices as contracts name them: in a `requires` a parameter is a slice, in an `ensures` a slice at both moments.
+-- Assumes nothing.
 use mathlib.Core.List.{List}
 use Prim.Native.Nat.{ℕ}
 use denote.Ref.{RefT, now}

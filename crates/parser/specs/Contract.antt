@@ -15,7 +15,8 @@ RestRoom file pos errors m rep reported full made =
 
 abbrev pub RestWritten : Lent → ℕ → ℕ → Lent → ℕ → Lent → ℕ → Lent → ℕ → ℕ → Type 0
 RestWritten file pos count errors m rep reported full made r =
-    A.RestWritten (at-entry file) pos count (at-entry errors) m (at-entry rep) reported (at-entry full) made (at-exit file) r
+    A.RestWritten (at-entry file) pos count (at-entry errors) m (at-entry rep) reported (at-entry full) made
+    (at-exit file) r
 
 -- the records that Read is given are good
 abbrev pub Accepted : Slice → ℕ → Slice → ℕ → Slice → Type 0

@@ -116,7 +116,8 @@ pub fn read(
     file: &mut [u8],
 ) -> Written
     ensures { λ r. ⌜ answer r (now (file .exit))
-        ≡ O.read (now (tokens .entry)) count (now (errors .entry)) «error_count» (now (text .entry)) (now (file .entry)) ⌝ }
+        ≡ O.read (now (tokens .entry)) count (now (errors .entry)) «error_count»
+        (now (text .entry)) (now (file .entry)) ⌝ }
 {
     if file.len() < limit::FILE_BYTES {
         return refused(refusal::SLICE_LENGTH);

@@ -1,5 +1,5 @@
--- The records of Scan over the parameters of the functions: first what is a function's own, then its parameters in order.
--- Assumes nothing.
+-- The records of Scan over the parameters of the functions: first what is a function's own, then its parameters in
+-- order. Assumes nothing.
 use mathlib.Core.List.{List}
 use Prim.Native.Nat.{ℕ}
 use denote.Ref.{now}

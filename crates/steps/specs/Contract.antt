@@ -1,4 +1,4 @@
--- What the functions of the parser ask and ensure, over their own parameters: the records of Shows and Tokens, of a slice as it is
+-- What the functions of the parser ask and ensure, over their own parameters: the records of Shows, of a slice as it is
 -- now, or as it is at entry and at exit. First what is a function's own, then its parameters in order. Assumes nothing.
 use Prim.Native.Nat.{ℕ}
 use denote.Ref.{now}
@@ -48,7 +48,8 @@ Parses m tokens text n file rep full st left r =
     (at-exit file) (at-exit rep) (at-exit full) r
 
 -- after a node
-abbrev pub ParsesOn : (Fallible Node → Act (Ans Node)) → Lent → Lent → ℕ → Lent → Lent → Lent → Answer → State → ℕ → Answer → Type 0
+abbrev pub ParsesOn :
+    (Fallible Node → Act (Ans Node)) → Lent → Lent → ℕ → Lent → Lent → Lent → Answer → State → ℕ → Answer → Type 0
 ParsesOn k tokens text n file rep full a from left r =
     S.Goes S.node S.node (at-entry tokens) (at-entry text) n left k (from .pos) (from .reported) (at-entry file)
     (at-entry rep) (at-entry full) a (at-exit file) (at-exit rep) (at-exit full) r

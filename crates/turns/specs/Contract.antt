@@ -1,5 +1,5 @@
--- What a turn asks and ensures, over its own parameters: the records of Turn, of a slice as it is now, or as it is at entry
--- and at exit. First the turn of the definition, then the parameters in order. Assumes nothing.
+-- What a turn asks and ensures, over its own parameters: the records of Turn, of a slice as it is now, or as it is at
+-- entry and at exit. First the turn of the definition, then the parameters in order. Assumes nothing.
 use mathlib.Core.List.{List}
 use Prim.Native.Nat.{ℕ}
 use denote.Ref.{now}
