@@ -17,10 +17,10 @@ use Rattle.definition.specs.Records.{TokenWords, words-at, place-of, tex
 use Rattle.definition.specs.Act as A
 use Rattle.definition.specs.Act.{Items, St, Res}
 use Rattle.definition.specs.Parser.{parse-module}
-use Rattle.definition.specs.Operations.{Outcome, file, refused, filled, file-bytes, read-tokens, Written, kept, written, Handed, handed, read-handed, read}
+use Rattle.definition.specs.Operations.{Outcome, file, refused, filled, file-bytes, read-tokens, Written, kept, written, Validated, validate, read-validated, read}
 use Rattle.definition.proofs.Total.{Moves, module-moves}
 use Rattle.definition.proofs.Tokens.{Kinds, texts}
-use Rattle.definition.proofs.Handed.{Fits, fits, Lies, lies, First, first, errors-many, Split, split}
+use Rattle.definition.proofs.Validated.{Fits, fits, Lies, lies, First, first, errors-many, Split, split}
 use Rattle.definition.proofs.Room.{Light, light-reading, file-room}
 
 -- ---- what is handed in
@@ -61,9 +61,9 @@ pub record Sized (n : ℕ) (ts : List Tok) (es : List Err) : Type 0 where
   pub tokens : length ts ≤ 2048
   pub errors : length es ≤ 255
 
-pub handed-sized : (T : List ℕ) (n : ℕ) (E : List ℕ) (m : ℕ) (X : List ℕ) (h : Handed) → handed T n E m X ≡ some h
+pub validated-sized : (T : List ℕ) (n : ℕ) (E : List ℕ) (m : ℕ) (X : List ℕ) (h : Validated) → validate T n E m X ≡ some h
     → Sized n (h .tokens) (h .errors)
-handed-sized T n E m X h q =
+validated-sized T n E m X h q =
     let s : Split T n E m X h = split T n E m X h q in
     let g : Good 0 n (h .tokens) = all-good T X n nowhere 0 0 (h .tokens) (omega arith) (s .tokens) in
     record {
@@ -79,7 +79,7 @@ handed-sized T n E m X h q =
 pub record AcceptedRead (T : List ℕ) (n : ℕ) (E : List ℕ) (m : ℕ) (X o : List ℕ) : Type 0 where
   pub toks : List Tok
   pub errors : List Err
-  pub given : handed T n E m X ≡ some (record { tokens = toks; errors = errors })
+  pub given : validate T n E m X ≡ some (record { tokens = toks; errors = errors })
   pub sized : Sized n toks errors
   pub items : Items
   pub last : St
@@ -96,7 +96,7 @@ module _ (T : List ℕ) (n : ℕ) (E : List ℕ) (m : ℕ) (X o : List ℕ) (z :
   other : (w : Written) → Is w → (w .number ≡ 0 → ⊥) → AcceptedRead T n E m X o
   other w h k = absurd (k (sym (ap (λ (x : Written). x .number) h) ∙ z))
 
-  parsed : (ts : List Tok) (es : List Err) → handed T n E m X ≡ some (record { tokens = ts; errors = es })
+  parsed : (ts : List Tok) (es : List Err) → validate T n E m X ≡ some (record { tokens = ts; errors = es })
       → (r : Res Items) → parse-module ts ≡ r → Moves r
       → Is (written o (elim r as (λ _. Outcome) [
         | A.gives i st ↦ file (file-bytes es i (st .full))
@@ -107,7 +107,7 @@ module _ (T : List ℕ) (n : ℕ) (E : List ℕ) (m : ℕ) (X o : List ℕ) (z :
     toks = ts;
     errors = es;
     given = d;
-    sized = handed-sized T n E m X _ d;
+    sized = validated-sized T n E m X _ d;
     items = i;
     last = st;
     parsed = p;
@@ -116,14 +116,14 @@ module _ (T : List ℕ) (n : ℕ) (E : List ℕ) (m : ℕ) (X o : List ℕ) (z :
   }
   parsed ts es d (A.refused k) p v h = other _ h (λ e. subst (λ (k : ℕ). D.T (between 10 12 k)) e v)
 
-  good : (ts : List Tok) (es : List Err) → handed T n E m X ≡ some (record { tokens = ts; errors = es })
-      → Is (read-handed o ts es) → AcceptedRead T n E m X o
+  good : (ts : List Tok) (es : List Err) → validate T n E m X ≡ some (record { tokens = ts; errors = es })
+      → Is (read-validated o ts es) → AcceptedRead T n E m X o
   unfolding read-tokens
   good [] es d h = other _ h (λ e. omega arith)
   good (t ∷ ts) es d h = parsed (t ∷ ts) es d (parse-module (t ∷ ts)) refl (module-moves (t ∷ ts)) h
 
-  tested : (r : Option Handed) → handed T n E m X ≡ r
-      → Is (elim r as (λ _. Written) [ none ↦ kept 8 o | some h ↦ read-handed o (h .tokens) (h .errors) ])
+  tested : (r : Option Validated) → validate T n E m X ≡ r
+      → Is (elim r as (λ _. Written) [ none ↦ kept 8 o | some h ↦ read-validated o (h .tokens) (h .errors) ])
       → AcceptedRead T n E m X o
   tested none d h = other _ h (λ e. omega arith)
   tested (some g) d h = good (g .tokens) (g .errors) d h
@@ -131,14 +131,14 @@ module _ (T : List ℕ) (n : ℕ) (E : List ℕ) (m : ℕ) (X o : List ℕ) (z :
   wide : (b : Bool)
       → Is (elim b as (λ _. Written) [
         | true ↦ kept 3 o
-        | false ↦ elim (handed T n E m X) as (λ _. Written) [
+        | false ↦ elim (validate T n E m X) as (λ _. Written) [
           | none ↦ kept 8 o
-          | some h ↦ read-handed o (h .tokens) (h .errors)
+          | some h ↦ read-validated o (h .tokens) (h .errors)
         ]
       ])
       → AcceptedRead T n E m X o
   wide true h = other _ h (λ e. omega arith)
-  wide false h = tested (handed T n E m X) refl h
+  wide false h = tested (validate T n E m X) refl h
 
   pub accepted-read : AcceptedRead T n E m X o
   unfolding read

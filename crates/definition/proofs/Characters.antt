@@ -140,7 +140,7 @@ spelt-places (x ∷ cs) l c bs s = ap₂ _∷_ (s .1) (go (eqb (x .byte) 10) (s 
     go true t f = f (suc l) 1 t
     go false t f = f l (suc c) t
 
--- a script's first character is at 1:1, and each character one column after the former, or first in the next line
+-- a script's first character is at 1:1, and each character one column after the previous, or first in the next line
 pub columns-count-characters : (s : List ℕ) (cs : List Ch) → characters s ≡ some cs
     → map (λ x. x .place) cs ≡ places 1 1 (map (λ x. x .byte) cs)
 columns-count-characters s cs e = spelt-places cs 1 1 s (spelt s cs e)

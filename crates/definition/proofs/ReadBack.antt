@@ -14,10 +14,10 @@ use Rattle.definition.specs.Classes.{between}
 use Rattle.definition.specs.Source.{Place, Ch, nowhere, utf8, characters}
 use Rattle.definition.specs.Fallible.{Err}
 use Rattle.definition.specs.Token.{Tok, tok}
-use Rattle.definition.specs.Records.{has-text, token-words, tokens-words, tokens-text, errors-words, TokenWords, words-at, part, text-fits, good-alone, good-behind, place-of, text-end, token-of, token-before, tokens-of, ErrorWords, error-at, good-error, error-of, error-before, errors-of}
+use Rattle.definition.specs.Records.{has-text, token-words, tokens-words, tokens-text, errors-words, TokenWords, words-at, part, text-fits, valid-alone, valid-after, place-of, text-end, token-of, token-before, tokens-of, ErrorWords, error-at, valid-error, error-of, error-before, errors-of}
 use Rattle.definition.specs.Tokenizer as Z
 use Rattle.definition.specs.Tokenizer.{tokenize}
-use Rattle.definition.specs.Operations.{Handed, both, handed}
+use Rattle.definition.specs.Operations.{Validated, both, validate}
 use Rattle.definition.proofs.Tests.{both-true, between-true, All}
 use Rattle.definition.proofs.Tokens.{Placed, Good, Fault, Behind, texts, Made, TokensOf, script-tokens}
 
@@ -111,8 +111,8 @@ module _ (t : Tok) (g : Good t) (text before rest : List ℕ) (n : ℕ) (e : tex
           (rw part-is (g .formed .utf8))
       go false f = rw (f refl)
 
-  alone : good-alone text (words n t) ≡ true
-  unfolding good-alone
+  alone : valid-alone text (words n t) ≡ true
+  unfolding valid-alone
   alone =
       both-true (both-true (both-true (both-true (both-true
       (both-true (both-true (between-true (g .formed .low) (g .formed .high)) (line-fits (t .place) (g .placed)))
@@ -139,18 +139,18 @@ text-ends t n e h = go (has-text (t .kind))
 -- ---- all tokens
 
 -- a record that is read and good
-token-step : (ws text : List ℕ) (p : Place) (e i m : ℕ) (w : TokenWords) → words-at ws i ≡ w → good-alone text w ≡ true
-    → good-behind p e w ≡ true
+token-step : (ws text : List ℕ) (p : Place) (e i m : ℕ) (w : TokenWords) → words-at ws i ≡ w → valid-alone text w ≡ true
+    → valid-after p e w ≡ true
     → tokens-of ws text p e i (suc m)
     ≡ token-before (token-of text w) (tokens-of ws text (place-of w) (text-end e w) (suc i) m)
 unfolding tokens-of
 token-step ws text p e i m w q a b =
     subst
-    (λ (w : TokenWords). good-alone text w ≡ true → good-behind p e w ≡ true → tokens-of ws text p e i (suc m)
+    (λ (w : TokenWords). valid-alone text w ≡ true → valid-after p e w ≡ true → tokens-of ws text p e i (suc m)
     ≡ token-before (token-of text w) (tokens-of ws text (place-of w) (text-end e w) (suc i) m)) q
     (λ a b. rw (tokens-of, both-true a b)) a b
 
--- The tokens of records from the i-th on, and texts after n bytes: those that were written. The former token's place is p, its text ends at e.
+-- The tokens of records from the i-th on, and texts after n bytes: those that were written. The previous token's place is p, its text ends at e.
 module _ (ws text : List ℕ) where
   tokens-back : (ts : List Tok) (p : Place) (e n i : ℕ) (before rest before′ rest′ : List ℕ)
       → ws ≡ before ++ (tokens-words n ts ++ rest) → length before ≡ 8 * i
@@ -176,11 +176,11 @@ module _ (ws text : List ℕ) where
 
 -- ---- all errors
 
-error-step : (ws : List ℕ) (i m : ℕ) (w : ErrorWords) → error-at ws i ≡ w → good-error w ≡ true
+error-step : (ws : List ℕ) (i m : ℕ) (w : ErrorWords) → error-at ws i ≡ w → valid-error w ≡ true
     → errors-of ws i (suc m) ≡ error-before (error-of w) (errors-of ws (suc i) m)
 unfolding errors-of
 error-step ws i m w q a =
-    subst (λ (w : ErrorWords). good-error w ≡ true → errors-of ws i (suc m) ≡ error-before (error-of w)
+    subst (λ (w : ErrorWords). valid-error w ≡ true → errors-of ws i (suc m) ≡ error-before (error-of w)
     (errors-of ws (suc i) m)) q (λ a. rw (errors-of, a)) a
 
 errors-back : (ws : List ℕ) (es : List Err) (i : ℕ) (before rest : List ℕ) → ws ≡ before ++ (errors-words es ++ rest)
@@ -206,12 +206,12 @@ errors-back ws (e ∷ es) i before rest w l f =
 
 -- ---- what Tokenise writes, before any words
 
-made-handed : (ts : List Tok) (es : List Err) → Made ts es → (u v w : List ℕ)
-    → handed (tokens-words 0 ts ++ u) (length ts) (errors-words es ++ v) (length es) (tokens-text ts ++ w)
+made-validated : (ts : List Tok) (es : List Err) → Made ts es → (u v w : List ℕ)
+    → validate (tokens-words 0 ts ++ u) (length ts) (errors-words es ++ v) (length es) (tokens-text ts ++ w)
     ≡ some (record { tokens = ts; errors = es })
-unfolding handed
-made-handed ts es m u v w =
-    ap (λ (x : Bool). elim x as (λ _. Option Handed)
+unfolding validate
+made-validated ts es m u v w =
+    ap (λ (x : Bool). elim x as (λ _. Option Validated)
     [ true ↦ both (tokens-of ws text nowhere 0 0 (length ts)) (errors-of ws′ 0 (length es)) | false ↦ none ])
     (both-true (both-true (both-true (le-leb (length ts) 2048 (m .tokens)) (le-leb (length es) 255 (m .errors)))
     (le-leb (8 * length ts) (length ws) (longer (8 * length ts) (tokens-words 0 ts) u (tokens-length 0 ts))))
@@ -234,6 +234,6 @@ made-handed ts es m u v w =
 
 pub read-back : (bs : List ℕ) (cs : List Ch) (ts : List Tok) (es : List Err) → length bs ≤ 16384 → characters bs ≡ some cs
     → tokenize cs ≡ Z.tokens ts es → (u v w : List ℕ)
-    → handed (tokens-words 0 ts ++ u) (length ts) (errors-words es ++ v) (length es) (tokens-text ts ++ w)
+    → validate (tokens-words 0 ts ++ u) (length ts) (errors-words es ++ v) (length es) (tokens-text ts ++ w)
     ≡ some (record { tokens = ts; errors = es })
-read-back bs cs ts es h d t u v w = made-handed ts es (subst TokensOf t (script-tokens bs cs h d)) u v w
+read-back bs cs ts es h d t u v w = made-validated ts es (subst TokensOf t (script-tokens bs cs h d)) u v w

@@ -40,7 +40,7 @@ pub record Placed (n : ℕ) (p : Place) : Type 0 where
 placed-less : (m n : ℕ) (p : Place) → m ≤ n → Placed n p → Placed m p
 placed-less m n p h r = omega arith
 
--- each after the former, the first after the key k, at places that records may have, and whole
+-- each after the previous, the first after the key k, at places that records may have, and whole
 abbrev Chars : ℕ → List Ch → Type 0
 Chars k [] = Unit {0}
 Chars k (c ∷ cs) = (k < key (c .place)) × Placed 1 (c .place) × Whole c × Chars (key (c .place)) cs
@@ -413,7 +413,7 @@ turned c cs k h = go (Z.class (c .byte) (look cs)) (classed (c .byte) (look cs))
 
 -- ---- all the tokens
 
--- each after the former, from the key j to the key k
+-- each after the previous, from the key j to the key k
 abbrev Rising : ℕ → List Tok → ℕ → Type 0
 Rising j [] k = j ≤ k
 Rising j (t ∷ ts) k = (j < key (t .place)) × Rising (key (t .place)) ts k
@@ -439,7 +439,7 @@ pub record Fault (e : Err) : Type 0 where
 abbrev pub Kinds : List Tok → Type 0
 Kinds ts = All (λ t. 0 < t .kind) ts
 
--- each token comes after the former, the first after the place p
+-- each token comes after the previous, the first after the place p
 abbrev pub Behind : Place → List Tok → Type 0
 Behind p [] = Unit {0}
 Behind p (t ∷ ts) = (comes-after p (t .place .line) (t .place .column) ≡ true) × Behind (t .place) ts

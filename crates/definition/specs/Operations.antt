@@ -90,51 +90,51 @@ written o (file f) = record { number = 0; bytes = length f; file = filled (lengt
 written o (refused n) = record { number = n; bytes = 0; file = filled (length o) [] }
 
 -- what is handed in, if it is there and each record is good
-pub record Handed : Type 0 where
+pub record Validated : Type 0 where
   pub tokens : List Tok
   pub errors : List Err
 
-abbrev pub both : Option (List Tok) → Option (List Err) → Option Handed
+abbrev pub both : Option (List Tok) → Option (List Err) → Option Validated
 both none es = none
 both (some ts) none = none
 both (some ts) (some es) = some (record { tokens = ts; errors = es })
 
 -- where at most `most` tokens are allowed
-unfoldable pub handed-within : ℕ → List ℕ → ℕ → List ℕ → ℕ → List ℕ → Option Handed
+unfoldable pub validate-within : ℕ → List ℕ → ℕ → List ℕ → ℕ → List ℕ → Option Validated
 unfolding tokens-of errors-of
-handed-within most T n E m X =
+validate-within most T n E m X =
     elim (leb n most && leb m 255 && leb (8 * n) (length T) && leb (4 * m) (length E)) [
       | true ↦ both (tokens-of T X nowhere 0 0 n) (errors-of E 0 m)
       | false ↦ none
     ]
 
-unfoldable pub handed : List ℕ → ℕ → List ℕ → ℕ → List ℕ → Option Handed
-unfolding handed-within
-handed T n E m X = handed-within 2048 T n E m X
+unfoldable pub validate : List ℕ → ℕ → List ℕ → ℕ → List ℕ → Option Validated
+unfolding validate-within
+validate T n E m X = validate-within 2048 T n E m X
 
 -- with no tokens the slice is still untouched
-abbrev pub read-handed-within : ℕ → List ℕ → List Tok → List Err → Written
-read-handed-within n o [] es = kept 9 o
-read-handed-within n o (t ∷ ts) es = written o (read-tokens-within n (t ∷ ts) es)
+abbrev pub read-validated-within : ℕ → List ℕ → List Tok → List Err → Written
+read-validated-within n o [] es = kept 9 o
+read-validated-within n o (t ∷ ts) es = written o (read-tokens-within n (t ∷ ts) es)
 
-abbrev pub read-handed : List ℕ → List Tok → List Err → Written
-read-handed o ts es = read-handed-within 96 o ts es
+abbrev pub read-validated : List ℕ → List Tok → List Err → Written
+read-validated o ts es = read-validated-within 96 o ts es
 
 -- The token slice and its count, the error slice and its count, the text slice, the file slice; at most `most` tokens
 -- and `nesting` open calls
 unfoldable pub read-within : ℕ → ℕ → List ℕ → ℕ → List ℕ → ℕ → List ℕ → List ℕ → Written
-unfolding handed-within read-tokens-within
+unfolding validate-within read-tokens-within
 read-within most nesting T n E m X o =
     elim (ltb (length o) 65536) [
       | true ↦ kept 3 o
-      | false ↦ elim (handed-within most T n E m X) [
+      | false ↦ elim (validate-within most T n E m X) [
         | none ↦ kept 8 o
-        | some h ↦ read-handed-within nesting o (h .tokens) (h .errors)
+        | some h ↦ read-validated-within nesting o (h .tokens) (h .errors)
       ]
     ]
 
 unfoldable pub read : List ℕ → ℕ → List ℕ → ℕ → List ℕ → List ℕ → Written
-unfolding read-within handed read-tokens
+unfolding read-within validate read-tokens
 read T n E m X o = read-within 2048 96 T n E m X o
 
 -- ---- the whole operation

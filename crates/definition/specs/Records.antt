@@ -73,9 +73,9 @@ abbrev pub text-fits : List ℕ → TokenWords → Bool
 text-fits text w = leb (w .start + w .size) 16384 && leb (w .start + w .size) (length text) && utf8 (part text w)
 
 -- the rules that need no other record
-unfoldable pub good-alone : List ℕ → TokenWords → Bool
+unfoldable pub valid-alone : List ℕ → TokenWords → Bool
 unfolding utf8 all-digits
-good-alone text w =
+valid-alone text w =
     between 1 54 (w .kind) && between 1 16384 (w .line) && between 1 16384 (w .column) && base-fits (w .kind) (w .base) && eqb (w .seventh) 0 && eqb (w .eighth) 0
     && pick (has-text (w .kind)) (text-fits text w) (eqb (w .start) 0 && eqb (w .size) 0)
     && pick (eqb (w .kind) K.Integer) (integer-text (w .base) (part text w)) true
@@ -83,14 +83,14 @@ good-alone text w =
 abbrev pub comes-after : Place → ℕ → ℕ → Bool
 comes-after p l c = ltb (p .line) l || (eqb (p .line) l && ltb (p .column) c)
 
--- the others: the former token's place is p, the former text's end is e
-abbrev pub good-behind : Place → ℕ → TokenWords → Bool
-good-behind p e w = comes-after p (w .line) (w .column) && pick (has-text (w .kind)) (leb e (w .start)) true
+-- the others: the previous token's place is p, the previous text's end is e
+abbrev pub valid-after : Place → ℕ → TokenWords → Bool
+valid-after p e w = comes-after p (w .line) (w .column) && pick (has-text (w .kind)) (leb e (w .start)) true
 
 abbrev pub place-of : TokenWords → Place
 place-of w = record { line = w .line; column = w .column }
 
--- where the former text ends, after this record
+-- where the previous text ends, after this record
 abbrev pub text-end : ℕ → TokenWords → ℕ
 text-end e w = pick (has-text (w .kind)) (w .start + w .size) e
 
@@ -103,10 +103,10 @@ token-before t (some ts) = some (t ∷ ts)
 
 -- the tokens of n records from the i-th on, if each is good
 unfoldable pub tokens-of : List ℕ → List ℕ → Place → ℕ → ℕ → ℕ → Option (List Tok)
-unfolding good-alone
+unfolding valid-alone
 tokens-of ws text p e i zero = some []
 tokens-of ws text p e i (suc n) =
-    elim (good-alone text (words-at ws i) && good-behind p e (words-at ws i)) [
+    elim (valid-alone text (words-at ws i) && valid-after p e (words-at ws i)) [
       | true ↦ token-before (token-of text (words-at ws i)) (tokens-of ws text (place-of (words-at ws i)) (text-end e (words-at ws i)) (suc i) n)
       | false ↦ none
     ]
@@ -122,8 +122,8 @@ pub record ErrorWords : Type 0 where
 abbrev pub error-at : List ℕ → ℕ → ErrorWords
 error-at ws i = record { number = getD ws (4 * i) 0; line = getD ws (4 * i + 1) 0; column = getD ws (4 * i + 2) 0; fourth = getD ws (4 * i + 3) 0 }
 
-abbrev pub good-error : ErrorWords → Bool
-good-error w = between 1 4 (w .number) && between 1 16384 (w .line) && between 1 16384 (w .column) && eqb (w .fourth) 0
+abbrev pub valid-error : ErrorWords → Bool
+valid-error w = between 1 4 (w .number) && between 1 16384 (w .line) && between 1 16384 (w .column) && eqb (w .fourth) 0
 
 abbrev pub error-of : ErrorWords → Err
 error-of w = record { number = w .number; place = record { line = w .line; column = w .column }; expected = 0; got = 0 }
@@ -135,11 +135,11 @@ error-before e (some es) = some (e ∷ es)
 -- the errors of n records from the i-th on, if each is good
 unfoldable pub errors-of : List ℕ → ℕ → ℕ → Option (List Err)
 errors-of ws i zero = some []
-errors-of ws i (suc n) = elim (good-error (error-at ws i)) [ true ↦ error-before (error-of (error-at ws i)) (errors-of ws (suc i) n) | false ↦ none ]
+errors-of ws i (suc n) = elim (valid-error (error-at ws i)) [ true ↦ error-before (error-of (error-at ws i)) (errors-of ws (suc i) n) | false ↦ none ]
 
 -- ---- Token text
 
 -- the text of the i-th token; empty where the slice ends before the record does, the kind has no text, or the record is bad
 unfoldable pub text-of : List ℕ → List ℕ → ℕ → List ℕ
-unfolding good-alone
-text-of ws text i = pick (leb (8 * i + 8) (length ws) && has-text (words-at ws i .kind) && good-alone text (words-at ws i)) (part text (words-at ws i)) []
+unfolding valid-alone
+text-of ws text i = pick (leb (8 * i + 8) (length ws) && has-text (words-at ws i .kind) && valid-alone text (words-at ws i)) (part text (words-at ws i)) []

@@ -12,7 +12,7 @@ use lib.ListN.{length, getD}
 use Rattle.definition.specs.Classes.{between}
 use Rattle.definition.specs.Fallible.{Err}
 use Rattle.definition.specs.Source.{is-some}
-use Rattle.definition.specs.Records.{ErrorWords, error-at, good-error, error-of, error-before, errors-of}
+use Rattle.definition.specs.Records.{ErrorWords, error-at, valid-error, error-of, error-before, errors-of}
 use Rattle.definition.proofs.Tests.{clash, left-true, right-true, between-bounds}
 use Rattle.fallible.specs.Lists as L
 use Rattle.fields.specs.Errors.{Fielded, TokenFields}
@@ -40,7 +40,7 @@ pub record Small (w : ErrorWords) : Type 0 where
   pub line : w .line ≤ 16384
   pub column : w .column ≤ 16384
 
-small : (w : ErrorWords) → good-error w ≡ true → Small w
+small : (w : ErrorWords) → valid-error w ≡ true → Small w
 small w g =
     let nlc = left-true (between 1 4 (w .number) && between 1 16384 (w .line) && between 1 16384 (w .column)) (eqb (w .fourth) 0) g in
     let nl = left-true (between 1 4 (w .number) && between 1 16384 (w .line)) (between 1 16384 (w .column)) nlc in
@@ -62,9 +62,9 @@ good-first true e (some es) h = (refl, refl)
 good-first false e o h = clash (sym h)
 
 good-next : (ws : List ℕ) (i n : ℕ) → is-some (errors-of ws i (suc n)) ≡ true
-    → (good-error (error-at ws i) ≡ true) × (is-some (errors-of ws (suc i) n) ≡ true)
+    → (valid-error (error-at ws i) ≡ true) × (is-some (errors-of ws (suc i) n) ≡ true)
 unfolding errors-of
-good-next ws i n h = good-first (good-error (error-at ws i)) (error-of (error-at ws i)) (errors-of ws (suc i) n) h
+good-next ws i n h = good-first (valid-error (error-at ws i)) (error-of (error-at ws i)) (errors-of ws (suc i) n) h
 
 small-at : (ws : List ℕ) (i n j : ℕ) → is-some (errors-of ws i n) ≡ true → j < n → Small (error-at ws (i + j))
 small-at ws i zero j h g = absurd (omega arith)

@@ -18,8 +18,8 @@ use Rattle.fallible.proofs.Grown.{errs-length}
 use Rattle.fields.specs.Errors.{Fielded, TokenFields}
 use Rattle.zeros.specs.Cleared.{Cleared}
 use Rattle.zeros.proofs.Clearing.{cleared-filled}
-use Rattle.definition.proofs.Handed.{errors-many}
-use Rattle.handed.proofs.Accepted.{there}
+use Rattle.definition.proofs.Validated.{errors-many}
+use Rattle.validate.proofs.Accepted.{there}
 use Rattle.parser.specs.Answer.{file-of, RestRoom, RestWritten}
 
 -- ---- where the fields end

@@ -33,12 +33,12 @@ use denote.Enum.Declared.{tagOf}
 use Rattle.fallible.proofs.How.{the-type}
 use Rattle.leaves.proofs.Atoms.{Ended, Alive, if-alive}
 use Rattle.grammar.specs.Post.{as-answer}
-use Rattle.handed.specs.Tested.{Tested}
-use Rattle.handed.proofs.Accepted.{There, there, absent, tested}
+use Rattle.validate.specs.Tested.{Tested}
+use Rattle.validate.proofs.Accepted.{There, there, absent, tested}
 use Rattle.items.specs.Rules.{items-on}
 use Rattle.items.specs.Items.{ReadsModule}
 use Rattle.parser.specs.declared.Written.{Written}
-use Rattle.parser.specs.Answer.{refusal-of, refusal-number, answer, file-of, RestRoom, RestWritten, ReadHanded}
+use Rattle.parser.specs.Answer.{refusal-of, refusal-number, answer, file-of, RestRoom, RestWritten, ReadValidated}
 
 -- ---- the module's answer
 
@@ -141,7 +141,7 @@ outcome : List Err → Res Items → O.Outcome
 outcome es (gives i S) = O.file (file-bytes es i (S .full))
 outcome es (refused n) = O.refused n
 
-opened : (o : List ℕ) (ts : List Tok) (es : List Err) → 0 < length ts → O.read-handed o ts es ≡ O.written o (outcome es (parse-module ts))
+opened : (o : List ℕ) (ts : List Tok) (es : List Err) → 0 < length ts → O.read-validated o ts es ≡ O.written o (outcome es (parse-module ts))
 unfolding O.read-tokens outcome
 opened o [] es h = absurd (omega arith)
 opened o (t ∷ ts) es h = one (parse-module (t ∷ ts))
@@ -155,7 +155,7 @@ opened o (t ∷ ts) es h = one (parse-module (t ∷ ts))
 
 written-of : (o : List ℕ) (ts : List Tok) (es : List Err) (i : Items) (S : St) → 0 < length ts
     → parse-module ts ≡ gives i S
-    → O.read-handed o ts es
+    → O.read-validated o ts es
     ≡ record {
       number = 0;
       bytes = length (file-bytes es i (S .full));
@@ -165,7 +165,7 @@ unfolding outcome
 written-of o ts es i S h e = opened o ts es h ∙ ap (λ (r : Res Items). O.written o (outcome es r)) e
 
 none-of : (o : List ℕ) (ts : List Tok) (es : List Err) (n : ℕ) → 0 < length ts → parse-module ts ≡ refused n
-    → O.read-handed o ts es ≡ record { number = n; bytes = 0; file = filled (length o) [] }
+    → O.read-validated o ts es ≡ record { number = n; bytes = 0; file = filled (length o) [] }
 unfolding outcome
 none-of o ts es n h e = opened o ts es h ∙ ap (λ (r : Res Items). O.written o (outcome es r)) e
 
@@ -179,9 +179,9 @@ same-file es p q s t = rw (p, q, s, t)
 
 -- ---- `read_tokens`
 
-module _ (T : List ℕ) (n : ℕ) (E : List ℕ) (m : ℕ) (X : List ℕ) (g : is-some (O.handed T n E m X) ≡ true) where
-  accepted : There (O.handed T n E m X)
-  accepted = there (O.handed T n E m X) g
+module _ (T : List ℕ) (n : ℕ) (E : List ℕ) (m : ℕ) (X : List ℕ) (g : is-some (O.validate T n E m X) ≡ true) where
+  accepted : There (O.validate T n E m X)
+  accepted = there (O.validate T n E m X) g
 
   good : Tested T n E m X (accepted .value)
   good = tested T n E m X (accepted .value) (accepted .is)
@@ -214,7 +214,7 @@ module _ (T : List ℕ) (n : ℕ) (E : List ℕ) (m : ℕ) (X : List ℕ) (g : i
 module _ (T : List ℕ) (n : ℕ) (E : List ℕ) (m : ℕ) (X o : List ℕ) {o1 r1 f1 : List ℕ} {a : Answer}
     (B : ReadsModule T X n 96 o1 r1 f1 a) (some-n : 0 < n) (l : length o1 ≡ length o) where
   pub read-refused : {o2 : List ℕ} {k : ℕ} {y : Written} → Ended a → Cleared o1 0 o2 → k ≡ refusal-number (a .how)
-      → y ≡ refusal-of k → ReadHanded T n E m X o o2 y
+      → y ≡ refusal-of k → ReadValidated T n E m X o o2 y
   read-refused {o2} {k} {y} z C u v h e =
       let t = tested T n E m X h e in
       let p : parse-module (h .tokens) ≡ refused k = ap parse-module (sym (t .tokens)) ∙ refused-of B z ∙ ap
@@ -225,7 +225,7 @@ module _ (T : List ℕ) (n : ℕ) (E : List ℕ) (m : ℕ) (X o : List ℕ) {o1 
 
   pub read-done : {o2 : List ℕ} {b : ℕ} → Alive a
       → RestWritten o1 (a .state .pos) (a .line) E m r1 (a .state .reported) f1 (a .state .full) o2 b
-      → ReadHanded T n E m X o o2 (record { number = 0; bytes = b })
+      → ReadValidated T n E m X o o2 (record { number = 0; bytes = b })
   unfolding file-bytes
   read-done {o2} {b} z C h e =
       let t = tested T n E m X h e in
@@ -243,19 +243,19 @@ module _ (T : List ℕ) (n : ℕ) (E : List ℕ) (m : ℕ) (X o : List ℕ) {o1 
 -- ---- `read`
 
 -- the tests of the file slice and of the records
-tested-by : Bool → Option O.Handed → List ℕ → O.Written
+tested-by : Bool → Option O.Validated → List ℕ → O.Written
 tested-by true x o = O.kept 3 o
 tested-by false none o = O.kept 8 o
-tested-by false (some h) o = O.read-handed o (h .tokens) (h .errors)
+tested-by false (some h) o = O.read-validated o (h .tokens) (h .errors)
 
 module _ (T : List ℕ) (n : ℕ) (E : List ℕ) (m : ℕ) (X o : List ℕ) where
-  read-is : O.read T n E m X o ≡ tested-by (ltb (length o) 65536) (O.handed T n E m X) o
+  read-is : O.read T n E m X o ≡ tested-by (ltb (length o) 65536) (O.validate T n E m X) o
   unfolding O.read tested-by
-  read-is = one (ltb (length o) 65536) (O.handed T n E m X)
+  read-is = one (ltb (length o) 65536) (O.validate T n E m X)
     where
-      one : (b : Bool) (x : Option O.Handed)
+      one : (b : Bool) (x : Option O.Validated)
           → _≡_ {A = O.Written} (elim b as (λ _. O.Written)
-          [ true ↦ O.kept 3 o | false ↦ elim x as (λ _. O.Written) [ none ↦ O.kept 8 o | some h ↦ O.read-handed o (h .tokens) (h .errors) ] ])
+          [ true ↦ O.kept 3 o | false ↦ elim x as (λ _. O.Written) [ none ↦ O.kept 8 o | some h ↦ O.read-validated o (h .tokens) (h .errors) ] ])
           (tested-by b x o)
       one true x = refl
       one false none = refl
@@ -263,25 +263,25 @@ module _ (T : List ℕ) (n : ℕ) (E : List ℕ) (m : ℕ) (X o : List ℕ) wher
 
   pub read-short : {r : Written} → length o < 65536 → r ≡ refusal-of 3 → answer r o ≡ O.read T n E m X o
   unfolding tested-by
-  read-short h e = rw e (sym (read-is ∙ ap (λ (b : Bool). tested-by b (O.handed T n E m X) o) (lt-ltb (length o) 65536 h)))
+  read-short h e = rw e (sym (read-is ∙ ap (λ (b : Bool). tested-by b (O.validate T n E m X) o) (lt-ltb (length o) 65536 h)))
 
   module _ (h : 65536 ≤ length o) where
     -- with a file slice that is long enough
-    read-long : O.read T n E m X o ≡ tested-by false (O.handed T n E m X) o
-    read-long = read-is ∙ ap (λ (b : Bool). tested-by b (O.handed T n E m X) o) (le-ltb (length o) 65536 h)
+    read-long : O.read T n E m X o ≡ tested-by false (O.validate T n E m X) o
+    read-long = read-is ∙ ap (λ (b : Bool). tested-by b (O.validate T n E m X) o) (le-ltb (length o) 65536 h)
 
-    pub read-bad : {r : Written} → is-some (O.handed T n E m X) ≡ false → r ≡ refusal-of 8 → answer r o ≡ O.read T n E m X o
+    pub read-bad : {r : Written} → is-some (O.validate T n E m X) ≡ false → r ≡ refusal-of 8 → answer r o ≡ O.read T n E m X o
     unfolding tested-by
-    read-bad g e = rw e (sym (read-long ∙ ap (λ (x : Option O.Handed). tested-by false x o) (absent (O.handed T n E m X) g)))
+    read-bad g e = rw e (sym (read-long ∙ ap (λ (x : Option O.Validated). tested-by false x o) (absent (O.validate T n E m X) g)))
 
     -- with good records it is what is done with their tokens and errors
-    pub read-accepted : {v : O.Handed} → O.handed T n E m X ≡ some v → O.read T n E m X o ≡ O.read-handed o (v .tokens) (v .errors)
+    pub read-accepted : {v : O.Validated} → O.validate T n E m X ≡ some v → O.read T n E m X o ≡ O.read-validated o (v .tokens) (v .errors)
     unfolding tested-by
-    read-accepted e = read-long ∙ ap (λ (x : Option O.Handed). tested-by false x o) e
+    read-accepted e = read-long ∙ ap (λ (x : Option O.Validated). tested-by false x o) e
 
-    module _ (g : is-some (O.handed T n E m X) ≡ true) where
-      pub read-good : {r : Written} {o′ : List ℕ} → ReadHanded T n E m X o o′ r → answer r o′ ≡ O.read T n E m X o
-      read-good R = let t = there (O.handed T n E m X) g in R (t .value) (t .is) ∙ sym (read-accepted (t .is))
+    module _ (g : is-some (O.validate T n E m X) ≡ true) where
+      pub read-good : {r : Written} {o′ : List ℕ} → ReadValidated T n E m X o o′ r → answer r o′ ≡ O.read T n E m X o
+      read-good R = let t = there (O.validate T n E m X) g in R (t .value) (t .is) ∙ sym (read-accepted (t .is))
 
       pub read-none : {r : Written} → n ≡ 0 → r ≡ refusal-of 9 → answer r o ≡ O.read T n E m X o
       read-none z e =

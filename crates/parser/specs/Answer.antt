@@ -49,5 +49,5 @@ pub record RestWritten (o : List ℕ) (p count : ℕ) (E : List ℕ) (m : ℕ) (
 -- ---- good records
 
 -- the answer is that of their tokens and errors
-abbrev pub ReadHanded : List ℕ → ℕ → List ℕ → ℕ → List ℕ → List ℕ → List ℕ → Written → Type 0
-ReadHanded T n E m X o o′ r = (h : O.Handed) → O.handed T n E m X ≡ some h → answer r o′ ≡ O.read-handed o (h .tokens) (h .errors)
+abbrev pub ReadValidated : List ℕ → ℕ → List ℕ → ℕ → List ℕ → List ℕ → List ℕ → Written → Type 0
+ReadValidated T n E m X o o′ r = (h : O.Validated) → O.validate T n E m X ≡ some h → answer r o′ ≡ O.read-validated o (h .tokens) (h .errors)

@@ -20,8 +20,8 @@ RestWritten file pos count errors m rep reported full made r =
 
 -- the records that Read is given are good
 abbrev pub Accepted : Slice → ℕ → Slice → ℕ → Slice → Type 0
-Accepted tokens count errors m text = is-some (O.handed (now tokens) count (now errors) m (now text)) ≡ true
+Accepted tokens count errors m text = is-some (O.validate (now tokens) count (now errors) m (now text)) ≡ true
 
-abbrev pub ReadHanded : Lent → ℕ → Lent → ℕ → Lent → Lent → Written → Type 0
-ReadHanded tokens count errors m text file r =
-    A.ReadHanded (at-entry tokens) count (at-entry errors) m (at-entry text) (at-entry file) (at-exit file) r
+abbrev pub ReadValidated : Lent → ℕ → Lent → ℕ → Lent → Lent → Written → Type 0
+ReadValidated tokens count errors m text file r =
+    A.ReadValidated (at-entry tokens) count (at-entry errors) m (at-entry text) (at-entry file) (at-exit file) r

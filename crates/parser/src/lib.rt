@@ -5,17 +5,17 @@ use definition::tag;
 use fallible::How;
 use fields::error_fields;
 use fields::token_error_fields;
-use handed::handed;
 use items::module;
 use node::Numbers;
 use node::write_bare;
+use validate::valid_records;
 use zeros::clear_bytes;
 ghost use mathlib.Core.Path.{_≡_};
 ghost use Prim.Native.Nat.{_<_, _≤_};
 ghost use lib.ListN.{length};
 ghost use Rattle.definition.specs.Operations as O;
 ghost use Rattle.parser.specs.Answer.{answer, refusal-of, refusal-number};
-ghost use Rattle.parser.specs.Contract.{RestRoom, RestWritten, Accepted, ReadHanded};
+ghost use Rattle.parser.specs.Contract.{RestRoom, RestWritten, Accepted, ReadValidated};
 
 // The number of a refusal, or 0, and the count of file bytes.
 pub struct Written {
@@ -73,7 +73,7 @@ pub fn read_tokens(
     file: &mut [u8],
 ) -> Written
     requires { ⌜ (65536 ≤ length (now file)) × ((0 < count) × Accepted tokens count errors «error_count» text) ⌝ }
-    ensures { λ r. ⌜ ReadHanded tokens count errors «error_count» text file r ⌝ }
+    ensures { λ r. ⌜ ReadValidated tokens count errors «error_count» text file r ⌝ }
 {
     let mut rep: [usize; 256] = [0; 256];
     let mut full: [usize; 256] = [0; 256];
@@ -122,7 +122,7 @@ pub fn read(
     if file.len() < limit::FILE_BYTES {
         return refused(refusal::SLICE_LENGTH);
     }
-    if !handed(tokens, count, errors, error_count, text) {
+    if !valid_records(tokens, count, errors, error_count, text) {
         return refused(refusal::BAD_RECORD);
     }
     if count == 0 {

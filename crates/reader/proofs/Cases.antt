@@ -15,7 +15,7 @@ use Rattle.definition.specs.Records.{tokens-words, tokens-text, errors-words}
 use Rattle.definition.specs.Tokenizer as Z
 use Rattle.definition.specs.Tokenizer.{tokenize}
 use Rattle.definition.specs.Operations as O
-use Rattle.definition.specs.Operations.{handed, kept, written, read-tokens, read-tokenised, whole}
+use Rattle.definition.specs.Operations.{validate, kept, written, read-tokens, read-tokenised, whole}
 use Rattle.definition.proofs.ReadBack.{read-back}
 use Rattle.source.specs.Place.{Stands, rest, origin}
 use Rattle.records.specs.declared.State.{State}
@@ -24,7 +24,7 @@ use Rattle.zeros.proofs.Clearing.{cleared-filled}
 use Rattle.tokenizer.specs.Run.{Done, Ran}
 use Rattle.tokenizer.proofs.Answer.{no-characters, the-characters, within-limit, ran-done}
 use Rattle.parser.specs.declared.Written.{Written}
-use Rattle.parser.specs.Answer.{answer, ReadHanded}
+use Rattle.parser.specs.Answer.{answer, ReadValidated}
 
 -- ---- the definition by its tests
 
@@ -95,8 +95,8 @@ module _ (s o : List ℕ) (q : Stands s origin × (length s ≤ 16384) × (65536
       d = ran-done g n
 
       -- the records are good
-      handed-back : handed T (f .tokens) E (f .errors) X ≡ some (record { tokens = d .ts; errors = d .es })
-      handed-back =
+      validated-back : validate T (f .tokens) E (f .errors) X ≡ some (record { tokens = d .ts; errors = d .es })
+      validated-back =
           cc (
             before-rest (8 * f .tokens) T (tokens-words 0 (d .ts)) (d .holds .toks),
             d .holds .tokens,
@@ -108,8 +108,8 @@ module _ (s o : List ℕ) (q : Stands s origin × (length s ≤ 16384) × (65536
                 (drop (f .text) X),
           )
 
-      pub whole-handed : is-some (handed T (f .tokens) E (f .errors) X) ≡ true
-      whole-handed = ap is-some handed-back
+      pub whole-validated : is-some (validate T (f .tokens) E (f .errors) X) ≡ true
+      whole-validated = ap is-some validated-back
 
       pub whole-none : f .tokens ≡ 0 → written o (O.refused 9) ≡ whole s o
       unfolding read-tokens
@@ -119,12 +119,12 @@ module _ (s o : List ℕ) (q : Stands s origin × (length s ≤ 16384) × (65536
           go [] m e = e
           go (t ∷ ts) m e = absurd (omega arith)
 
-      pub whole-read : {o′ : List ℕ} {w : Written} → (f .tokens ≡ 0 → ⊥) → ReadHanded T (f .tokens) E (f .errors) X o o′ w
+      pub whole-read : {o′ : List ℕ} {w : Written} → (f .tokens ≡ 0 → ⊥) → ReadValidated T (f .tokens) E (f .errors) X o o′ w
           → answer w o′ ≡ whole s o
       unfolding read-tokens
-      whole-read {o′} {w} k r = go (d .ts) (λ m. k (d .holds .tokens ∙ m)) (r _ handed-back) (runs (d .is))
+      whole-read {o′} {w} k r = go (d .ts) (λ m. k (d .holds .tokens ∙ m)) (r _ validated-back) (runs (d .is))
         where
-          go : (ts : List Tok) → (length ts ≡ 0 → ⊥) → answer w o′ ≡ O.read-handed o ts (d .es)
+          go : (ts : List Tok) → (length ts ≡ 0 → ⊥) → answer w o′ ≡ O.read-validated o ts (d .es)
               → written o (read-tokens ts (d .es)) ≡ whole s o → answer w o′ ≡ whole s o
           go [] m e p = absurd (m refl)
           go (t ∷ ts) m e p = e ∙ p

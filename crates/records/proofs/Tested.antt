@@ -14,7 +14,7 @@ use Rattle.definition.specs.Choice.{pick}
 use Rattle.definition.specs.Classes as C
 use Rattle.definition.specs.Token.{dashed}
 use Rattle.definition.specs.Kind as K
-use Rattle.definition.specs.Records.{TokenWords, all-digits, some-digits, has-text, good-alone, integer-text, words-at, part, text-of}
+use Rattle.definition.specs.Records.{TokenWords, all-digits, some-digits, has-text, valid-alone, integer-text, words-at, part, text-of}
 use Rattle.definition.proofs.Tests.{clash, left-true, right-true}
 use Rattle.records.specs.Tested.{fields-fit, part-fits}
 
@@ -87,28 +87,28 @@ module _ (text : List ℕ) (w : TokenWords) where
   abbrev end : ℕ
   end = w .start + w .size
 
-  good-is : good-alone text w
+  good-is : valid-alone text w
       ≡ (fields && pick (has-text (w .kind)) (part-fits text (w .start) end) (eqb (w .start) 0 && eqb (w .size) 0))
       && pick (eqb (w .kind) K.Integer) (integer-text (w .base) (take (end - w .start) (drop (w .start) text)))
       true
-  unfolding good-alone
+  unfolding valid-alone
   good-is = let z : end - w .start ≡ w .size = omega arith in rw z
 
-  pub bad-fields : fields ≡ false → false ≡ good-alone text w
+  pub bad-fields : fields ≡ false → false ≡ valid-alone text w
   bad-fields e = rw (good-is, e)
 
-  pub no-text : fields ≡ true → has-text (w .kind) ≡ false → (eqb (w .start) 0 && eqb (w .size) 0) ≡ good-alone text w
+  pub no-text : fields ≡ true → has-text (w .kind) ≡ false → (eqb (w .start) 0 && eqb (w .size) 0) ≡ valid-alone text w
   no-text e f = rw (good-is, e, f, textless (w .kind) f, and-true)
 
   module _ (e : fields ≡ true) (f : has-text (w .kind) ≡ true) where
-    pub bad-part : part-fits text (w .start) end ≡ false → false ≡ good-alone text w
+    pub bad-part : part-fits text (w .start) end ≡ false → false ≡ valid-alone text w
     bad-part g = rw (good-is, e, f, g)
 
     pub good-integer : part-fits text (w .start) end ≡ true → w .kind ≡ K.Integer
-        → integer-text (w .base) (take (end - w .start) (drop (w .start) text)) ≡ good-alone text w
+        → integer-text (w .base) (take (end - w .start) (drop (w .start) text)) ≡ valid-alone text w
     good-integer g h = rw (good-is, e, f, g, eq-eqb _ _ h)
 
-    pub good-text : part-fits text (w .start) end ≡ true → (w .kind ≡ K.Integer → ⊥) → true ≡ good-alone text w
+    pub good-text : part-fits text (w .start) end ≡ true → (w .kind ≡ K.Integer → ⊥) → true ≡ valid-alone text w
     good-text g h = rw (good-is, e, f, g, ne-eqb _ _ h)
 
 pub part-inside : (text : List ℕ) (start end : ℕ) → part-fits text start end ≡ true → end ≤ length text
@@ -123,7 +123,7 @@ module _ (ws text : List ℕ) (i : ℕ) where
   whole-record = leb (8 * i + 8) (length ws)
 
   abbrev there : Bool
-  there = has-text (words-at ws i .kind) && good-alone text (words-at ws i)
+  there = has-text (words-at ws i .kind) && valid-alone text (words-at ws i)
 
   text-is : text-of ws text i ≡ pick (whole-record && there) (part text (words-at ws i)) []
   unfolding text-of
@@ -134,10 +134,10 @@ module _ (ws text : List ℕ) (i : ℕ) where
 
   -- the record as the code has it, and its two tests
   module _ {w : TokenWords} {h g : Bool} (k : i < length ws / 8) (e : w ≡ words-at ws i)
-      (f : h ≡ has-text (w .kind)) (p : g ≡ good-alone text w) where
+      (f : h ≡ has-text (w .kind)) (p : g ≡ valid-alone text w) where
     there-is : (t : Bool) → (h && g) ≡ t → text-of ws text i ≡ pick t (part text w) []
     there-is t q =
-        let r : there ≡ t = sym (ap (λ (x : TokenWords). has-text (x .kind) && good-alone text x) e) ∙ rw (sym f, sym p) q in
+        let r : there ≡ t = sym (ap (λ (x : TokenWords). has-text (x .kind) && valid-alone text x) e) ∙ rw (sym f, sym p) q in
         text-is ∙ ap (λ (b : Bool). pick (b && there) (part text (words-at ws i)) []) (le-leb (8 * i + 8) (length ws) (omega arith))
         ∙ ap (λ (b : Bool). pick b (part text (words-at ws i)) []) r ∙ ap (λ (x : TokenWords). pick t (part text x) []) (sym e)
 
@@ -148,7 +148,7 @@ module _ (ws text : List ℕ) (i : ℕ) where
     text-some q = let z : w .start + w .size - w .start ≡ w .size = omega arith in rw z (sym (there-is true (not-false _ q)))
 
 -- a good record's text is within the slice
-pub text-inside : (text : List ℕ) (w : TokenWords) {h g : Bool} → h ≡ has-text (w .kind) → g ≡ good-alone text w
+pub text-inside : (text : List ℕ) (w : TokenWords) {h g : Bool} → h ≡ has-text (w .kind) → g ≡ valid-alone text w
     → not (h && g) ≡ false → w .start + w .size ≤ length text
 text-inside text w {h} {g} e f n =
     let a = sym e ∙ left-true h g (not-false _ n) in

@@ -246,8 +246,8 @@ pub fn words_at(tokens: &[u32], at: usize) -> Words
 }
 
 // The rules for a token record that need no other record.
-pub fn good_alone(text: &[u8], w: Words) -> bool
-    ensures { λ r. ⌜ r ≡ R.good-alone (now (text .entry)) (words-of w) ⌝ }
+pub fn valid_alone(text: &[u8], w: Words) -> bool
+    ensures { λ r. ⌜ r ≡ R.valid-alone (now (text .entry)) (words-of w) ⌝ }
 {
     if !fields_fit(w.kind, w.line, w.column, w.base, w.seventh, w.eighth) {
         return false;
@@ -276,7 +276,7 @@ pub fn token_text<'a>(tokens: &[u32], text: &'a [u8], at: usize) -> &'a [u8]
         return &text[0..0];
     }
     let w = words_at(tokens, at);
-    let there = has_text(w.kind) & good_alone(text, w);
+    let there = has_text(w.kind) & valid_alone(text, w);
     if !there {
         return &text[0..0];
     }

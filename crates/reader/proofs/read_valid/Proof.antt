@@ -1,4 +1,4 @@
-use Rattle.reader.proofs.Cases.{whole-stopped, whole-none, whole-handed, whole-read}
+use Rattle.reader.proofs.Cases.{whole-stopped, whole-none, whole-validated, whole-read}
 use mathlib.Core.Path.{_∙_}
 use native.Mathlib.Omega.{arith}
 use borrow.Author.Needs.{needs}
@@ -66,7 +66,7 @@ read-tokens-requires c κs =
       start .pre .2,
       (
         omega (arith, at-if2 .if2 .left),
-        whole-handed _ (start .args .file .now) (start .pre) (at-run .run .ensures) (at-if1 .if1 .left),
+        whole-validated _ (start .args .file .now) (start .pre) (at-run .run .ensures) (at-if1 .if1 .left),
       ),
     )
 

@@ -22,8 +22,8 @@ words-at-requires c κs = search needs
 has-text-requires : tie.Need-has-text-requires
 has-text-requires c κs = search needs
 
-good-alone-requires : tie.Need-good-alone-requires
-good-alone-requires c κs = search needs
+valid-alone-requires : tie.Need-valid-alone-requires
+valid-alone-requires c κs = search needs
 
 sub-result-2 : tie.Need-sub-result-2
 sub-result-2 c = search needs
@@ -54,21 +54,21 @@ part-result-start-3 c = search needs
 
 part-result-end-3 : tie.Need-part-result-end-3
 part-result-end-3 c =
-    let at-good-alone = c .before .before .before in
-    let at-has-text = at-good-alone .before in
+    let at-valid-alone = c .before .before .before in
+    let at-has-text = at-valid-alone .before in
     let at-words-at = at-has-text .before in
     let start = at-words-at .before .before .before .before in
     text-inside (start .args .text .now) (words-of (at-words-at .words-at .result))
-    (at-has-text .has-text .ensures) (at-good-alone .good-alone .ensures) (search)
+    (at-has-text .has-text .ensures) (at-valid-alone .valid-alone .ensures) (search)
 
 returns-3 : tie.Need-returns-3
 returns-3 c =
-    let at-good-alone = c .before .before .before .before in
-    let at-has-text = at-good-alone .before in
+    let at-valid-alone = c .before .before .before .before in
+    let at-has-text = at-valid-alone .before in
     let at-words-at = at-has-text .before in
     let start = at-words-at .before .before .before .before in
     text-some (start .args .tokens .now) (start .args .text .now) (start .args .at) (search)
-    (at-words-at .words-at .ensures) (at-has-text .has-text .ensures) (at-good-alone .good-alone .ensures)
+    (at-words-at .words-at .ensures) (at-has-text .has-text .ensures) (at-valid-alone .valid-alone .ensures)
     (search)
 
 pub token-text-spec : {M : Type 1} → statement M
@@ -81,7 +81,7 @@ token-text-spec =
     returns
     words-at-requires
     has-text-requires
-    good-alone-requires
+    valid-alone-requires
     sub-result-2
     part-result-start-2
     part-result-end-2

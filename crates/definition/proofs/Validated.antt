@@ -13,8 +13,8 @@ use Rattle.definition.specs.Classes.{between}
 use Rattle.definition.specs.Source.{Place, nowhere}
 use Rattle.definition.specs.Fallible.{Err}
 use Rattle.definition.specs.Token.{Tok}
-use Rattle.definition.specs.Records.{TokenWords, words-at, has-text, base-fits, text-fits, comes-after, good-alone, good-behind, place-of, text-end, token-of, token-before, tokens-of, ErrorWords, error-at, good-error, error-of, error-before, errors-of}
-use Rattle.definition.specs.Operations.{Handed, both, handed}
+use Rattle.definition.specs.Records.{TokenWords, words-at, has-text, base-fits, text-fits, comes-after, valid-alone, valid-after, place-of, text-end, token-of, token-before, tokens-of, ErrorWords, error-at, valid-error, error-of, error-before, errors-of}
+use Rattle.definition.specs.Operations.{Validated, both, validate}
 use Rattle.definition.proofs.Tests.{left-true, right-true, between-bounds}
 
 pub never : {A B : Type 0} {x : A} → none ≡ some x → B
@@ -36,8 +36,8 @@ pub record Fits (X : List ℕ) (w : TokenWords) : Type 0 where
   pub base : base-fits (w .kind) (w .base) ≡ true
   pub text : pick (has-text (w .kind)) (text-fits X w) (eqb (w .start) 0 && eqb (w .size) 0) ≡ true
 
-pub fits : (X : List ℕ) (w : TokenWords) → good-alone X w ≡ true → Fits X w
-unfolding good-alone
+pub fits : (X : List ℕ) (w : TokenWords) → valid-alone X w ≡ true → Fits X w
+unfolding valid-alone
 fits X w g =
     let k = between 1 54 (w .kind) in
     let l = between 1 16384 (w .line) in
@@ -59,14 +59,14 @@ fits X w g =
       text = right-true (k && l && c && b && x && y) z t;
     }
 
--- a text lies in the slice, after the former one's end e, and ends within byte 16,384
+-- a text lies in the slice, after the previous one's end e, and ends within byte 16,384
 pub record Lies (X : List ℕ) (e : ℕ) (w : TokenWords) : Type 0 where
   pub inside : w .start + w .size ≤ length X
   pub up : e + w .size ≤ text-end e w
   pub high : text-end e w ≤ 16384
 
 pub lies : (X : List ℕ) (p : Place) (e : ℕ) (w : TokenWords) → e ≤ 16384 → Fits X w
-    → good-behind p e w ≡ true → Lies X e w
+    → valid-after p e w ≡ true → Lies X e w
 lies X p e w h f g =
     let q = go (has-text (w .kind)) (f .text) (right-true (comes-after p (w .line) (w .column)) _ g) in
     record { inside = q .0; up = q .1; high = q .2 }
@@ -92,8 +92,8 @@ lies X p e w h f g =
 
 -- the first record is good, and so are those after it
 pub record First (T X : List ℕ) (p : Place) (e i n : ℕ) (ts : List Tok) : Type 0 where
-  pub alone : good-alone X (words-at T i) ≡ true
-  pub behind : good-behind p e (words-at T i) ≡ true
+  pub alone : valid-alone X (words-at T i) ≡ true
+  pub behind : valid-after p e (words-at T i) ≡ true
   pub later : List Tok
   pub rest : tokens-of T X (place-of (words-at T i)) (text-end e (words-at T i)) (suc i) n ≡ some later
   pub is : token-of X (words-at T i) ∷ later ≡ ts
@@ -102,7 +102,7 @@ pub first : (T X : List ℕ) (p : Place) (e i n : ℕ) (ts : List Tok) → token
     → First T X p e i n ts
 unfolding tokens-of
 first T X p e i n ts q =
-    let c = passed (good-alone X w && good-behind p e w) (token-before (token-of X w) later) q in
+    let c = passed (valid-alone X w && valid-after p e w) (token-before (token-of X w) later) q in
     those (c .0) _ refl (c .1)
   where
     w : TokenWords
@@ -111,11 +111,11 @@ first T X p e i n ts q =
     later : Option (List Tok)
     later = tokens-of T X (place-of w) (text-end e w) (suc i) n
 
-    those : good-alone X w && good-behind p e w ≡ true → (o : Option (List Tok)) → later ≡ o
+    those : valid-alone X w && valid-after p e w ≡ true → (o : Option (List Tok)) → later ≡ o
         → token-before (token-of X w) o ≡ some ts → First T X p e i n ts
     those g none a b = never b
     those g (some us) a b =
-        record { alone = left-true _ _ g; behind = right-true (good-alone X w) _ g; later = us; rest = a; is = cc }
+        record { alone = left-true _ _ g; behind = right-true (valid-alone X w) _ g; later = us; rest = a; is = cc }
 
 -- ---- all error records
 
@@ -123,7 +123,7 @@ pub errors-many : (E : List ℕ) (n i : ℕ) (es : List Err) → errors-of E i n
 unfolding errors-of
 errors-many E zero i es q = let z : [] ≡ es = cc in rw (sym z)
 errors-many E (suc n) i es q =
-    let c = passed (good-error w) (error-before (error-of w) (errors-of E (suc i) n)) q in
+    let c = passed (valid-error w) (error-before (error-of w) (errors-of E (suc i) n)) q in
     more _ (λ vs. errors-many E n (suc i) vs) (c .1)
   where
     w : ErrorWords
@@ -140,7 +140,7 @@ errors-many E (suc n) i es q =
 abbrev pub counted : List ℕ → ℕ → List ℕ → ℕ → Bool
 counted T n E m = leb n 2048 && leb m 255 && leb (8 * n) (length T) && leb (4 * m) (length E)
 
-pub record Split (T : List ℕ) (n : ℕ) (E : List ℕ) (m : ℕ) (X : List ℕ) (h : Handed) : Type 0 where
+pub record Split (T : List ℕ) (n : ℕ) (E : List ℕ) (m : ℕ) (X : List ℕ) (h : Validated) : Type 0 where
   pub few : n ≤ 2048
   pub few-errors : m ≤ 255
   pub words : 8 * n ≤ length T
@@ -148,9 +148,9 @@ pub record Split (T : List ℕ) (n : ℕ) (E : List ℕ) (m : ℕ) (X : List ℕ
   pub tokens : tokens-of T X nowhere 0 0 n ≡ some (h .tokens)
   pub errors : errors-of E 0 m ≡ some (h .errors)
 
-pub split : (T : List ℕ) (n : ℕ) (E : List ℕ) (m : ℕ) (X : List ℕ) (h : Handed) → handed T n E m X ≡ some h
+pub split : (T : List ℕ) (n : ℕ) (E : List ℕ) (m : ℕ) (X : List ℕ) (h : Validated) → validate T n E m X ≡ some h
     → Split T n E m X h
-unfolding handed
+unfolding validate
 split T n E m X h q =
     let c = passed (counted T n E m) (both (tokens-of T X nowhere 0 0 n) (errors-of E 0 m)) q in
     those (c .0) _ _ refl refl (c .1)

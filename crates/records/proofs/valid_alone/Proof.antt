@@ -3,8 +3,8 @@ use Rattle.records.specs.Tested.{words-of}
 use mathlib.Core.Path.{_∙_}
 use Rattle.records.proofs.Tested.{fails, holds, bad-fields, no-text, bad-part, good-integer, good-text, part-inside}
 use borrow.Author.Needs.{needs}
-use Rattle.records.proofs.good_alone.Statement.{statement}
-use Rattle.records.proofs.good_alone.Tie as tie
+use Rattle.records.proofs.valid_alone.Statement.{statement}
+use Rattle.records.proofs.valid_alone.Tie as tie
 
 fields-fit-requires : tie.Need-fields-fit-requires
 fields-fit-requires c κs = search needs
@@ -59,8 +59,8 @@ returns-4 c =
 returns-5 : tie.Need-returns-5
 returns-5 c = search (good-text, holds, c .if4 .left)
 
-pub good-alone-spec : {M : Type 1} → statement M
-good-alone-spec =
+pub valid-alone-spec : {M : Type 1} → statement M
+valid-alone-spec =
     tie.close
     (tie.spec
     fields-fit-requires

@@ -1,6 +1,6 @@
 use borrow.Author.Needs.{needs}
-use Rattle.handed.proofs.good_error.Statement.{statement}
-use Rattle.handed.proofs.good_error.Tie as tie
+use Rattle.validate.proofs.valid_error.Statement.{statement}
+use Rattle.validate.proofs.valid_error.Tie as tie
 
 between-requires : tie.Need-between-requires
 between-requires c κs = search needs
@@ -16,8 +16,8 @@ returns c =
     let at-between = c .before .before in
     rw (at-between .between .ensures, c .before .between2 .ensures, c .between3 .ensures)
 
-pub good-error-spec : {M : Type 1} → statement M
-good-error-spec =
+pub valid-error-spec : {M : Type 1} → statement M
+valid-error-spec =
     tie.close (tie.spec
     between-requires
     between-requires-2

@@ -1,9 +1,9 @@
 use lib.ListN.{length}
 use Prim.Native.Nat.{_*_}
-use Rattle.handed.proofs.Turns.{within, too-many, too-short, both-tested}
+use Rattle.validate.proofs.Turns.{within, too-many, too-short, both-tested}
 use native.Mathlib.Omega.{arith}
-use Rattle.handed.proofs.handed.Statement.{statement}
-use Rattle.handed.proofs.handed.Tie as tie
+use Rattle.validate.proofs.valid_records.Statement.{statement}
+use Rattle.validate.proofs.valid_records.Tie as tie
 
 returns : tie.Need-returns
 returns c =
@@ -27,14 +27,14 @@ returns-2 c =
     too-short (start .args .tokens .now) (start .args .count) (start .args .errors .now)
     (start .args .error-count) (start .args .text .now) (c .before .if1 .left) (c .if2 .taken)
 
-good-tokens-requires : tie.Need-good-tokens-requires
-good-tokens-requires c κs =
+valid-tokens-requires : tie.Need-valid-tokens-requires
+valid-tokens-requires c κs =
     let start = c .before .before .before .before .before in
     within (length (start .args .tokens .now)) (8 * start .args .count) (length (start .args .errors .now))
     (4 * start .args .error-count) (c .if2 .left) .0
 
-good-errors-requires : tie.Need-good-errors-requires
-good-errors-requires c κs =
+valid-errors-requires : tie.Need-valid-errors-requires
+valid-errors-requires c κs =
     let start = c .before .before .before .before .before .before in
     within (length (start .args .tokens .now)) (8 * start .args .count) (length (start .args .errors .now))
     (4 * start .args .error-count) (c .before .if2 .left) .1
@@ -46,16 +46,16 @@ returns-3 c =
     let start = at-if1 .before .before .before .before in
     both-tested (start .args .tokens .now) (start .args .count) (start .args .errors .now)
     (start .args .error-count) (start .args .text .now) (at-if1 .if1 .left) (at-if2 .if2 .left)
-    (c .before .good-tokens .ensures) (c .good-errors .ensures)
+    (c .before .valid-tokens .ensures) (c .valid-errors .ensures)
 
-pub handed-spec : {M : Type 1} → statement M
-handed-spec =
+pub valid-records-spec : {M : Type 1} → statement M
+valid-records-spec =
     tie.close
     (tie.spec
     returns
     mul-if2
     mul-if2-2
     returns-2
-    good-tokens-requires
-    good-errors-requires
+    valid-tokens-requires
+    valid-errors-requires
     returns-3)

@@ -4,8 +4,8 @@ use definition::token_error;
 use records::PLACES;
 use records::Words;
 use records::between;
-use records::good_alone;
 use records::has_text;
+use records::valid_alone;
 use records::words_at;
 ghost use mathlib.Core.Path.{_≡_};
 ghost use Prim.Native.Nat.{_*_, _≤_};
@@ -15,27 +15,27 @@ ghost use Rattle.definition.specs.Records as R;
 ghost use Rattle.definition.specs.Operations as O;
 ghost use Rattle.definition.specs.Source.{nowhere, is-some};
 ghost use Rattle.records.specs.Tested.{words-of};
-ghost use Rattle.handed.specs.Contract.{former-place};
+ghost use Rattle.validate.specs.Contract.{previous-place};
 
 // ---- tokens
 
-// The former token's place, and the former text's end.
-struct Former {
+// The previous token's place, and the previous text's end.
+struct Previous {
     line: u32,
     column: u32,
     end: usize,
 }
 
-// Whether a place comes after the former one.
-fn comes_after(f: Former, line: u32, column: u32) -> bool
-    ensures { λ r. ⌜ r ≡ R.comes-after (former-place f) line column ⌝ }
+// Whether a place comes after the previous one.
+fn comes_after(f: Previous, line: u32, column: u32) -> bool
+    ensures { λ r. ⌜ r ≡ R.comes-after (previous-place f) line column ⌝ }
 {
     (f.line < line) | ((f.line == line) & (f.column < column))
 }
 
-// The rules for a token record beside the former one.
-fn good_behind(f: Former, w: Words) -> bool
-    ensures { λ r. ⌜ r ≡ R.good-behind (former-place f) (f .end) (words-of w) ⌝ }
+// The rules for a token record beside the previous one.
+fn valid_after(f: Previous, w: Words) -> bool
+    ensures { λ r. ⌜ r ≡ R.valid-after (previous-place f) (f .end) (words-of w) ⌝ }
 {
     if !comes_after(f, w.line, w.column) {
         return false;
@@ -47,17 +47,17 @@ fn good_behind(f: Former, w: Words) -> bool
 }
 
 // What the next record is compared with.
-fn remember(f: Former, w: Words) -> Former
-    ensures { λ r. ⌜ (former-place r ≡ R.place-of (words-of w)) × (r .end ≡ R.text-end (f .end) (words-of w)) ⌝ }
+fn remember(f: Previous, w: Words) -> Previous
+    ensures { λ r. ⌜ (previous-place r ≡ R.place-of (words-of w)) × (r .end ≡ R.text-end (f .end) (words-of w)) ⌝ }
 {
     if has_text(w.kind) {
-        return Former {
+        return Previous {
             line: w.line,
             column: w.column,
             end: w.start as usize + w.size as usize,
         };
     }
-    Former {
+    Previous {
         line: w.line,
         column: w.column,
         end: f.end,
@@ -65,11 +65,11 @@ fn remember(f: Former, w: Words) -> Former
 }
 
 // Whether each of `count` token records is good.
-fn good_tokens(tokens: &[u32], count: usize, text: &[u8]) -> bool
+fn valid_tokens(tokens: &[u32], count: usize, text: &[u8]) -> bool
     requires { ⌜ 8 * count ≤ length (now tokens) ⌝ }
     ensures { λ r. ⌜ r ≡ is-some (R.tokens-of (at-entry tokens) (at-entry text) nowhere 0 0 count) ⌝ }
 {
-    let mut f = Former {
+    let mut f = Previous {
         line: 0,
         column: 0,
         end: 0,
@@ -77,7 +77,7 @@ fn good_tokens(tokens: &[u32], count: usize, text: &[u8]) -> bool
     let mut i = 0;
     while i < count {
         let w = words_at(tokens, i);
-        if good_alone(text, w) & good_behind(f, w) {
+        if valid_alone(text, w) & valid_after(f, w) {
             f = remember(f, w);
             i += 1;
         } else {
@@ -89,8 +89,8 @@ fn good_tokens(tokens: &[u32], count: usize, text: &[u8]) -> bool
 
 // ---- errors
 
-fn good_error(number: u32, line: u32, column: u32, fourth: u32) -> bool
-    ensures { λ r. ⌜ r ≡ R.good-error (record { number = number; line = line; column = column; fourth = fourth }) ⌝ }
+fn valid_error(number: u32, line: u32, column: u32, fourth: u32) -> bool
+    ensures { λ r. ⌜ r ≡ R.valid-error (record { number = number; line = line; column = column; fourth = fourth }) ⌝ }
 {
     between(
         token_error::UNKNOWN_ESCAPE,
@@ -103,14 +103,14 @@ fn good_error(number: u32, line: u32, column: u32, fourth: u32) -> bool
 }
 
 // Whether each of `count` error records is good.
-fn good_errors(errors: &[u32], count: usize) -> bool
+fn valid_errors(errors: &[u32], count: usize) -> bool
     requires { ⌜ 4 * count ≤ length (now errors) ⌝ }
     ensures { λ r. ⌜ r ≡ is-some (R.errors-of (at-entry errors) 0 count) ⌝ }
 {
     let mut i = 0;
     while i < count {
         let k = 4 * i;
-        if good_error(errors[k], errors[k + 1], errors[k + 2], errors[k + 3]) {
+        if valid_error(errors[k], errors[k + 1], errors[k + 2], errors[k + 3]) {
             i += 1;
         } else {
             return false;
@@ -122,8 +122,14 @@ fn good_errors(errors: &[u32], count: usize) -> bool
 // ---- both
 
 // Whether so many records are there, and each is good.
-pub fn handed(tokens: &[u32], count: usize, errors: &[u32], error_count: usize, text: &[u8]) -> bool
-    ensures { λ r. ⌜ r ≡ is-some (O.handed (at-entry tokens) count (at-entry errors) «error_count» (at-entry text)) ⌝ }
+pub fn valid_records(
+    tokens: &[u32],
+    count: usize,
+    errors: &[u32],
+    error_count: usize,
+    text: &[u8],
+) -> bool
+    ensures { λ r. ⌜ r ≡ is-some (O.validate (at-entry tokens) count (at-entry errors) «error_count» (at-entry text)) ⌝ }
 {
     if (limit::TOKENS < count) | (limit::TOKEN_ERRORS < error_count) {
         return false;
@@ -131,5 +137,5 @@ pub fn handed(tokens: &[u32], count: usize, errors: &[u32], error_count: usize, 
     if (tokens.len() < 8 * count) | (errors.len() < 4 * error_count) {
         return false;
     }
-    good_tokens(tokens, count, text) & good_errors(errors, error_count)
+    valid_tokens(tokens, count, text) & valid_errors(errors, error_count)
 }

@@ -1,7 +1,7 @@
 use mathlib.Core.Path.{refl, sym, _∙_}
 use borrow.Author.Needs.{needs}
-use Rattle.handed.proofs.remember.Statement.{statement}
-use Rattle.handed.proofs.remember.Tie as tie
+use Rattle.validate.proofs.remember.Statement.{statement}
+use Rattle.validate.proofs.remember.Tie as tie
 
 has-text-requires : tie.Need-has-text-requires
 has-text-requires c κs = search needs

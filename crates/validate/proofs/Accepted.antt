@@ -14,11 +14,11 @@ use Rattle.definition.specs.Kind as K
 use Rattle.definition.specs.Source.{Place, nowhere, is-some}
 use Rattle.definition.specs.Token.{Tok}
 use Rattle.definition.specs.Records.{words-at, base-fits, place-of, text-end, tokens-of}
-use Rattle.definition.specs.Operations.{Handed, handed}
+use Rattle.definition.specs.Operations.{Validated, validate}
 use Rattle.definition.proofs.Tests.{either-true, clash}
-use Rattle.definition.proofs.Handed.{Fits, fits, Lies, lies, First, first, split}
+use Rattle.definition.proofs.Validated.{Fits, fits, Lies, lies, First, first, split}
 use Rattle.steps.specs.Tokens.{tok-at, from, rest, spend, Sound}
-use Rattle.handed.specs.Tested.{Tested}
+use Rattle.validate.specs.Tested.{Tested}
 
 -- an answer told by `is-some`
 pub record There {A : Type 0} (o : Option A) : Type 0 where
@@ -66,7 +66,7 @@ sound T X i f h =
 
 -- ---- all token records
 
--- n records from the i-th on, the former text's end at e
+-- n records from the i-th on, the previous text's end at e
 record Taken (T X : List ℕ) (e i n : ℕ) (ts : List Tok) : Type 0 where
   each : (j : ℕ) → j < n → Sound T X (i + j)
   is : from T X i n ≡ ts
@@ -99,7 +99,7 @@ taken T X (suc n) p e i ts h q =
 
 -- ---- all that is handed in
 
-pub tested : (T : List ℕ) (n : ℕ) (E : List ℕ) (m : ℕ) (X : List ℕ) (h : Handed) → handed T n E m X ≡ some h → Tested T n E m X h
+pub tested : (T : List ℕ) (n : ℕ) (E : List ℕ) (m : ℕ) (X : List ℕ) (h : Validated) → validate T n E m X ≡ some h → Tested T n E m X h
 unfolding rest
 tested T n E m X h q =
     let s = split T n E m X h q in

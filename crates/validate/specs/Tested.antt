@@ -5,11 +5,11 @@ use mathlib.Core.Option.{some}
 use Prim.Native.Nat.{ℕ, _+_, _*_, _≤_}
 use lib.ListN.{length}
 use Rattle.definition.specs.Records.{errors-of}
-use Rattle.definition.specs.Operations.{Handed}
+use Rattle.definition.specs.Operations.{Validated}
 use Rattle.steps.specs.Tokens.{Held, rest, budget}
 
 -- n token records in T with texts in X and m error records in E, accepted as h
-pub record Tested (T : List ℕ) (n : ℕ) (E : List ℕ) (m : ℕ) (X : List ℕ) (h : Handed) : Type 0 where
+pub record Tested (T : List ℕ) (n : ℕ) (E : List ℕ) (m : ℕ) (X : List ℕ) (h : Validated) : Type 0 where
   pub held : Held T X n
   pub tokens : rest T X n 0 ≡ h .tokens
   pub room : budget T X n 0 ≤ 16 * n + 16384

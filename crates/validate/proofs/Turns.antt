@@ -13,11 +13,11 @@ use Rattle.definition.specs.Choice.{pick}
 use Rattle.definition.specs.Fallible.{Err}
 use Rattle.definition.specs.Source.{Place, nowhere, is-some}
 use Rattle.definition.specs.Token.{Tok}
-use Rattle.definition.specs.Records.{TokenWords, words-at, has-text, good-alone, comes-after, good-behind, place-of, text-end, token-of, token-before, tokens-of, error-at, good-error, error-of, error-before, errors-of}
-use Rattle.definition.specs.Operations.{both, handed}
+use Rattle.definition.specs.Records.{TokenWords, words-at, has-text, valid-alone, comes-after, valid-after, place-of, text-end, token-of, token-before, tokens-of, error-at, valid-error, error-of, error-before, errors-of}
+use Rattle.definition.specs.Operations.{both, validate}
 use Rattle.definition.proofs.Tests.{clash}
 use Rattle.records.specs.Push.{spot}
-use Rattle.handed.specs.declared.Former.{Former}
+use Rattle.validate.specs.declared.Previous.{Previous}
 
 -- an answer that is there if a test passes
 some-chosen : {A : Type 0} (b : Bool) (o : Option A)
@@ -25,14 +25,14 @@ some-chosen : {A : Type 0} (b : Bool) (o : Option A)
 some-chosen true o = refl
 some-chosen false o = refl
 
--- ---- a token record beside the former one
+-- ---- a token record beside the previous one
 
 module _ (p : Place) (e : ℕ) (w : TokenWords) {a : Bool} (q : a ≡ comes-after p (w .line) (w .column)) where
-  pub early : not a ≡ true → false ≡ good-behind p e w
+  pub early : not a ≡ true → false ≡ valid-after p e w
   early n = let z = sym q ∙ not-true a n in rw z
 
   module _ {h : Bool} (n : not a ≡ false) (t : h ≡ has-text (w .kind)) where
-    pub behind : (b : Bool) → h ≡ b → pick b (leb e (w .start)) true ≡ good-behind p e w
+    pub behind : (b : Bool) → h ≡ b → pick b (leb e (w .start)) true ≡ valid-after p e w
     behind b y = let z = sym q ∙ not-false a n in let k = sym t ∙ y in rw (z, k)
 
 -- ---- token records
@@ -44,42 +44,42 @@ tokens-before t (some ts) = refl
 -- one record's test, then the test of those after it
 token-turn : (T X : List ℕ) (p : Place) (e i m : ℕ) (w : TokenWords) → w ≡ words-at T i
     → is-some (tokens-of T X p e i (suc m))
-    ≡ (good-alone X w && good-behind p e w) && is-some (tokens-of T X (place-of w) (text-end e w) (suc i) m)
+    ≡ (valid-alone X w && valid-after p e w) && is-some (tokens-of T X (place-of w) (text-end e w) (suc i) m)
 unfolding tokens-of
 token-turn T X p e i m w q =
     subst
-    (λ (w : TokenWords). is-some (tokens-of T X p e i (suc m)) ≡ (good-alone X w && good-behind p e w) && is-some
+    (λ (w : TokenWords). is-some (tokens-of T X p e i (suc m)) ≡ (valid-alone X w && valid-after p e w) && is-some
     (tokens-of T X (place-of w) (text-end e w) (suc i) m)) (sym q)
-    (some-chosen (good-alone X v && good-behind p e v) _
-    ∙ ap (λ (b : Bool). (good-alone X v && good-behind p e v) && b)
+    (some-chosen (valid-alone X v && valid-after p e v) _
+    ∙ ap (λ (b : Bool). (valid-alone X v && valid-after p e v) && b)
     (tokens-before (token-of X v) (tokens-of T X (place-of v) (text-end e v) (suc i) m)))
   where
     v : TokenWords
     v = words-at T i
 
 -- all n are good if those from the i-th on are
-pub record Tokens (T X : List ℕ) (n : ℕ) (f : Former) (i : ℕ) : Type 0 where
+pub record Tokens (T X : List ℕ) (n : ℕ) (f : Previous) (i : ℕ) : Type 0 where
   pub high : i ≤ n
   pub is : is-some (tokens-of T X (spot (f .line) (f .column)) (f .end) i (n - i)) ≡ is-some (tokens-of T X nowhere 0 0 n)
 
 pub tokens-start : (T X : List ℕ) (n : ℕ) → Tokens T X n (record { line = 0; column = 0; end = 0 }) 0
 tokens-start T X n = let l : n - 0 ≡ n = omega arith in record { high = omega arith; is = rw l }
 
-module _ {T X : List ℕ} {n : ℕ} {f : Former} {i : ℕ} (q : Tokens T X n f i) where
-  module _ {w : TokenWords} {a b : Bool} (h : i < n) (e : w ≡ words-at T i) (g : a ≡ good-alone X w)
-      (k : b ≡ good-behind (spot (f .line) (f .column)) (f .end) w) where
+module _ {T X : List ℕ} {n : ℕ} {f : Previous} {i : ℕ} (q : Tokens T X n f i) where
+  module _ {w : TokenWords} {a b : Bool} (h : i < n) (e : w ≡ words-at T i) (g : a ≡ valid-alone X w)
+      (k : b ≡ valid-after (spot (f .line) (f .column)) (f .end) w) where
     turn : (t : Bool) → (a && b) ≡ t
         → t && is-some (tokens-of T X (place-of w) (text-end (f .end) w) (i + 1) (n - (i + 1)))
         ≡ is-some (tokens-of T X nowhere 0 0 n)
     turn t z =
         let l : suc (n - (i + 1)) ≡ n - i = omega arith in
         ap (λ (t : Bool). t && is-some (tokens-of T X (place-of w) (text-end (f .end) w) (i + 1) (n - (i + 1)))) (sym z ∙ ap₂ _&&_ g k)
-        ∙ ap (λ (j : ℕ). (good-alone X w && good-behind (spot (f .line) (f .column)) (f .end) w) && is-some
+        ∙ ap (λ (j : ℕ). (valid-alone X w && valid-after (spot (f .line) (f .column)) (f .end) w) && is-some
         (tokens-of T X (place-of w) (text-end (f .end) w) j (n - (i + 1)))) (add-one i)
         ∙ sym (token-turn T X (spot (f .line) (f .column)) (f .end) i (n - (i + 1)) w e)
         ∙ ap (λ (m : ℕ). is-some (tokens-of T X (spot (f .line) (f .column)) (f .end) i m)) l ∙ q .is
 
-    pub token-more : {r : Former} → (a && b) ≡ true
+    pub token-more : {r : Previous} → (a && b) ≡ true
         → (spot (r .line) (r .column) ≡ place-of w) × (r .end ≡ text-end (f .end) w) → Tokens T X n r (i + 1)
     token-more z m =
         record {
@@ -101,11 +101,11 @@ abbrev errors-before : (x : Err) (o : Option (List Err)) → is-some (error-befo
 errors-before x none = refl
 errors-before x (some es) = refl
 
-error-turn : (E : List ℕ) (i m : ℕ) → is-some (errors-of E i (suc m)) ≡ good-error (error-at E i) && is-some (errors-of E (suc i) m)
+error-turn : (E : List ℕ) (i m : ℕ) → is-some (errors-of E i (suc m)) ≡ valid-error (error-at E i) && is-some (errors-of E (suc i) m)
 unfolding errors-of
 error-turn E i m =
-    some-chosen (good-error (error-at E i)) _
-    ∙ ap (λ (b : Bool). good-error (error-at E i) && b)
+    some-chosen (valid-error (error-at E i)) _
+    ∙ ap (λ (b : Bool). valid-error (error-at E i) && b)
     (errors-before (error-of (error-at E i)) (errors-of E (suc i) m))
 
 pub record Errors (E : List ℕ) (n i : ℕ) : Type 0 where
@@ -116,12 +116,12 @@ pub errors-start : (E : List ℕ) (n : ℕ) → Errors E n 0
 errors-start E n = let l : n - 0 ≡ n = omega arith in record { high = omega arith; is = rw l }
 
 module _ {E : List ℕ} {n i : ℕ} (q : Errors E n i) where
-  module _ {a : Bool} (h : i < n) (g : a ≡ good-error (error-at E i)) where
+  module _ {a : Bool} (h : i < n) (g : a ≡ valid-error (error-at E i)) where
     turn-error : (t : Bool) → a ≡ t → t && is-some (errors-of E (i + 1) (n - (i + 1))) ≡ is-some (errors-of E 0 n)
     turn-error t z =
         let l : suc (n - (i + 1)) ≡ n - i = omega arith in
         ap (λ (t : Bool). t && is-some (errors-of E (i + 1) (n - (i + 1)))) (sym z ∙ g)
-        ∙ ap (λ (j : ℕ). good-error (error-at E i) && is-some (errors-of E j (n - (i + 1)))) (add-one i)
+        ∙ ap (λ (j : ℕ). valid-error (error-at E i) && is-some (errors-of E j (n - (i + 1)))) (add-one i)
         ∙ sym (error-turn E i (n - (i + 1))) ∙ ap (λ (m : ℕ). is-some (errors-of E i m)) l ∙ q .is
 
     pub error-more : a ≡ true → Errors E n (i + 1)
@@ -160,9 +160,9 @@ module _ (T : List ℕ) (n : ℕ) (E : List ℕ) (m : ℕ) (X : List ℕ) where
   abbrev short : Bool
   short = ltb (length T) (8 * n) || ltb (length E) (4 * m)
 
-  handed-is : is-some (handed T n E m X) ≡ not many && not short && (is-some (tokens-of T X nowhere 0 0 n) && is-some (errors-of E 0 m))
-  unfolding handed
-  handed-is =
+  validated-is : is-some (validate T n E m X) ≡ not many && not short && (is-some (tokens-of T X nowhere 0 0 n) && is-some (errors-of E 0 m))
+  unfolding validate
+  validated-is =
       some-chosen (leb n 2048 && leb m 255 && leb (8 * n) (length T) && leb (4 * m) (length E)) _
       ∙ ap₂ _&&_ counts (pair (tokens-of T X nowhere 0 0 n) (errors-of E 0 m))
     where
@@ -183,12 +183,12 @@ module _ (T : List ℕ) (n : ℕ) (E : List ℕ) (m : ℕ) (X : List ℕ) where
           rw (over 2048 n, over 255 m, over (length T) (8 * n), over (length E) (4 * m))
           (tests (leb n 2048) (leb m 255) (leb (8 * n) (length T)) (leb (4 * m) (length E)))
 
-  pub too-many : many ≡ true → false ≡ is-some (handed T n E m X)
-  too-many e = rw (handed-is, e)
+  pub too-many : many ≡ true → false ≡ is-some (validate T n E m X)
+  too-many e = rw (validated-is, e)
 
-  pub too-short : many ≡ false → short ≡ true → false ≡ is-some (handed T n E m X)
-  too-short e f = rw (handed-is, e, f)
+  pub too-short : many ≡ false → short ≡ true → false ≡ is-some (validate T n E m X)
+  too-short e f = rw (validated-is, e, f)
 
   pub both-tested : {a b : Bool} → many ≡ false → short ≡ false → a ≡ is-some (tokens-of T X nowhere 0 0 n)
-      → b ≡ is-some (errors-of E 0 m) → (a && b) ≡ is-some (handed T n E m X)
-  both-tested e f g h = rw (handed-is, e, f, g, h)
+      → b ≡ is-some (errors-of E 0 m) → (a && b) ≡ is-some (validate T n E m X)
+  both-tested e f g h = rw (validated-is, e, f, g, h)

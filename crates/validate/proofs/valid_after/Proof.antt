@@ -1,10 +1,10 @@
-use Rattle.handed.proofs.Turns.{early, behind}
+use Rattle.validate.proofs.Turns.{early, behind}
 use Rattle.records.specs.Push.{spot}
 use Rattle.records.specs.Tested.{words-of}
 use mathlib.Core.Bool.{true, false}
 use borrow.Author.Needs.{needs}
-use Rattle.handed.proofs.good_behind.Statement.{statement}
-use Rattle.handed.proofs.good_behind.Tie as tie
+use Rattle.validate.proofs.valid_after.Statement.{statement}
+use Rattle.validate.proofs.valid_after.Tie as tie
 
 comes-after-requires : tie.Need-comes-after-requires
 comes-after-requires c κs = search needs
@@ -41,8 +41,8 @@ returns-3 c =
     (words-of (start .args .w)) (at-comes-after .comes-after .ensures) (at-if1 .if1 .left)
     (c .before .has-text .ensures) false (c .if2 .left)
 
-pub good-behind-spec : {M : Type 1} → statement M
-good-behind-spec =
+pub valid-after-spec : {M : Type 1} → statement M
+valid-after-spec =
     tie.close
     (tie.spec
     comes-after-requires
