@@ -41,9 +41,9 @@ use steps::head;
 ghost use Prim.Native.Nat.{_<_, _≤_};
 ghost use Rattle.definition.specs.Parser as P;
 ghost use Rattle.leaves.specs.Leaves.{listed-of, level-of};
-ghost use Rattle.grammar.specs.Post.{place-of, operators-on};
+ghost use Rattle.expression_laws.specs.Post.{place-of, operators-on};
 ghost use Rattle.steps.specs.Contract.{Asked, GoesOn, Parses, ParsesOn};
-ghost use Rattle.grammar.specs.Contract.{NameRoom, BareNamed, ReadsTyped, TypedOn, ReadsList};
+ghost use Rattle.expression_laws.specs.Contract.{NameRoom, BareNamed, ReadsTyped, TypedOn, ReadsList};
 
 // parse_expression, one of the four functions whose open calls are counted.
 pub fn expression(

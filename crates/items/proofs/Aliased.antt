@@ -35,9 +35,9 @@ use Rattle.steps.proofs.Answers.{Stopped, say, good-of, stops, follows, wrapped
 use Rattle.steps.proofs.Constructs.{within}
 use Rattle.steps.proofs.Following.{expecting, expects-behind}
 use Rattle.leaves.proofs.Errors.{raise-reads}
-use Rattle.grammar.specs.Post.{place-at}
-use Rattle.grammar.proofs.Types.{moved-onward, shown-from, record-reads, past}
-use Rattle.grammar.proofs.Calls.{expect-seam}
+use Rattle.expression_laws.specs.Post.{place-at}
+use Rattle.expression_laws.proofs.Types.{moved-onward, shown-from, record-reads, past}
+use Rattle.expression_laws.proofs.Calls.{expect-seam}
 use Rattle.statement.proofs.Statements.{clean}
 use Rattle.items.specs.declared.others.AliasWords.{AliasWords}
 use Rattle.items.specs.Rules.{alias-rule, path-rule}

@@ -31,10 +31,10 @@ use Rattle.steps.specs.Shows.{st-of, Asked, Moved, Good, Shows, Reads, done-of,
 use Rattle.steps.proofs.Tokens.{yes, no, fore, adv}
 use Rattle.steps.proofs.Answers.{Stopped, say, good-of, is-good, stops, follows, wrapped, finishes}
 use Rattle.steps.proofs.Following.{expects-behind}
-use Rattle.grammar.specs.Post.{place-at, as-answer}
-use Rattle.grammar.proofs.Names.{text-length}
-use Rattle.grammar.proofs.Types.{paid, past}
-use Rattle.grammar.proofs.Calls.{rebased, expect-seam}
+use Rattle.expression_laws.specs.Post.{place-at, as-answer}
+use Rattle.expression_laws.proofs.Names.{text-length}
+use Rattle.expression_laws.proofs.Types.{paid, past}
+use Rattle.expression_laws.proofs.Calls.{rebased, expect-seam}
 use Rattle.statement.specs.Post.{up, ReadsBody}
 use Rattle.items.specs.Rules.{return-rule, signed, signature-rule, function-on}
 use Rattle.items.specs.Items.{ReadsSignature, FunctionAsked, FunctionOn}

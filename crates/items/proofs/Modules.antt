@@ -26,8 +26,8 @@ use Rattle.steps.proofs.Answers.{say, raise-same}
 use Rattle.leaves.specs.Leaves.{there, Counted}
 use Rattle.leaves.proofs.Errors.{raise-reads}
 use Rattle.leaves.proofs.Atoms.{leaf-reads, Ended, Alive}
-use Rattle.grammar.specs.Post.{as-answer, LoopOn}
-use Rattle.grammar.proofs.Loops.{loop-refused, loop-next}
+use Rattle.expression_laws.specs.Post.{as-answer, LoopOn}
+use Rattle.expression_laws.proofs.Loops.{loop-refused, loop-next}
 use Rattle.items.specs.Rules.{items-on}
 use Rattle.items.specs.Items.{ReadsModule}
 

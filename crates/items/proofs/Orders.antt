@@ -22,7 +22,7 @@ use Rattle.steps.specs.Tokens.{rest, spend, budget, Held}
 use Rattle.steps.proofs.Tokens.{rest-nil, alive}
 use Rattle.steps.specs.Shows.{done-of, ExpectedOf, Expected}
 use Rattle.steps.proofs.Answers.{errs-take}
-use Rattle.grammar.specs.Post.{as-answer}
+use Rattle.expression_laws.specs.Post.{as-answer}
 
 -- an act that gives items, and what follows them and their errors
 pub answered : {B : Type 0} (d : ℕ) (m : Act Items) (k : Fallible Items → Act (Ans B)) (S : St)

@@ -26,8 +26,8 @@ use Rattle.steps.specs.Tokens.{budget, Seen}
 use Rattle.steps.specs.Shows.{st-of, Asked, Moved, Good, Shows, Reads, node, items, Finished}
 use Rattle.steps.proofs.Tokens.{yes, no, fore, adv}
 use Rattle.steps.proofs.Answers.{Stopped, say, good-of, is-good, stops, follows, abandons, finishes}
-use Rattle.grammar.specs.Post.{place-at, as-answer, ReadsList}
-use Rattle.grammar.proofs.Types.{past}
+use Rattle.expression_laws.specs.Post.{place-at, as-answer, ReadsList}
+use Rattle.expression_laws.proofs.Types.{past}
 use Rattle.statement.specs.Post.{up}
 use Rattle.items.specs.Rules.{return-rule, signature-rule}
 use Rattle.items.specs.Items.{ReadsType, ReadsSignature}

@@ -17,7 +17,7 @@ use Rattle.fallible.specs.declared.Answer.{Answer}
 use Rattle.fallible.specs.Lists.{errs}
 use Rattle.steps.specs.Tokens.{rest, budget}
 use Rattle.steps.specs.Shows.{st-of, Asked, Moved, Shows, node, items}
-use Rattle.grammar.specs.Post.{as-answer}
+use Rattle.expression_laws.specs.Post.{as-answer}
 use Rattle.statement.specs.Post.{up}
 use Rattle.items.specs.declared.others.AliasWords.{AliasWords}
 use Rattle.items.specs.Rules.{return-rule, signature-rule, function-on, items-on}

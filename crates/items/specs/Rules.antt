@@ -11,7 +11,7 @@ use Rattle.definition.specs.Act as A
 use Rattle.definition.specs.Act.{Items, Node, Act, done, peek, next, loop, if_then_else_, _>>=_, _>>?_}
 use Rattle.definition.specs.Parser as P
 unfoldable pub use Rattle.definition.specs.Parser.{alias-rule, path-rule}
-use Rattle.grammar.specs.Post.{as-answer}
+use Rattle.expression_laws.specs.Post.{as-answer}
 
 -- the return type of a function at the place p
 abbrev pub return-rule : Place → Act (Ans Node)

@@ -20,7 +20,7 @@ use steps::finish_text;
 use steps::head;
 ghost use Prim.Native.Nat.{ℕ};
 ghost use Rattle.definition.specs.Parser as P;
-ghost use Rattle.grammar.specs.Post.{place-of};
+ghost use Rattle.expression_laws.specs.Post.{place-of};
 ghost use Rattle.items.specs.Items.{flag};
 ghost use Rattle.steps.specs.Contract.{Asked, Parses};
 ghost use Rattle.items.specs.Contract.{ReadsType, ReadsSignature, FunctionAsked, FunctionOn};

@@ -20,7 +20,7 @@ use steps::head;
 ghost use Prim.Native.Nat.{ℕ, _+_, _≤_};
 ghost use Rattle.definition.specs.Parser as P;
 ghost use Rattle.steps.specs.Tokens.{Held};
-ghost use Rattle.grammar.specs.Post.{place-of};
+ghost use Rattle.expression_laws.specs.Post.{place-of};
 ghost use Rattle.items.specs.Items.{Modified};
 ghost use Rattle.items.specs.Rules.{alias-rule, path-rule};
 ghost use Rattle.steps.specs.Contract.{Asked, Parses};

@@ -32,7 +32,7 @@ use Rattle.steps.proofs.Answers.{good-of}
 use denote.Enum.Declared.{tagOf}
 use Rattle.fallible.proofs.How.{the-type}
 use Rattle.leaves.proofs.Atoms.{Ended, Alive, if-alive}
-use Rattle.grammar.specs.Post.{as-answer}
+use Rattle.expression_laws.specs.Post.{as-answer}
 use Rattle.validate.specs.Tested.{Tested}
 use Rattle.validate.proofs.Accepted.{There, there, absent, tested}
 use Rattle.items.specs.Rules.{items-on}

@@ -30,9 +30,9 @@ use Rattle.steps.proofs.Moves.{fore-moved, moved-trans, asks-moved, abandoned-m
 use Rattle.steps.proofs.Answers.{Stopped, say, good-of, is-good, follows, abandons, wrapped, finishes}
 use Rattle.steps.proofs.Constructs.{then-stops}
 use Rattle.steps.proofs.Following.{expects-behind}
-use Rattle.grammar.specs.Post.{place-at}
-use Rattle.grammar.proofs.Types.{past}
-use Rattle.grammar.proofs.Calls.{expect-seam}
+use Rattle.expression_laws.specs.Post.{place-at}
+use Rattle.expression_laws.proofs.Types.{past}
+use Rattle.expression_laws.proofs.Calls.{expect-seam}
 use Rattle.statement.specs.Post.{Behind}
 use Rattle.statement.proofs.Spare.{expression-spares}
 

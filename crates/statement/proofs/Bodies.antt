@@ -24,9 +24,9 @@ use Rattle.steps.proofs.Tokens.{yes, no, fore, adv}
 use Rattle.steps.proofs.Answers.{say, good-of}
 use Rattle.leaves.specs.Leaves.{Counted}
 use Rattle.leaves.proofs.Atoms.{Ended, Alive}
-use Rattle.grammar.specs.Post.{as-answer, LoopOn}
-use Rattle.grammar.proofs.Types.{moved-onward, paid}
-use Rattle.grammar.proofs.Loops.{answered, not-fatal, refusal, loop-closed, loop-ended, loop-refused, loop-next}
+use Rattle.expression_laws.specs.Post.{as-answer, LoopOn}
+use Rattle.expression_laws.proofs.Types.{moved-onward, paid}
+use Rattle.expression_laws.proofs.Loops.{answered, not-fatal, refusal, loop-closed, loop-ended, loop-refused, loop-next}
 use Rattle.statement.specs.Post.{ReadsBody, statements-on}
 
 -- ---- `body`

@@ -31,9 +31,9 @@ use Rattle.steps.proofs.Tokens.{yes, no}
 use Rattle.steps.proofs.Moves.{making-moved, asks-moved}
 use Rattle.steps.proofs.Answers.{Stopped, say, good-of, stops, follows, wrapped, finishes, wrote, raise-shows, not-done, done-le, raise-same}
 use Rattle.steps.proofs.Following.{expects-behind}
-use Rattle.grammar.specs.Post.{place-at, name-of, ReadsList, NameRoom}
-use Rattle.grammar.proofs.Types.{through}
-use Rattle.grammar.proofs.Calls.{expect-seam}
+use Rattle.expression_laws.specs.Post.{place-at, name-of, ReadsList, NameRoom}
+use Rattle.expression_laws.proofs.Types.{through}
+use Rattle.expression_laws.proofs.Calls.{expect-seam}
 use Rattle.statement.specs.Rules.{values-rule}
 use Rattle.statement.specs.Post.{Starts, named-of, NamedOf, Named, ReadsDeclared}
 

@@ -24,8 +24,8 @@ use Rattle.steps.specs.Tokens.{budget, Seen}
 use Rattle.steps.specs.Shows.{st-of, Asked, ShowsOf, Shows, Reads, GoesOn, node, typed, done-of}
 use Rattle.steps.proofs.Tokens.{yes, no, fore, adv}
 use Rattle.steps.proofs.Answers.{Stopped, say, good-of, is-good, stops, follows, abandons, wrote, not-done, done-le}
-use Rattle.grammar.specs.Post.{ReadsTyped}
-use Rattle.grammar.proofs.Types.{past}
+use Rattle.expression_laws.specs.Post.{ReadsTyped}
+use Rattle.expression_laws.proofs.Types.{past}
 use Rattle.statement.specs.Rules.{value-on}
 use Rattle.statement.specs.Post.{BaredOf, Bared, ValueOn, ReadsDeclared}
 

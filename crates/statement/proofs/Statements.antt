@@ -35,9 +35,9 @@ use Rattle.steps.proofs.Constructs.{then-stops}
 use Rattle.steps.proofs.Following.{expects-behind}
 use Rattle.leaves.specs.Leaves.{there}
 use Rattle.leaves.proofs.Atoms.{leaf-reads}
-use Rattle.grammar.specs.Post.{place-at}
-use Rattle.grammar.proofs.Types.{past, through}
-use Rattle.grammar.proofs.Calls.{wraps-token, expect-seam}
+use Rattle.expression_laws.specs.Post.{place-at}
+use Rattle.expression_laws.proofs.Types.{past, through}
+use Rattle.expression_laws.proofs.Calls.{wraps-token, expect-seam}
 use Rattle.statement.specs.Rules.{guarded-rule}
 use Rattle.statement.specs.Post.{Starts, ReadsBody}
 

@@ -19,7 +19,7 @@ use Rattle.fallible.specs.declared.Answer.{Answer}
 use Rattle.fallible.specs.Lists.{errs}
 use Rattle.steps.specs.Tokens.{rest, budget}
 use Rattle.steps.specs.Shows.{st-of, Asked, Moved, Shows, done-of, node, typed, items}
-use Rattle.grammar.specs.Post.{place-at, name-of, as-answer}
+use Rattle.expression_laws.specs.Post.{place-at, name-of, as-answer}
 use Rattle.statement.specs.Rules.{value-on}
 
 -- what begins with a token of the kind k

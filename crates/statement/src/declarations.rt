@@ -23,10 +23,10 @@ use steps::head;
 ghost use Rattle.definition.specs.Parser as P;
 ghost use Rattle.node.specs.Contract.{Room};
 ghost use Rattle.leaves.specs.Leaves.{listed-of};
-ghost use Rattle.grammar.specs.Post.{place-of};
+ghost use Rattle.expression_laws.specs.Post.{place-of};
 ghost use Rattle.statement.specs.Rules.{values-rule};
 ghost use Rattle.steps.specs.Contract.{Asked, GoesOn, Parses};
-ghost use Rattle.grammar.specs.Contract.{NameRoom};
+ghost use Rattle.expression_laws.specs.Contract.{NameRoom};
 ghost use Rattle.statement.specs.Contract.{Starts, Bared, ValueOn, ReadsDeclared, Named};
 
 // parse_compound: `#` (array values | struct values)

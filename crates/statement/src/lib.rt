@@ -30,7 +30,7 @@ ghost use Rattle.definition.specs.Parser as P;
 ghost use Rattle.statement.specs.Rules.{guarded-rule};
 ghost use Rattle.statement.specs.Post.{statements-on};
 ghost use Rattle.steps.specs.Contract.{Asked, Parses};
-ghost use Rattle.grammar.specs.Contract.{LoopOn};
+ghost use Rattle.expression_laws.specs.Contract.{LoopOn};
 ghost use Rattle.statement.specs.Contract.{Starts, ReadsBody};
 
 // ---- bodies

@@ -18,7 +18,7 @@ use steps::head;
 ghost use Prim.Native.Nat.{ℕ, _≤_};
 ghost use Rattle.definition.specs.Kind as K;
 ghost use Rattle.definition.specs.Parser as P;
-ghost use Rattle.grammar.specs.Post.{place-of};
+ghost use Rattle.expression_laws.specs.Post.{place-of};
 ghost use Rattle.steps.specs.Contract.{Asked, Parses};
 ghost use Rattle.statement.specs.Contract.{Starts, Behind};
 

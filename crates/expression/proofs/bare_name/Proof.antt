@@ -1,4 +1,4 @@
-use Rattle.grammar.proofs.Names.{bare-stops, bare-name, bare-unknown, bare-room, unknown-room}
+use Rattle.expression_laws.proofs.Names.{bare-stops, bare-name, bare-unknown, bare-room, unknown-room}
 use borrow.Author.Needs.{needs}
 use Rattle.expression.proofs.bare_name.Statement.{statement}
 use Rattle.expression.proofs.bare_name.Tie as tie

@@ -1,6 +1,6 @@
-use Rattle.grammar.specs.Post.{LoopOn}
-use Rattle.grammar.proofs.Turns.{ItemsTurned, at-start, one-turn}
-use Rattle.grammar.proofs.Loops.{loop-asked}
+use Rattle.expression_laws.specs.Post.{LoopOn}
+use Rattle.expression_laws.proofs.Turns.{ItemsTurned, at-start, one-turn}
+use Rattle.expression_laws.proofs.Loops.{loop-asked}
 use Rattle.items.specs.Rules.{items-on}
 use Rattle.items.proofs.Modules.{module-reads, module-end, module-refused, module-next}
 use borrow.Author.Needs.{needs}

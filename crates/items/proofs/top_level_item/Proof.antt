@@ -1,5 +1,5 @@
 use Rattle.items.proofs.Modules.{item-function, item-alias, item-use, item-variable, item-assembly, item-other}
-use Rattle.grammar.proofs.Types.{raise-asked}
+use Rattle.expression_laws.proofs.Types.{raise-asked}
 use Rattle.steps.proofs.Moves.{asked-seen}
 use native.Mathlib.Omega.{arith}
 use Rattle.items.proofs.top_level_item.Statement.{statement}

@@ -2,10 +2,10 @@
 use mathlib.Core.Path.{refl}
 use Rattle.definition.specs.Parser as P
 use Rattle.steps.proofs.Moves.{asked-seen}
-use Rattle.grammar.specs.Post.{suffixes-on}
-use Rattle.grammar.proofs.Joins.{then-asked, goes-on, goes-stops, join-cuts, turn-on}
-use Rattle.grammar.proofs.Turns.{GoesTurned, at-start, one-turn}
-use Rattle.grammar.proofs.Suffixes.{suffix-none, suffix-star, star-moved, dot-end, dot-name, dot-moved, dot-other, index-asks, index-moved, suffix-index}
+use Rattle.expression_laws.specs.Post.{suffixes-on}
+use Rattle.expression_laws.proofs.Joins.{then-asked, goes-on, goes-stops, join-cuts, turn-on}
+use Rattle.expression_laws.proofs.Turns.{GoesTurned, at-start, one-turn}
+use Rattle.expression_laws.proofs.Suffixes.{suffix-none, suffix-star, star-moved, dot-end, dot-name, dot-moved, dot-other, index-asks, index-moved, suffix-index}
 use borrow.Author.Needs.{needs}
 use native.Mathlib.Omega.{arith}
 use Prim.Native.Nat.{ℕ, _-_}

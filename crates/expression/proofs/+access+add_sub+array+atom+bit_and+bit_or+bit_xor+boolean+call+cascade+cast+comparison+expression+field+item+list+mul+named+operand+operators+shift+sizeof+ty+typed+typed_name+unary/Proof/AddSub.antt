@@ -1,8 +1,8 @@
 -- The needs of `add_sub`.
 use Rattle.definition.specs.Act.{AddSub}
 use Rattle.definition.specs.Parser as P
-use Rattle.grammar.specs.Post.{operators-on}
-use Rattle.grammar.proofs.Joins.{then-asked, goes-on}
+use Rattle.expression_laws.specs.Post.{operators-on}
+use Rattle.expression_laws.proofs.Joins.{then-asked, goes-on}
 use native.Mathlib.Omega.{arith}
 use Prim.Native.Nat.{ℕ}
 use Rattle.expression.proofs.+access+add_sub+array+atom+bit_and+bit_or+bit_xor+boolean+call+cascade+cast+comparison+expression+field+item+list+mul+named+operand+operators+shift+sizeof+ty+typed+typed_name+unary.Lts-add_sub as lts

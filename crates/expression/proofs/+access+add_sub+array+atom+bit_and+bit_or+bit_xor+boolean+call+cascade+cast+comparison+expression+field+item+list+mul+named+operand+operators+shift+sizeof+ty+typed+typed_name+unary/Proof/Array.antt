@@ -1,6 +1,6 @@
 -- The needs of `array`.
 use Rattle.steps.proofs.Moves.{asked-seen, asks-fore}
-use Rattle.grammar.proofs.Types.{array-no-integer, array-no-size, array-open, array-done, raise-asked, size-asked, bracket-asked, array-room}
+use Rattle.expression_laws.proofs.Types.{array-no-integer, array-no-size, array-open, array-done, raise-asked, size-asked, bracket-asked, array-room}
 use borrow.Author.Needs.{needs}
 use native.Mathlib.Omega.{arith}
 use Prim.Native.Nat.{ℕ}

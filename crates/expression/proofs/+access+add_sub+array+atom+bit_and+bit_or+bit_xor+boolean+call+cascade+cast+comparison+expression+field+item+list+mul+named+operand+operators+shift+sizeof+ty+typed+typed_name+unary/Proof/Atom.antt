@@ -1,7 +1,7 @@
 -- The needs of `atom`.
 use mathlib.Core.Path.{sym, _∙_}
 use Rattle.steps.proofs.Moves.{asked-seen, asks-moved, fore-moved, moved-trans}
-use Rattle.grammar.proofs.Calls.{atom-group}
+use Rattle.expression_laws.proofs.Calls.{atom-group}
 use Rattle.steps.proofs.Moves.{asked-seen, asks-moved}
 use native.Mathlib.Omega.{arith}
 use Prim.Native.Nat.{ℕ}

@@ -1,8 +1,8 @@
 -- The needs of `bit_or`.
 use mathlib.Core.Path.{refl, sym, _∙_}
 use Rattle.leaves.proofs.Choices.{no-operator}
-use Rattle.grammar.proofs.Joins.{goes-on, goes-stops}
-use Rattle.grammar.proofs.Levels.{operators-none, Levelled, levels-start, levels-more, levels-end, levels-pass}
+use Rattle.expression_laws.proofs.Joins.{goes-on, goes-stops}
+use Rattle.expression_laws.proofs.Levels.{operators-none, Levelled, levels-start, levels-more, levels-end, levels-pass}
 use borrow.Author.Tests.{not-true}
 use borrow.Author.Needs.{needs}
 use native.Mathlib.Omega.{arith}

@@ -2,8 +2,8 @@
 use Rattle.definition.specs.Parser as P
 use Rattle.steps.proofs.Moves.{asked-seen, asked-moved}
 use Rattle.steps.proofs.Constructs.{then-stops}
-use Rattle.grammar.proofs.Joins.{then-asked, goes-on, join-cuts, join-room}
-use Rattle.grammar.proofs.Levels.{and-on, and-none, and-found}
+use Rattle.expression_laws.proofs.Joins.{then-asked, goes-on, join-cuts, join-room}
+use Rattle.expression_laws.proofs.Levels.{and-on, and-none, and-found}
 use borrow.Author.Needs.{needs}
 use native.Mathlib.Omega.{arith}
 use Prim.Native.Nat.{ℕ}

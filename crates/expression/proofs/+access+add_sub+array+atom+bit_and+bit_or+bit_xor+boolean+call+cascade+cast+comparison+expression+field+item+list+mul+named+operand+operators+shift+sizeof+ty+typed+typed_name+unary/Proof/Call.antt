@@ -2,8 +2,8 @@
 use Rattle.definition.specs.Parser as P
 use Rattle.steps.proofs.Moves.{asked-moved}
 use Rattle.steps.proofs.Constructs.{then-stops}
-use Rattle.grammar.proofs.Joins.{then-asked, goes-on}
-use Rattle.grammar.proofs.Calls.{call-on, call-none, call-done, call-later, call-room}
+use Rattle.expression_laws.proofs.Joins.{then-asked, goes-on}
+use Rattle.expression_laws.proofs.Calls.{call-on, call-none, call-done, call-later, call-room}
 use borrow.Author.Needs.{needs}
 use native.Mathlib.Omega.{arith}
 use Prim.Native.Nat.{ℕ}

@@ -1,10 +1,10 @@
 -- The needs of `cast`.
 use Rattle.definition.specs.Parser as P
 use Rattle.steps.proofs.Moves.{asked-seen}
-use Rattle.grammar.specs.Post.{casts-on}
-use Rattle.grammar.proofs.Joins.{then-asked, goes-on, goes-stops, join-cuts, join-room, joined-on}
-use Rattle.grammar.proofs.Turns.{GoesTurned, at-start, one-turn}
-use Rattle.grammar.proofs.Levels.{casts-none, casts-more}
+use Rattle.expression_laws.specs.Post.{casts-on}
+use Rattle.expression_laws.proofs.Joins.{then-asked, goes-on, goes-stops, join-cuts, join-room, joined-on}
+use Rattle.expression_laws.proofs.Turns.{GoesTurned, at-start, one-turn}
+use Rattle.expression_laws.proofs.Levels.{casts-none, casts-more}
 use borrow.Author.Needs.{needs}
 use native.Mathlib.Omega.{arith}
 use Prim.Native.Nat.{ℕ, _-_}

@@ -1,5 +1,5 @@
 -- The needs of `field`.
-use Rattle.grammar.proofs.Names.{field-follows, field-asked, field-stops, field-room, field-done}
+use Rattle.expression_laws.proofs.Names.{field-follows, field-asked, field-stops, field-room, field-done}
 use borrow.Author.Needs.{needs}
 use native.Mathlib.Omega.{arith}
 use Prim.Native.Nat.{ℕ}

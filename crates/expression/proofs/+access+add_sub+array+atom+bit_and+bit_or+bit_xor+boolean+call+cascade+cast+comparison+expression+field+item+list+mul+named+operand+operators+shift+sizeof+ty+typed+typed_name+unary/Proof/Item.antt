@@ -1,5 +1,5 @@
 -- The needs of `item`.
-use Rattle.grammar.proofs.Lists.{item-parameter, item-argument, item-field, item-value, item-named-value}
+use Rattle.expression_laws.proofs.Lists.{item-parameter, item-argument, item-field, item-value, item-named-value}
 use borrow.Author.Needs.{needs}
 use native.Mathlib.Omega.{arith}
 use Prim.Native.Nat.{ℕ}

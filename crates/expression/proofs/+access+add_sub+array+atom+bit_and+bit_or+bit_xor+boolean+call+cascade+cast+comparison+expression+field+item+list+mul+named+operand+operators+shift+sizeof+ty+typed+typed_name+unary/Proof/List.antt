@@ -1,11 +1,11 @@
 -- The needs of `list`.
 use mathlib.Core.Path.{refl}
 use Rattle.leaves.specs.Leaves.{listed-of}
-use Rattle.grammar.specs.Post.{LoopOn, listed-on}
+use Rattle.expression_laws.specs.Post.{LoopOn, listed-on}
 use Rattle.steps.proofs.Moves.{asked-moved}
-use Rattle.grammar.proofs.Types.{raise-asked}
-use Rattle.grammar.proofs.Turns.{ItemsTurned, at-start, one-turn}
-use Rattle.grammar.proofs.Lists.{list-refused, list-on, rest-end, rest-closed, rest-item, rest-comma, rest-next, comma-asks, rest-asked}
+use Rattle.expression_laws.proofs.Types.{raise-asked}
+use Rattle.expression_laws.proofs.Turns.{ItemsTurned, at-start, one-turn}
+use Rattle.expression_laws.proofs.Lists.{list-refused, list-on, rest-end, rest-closed, rest-item, rest-comma, rest-next, comma-asks, rest-asked}
 use borrow.Author.Needs.{needs}
 use native.Mathlib.Omega.{arith}
 use Prim.Native.Nat.{ℕ, _-_}

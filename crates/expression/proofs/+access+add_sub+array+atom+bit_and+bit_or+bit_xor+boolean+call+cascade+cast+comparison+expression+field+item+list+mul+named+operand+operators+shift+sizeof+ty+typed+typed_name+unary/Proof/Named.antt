@@ -1,5 +1,5 @@
 -- The needs of `named`.
-use Rattle.grammar.proofs.Names.{named-reads, named-room}
+use Rattle.expression_laws.proofs.Names.{named-reads, named-room}
 use native.Mathlib.Omega.{arith}
 use Prim.Native.Nat.{ℕ}
 use Rattle.expression.proofs.+access+add_sub+array+atom+bit_and+bit_or+bit_xor+boolean+call+cascade+cast+comparison+expression+field+item+list+mul+named+operand+operators+shift+sizeof+ty+typed+typed_name+unary.Lts-named as lts

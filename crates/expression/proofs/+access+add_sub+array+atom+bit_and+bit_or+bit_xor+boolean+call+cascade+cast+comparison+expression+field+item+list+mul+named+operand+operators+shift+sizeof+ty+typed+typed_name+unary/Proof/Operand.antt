@@ -1,5 +1,5 @@
 -- The needs of `operand`.
-use Rattle.grammar.proofs.Operands.{name-operand}
+use Rattle.expression_laws.proofs.Operands.{name-operand}
 use borrow.Author.Needs.{needs}
 use native.Mathlib.Omega.{arith}
 use Prim.Native.Nat.{ℕ}

@@ -1,10 +1,10 @@
 -- The needs of `operators`.
 use Rattle.steps.proofs.Moves.{asked-seen}
 use Rattle.leaves.specs.Leaves.{level-of}
-use Rattle.grammar.specs.Post.{operators-on}
-use Rattle.grammar.proofs.Joins.{goes-stops, join-cuts, join-room, joined-on}
-use Rattle.grammar.proofs.Turns.{GoesTurned, at-start, one-turn}
-use Rattle.grammar.proofs.Levels.{operators-none, operators-more}
+use Rattle.expression_laws.specs.Post.{operators-on}
+use Rattle.expression_laws.proofs.Joins.{goes-stops, join-cuts, join-room, joined-on}
+use Rattle.expression_laws.proofs.Turns.{GoesTurned, at-start, one-turn}
+use Rattle.expression_laws.proofs.Levels.{operators-none, operators-more}
 use borrow.Author.Needs.{needs}
 use native.Mathlib.Omega.{arith}
 use Prim.Native.Nat.{ℕ, _-_}

@@ -1,8 +1,8 @@
 -- The needs of `sizeof`.
 use mathlib.Core.Path.{refl}
 use Rattle.steps.proofs.Moves.{asked-seen, asked-moved, asks-fore, fore-moved, moved-trans}
-use Rattle.grammar.proofs.Joins.{room-at}
-use Rattle.grammar.proofs.Calls.{sizeof-other, sizeof-stop, sizeof-asks, sizeof-done}
+use Rattle.expression_laws.proofs.Joins.{room-at}
+use Rattle.expression_laws.proofs.Calls.{sizeof-other, sizeof-stop, sizeof-asks, sizeof-done}
 use Rattle.steps.proofs.Moves.{asked-seen, asked-moved, asks-fore}
 use borrow.Author.Needs.{needs}
 use native.Mathlib.Omega.{arith}

@@ -1,5 +1,5 @@
 -- The needs of `typed`.
-use Rattle.grammar.proofs.Names.{typed-colon, typed-type, colon-cuts, type-asked, type-cuts}
+use Rattle.expression_laws.proofs.Names.{typed-colon, typed-type, colon-cuts, type-asked, type-cuts}
 use borrow.Author.Needs.{needs}
 use native.Mathlib.Omega.{arith}
 use Prim.Native.Nat.{ℕ}

@@ -1,7 +1,7 @@
 -- The needs of `typed_name`.
 use Rattle.steps.proofs.Moves.{asked-seen}
-use Rattle.grammar.proofs.Types.{raise-asked}
-use Rattle.grammar.proofs.Names.{identifier-name, identifier-end, identifier-refused, identifier-noted, noted-moved, noted-asked}
+use Rattle.expression_laws.proofs.Types.{raise-asked}
+use Rattle.expression_laws.proofs.Names.{identifier-name, identifier-end, identifier-refused, identifier-noted, noted-moved, noted-asked}
 use borrow.Author.Needs.{needs}
 use native.Mathlib.Omega.{arith}
 use Prim.Native.Nat.{ℕ}

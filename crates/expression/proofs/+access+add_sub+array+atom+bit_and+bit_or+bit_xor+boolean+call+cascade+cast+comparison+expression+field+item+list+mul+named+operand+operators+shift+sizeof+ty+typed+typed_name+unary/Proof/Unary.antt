@@ -2,8 +2,8 @@
 use Rattle.definition.specs.Act.{Unary}
 use Rattle.steps.proofs.Moves.{asked-seen}
 use Rattle.steps.proofs.Constructs.{deep}
-use Rattle.grammar.proofs.Calls.{unary-none, unary-prefix}
-use Rattle.grammar.proofs.Types.{star-room}
+use Rattle.expression_laws.proofs.Calls.{unary-none, unary-prefix}
+use Rattle.expression_laws.proofs.Types.{star-room}
 use borrow.Author.Needs.{needs}
 use native.Mathlib.Omega.{arith}
 use Prim.Native.Nat.{ℕ}

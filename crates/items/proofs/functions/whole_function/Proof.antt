@@ -1,5 +1,5 @@
 use Rattle.items.proofs.Definitions.{whole-stops, whole-refused, whole-order, whole-room, whole-reads}
-use Rattle.grammar.proofs.Joins.{room-at}
+use Rattle.expression_laws.proofs.Joins.{room-at}
 use native.Mathlib.Omega.{arith}
 use borrow.Author.Needs.{needs}
 use Rattle.items.proofs.functions.whole_function.Statement.{statement}

@@ -1,6 +1,6 @@
 use Rattle.items.proofs.Aliased.{alias-end, alias-other, alias-stops, alias-follows, alias-room, alias-done}
 use Rattle.steps.proofs.Moves.{asks-fore, asked-seen, asked-moved}
-use Rattle.grammar.proofs.Types.{raise-asked}
+use Rattle.expression_laws.proofs.Types.{raise-asked}
 use mathlib.Core.Path.{refl}
 use native.Mathlib.Omega.{arith}
 use borrow.Author.Needs.{needs}

@@ -1,6 +1,6 @@
 use Rattle.items.proofs.Aliased.{path-end, path-other, path-room, path-done}
 use Rattle.steps.proofs.Moves.{asks-fore}
-use Rattle.grammar.proofs.Types.{raise-asked}
+use Rattle.expression_laws.proofs.Types.{raise-asked}
 use native.Mathlib.Omega.{arith}
 use borrow.Author.Needs.{needs}
 use Rattle.items.proofs.others.path.Statement.{statement}

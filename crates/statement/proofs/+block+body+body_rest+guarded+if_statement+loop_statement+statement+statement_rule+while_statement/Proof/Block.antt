@@ -1,5 +1,5 @@
 -- The needs of `block`.
-use Rattle.grammar.proofs.Joins.{room-at}
+use Rattle.expression_laws.proofs.Joins.{room-at}
 use Rattle.statement.proofs.Statements.{block-reads}
 use native.Mathlib.Omega.{arith}
 use Prim.Native.Nat.{ℕ}

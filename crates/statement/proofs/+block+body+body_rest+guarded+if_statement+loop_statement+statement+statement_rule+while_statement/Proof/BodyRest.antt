@@ -1,8 +1,8 @@
 -- The needs of `body_rest`.
-use Rattle.grammar.proofs.Types.{raise-asked}
-use Rattle.grammar.proofs.Turns.{ItemsTurned, at-start, one-turn}
-use Rattle.grammar.specs.Post.{LoopOn}
-use Rattle.grammar.proofs.Loops.{loop-asked}
+use Rattle.expression_laws.proofs.Types.{raise-asked}
+use Rattle.expression_laws.proofs.Turns.{ItemsTurned, at-start, one-turn}
+use Rattle.expression_laws.specs.Post.{LoopOn}
+use Rattle.expression_laws.proofs.Loops.{loop-asked}
 use Rattle.statement.specs.Post.{statements-on}
 use Rattle.statement.proofs.Bodies.{rest-closed, rest-end, rest-refused, rest-next}
 use borrow.Author.Needs.{needs}

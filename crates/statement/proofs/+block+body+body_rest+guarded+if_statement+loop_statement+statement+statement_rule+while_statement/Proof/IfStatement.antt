@@ -1,7 +1,7 @@
 -- The needs of `if_statement`.
 use mathlib.Core.Path.{refl}
 use Rattle.steps.proofs.Moves.{asked-seen, fore-moved, moved-trans}
-use Rattle.grammar.proofs.Joins.{room-at}
+use Rattle.expression_laws.proofs.Joins.{room-at}
 use Rattle.statement.proofs.Statements.{if-stops, if-two, if-three, later-cuts, later-asked, later-room}
 use borrow.Author.Needs.{needs}
 use native.Mathlib.Omega.{arith}

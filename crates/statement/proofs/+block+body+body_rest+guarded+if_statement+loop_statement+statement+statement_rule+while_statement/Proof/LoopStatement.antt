@@ -1,6 +1,6 @@
 -- The needs of `loop_statement`.
 use Rattle.steps.proofs.Moves.{asked-seen, fore-moved, moved-trans}
-use Rattle.grammar.proofs.Joins.{room-at}
+use Rattle.expression_laws.proofs.Joins.{room-at}
 use Rattle.statement.proofs.Statements.{loop-reads}
 use native.Mathlib.Omega.{arith}
 use Prim.Native.Nat.{ℕ}

@@ -1,5 +1,5 @@
 -- The needs of `statement_rule`.
-use Rattle.grammar.proofs.Types.{raise-asked}
+use Rattle.expression_laws.proofs.Types.{raise-asked}
 use Rattle.statement.proofs.Statements.{begins, end-reads, other-reads}
 use native.Mathlib.Omega.{arith}
 use Prim.Native.Nat.{ℕ}

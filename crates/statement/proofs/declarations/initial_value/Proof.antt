@@ -1,6 +1,6 @@
 use Rattle.statement.proofs.Initial.{value-stops, value-assigned, value-compound, value-none}
 use Rattle.steps.proofs.Moves.{asked-seen}
-use Rattle.grammar.proofs.Joins.{join-cuts, join-room}
+use Rattle.expression_laws.proofs.Joins.{join-cuts, join-room}
 use native.Mathlib.Omega.{arith}
 use borrow.Author.Needs.{needs}
 use Rattle.statement.proofs.declarations.initial_value.Statement.{statement}

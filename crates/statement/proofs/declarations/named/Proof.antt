@@ -1,5 +1,5 @@
 use Rattle.statement.proofs.Declared.{named-stops, named-there, named-none}
-use Rattle.grammar.proofs.Names.{bare-room, unknown-room}
+use Rattle.expression_laws.proofs.Names.{bare-room, unknown-room}
 use native.Mathlib.Omega.{arith}
 use borrow.Author.Needs.{needs}
 use Rattle.statement.proofs.declarations.named.Statement.{statement}

@@ -1,4 +1,4 @@
-use Rattle.grammar.proofs.Joins.{room-at}
+use Rattle.expression_laws.proofs.Joins.{room-at}
 use Rattle.statement.proofs.Declared.{values-reads}
 use native.Mathlib.Omega.{arith}
 use Rattle.statement.proofs.declarations.values.Statement.{statement}

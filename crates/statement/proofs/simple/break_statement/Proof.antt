@@ -1,6 +1,6 @@
 use Rattle.statement.proofs.Statements.{break-reads}
 use Rattle.steps.proofs.Moves.{asks-fore, fore-moved, moved-trans}
-use Rattle.grammar.proofs.Joins.{room-at}
+use Rattle.expression_laws.proofs.Joins.{room-at}
 use mathlib.Core.Path.{refl}
 use native.Mathlib.Omega.{arith}
 use Rattle.statement.proofs.simple.break_statement.Statement.{statement}

@@ -1,6 +1,6 @@
 use Rattle.statement.proofs.Assigned.{statement-stops, statement-errors, statement-after}
 use Rattle.steps.proofs.Moves.{asked-moved}
-use Rattle.grammar.proofs.Joins.{room-at}
+use Rattle.expression_laws.proofs.Joins.{room-at}
 use native.Mathlib.Omega.{arith}
 use borrow.Author.Needs.{needs}
 use Rattle.statement.proofs.simple.expression_statement.Statement.{statement}

@@ -1,6 +1,6 @@
 use Rattle.statement.proofs.Statements.{return-none, return-value}
 use Rattle.steps.proofs.Moves.{asked-seen, asks-moved, fore-moved, moved-trans}
-use Rattle.grammar.proofs.Joins.{room-at}
+use Rattle.expression_laws.proofs.Joins.{room-at}
 use native.Mathlib.Omega.{arith}
 use Rattle.statement.proofs.simple.return_statement.Statement.{statement}
 use Rattle.statement.proofs.simple.return_statement.Tie as tie

@@ -38,7 +38,7 @@ use Rattle.leaves.specs.declared.Size.{Size}
 use Rattle.leaves.specs.Leaves.{there, unfit, Valued}
 use Rattle.leaves.proofs.Errors.{raise-reads}
 use Rattle.leaves.proofs.Atoms.{leaf-reads}
-use Rattle.grammar.specs.Post.{place-at, as-answer, ReadsList}
+use Rattle.expression_laws.specs.Post.{place-at, as-answer, ReadsList}
 
 -- ---- numbers
 

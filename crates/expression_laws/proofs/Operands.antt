@@ -16,10 +16,10 @@ use Rattle.steps.specs.Shows.{Asked, Reads, node, Finished}
 use Rattle.leaves.specs.Leaves.{there, identifier, is-name-alone}
 use Rattle.leaves.proofs.Choices.{neither, NameAlone, name-alone, no-prefix}
 use Rattle.leaves.proofs.Atoms.{name-reads}
-use Rattle.grammar.specs.Post.{suffixes-on}
-use Rattle.grammar.proofs.Joins.{then-asked, goes-on}
-use Rattle.grammar.proofs.Suffixes.{suffix-none}
-use Rattle.grammar.proofs.Calls.{call-on, call-none, sizeof-other, unary-none}
+use Rattle.expression_laws.specs.Post.{suffixes-on}
+use Rattle.expression_laws.proofs.Joins.{then-asked, goes-on}
+use Rattle.expression_laws.proofs.Suffixes.{suffix-none}
+use Rattle.expression_laws.proofs.Calls.{call-on, call-none, sizeof-other, unary-none}
 
 module _ {w x : List ℕ} {n : ℕ} {o r f o1 : List ℕ} {s : State} {t u : Front} {a : Answer}
     (q : Asked w x n o r f s) (v : Seen w x n (s .at) t) (e : Seen w x n (a .state .at) u)

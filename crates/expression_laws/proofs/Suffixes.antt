@@ -32,10 +32,10 @@ use Rattle.steps.proofs.Answers.{say, good-of, is-good, follows, abandons, wrap
 use Rattle.steps.proofs.Constructs.{seam}
 use Rattle.steps.proofs.Following.{expecting, expects-behind}
 use Rattle.leaves.proofs.Errors.{made-so, makes, makes-none}
-use Rattle.grammar.specs.Post.{suffixes-on}
-use Rattle.grammar.proofs.Types.{past}
-use Rattle.grammar.proofs.Joins.{goes-none}
-use Rattle.grammar.proofs.Calls.{expect-seam}
+use Rattle.expression_laws.specs.Post.{suffixes-on}
+use Rattle.expression_laws.proofs.Types.{past}
+use Rattle.expression_laws.proofs.Joins.{goes-none}
+use Rattle.expression_laws.proofs.Calls.{expect-seam}
 
 -- two tokens are read
 abbrev past-two : List ℕ → List ℕ → ℕ → ℕ → ℕ → List Consumed → List Consumed

@@ -32,9 +32,9 @@ use Rattle.leaves.specs.declared.Listed.{Listed}
 use Rattle.leaves.specs.declared.Listed.the-variants as I
 use Rattle.leaves.specs.Leaves.{listed-of, Counted, with-errors, Next, CommasOf, Commas}
 use Rattle.leaves.proofs.Atoms.{Ended, Alive}
-use Rattle.grammar.specs.Post.{as-answer, ReadsList, LoopOn, listed-on}
-use Rattle.grammar.proofs.Types.{moved-onward, paid}
-use Rattle.grammar.proofs.Loops.{answered, not-fatal, refusal, loop-ended, loop-closed, loop-refused, joined}
+use Rattle.expression_laws.specs.Post.{as-answer, ReadsList, LoopOn, listed-on}
+use Rattle.expression_laws.proofs.Types.{moved-onward, paid}
+use Rattle.expression_laws.proofs.Loops.{answered, not-fatal, refusal, loop-ended, loop-closed, loop-refused, joined}
 
 -- ---- `item`
 

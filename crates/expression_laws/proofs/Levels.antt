@@ -26,9 +26,9 @@ use Rattle.steps.specs.Shows.{st-of, Asked, Reads, Goes, GoesOn, node, Finished
 pub use Rattle.steps.specs.Shows.{untexted as at-operator}
 use Rattle.steps.proofs.Tokens.{yes, no, fore, adv}
 use Rattle.leaves.specs.Leaves.{level-at, Operator}
-use Rattle.grammar.specs.Post.{operators-on, operand-at, casts-on}
-use Rattle.grammar.proofs.Types.{past}
-use Rattle.grammar.proofs.Joins.{then-asked, goes-none, goes-joined, goes-turn, goes-further}
+use Rattle.expression_laws.specs.Post.{operators-on, operand-at, casts-on}
+use Rattle.expression_laws.proofs.Types.{past}
+use Rattle.expression_laws.proofs.Joins.{then-asked, goes-none, goes-joined, goes-turn, goes-further}
 
 -- ---- what follows an operand
 

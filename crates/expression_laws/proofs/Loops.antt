@@ -29,8 +29,8 @@ use Rattle.steps.proofs.Answers.{say, tree-join, errs-join}
 use Rattle.leaves.specs.Leaves.{count-of, Counted}
 use Rattle.leaves.proofs.Errors.{made-so, makes, makes-none}
 use Rattle.leaves.proofs.Atoms.{Ended, Alive}
-use Rattle.grammar.specs.Post.{as-answer, LoopOn}
-use Rattle.grammar.proofs.Types.{moved-onward, past}
+use Rattle.expression_laws.specs.Post.{as-answer, LoopOn}
+use Rattle.expression_laws.proofs.Types.{moved-onward, past}
 
 -- the items as an answer
 abbrev pub answered : ℕ → Res Items → Res (Ans Items)

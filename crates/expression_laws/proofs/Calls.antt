@@ -36,9 +36,9 @@ use Rattle.steps.proofs.Answers.{Stopped, say, good-of, stops, follows, wrapped
 use Rattle.steps.proofs.Constructs.{down}
 use Rattle.steps.proofs.Following.{expecting, expects-behind}
 use Rattle.leaves.specs.Leaves.{Prefix, ClosingOf, Closing, ClosedOf, Closed}
-use Rattle.grammar.specs.Post.{ReadsList}
-use Rattle.grammar.proofs.Types.{past, drops, dropping}
-use Rattle.grammar.proofs.Joins.{goes-none}
+use Rattle.expression_laws.specs.Post.{ReadsList}
+use Rattle.expression_laws.proofs.Types.{past, drops, dropping}
+use Rattle.expression_laws.proofs.Joins.{goes-none}
 
 -- ---- a token, an operand, and the record after it
 

@@ -34,8 +34,8 @@ use Rattle.steps.proofs.Tokens.{yes, no, fore, adv}
 use Rattle.steps.proofs.Moves.{spent, refused-moved, asks-fore, asks-moved, fore-moved, making-moved, moved-trans, asked-moved, abandoned-moved}
 use Rattle.steps.proofs.Answers.{Stopped, say, good-of, not-done, done-le, stops, follows, abandons, wrote, wrapped, raise-same}
 use Rattle.leaves.proofs.Errors.{made-so, makes, makes-none, raise-reads}
-use Rattle.grammar.specs.Post.{name-of, NameRoom, BareNamedOf, BareNamed, ReadsTyped, TypedOn}
-use Rattle.grammar.proofs.Types.{moved-onward, past, paid, record-reads, shown-from}
+use Rattle.expression_laws.specs.Post.{name-of, NameRoom, BareNamedOf, BareNamed, ReadsTyped, TypedOn}
+use Rattle.expression_laws.proofs.Types.{moved-onward, past, paid, record-reads, shown-from}
 
 -- ---- `bare_name`
 

@@ -6,7 +6,7 @@ use Rattle.definition.specs.Act as A
 use Rattle.definition.specs.Act.{Items, Act}
 use Rattle.fallible.specs.declared.State.{State}
 use Rattle.fallible.specs.declared.Answer.{Answer}
-use Rattle.grammar.specs.Post as G
+use Rattle.expression_laws.specs.Post as G
 
 abbrev pub NameRoom : Slice → Slice → ℕ → Slice → Answer → ℕ → Type 0
 NameRoom tokens text n file a at = G.NameRoom (now tokens) (now text) n (now file) a at
