@@ -15,7 +15,7 @@ use Rattle.node.specs.Put.{Wrote, bare-of}
 use Rattle.node.specs.declared.Numbers.the-variants.{Two}
 use Rattle.fallible.specs.Lists.{errs}
 use Rattle.fallible.proofs.Grown.{errs-length}
-use Rattle.fields.specs.Errors.{Fielded, TokenFields}
+use Rattle.error_fields.specs.Errors.{Fielded, TokenFields}
 use Rattle.zeros.specs.Cleared.{Cleared}
 use Rattle.zeros.proofs.Clearing.{cleared-filled}
 use Rattle.definition.proofs.Validated.{errors-many}

@@ -2,9 +2,9 @@
 use definition::limit;
 use definition::refusal;
 use definition::tag;
+use error_fields::error_fields;
+use error_fields::token_error_fields;
 use fallible::How;
-use fields::error_fields;
-use fields::token_error_fields;
 use items::module;
 use node::Numbers;
 use node::write_bare;

@@ -15,8 +15,8 @@ use Rattle.definition.specs.Source.{is-some}
 use Rattle.definition.specs.Records.{ErrorWords, error-at, valid-error, error-of, error-before, errors-of}
 use Rattle.definition.proofs.Tests.{clash, left-true, right-true, between-bounds}
 use Rattle.fallible.specs.Lists as L
-use Rattle.fields.specs.Errors.{Fielded, TokenFields}
-use Rattle.fields.proofs.Fielding.{Fielding, fields-more, fields-done}
+use Rattle.error_fields.specs.Errors.{Fielded, TokenFields}
+use Rattle.error_fields.proofs.Fielding.{Fielding, fields-more, fields-done}
 
 -- what n records hold, from the i-th on
 unfoldable pub listed : List ℕ → ℕ → ℕ → List Err

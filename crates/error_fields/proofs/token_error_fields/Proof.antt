@@ -1,11 +1,11 @@
 use mathlib.Core.Path.{refl}
 use Prim.Native.Nat.{_-_}
-use Rattle.fields.proofs.Fielding.{Fielding, fields-none}
-use Rattle.fields.proofs.Records.{listed, entry-fits, token-more, token-done}
+use Rattle.error_fields.proofs.Fielding.{Fielding, fields-none}
+use Rattle.error_fields.proofs.Records.{listed, entry-fits, token-more, token-done}
 use borrow.Author.Needs.{needs}
 use native.Mathlib.Omega.{arith}
-use Rattle.fields.proofs.token_error_fields.Statement.{statement}
-use Rattle.fields.proofs.token_error_fields.Tie as tie
+use Rattle.error_fields.proofs.token_error_fields.Statement.{statement}
+use Rattle.error_fields.proofs.token_error_fields.Tie as tie
 
 abbrev Inv-loop : tie.InvT-loop
 Inv-loop file₀ pos errors count i₀ p₀ file i p = Fielding (λ n. listed errors 0 n) file₀ pos 0x62 count file i p

@@ -1,7 +1,7 @@
-use Rattle.fields.proofs.Bytes.{fielded-one}
+use Rattle.error_fields.proofs.Bytes.{fielded-one}
 use borrow.Author.Needs.{needs}
-use Rattle.fields.proofs.error_field.Statement.{statement}
-use Rattle.fields.proofs.error_field.Tie as tie
+use Rattle.error_fields.proofs.error_field.Statement.{statement}
+use Rattle.error_fields.proofs.error_field.Tie as tie
 
 cast-t8 : tie.Need-cast-t8
 cast-t8 c = search needs

@@ -1,11 +1,11 @@
 use mathlib.Core.Path.{refl}
 use Prim.Native.Nat.{_-_}
 use Rattle.fallible.specs.Lists.{errs}
-use Rattle.fields.proofs.Fielding.{Fielding, fields-none, fields-more, fields-done, errs-next}
+use Rattle.error_fields.proofs.Fielding.{Fielding, fields-none, fields-more, fields-done, errs-next}
 use borrow.Author.Needs.{needs}
 use native.Mathlib.Omega.{arith}
-use Rattle.fields.proofs.error_fields.Statement.{statement}
-use Rattle.fields.proofs.error_fields.Tie as tie
+use Rattle.error_fields.proofs.error_fields.Statement.{statement}
+use Rattle.error_fields.proofs.error_fields.Tie as tie
 
 abbrev Inv-loop : tie.InvT-loop
 Inv-loop file₀ pos tag list count i₀ p₀ file i p = Fielding (λ n. errs list n) file₀ pos tag count file i p

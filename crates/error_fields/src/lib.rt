@@ -9,7 +9,7 @@ ghost use mathlib.Core.List.{[], _∷_};
 ghost use Prim.Native.Nat.{_+_, _*_, _≤_};
 ghost use lib.ListN.{length};
 ghost use Rattle.fallible.specs.Lists.{unpack, errs};
-ghost use Rattle.fields.specs.Contract.{GoodErrors, Fielded, TokenFields};
+ghost use Rattle.error_fields.specs.Contract.{GoodErrors, Fielded, TokenFields};
 
 // An error's field; the entry's seven bytes are its body.
 fn error_field(file: &mut [u8], pos: usize, tag: u8, e: usize) -> usize

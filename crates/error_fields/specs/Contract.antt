@@ -9,7 +9,7 @@ use Rattle.definition.specs.Slices.{Slice, Lent, at-entry, at-exit}
 use Rattle.definition.specs.Source.{is-some}
 use Rattle.definition.specs.Fallible.{Err}
 use Rattle.definition.specs.Records.{errors-of}
-use Rattle.fields.specs.Errors as E
+use Rattle.error_fields.specs.Errors as E
 
 -- so many records of token errors, each good
 abbrev pub GoodErrors : Slice → ℕ → Type 0

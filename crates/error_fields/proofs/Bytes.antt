@@ -9,7 +9,7 @@ use Rattle.definition.specs.Fallible.{err-body, errs-bytes}
 use Rattle.fallible.specs.Lists.{unpack}
 use Rattle.node.specs.Put.{Wrote, bare-of}
 use Rattle.node.specs.declared.Numbers.the-variants.{None}
-use Rattle.fields.specs.Errors.{Fielded}
+use Rattle.error_fields.specs.Errors.{Fielded}
 
 -- the seven bytes of an entry
 abbrev seven : ℕ → List ℕ

@@ -9,7 +9,7 @@ use lib.Seq.{take-suc}
 use Rattle.definition.specs.Fallible.{Err, err-bytes, errs-bytes}
 use Rattle.fallible.specs.Lists.{unpack, errs}
 use Rattle.fallible.proofs.Grown.{errs-more}
-use Rattle.fields.specs.Errors.{Fielded}
+use Rattle.error_fields.specs.Errors.{Fielded}
 
 bytes-append : (tag : ℕ) (es fs : List Err) → errs-bytes tag (es ++ fs) ≡ errs-bytes tag es ++ errs-bytes tag fs
 unfolding errs-bytes
