@@ -18,7 +18,7 @@ use Rattle.definition.specs.Operations as O
 use Rattle.definition.specs.Operations.{validate, kept, written, read-tokens, read-tokenised, whole}
 use Rattle.definition.proofs.ReadBack.{read-back}
 use Rattle.source.specs.Place.{Stands, rest, origin}
-use Rattle.records.specs.declared.State.{State}
+use Rattle.token_records.specs.declared.State.{State}
 use Rattle.zeros.specs.Cleared.{Cleared}
 use Rattle.zeros.proofs.Clearing.{cleared-filled}
 use Rattle.tokenizer.specs.Run.{Done, Ran}

@@ -87,7 +87,7 @@ fn rest(number: u32) -> u8 {
 // ---- Token text
 
 fn textless(tokens: &[u32], text: &[u8], at: usize) -> bool {
-    let got = records::token_text(tokens, text, at);
+    let got = token_records::token_text(tokens, text, at);
     got.len() == 0
 }
 
@@ -107,7 +107,7 @@ fn part_agrees(tokens: &[u32], text: &[u8], at: usize, size: usize) -> bool {
         return false;
     }
     let end = start + size;
-    let got = records::token_text(tokens, text, at);
+    let got = token_records::token_text(tokens, text, at);
     check::same(got, &text[start..end])
 }
 

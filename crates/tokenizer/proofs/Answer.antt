@@ -16,7 +16,7 @@ use Rattle.definition.specs.Tokenizer as Z
 use Rattle.definition.proofs.Tests.{left-true, right-true}
 use Rattle.source.specs.Place.{Stands, rest, origin}
 use Rattle.source.proofs.Laws.{stands-start}
-use Rattle.records.specs.declared.State.{State}
+use Rattle.token_records.specs.declared.State.{State}
 use Rattle.zeros.specs.Cleared.{Cleared}
 use Rattle.zeros.proofs.Clearing.{cleared-filled}
 use Rattle.tokenizer.specs.declared.Tokenized.{Tokenized}

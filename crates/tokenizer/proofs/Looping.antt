@@ -17,7 +17,7 @@ use Rattle.definition.specs.Tokenizer.{Turn, goes, refused}
 use Rattle.definition.specs.Tokenizer as Z
 use Rattle.source.specs.Place.{Stands, rest, char, origin}
 use Rattle.source.proofs.Laws.{rest-head, rest-end}
-use Rattle.records.specs.declared.State.{State}
+use Rattle.token_records.specs.declared.State.{State}
 use Rattle.turns.specs.Turn.{Ready, bounded}
 use Rattle.turns.proofs.Turned.{errors-words-append}
 use Rattle.tokenizer.specs.Run.{Onward, Taken, turn-of, Holds, Ran}

@@ -16,8 +16,8 @@ use Rattle.classes.specs.declared.character.Class.{Class}
 use Rattle.classes.specs.Begins.{class-of}
 use Rattle.scan.specs.Scan.{Passed}
 use Rattle.scan.proofs.Laws.{wrote-none}
-use Rattle.records.specs.declared.State.{State}
-use Rattle.records.specs.Push.{ErrorsPushed, TokenPushed}
+use Rattle.token_records.specs.declared.State.{State}
+use Rattle.token_records.specs.Push.{ErrorsPushed, TokenPushed}
 use Rattle.turns.specs.Turn.{at-cursor, Ready, bounded, Turned}
 use Rattle.tokenizer.specs.Run.{Taken, turn-of}
 use Rattle.turns.proofs.Turned.{passed-none, on-text, end-nothing, end-errors, end-plain}

@@ -4,7 +4,7 @@ use denote.Ref.{now}
 use lib.ListN.{length}
 use Rattle.definition.specs.Slices.{Slice, Lent, at-entry, at-exit}
 use Rattle.source.specs.Place.{Stands, rest, origin}
-use Rattle.records.specs.declared.State.{State}
+use Rattle.token_records.specs.declared.State.{State}
 use Rattle.turns.specs.Contract.{Ready}
 use Rattle.tokenizer.specs.Run as R
 

@@ -12,7 +12,7 @@ use Rattle.definition.specs.Operations.{Tokenised}
 use Rattle.definition.specs.Tokenizer.{Turn, goes}
 use Rattle.definition.specs.Tokenizer as Z
 use Rattle.source.specs.Place.{rest}
-use Rattle.records.specs.declared.State.{State}
+use Rattle.token_records.specs.declared.State.{State}
 use Rattle.turns.specs.Turn.{Few, Went, Stopped}
 use Rattle.tokenizer.specs.declared.Tokenized.{Tokenized}
 

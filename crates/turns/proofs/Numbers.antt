@@ -18,8 +18,8 @@ use Rattle.source.proofs.Laws.{rest-end}
 use Rattle.scan.specs.declared.Scan.{Scan}
 use Rattle.scan.specs.Scan.{Wrote, Passed, Spanned}
 use Rattle.scan.proofs.Laws.{wrote-trans}
-use Rattle.records.specs.declared.State.{State}
-use Rattle.records.specs.Push.{TokenPushed}
+use Rattle.token_records.specs.declared.State.{State}
+use Rattle.token_records.specs.Push.{TokenPushed}
 use Rattle.turns.specs.Turn.{at-text, at-cursor, Ready, Turned}
 use Rattle.turns.proofs.Turned.{passed-step, on-text, end-token, end-refused, end-plain, with-words, turned-same, turned-on}
 

@@ -17,8 +17,8 @@ use Rattle.source.specs.declared.Cursor.{Cursor}
 use Rattle.source.specs.Place.{rest}
 use Rattle.scan.specs.declared.Body.{Body}
 use Rattle.scan.specs.Scan.{QuotedAs}
-use Rattle.records.specs.declared.State.{State}
-use Rattle.records.specs.Push.{ErrorsWent, ErrorsPushed, TokenPushed}
+use Rattle.token_records.specs.declared.State.{State}
+use Rattle.token_records.specs.Push.{ErrorsWent, ErrorsPushed, TokenPushed}
 use Rattle.turns.specs.Turn.{at-text, at-cursor, Few, Ready, bounded, Turned}
 use Rattle.turns.proofs.Turned.{end-token, end-errors, with-words, wrote-back}
 

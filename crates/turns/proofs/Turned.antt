@@ -19,8 +19,8 @@ use Rattle.source.specs.declared.Cursor.{Cursor}
 use Rattle.source.specs.Place.{Stands, Stepped, rest}
 use Rattle.scan.specs.Scan.{Wrote, Passed}
 use Rattle.scan.proofs.Laws.{wrote-none, wrote-trans}
-use Rattle.records.specs.declared.State.{State}
-use Rattle.records.specs.Push.{ErrorsPushed, TokenPushed}
+use Rattle.token_records.specs.declared.State.{State}
+use Rattle.token_records.specs.Push.{ErrorsPushed, TokenPushed}
 use Rattle.turns.specs.Turn.{at-text, at-cursor, Few, Ready, bounded, Turned}
 
 -- ---- places

@@ -20,8 +20,8 @@ use Rattle.source.specs.Place.{rest}
 use Rattle.scan.specs.declared.Scan.{Scan}
 use Rattle.scan.specs.Scan.{Wrote, Passed, Spanned, letters, blanks}
 use Rattle.scan.proofs.Laws.{wrote-none, wrote-trans}
-use Rattle.records.specs.declared.State.{State}
-use Rattle.records.specs.Push.{ErrorsPushed, TokenPushed}
+use Rattle.token_records.specs.declared.State.{State}
+use Rattle.token_records.specs.Push.{ErrorsPushed, TokenPushed}
 use Rattle.turns.specs.Turn.{at-text, at-cursor, Ready, Turned}
 use Rattle.turns.proofs.Turned.{passed-trans, on-text, end-token, end-errors, end-refused, end-plain, with-words, turned-on, turned-back, part-of}
 

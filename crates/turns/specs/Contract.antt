@@ -8,7 +8,7 @@ use Rattle.definition.specs.Source.{Place, Ch}
 use Rattle.definition.specs.Tokenizer.{Turn}
 use Rattle.source.specs.Place.{placed, rest}
 use Rattle.source.specs.declared.Cursor.{Cursor}
-use Rattle.records.specs.declared.State.{State}
+use Rattle.token_records.specs.declared.State.{State}
 use Rattle.turns.specs.Turn as T
 
 abbrev pub Ready : ℕ → Slice → State → Cursor → Slice → Slice → Type 0

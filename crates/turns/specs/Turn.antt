@@ -13,7 +13,7 @@ use Rattle.definition.specs.Tokenizer.{Turn, goes, refused}
 use Rattle.source.specs.Place.{Stands, rest}
 use Rattle.source.specs.declared.Cursor.{Cursor}
 use Rattle.scan.specs.Scan.{Wrote, Asks}
-use Rattle.records.specs.declared.State.{State}
+use Rattle.token_records.specs.declared.State.{State}
 
 -- the state at another place, and with more text
 abbrev pub at-text : State → Cursor → ℕ → State

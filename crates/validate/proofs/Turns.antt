@@ -16,7 +16,7 @@ use Rattle.definition.specs.Token.{Tok}
 use Rattle.definition.specs.Records.{TokenWords, words-at, has-text, valid-alone, comes-after, valid-after, place-of, text-end, token-of, token-before, tokens-of, error-at, valid-error, error-of, error-before, errors-of}
 use Rattle.definition.specs.Operations.{both, validate}
 use Rattle.definition.proofs.Tests.{clash}
-use Rattle.records.specs.Push.{spot}
+use Rattle.token_records.specs.Push.{spot}
 use Rattle.validate.specs.declared.Previous.{Previous}
 
 -- an answer that is there if a test passes

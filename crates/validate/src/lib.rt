@@ -1,12 +1,12 @@
 // What Read is handed, tested: the counts, the slices' lengths, and each record.
 use definition::limit;
 use definition::token_error;
-use records::PLACES;
-use records::Words;
-use records::between;
-use records::has_text;
-use records::valid_alone;
-use records::words_at;
+use token_records::PLACES;
+use token_records::Words;
+use token_records::between;
+use token_records::has_text;
+use token_records::valid_alone;
+use token_records::words_at;
 ghost use mathlib.Core.Path.{_≡_};
 ghost use Prim.Native.Nat.{_*_, _≤_};
 ghost use lib.ListN.{length};
@@ -14,7 +14,7 @@ ghost use Rattle.definition.specs.Slices.{at-entry};
 ghost use Rattle.definition.specs.Records as R;
 ghost use Rattle.definition.specs.Operations as O;
 ghost use Rattle.definition.specs.Source.{nowhere, is-some};
-ghost use Rattle.records.specs.Tested.{words-of};
+ghost use Rattle.token_records.specs.Tested.{words-of};
 ghost use Rattle.validate.specs.Contract.{previous-place};
 
 // ---- tokens

@@ -1,6 +1,6 @@
 use Rattle.validate.proofs.Turns.{early, behind}
-use Rattle.records.specs.Push.{spot}
-use Rattle.records.specs.Tested.{words-of}
+use Rattle.token_records.specs.Push.{spot}
+use Rattle.token_records.specs.Tested.{words-of}
 use mathlib.Core.Bool.{true, false}
 use borrow.Author.Needs.{needs}
 use Rattle.validate.proofs.valid_after.Statement.{statement}
