@@ -9,7 +9,7 @@ use std::io::Write;
 
 /// The lists and where they are stored.
 const STORED: [(&str, &str); 3] = [
-    ("tokens", "crates/replay/stdin"),
+    ("tokens", "crates/replay_tokens/stdin"),
     ("records", "crates/replay_read/stdin"),
     ("files", "crates/replay_files/stdin"),
 ];

@@ -1,12 +1,12 @@
 // Reads a list of scripts with the tree files that the whole operation should give (beside/README.md has its
 // format) from standard input, and writes how many agree and how many differ, and the number of the first that
 // differs.
-use cases::Counts;
-use cases::Found;
-use cases::long;
-use cases::three;
-use cases::wide;
 use libc::STDIN_FILENO;
+use replay_cases::Counts;
+use replay_cases::Found;
+use replay_cases::long;
+use replay_cases::three;
+use replay_cases::wide;
 
 // What the file slice holds before each call.
 const FILLER: u8 = 165;
@@ -81,10 +81,10 @@ fn script_agrees(o: Opening) -> bool {
     let mut script = [0u8; SCRIPT];
     let mut file = [FILLER; FILE];
     let mut expected = [rest(o.number); FILE];
-    if !cases::fill(&mut script, o.script_bytes) {
+    if !replay_cases::fill(&mut script, o.script_bytes) {
         return false;
     }
-    if !cases::fill(&mut expected, o.bytes) {
+    if !replay_cases::fill(&mut expected, o.bytes) {
         return false;
     }
     parts_agree(&script, &mut file, &expected, o)
@@ -99,24 +99,24 @@ fn case() -> Found {
     if got != 10 {
         return Found::Differs;
     }
-    cases::compared(script_agrees(opened(&b)))
+    replay_cases::compared(script_agrees(opened(&b)))
 }
 
 // A list has fewer cases than this.
 const MOST: u64 = 1000000000;
 
 fn all_cases() -> Counts {
-    let mut counts = cases::none();
+    let mut counts = replay_cases::none();
     for turn in 0..MOST {
         let found = case();
-        if cases::is_end(found) {
+        if replay_cases::is_end(found) {
             return counts;
         }
-        counts = cases::counted(counts, found);
+        counts = replay_cases::counted(counts, found);
     }
     counts
 }
 
 fn main() {
-    cases::print(all_cases());
+    replay_cases::print(all_cases());
 }

@@ -1,13 +1,13 @@
 // Reads a list of records with the answers that Read and Token text should give (beside/README.md has its format)
 // from standard input, and writes how many agree and how many differ, and the number of the first that differs.
-use cases::Counts;
-use cases::Found;
-use cases::four;
-use cases::long;
-use cases::pair;
-use cases::three;
-use cases::wide;
 use libc::STDIN_FILENO;
+use replay_cases::Counts;
+use replay_cases::Found;
+use replay_cases::four;
+use replay_cases::long;
+use replay_cases::pair;
+use replay_cases::three;
+use replay_cases::wide;
 
 // What the file slice holds before each call.
 const FILLER: u8 = 165;
@@ -202,10 +202,10 @@ fn slices_agree(o: Opening) -> bool {
     if !read_words(&mut errors, o.error_words) {
         return false;
     }
-    if !cases::fill(&mut text, o.text_bytes) {
+    if !replay_cases::fill(&mut text, o.text_bytes) {
         return false;
     }
-    if !cases::fill(&mut expected, o.bytes) {
+    if !replay_cases::fill(&mut expected, o.bytes) {
         return false;
     }
     parts_agree(&tokens, &errors, &text, &mut file, &expected, o)
@@ -220,24 +220,24 @@ fn case() -> Found {
     if got != 32 {
         return Found::Differs;
     }
-    cases::compared(slices_agree(opened(&b)))
+    replay_cases::compared(slices_agree(opened(&b)))
 }
 
 // A list has fewer cases than this.
 const MOST: u64 = 1000000000;
 
 fn all_cases() -> Counts {
-    let mut counts = cases::none();
+    let mut counts = replay_cases::none();
     for turn in 0..MOST {
         let found = case();
-        if cases::is_end(found) {
+        if replay_cases::is_end(found) {
             return counts;
         }
-        counts = cases::counted(counts, found);
+        counts = replay_cases::counted(counts, found);
     }
     counts
 }
 
 fn main() {
-    cases::print(all_cases());
+    replay_cases::print(all_cases());
 }

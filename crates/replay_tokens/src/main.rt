@@ -1,13 +1,13 @@
 // Reads a list of scripts with the answers that Tokenise should give (beside/README.md has its format) from
 // standard input, and writes how many agree and how many differ, and the number of the first that differs.
-use cases::Counts;
-use cases::Found;
-use cases::fill;
-use cases::long;
-use cases::pair;
-use cases::three;
-use cases::wide;
 use libc::STDIN_FILENO;
+use replay_cases::Counts;
+use replay_cases::Found;
+use replay_cases::fill;
+use replay_cases::long;
+use replay_cases::pair;
+use replay_cases::three;
+use replay_cases::wide;
 use tokenizer::Tokenized;
 
 // What the slices hold before each call.
@@ -253,24 +253,24 @@ fn case() -> Found {
     if got != 19 {
         return Found::Differs;
     }
-    cases::compared(script_agrees(opened(&b)))
+    replay_cases::compared(script_agrees(opened(&b)))
 }
 
 // A list has fewer cases than this.
 const MOST: u64 = 1000000000;
 
 fn all_cases() -> Counts {
-    let mut counts = cases::none();
+    let mut counts = replay_cases::none();
     for turn in 0..MOST {
         let found = case();
-        if cases::is_end(found) {
+        if replay_cases::is_end(found) {
             return counts;
         }
-        counts = cases::counted(counts, found);
+        counts = replay_cases::counted(counts, found);
     }
     counts
 }
 
 fn main() {
-    cases::print(all_cases());
+    replay_cases::print(all_cases());
 }

@@ -1,8 +1,8 @@
--- `replay::records_agree` is safe and ends. The measure is the number of records that are left. Assumes nothing.
+-- `replay_tokens::records_agree` is safe and ends. The measure is the number of records that are left. Assumes nothing.
 use borrow.Author.Needs.{needs}
 use Prim.Native.Nat.{_-_}
-use Rattle.replay.proofs.records_agree.Statement.{statement}
-use Rattle.replay.proofs.records_agree.Tie as tie
+use Rattle.replay_tokens.proofs.records_agree.Statement.{statement}
+use Rattle.replay_tokens.proofs.records_agree.Tie as tie
 
 abbrev Inv-loop : tie.InvT-loop
 Inv-loop words count are-tokens agree₀ at₀ agree at = Unit {0}

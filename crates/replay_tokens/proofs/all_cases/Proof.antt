@@ -1,8 +1,8 @@
--- `replay::all_cases` is safe and ends. The measure is the number of turns that are left. Assumes nothing.
+-- `replay_tokens::all_cases` is safe and ends. The measure is the number of turns that are left. Assumes nothing.
 use borrow.Author.Needs.{needs}
 use Prim.Native.Nat.{_-_}
-use Rattle.replay.proofs.all_cases.Statement.{statement}
-use Rattle.replay.proofs.all_cases.Tie as tie
+use Rattle.replay_tokens.proofs.all_cases.Statement.{statement}
+use Rattle.replay_tokens.proofs.all_cases.Tie as tie
 
 abbrev Inv-loop : tie.InvT-loop
 Inv-loop counts₀ turn₀ counts turn = Unit {0}

@@ -1,10 +1,10 @@
--- `replay::words_are` is safe and ends. The measure is the number of words that are left. Assumes nothing.
+-- `replay_tokens::words_are` is safe and ends. The measure is the number of words that are left. Assumes nothing.
 use borrow.Author.Needs.{needs}
 use mathlib.Core.Path.{_≡_}
 use Prim.Native.Nat.{_-_}
 use lib.ListN.{length}
-use Rattle.replay.proofs.words_are.Statement.{statement}
-use Rattle.replay.proofs.words_are.Tie as tie
+use Rattle.replay_tokens.proofs.words_are.Statement.{statement}
+use Rattle.replay_tokens.proofs.words_are.Tie as tie
 
 abbrev Inv-loop : tie.InvT-loop
 Inv-loop words from word at₀ at-end at = at-end ≡ length words
