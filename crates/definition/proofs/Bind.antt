@@ -5,7 +5,7 @@ use lib.Dec.{ltb}
 use lib.ListN.{length}
 use Rattle.definition.specs.Fallible.{Ans}
 use Rattle.definition.specs.Token.{head}
-use Rattle.definition.specs.Act.{Node, Goal, Loop, Left, Act, done, peek, take, make, if_then_else_, call, loop, panic, St, Res, gives, refused, after, advance, push, run, _>>=_}
+use Rattle.definition.specs.Act.{Node, Goal, Loop, Left, Act, done, peek, consume, make, if_then_else_, call, loop, panic, St, Res, gives, refused, after, advance, push, run, _>>=_}
 
 cut : {A B : Type 0} (b : Bool) (r : Res B) (q : Res A) (f : A → St → Res B) → r ≡ after q f
     → _≡_ {A = Res B} (elim b as (λ _. Res B) [ true ↦ r | false ↦ refused 12 ])
@@ -24,7 +24,7 @@ pub run-bind : {A B : Type 0} (c : Goal → St → Res (Ans Node)) (o : (l : Loo
 unfolding run _>>=_
 run-bind c o (done a) f s = refl
 run-bind c o (peek k) f s = run-bind c o (k (head (s .left))) f s
-run-bind c o (take r k) f s = run-bind c o (k (head (s .left))) f (advance r s)
+run-bind c o (consume r k) f s = run-bind c o (k (head (s .left))) f (advance r s)
 run-bind {A} {B} c o (make e m) f s =
     cut (ltb (length (s .full)) 255) (run c o (m >>= f) (push e s)) (run c o m (push e s))
     (λ a t. run c o (f a) t) (run-bind c o m f (push e s))

@@ -8,7 +8,7 @@ use lib.Dec.{ltb}
 use lib.ListN.{length, length-append}
 use Rattle.definition.specs.Fallible.{Err, Ans}
 use Rattle.definition.specs.Token.{Tok, head, tail}
-use Rattle.definition.specs.Act.{Node, Goal, Loop, Module, Left, Act, done, peek, take, make, if_then_else_, call, loop, panic, St, begin, Res, gives, refused, advance, push, run}
+use Rattle.definition.specs.Act.{Node, Goal, Loop, Module, Left, Act, done, peek, consume, make, if_then_else_, call, loop, panic, St, begin, Res, gives, refused, advance, push, run}
 use Rattle.definition.specs.Parser.{rule, turn, loops, parse, parse-module, no-items}
 use Rattle.definition.proofs.Later.{Later, later-refl, later-trans, later-advance, later-push, later-full, After, weaken}
 use Rattle.definition.proofs.Ind.{join, limit, wp, each, each-ans}
@@ -24,7 +24,7 @@ module _ (c : Goal → St → Res (Ans Node)) (o : (l : Loop) → St → Res (Le
   unfolding run
   run-later (done a) s₀ s l = l
   run-later (peek k) s₀ s l = run-later (k (head (s .left))) s₀ s l
-  run-later (take r k) s₀ s l = run-later (k (head (s .left))) s₀ (advance r s) (later-trans l (later-advance r s))
+  run-later (consume r k) s₀ s l = run-later (k (head (s .left))) s₀ (advance r s) (later-trans l (later-advance r s))
   run-later (make e m) s₀ s l =
       limit (λ a s′. Later s₀ s′) (ltb (length (s .full)) 255) (run c o m (push e s))
       (λ _. run-later m s₀ (push e s) (later-trans l (later-push e s)))
@@ -93,7 +93,7 @@ module _ (G : Goal → St → Ans Node → St → Type 0) (L : (l : Loop) → St
     unfolding run
     clean-sound Q (done a) s i h = (later-refl s, λ k. h)
     clean-sound Q (peek k) s i h = clean-sound Q (k (head (s .left))) s i h
-    clean-sound Q (take r k) s i h =
+    clean-sound Q (consume r k) s i h =
         on-the-way Q s (advance r s) (run c o (k (head (s .left))) (advance r s)) (later-advance r s)
         (λ q. clean-sound Q (k (head (s .left))) (advance r s) (I-tail (s .left) i) (h i))
         (run-later c o c-later o-later (k (head (s .left))) (advance r s) (advance r s) (later-refl (advance r s)))

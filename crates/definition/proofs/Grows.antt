@@ -9,7 +9,7 @@ use lib.ListN.{length}
 use Rattle.definition.specs.Kind as K
 use Rattle.definition.specs.Token.{Tok, head, tail, _is_, end-token}
 use Rattle.definition.specs.Fallible.{Ans, Err, ok, fatal}
-use Rattle.definition.specs.Act.{Node, Goal, Statement, Expression, Unary, Type', Loop, Left, Act, done, peek, take, make, if_then_else_, call, loop, panic, St, advance, push, _>>=_}
+use Rattle.definition.specs.Act.{Node, Goal, Statement, Expression, Unary, Type', Loop, Left, Act, done, peek, consume, make, if_then_else_, call, loop, panic, St, advance, push, _>>=_}
 use Rattle.definition.specs.Parser as P
 use Rattle.definition.specs.Parser.{rule, turn, statement-rule, expression-rule, unary-rule, type-rule, parse-body, expression-statement, parse-call, parse-sizeof, parse-field-access-or-index, parse-atom, prefix, parse-comparison}
 use Rattle.definition.proofs.Tests.{clash, never-both, is-kind}
@@ -48,7 +48,7 @@ there k h (t ∷ ts) i = omega arith
 stays : {A : Type 0} (s₀ : St) (m : Act A) (s : St) → Shorter s₀ s → wp G L R M m (λ a s′. Shorter s₀ s′) s
 stays s₀ (done a) s h = h
 stays s₀ (peek k) s h = stays s₀ (k (head (s .left))) s h
-stays s₀ (take r k) s h = λ _. stays s₀ (k (head (s .left))) (advance r s) (omega (arith, tail-le (s .left)))
+stays s₀ (consume r k) s h = λ _. stays s₀ (k (head (s .left))) (advance r s) (omega (arith, tail-le (s .left)))
 stays s₀ (make e m) s h = λ _. stays s₀ m (push e s) h
 stays s₀ (if_then_else_ b m n) s h = (λ e. stays s₀ m s h, λ e. stays s₀ n s h)
 stays s₀ (call g k) s h = (
@@ -65,7 +65,7 @@ stays s₀ panic s h = tt
 abbrev Reads : {A : Type 0} → Act A → Type 0
 Reads (done a) = ⊥
 Reads (peek k) = (t : Tok) → t is K.End ≡ false → Reads (k t)
-Reads (take r k) = Unit {0}
+Reads (consume r k) = Unit {0}
 Reads (make e m) = ⊥
 Reads (if_then_else_ b m n) = (b ≡ true → Reads m) × (b ≡ false → Reads n)
 Reads (call g k) = Unit {0}
@@ -75,7 +75,7 @@ Reads panic = Unit {0}
 reads : {A : Type 0} (s : St) (m : Act A) → head (s .left) is K.End ≡ false → Reads m → wp G L R M m (λ a s′. Shorter s s′) s
 reads s (done a) e r = absurd r
 reads s (peek k) e r = reads s (k (head (s .left))) e (r (head (s .left)) e)
-reads s (take p k) e r = λ _. stays s (k (head (s .left))) (advance p s) (tail-lt (s .left) e)
+reads s (consume p k) e r = λ _. stays s (k (head (s .left))) (advance p s) (tail-lt (s .left) e)
 reads s (make x m) e r = absurd r
 reads s (if_then_else_ b m n) e r = (λ d. reads s m e (r .0 d), λ d. reads s n e (r .1 d))
 reads s (call g k) e r = (λ x s′ l p. stays s (k (ok x)) s′ (p e), λ es s′ l p. stays s (k (fatal es)) s′ (p e))

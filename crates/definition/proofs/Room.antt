@@ -12,7 +12,7 @@ use Rattle.definition.specs.Source.{Place}
 use Rattle.definition.specs.Node.{Num, byte, two, eight, Rec, at-place, nums-bytes, rec-bytes, recs-bytes}
 use Rattle.definition.specs.Fallible.{Err, errs-bytes, Ans}
 use Rattle.definition.specs.Token.{Tok, head, _is_}
-use Rattle.definition.specs.Act.{Node, Items, Goal, Loop, Module, Body, ListOf, Operators, Casts, Suffixes, Modifiers, Left, Act, done, peek, take, make, if_then_else_, call, loop, panic, St, begin, Res, gives, advance, push, run}
+use Rattle.definition.specs.Act.{Node, Items, Goal, Loop, Module, Body, ListOf, Operators, Casts, Suffixes, Modifiers, Left, Act, done, peek, consume, make, if_then_else_, call, loop, panic, St, begin, Res, gives, advance, push, run}
 use Rattle.definition.specs.Parser as P
 use Rattle.definition.specs.Parser.{rule, turn, loops, parse, parse-module}
 use Rattle.definition.specs.Operations.{whole, file-bytes}
@@ -88,7 +88,7 @@ module _ (c : Goal → St → Res (Ans Node)) (o : (l : Loop) → St → Res (Le
   unfolding run
   run-few (done a) s h = h
   run-few (peek k) s h = run-few (k (head (s .left))) s h
-  run-few (take r k) s h = run-few (k (head (s .left))) (advance r s) h
+  run-few (consume r k) s h = run-few (k (head (s .left))) (advance r s) h
   run-few (make e m) s h =
       limit Few (ltb (length (s .full)) 255) (run c o m (push e s)) (λ t. run-few m (push e s)
       (omega (arith, ltb→lt (length (s .full)) 255 t, length-append (s .full) (e ∷ []))))

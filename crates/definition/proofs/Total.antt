@@ -11,7 +11,7 @@ use Rattle.definition.specs.Kind as K
 use Rattle.definition.specs.Fallible.{Ans, ok, fatal}
 use Rattle.definition.specs.Node.{byte}
 use Rattle.definition.specs.Token.{Tok, head, tail, _is_}
-use Rattle.definition.specs.Act.{Node, Goal, Loop, Module, Body, ListOf, Operators, Casts, Suffixes, Modifiers, Listed, Parameters, Arguments, StructFields, ArrayValues, StructValues, Left, Consumed, Act, done, peek, take, make, if_then_else_, call, loop, panic, St, begin, Res, gives, refused, after, plain, advance, push, run, next, _>>=_, _>>?_}
+use Rattle.definition.specs.Act.{Node, Goal, Loop, Module, Body, ListOf, Operators, Casts, Suffixes, Modifiers, Listed, Parameters, Arguments, StructFields, ArrayValues, StructValues, Left, Consumed, Act, done, peek, consume, make, if_then_else_, call, loop, panic, St, begin, Res, gives, refused, after, plain, advance, push, run, next, _>>=_, _>>?_}
 use Rattle.definition.specs.Parser as P
 use Rattle.definition.specs.Parser.{rule, turn, loops, parse, parse-module-within, parse-module}
 use Rattle.definition.proofs.Tests.{never-both}
@@ -53,7 +53,7 @@ module _ (n : ℕ) where
   abbrev pub Enough : {A : Type 0} → Act A → (St → Type 0) → St → Type 0
   Enough (done a) Q s = Q s
   Enough (peek k) Q s = Enough (k (head (s .left))) Q s
-  Enough (take r k) Q s = Enough (k (head (s .left))) Q (advance r s)
+  Enough (consume r k) Q s = Enough (k (head (s .left))) Q (advance r s)
   Enough (make e m) Q s = Enough m Q (push e s)
   Enough (if_then_else_ b m m′) Q s = (b ≡ true → Enough m Q s) × (b ≡ false → Enough m′ Q s)
   Enough (call g k) Q s = (a : Ans Node) (s′ : St) → Later s s′ → Called s s′ → Enough (k a) Q s′
@@ -65,7 +65,7 @@ module _ (n : ℕ) where
       → ((s′ : St) → length (s′ .left) ≤ length (s .left) → Q s′) → Enough m Q s
   plenty (done a) Q s₀ s z h q = q s (omega arith)
   plenty (peek k) Q s₀ s z h q = plenty (k (head (s .left))) Q s₀ s z h q
-  plenty (take r k) Q s₀ s z h q =
+  plenty (consume r k) Q s₀ s z h q =
       plenty (k (head (s .left))) Q s₀ (advance r s) (later-trans z (later-advance r s))
       (omega (arith, Gr.tail-le (s .left))) (λ s′ d. q s′ (omega (arith, Gr.tail-le (s .left))))
   plenty (make e m) Q s₀ s z h q = plenty m Q s₀ (push e s) (later-trans z (later-push e s)) h q
@@ -85,7 +85,7 @@ module _ (n : ℕ) where
   unfolding _>>=_
   enough-bind (done a) f P Q s h q = q a s h
   enough-bind (peek k) f P Q s h q = enough-bind (k (head (s .left))) f P Q s h q
-  enough-bind (take r k) f P Q s h q = enough-bind (k (head (s .left))) f P Q (advance r s) h q
+  enough-bind (consume r k) f P Q s h q = enough-bind (k (head (s .left))) f P Q (advance r s) h q
   enough-bind (make e m) f P Q s h q = enough-bind m f P Q (push e s) h q
   enough-bind (if_then_else_ b m m′) f P Q s h q = (λ d. enough-bind m f P Q s (h .0 d) q, λ d. enough-bind m′ f P Q s (h .1 d) q)
   enough-bind (call g k) f P Q s h q = λ a s′ l c. enough-bind (k a) f P Q s′ (h a s′ l c) q
@@ -96,7 +96,7 @@ module _ (n : ℕ) where
   abbrev First : {A : Type 0} → Act A → Type 0
   First (done a) = ⊥
   First (peek k) = (t : Tok) → First (k t)
-  First (take r k) = Unit {0}
+  First (consume r k) = Unit {0}
   First (make e m) = ⊥
   First (if_then_else_ b m m′) = (b ≡ true → First m) × (b ≡ false → First m′)
   First (call g k) = Unit {0}
@@ -109,7 +109,7 @@ module _ (n : ℕ) where
   begins : {A : Type 0} (m : Act A) (s : St) → head (s .left) is K.End ≡ false → First m → 1 + length (s .left) ≤ n → Enough m (Less s) s
   begins (done a) s e r h = absurd r
   begins (peek k) s e r h = begins (k (head (s .left))) s e (r (head (s .left))) h
-  begins (take p k) s e r h =
+  begins (consume p k) s e r h =
       plenty (k (head (s .left))) (Less s) s (advance p s) (later-advance p s)
       (omega (arith, Gr.tail-lt (s .left) e)) (λ s′ d. omega (arith, Gr.tail-lt (s .left) e))
   begins (make x m) s e r h = absurd r
@@ -134,7 +134,7 @@ module _ (n : ℕ) where
     unfolding run
     run-moves (done a) Q s h = tt
     run-moves (peek k) Q s h = run-moves (k (head (s .left))) Q s h
-    run-moves (take r k) Q s h = run-moves (k (head (s .left))) Q (advance r s) h
+    run-moves (consume r k) Q s h = run-moves (k (head (s .left))) Q (advance r s) h
     run-moves (make e m) Q s h = limited (ltb (length (s .full)) 255) (run c o m (push e s)) (run-moves m Q (push e s) h)
     run-moves (if_then_else_ true m m′) Q s h = run-moves m Q s (h .0 refl)
     run-moves (if_then_else_ false m m′) Q s h = run-moves m′ Q s (h .1 refl)

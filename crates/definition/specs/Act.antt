@@ -64,7 +64,7 @@ pub data Role : Type 0 where
 pub data Act (A : Type 0) : Type 0 where
   done : A → Act A  -- return
   peek : (Tok → Act A) → Act A  -- self.tokens.peek()
-  take : (Tok → Role) → (Tok → Act A) → Act A  -- self.tokens.next(), and the token's role, by the token after it
+  consume : (Tok → Role) → (Tok → Act A) → Act A  -- self.tokens.next(), and the token's role, by the token after it
   make : Err → Act A → Act A  -- ParseError::new(..)
   if_then_else_ : Bool → Act A → Act A → Act A
   call : Goal → (Ans Node → Act A) → Act A  -- a call of one of the four
@@ -73,7 +73,7 @@ pub data Act (A : Type 0) : Type 0 where
 
 infix 10 if_then_else_
 abbrev pub next-as : {A : Type 0} → Role → (Tok → Act A) → Act A
-next-as r k = take (λ _. r) k
+next-as r k = consume (λ _. r) k
 
 abbrev pub next : {A : Type 0} → (Tok → Act A) → Act A
 next k = next-as plain k
@@ -82,7 +82,7 @@ infixr 20 _>>=_
 unfoldable pub _>>=_ : {A B : Type 0} → Act A → (A → Act B) → Act B
 done a >>= f = f a
 peek k >>= f = peek (λ t. k t >>= f)
-take r k >>= f = take r (λ t. k t >>= f)
+consume r k >>= f = consume r (λ t. k t >>= f)
 make e m >>= f = make e (m >>= f)
 if_then_else_ b m n >>= f = if b then (m >>= f) else (n >>= f)
 call g k >>= f = call g (λ a. k a >>= f)
@@ -136,7 +136,7 @@ after (refused n) f = refused n
 unfoldable pub run : {A : Type 0} → (Goal → St → Res (Ans Node)) → ((l : Loop) → St → Res (Left l)) → Act A → St → Res A
 run c o (done a) s = gives a s
 run c o (peek k) s = run c o (k (head (s .left))) s
-run c o (take r k) s = run c o (k (head (s .left))) (advance r s)
+run c o (consume r k) s = run c o (k (head (s .left))) (advance r s)
 run c o (make e m) s = elim (ltb (length (s .full)) 255) [ true ↦ run c o m (push e s) | false ↦ refused 12 ]
 run c o (if_then_else_ b m n) s = elim b [ true ↦ run c o m s | false ↦ run c o n s ]
 run c o (call g k) s = after (c g s) (λ a s′. run c o (k a) s′)

@@ -14,7 +14,7 @@ use Rattle.definition.specs.Node.{Rec, Num, byte, two, eight}
 use Rattle.definition.specs.Fallible.{Err, Fallible, Ans, ok, fatal}
 use Rattle.definition.specs.Choice.{pick}
 use Rattle.definition.specs.Token.{Tok, _is_, number, dashed}
-use Rattle.definition.specs.Act.{Node, Items, Goal, Statement, Expression, Unary, Type', Listed, Parameters, Arguments, StructFields, ArrayValues, StructValues, Level, BitOr, BitXor, BitAnd, Shift, AddSub, Mul, Words, Loop, Module, Body, ListOf, Operators, Casts, Suffixes, Modifiers, Left, Role, plain, group, final, size, Act, done, peek, take, make, if_then_else_, call, loop, panic, next, next-as, _>>=_, _>>?_, St, begin, Res, refused, run}
+use Rattle.definition.specs.Act.{Node, Items, Goal, Statement, Expression, Unary, Type', Listed, Parameters, Arguments, StructFields, ArrayValues, StructValues, Level, BitOr, BitXor, BitAnd, Shift, AddSub, Mul, Words, Loop, Module, Body, ListOf, Operators, Casts, Suffixes, Modifiers, Left, Role, plain, group, final, size, Act, done, peek, consume, make, if_then_else_, call, loop, panic, next, next-as, _>>=_, _>>?_, St, begin, Res, refused, run}
 
 -- ---- answers
 
@@ -148,7 +148,7 @@ comma-role k t = pick (t is closer k) final plain
 unfoldable pub after-item : Listed → Items → Act Items
 after-item k i =
     peek λ t.
-    if t is K.Comma then (take (comma-role k) λ _. loop (ListOf k i) done) else
+    if t is K.Comma then (consume (comma-role k) λ _. loop (ListOf k i) done) else
     if t is closer k then loop (ListOf k i) done else
     if t is K.End then loop (ListOf k i) done else
     (next λ t. let e = error E.InList (t .place) 0 (t .kind) in make e (loop (ListOf k (with-error i e)) done))
