@@ -23,8 +23,8 @@ module _ (c : Goal → St → Res (Ans Node)) (o : (l : Loop) → St → Res (Le
   pub run-later : {A : Type 0} (m : Act A) (s₀ s : St) → Later s₀ s → After (λ a s′. Later s₀ s′) (run c o m s)
   unfolding run
   run-later (done a) s₀ s l = l
-  run-later (peek k) s₀ s l = run-later (k (head (s .left))) s₀ s l
-  run-later (consume r k) s₀ s l = run-later (k (head (s .left))) s₀ (advance r s) (later-trans l (later-advance r s))
+  run-later (peek k) s₀ s l = run-later (k (head (s .tokens))) s₀ s l
+  run-later (consume r k) s₀ s l = run-later (k (head (s .tokens))) s₀ (advance r s) (later-trans l (later-advance r s))
   run-later (make e m) s₀ s l =
       limit (λ a s′. Later s₀ s′) (ltb (length (s .full)) 255) (run c o m (push e s))
       (λ _. run-later m s₀ (push e s) (later-trans l (later-push e s)))
@@ -49,15 +49,15 @@ pub parse-later : (n : ℕ) (g : Goal) (s : St) → After (λ a s′. Later s s�
 unfolding parse
 parse-later zero g s = tt
 parse-later (suc n) g s =
-    run-later (λ h t. parse n h t) (λ l t. loops (λ h u. parse n h u) (suc (suc (length (t .left)))) l t) (λ h t. parse-later n h t)
-    (λ l t. loops-later (λ h u. parse n h u) (λ h u. parse-later n h u) (suc (suc (length (t .left)))) l t) (rule g) s s (later-refl s)
+    run-later (λ h t. parse n h t) (λ l t. loops (λ h u. parse n h u) (suc (suc (length (t .tokens)))) l t) (λ h t. parse-later n h t)
+    (λ l t. loops-later (λ h u. parse n h u) (λ h u. parse-later n h u) (suc (suc (length (t .tokens)))) l t) (rule g) s s (later-refl s)
 
 -- I: what holds of the tokens left, whatever is read
 module _ (G : Goal → St → Ans Node → St → Type 0) (L : (l : Loop) → St → Left l → St → Type 0)
     (I : List Tok → Type 0) (I-tail : (ts : List Tok) → I ts → I (tail ts))
-    (I-later : (s s′ : St) → Later s s′ → I (s .left) → I (s′ .left)) where
+    (I-later : (s s′ : St) → Later s s′ → I (s .tokens) → I (s′ .tokens)) where
   abbrev pub Known : St → Type 0
-  Known s = I (s .left)
+  Known s = I (s .tokens)
 
   abbrev pub Never : Err → St → Type 0
   Never e s = ⊥
@@ -70,8 +70,8 @@ module _ (G : Goal → St → Ans Node → St → Type 0) (L : (l : Loop) → St
   Kept s Q a s′ = Later s s′ × (Clean s s′ → Q a s′)
 
   module _ (c : Goal → St → Res (Ans Node)) (o : (l : Loop) → St → Res (Left l))
-      (c-ok : (g : Goal) (s : St) → I (s .left) → After (Kept s (G g s)) (c g s))
-      (o-ok : (l : Loop) (s : St) → I (s .left) → After (Kept s (L l s)) (o l s))
+      (c-ok : (g : Goal) (s : St) → I (s .tokens) → After (Kept s (G g s)) (c g s))
+      (o-ok : (l : Loop) (s : St) → I (s .tokens) → After (Kept s (L l s)) (o l s))
       (c-later : (g : Goal) (s : St) → After (λ a s′. Later s s′) (c g s)) (o-later : (l : Loop) (s : St) → After (λ a s′. Later s s′) (o l s)) where
     dirty : {A : Type 0} (Q : A → St → Type 0) (e : Err) (s : St) (r : Res A) → After (λ a s′. Later (push e s) s′) r → After (Kept s Q) r
     dirty Q e s r h =
@@ -89,14 +89,14 @@ module _ (G : Goal → St → Ans Node → St → Type 0) (L : (l : Loop) → St
     )
     on-the-way Q s s′ (refused n) l h k = tt
 
-    pub clean-sound : {A : Type 0} (Q : A → St → Type 0) (m : Act A) (s : St) → I (s .left) → cwp m Q s → After (Kept s Q) (run c o m s)
+    pub clean-sound : {A : Type 0} (Q : A → St → Type 0) (m : Act A) (s : St) → I (s .tokens) → cwp m Q s → After (Kept s Q) (run c o m s)
     unfolding run
     clean-sound Q (done a) s i h = (later-refl s, λ k. h)
-    clean-sound Q (peek k) s i h = clean-sound Q (k (head (s .left))) s i h
+    clean-sound Q (peek k) s i h = clean-sound Q (k (head (s .tokens))) s i h
     clean-sound Q (consume r k) s i h =
-        on-the-way Q s (advance r s) (run c o (k (head (s .left))) (advance r s)) (later-advance r s)
-        (λ q. clean-sound Q (k (head (s .left))) (advance r s) (I-tail (s .left) i) (h i))
-        (run-later c o c-later o-later (k (head (s .left))) (advance r s) (advance r s) (later-refl (advance r s)))
+        on-the-way Q s (advance r s) (run c o (k (head (s .tokens))) (advance r s)) (later-advance r s)
+        (λ q. clean-sound Q (k (head (s .tokens))) (advance r s) (I-tail (s .tokens) i) (h i))
+        (run-later c o c-later o-later (k (head (s .tokens))) (advance r s) (advance r s) (later-refl (advance r s)))
     clean-sound Q (make e m) s i h =
         limit (Kept s Q) (ltb (length (s .full)) 255) (run c o m (push e s))
         (λ _. dirty Q e s (run c o m (push e s)) (run-later c o c-later o-later m (push e s) (push e s) (later-refl (push e s))))
@@ -112,26 +112,26 @@ module _ (G : Goal → St → Ans Node → St → Type 0) (L : (l : Loop) → St
         (run-later c o c-later o-later (k a) s′ s′ (later-refl s′)))
     clean-sound Q panic s i h = tt
 
-  module _ (rules : (g : Goal) (s : St) → I (s .left) → cwp (rule g) (G g s) s)
-      (turns : (l : Loop) (s : St) → I (s .left) → cwp (turn l) (L l s) s) where
-    pub clean-loops : (c : Goal → St → Res (Ans Node)) → ((g : Goal) (s : St) → I (s .left) → After (Kept s (G g s)) (c g s))
+  module _ (rules : (g : Goal) (s : St) → I (s .tokens) → cwp (rule g) (G g s) s)
+      (turns : (l : Loop) (s : St) → I (s .tokens) → cwp (turn l) (L l s) s) where
+    pub clean-loops : (c : Goal → St → Res (Ans Node)) → ((g : Goal) (s : St) → I (s .tokens) → After (Kept s (G g s)) (c g s))
         → ((g : Goal) (s : St) → After (λ a s′. Later s s′) (c g s))
-        → (n : ℕ) (l : Loop) (s : St) → I (s .left) → After (Kept s (L l s)) (loops c n l s)
+        → (n : ℕ) (l : Loop) (s : St) → I (s .tokens) → After (Kept s (L l s)) (loops c n l s)
     unfolding loops
     clean-loops c c-ok c-later zero l s i = tt
     clean-loops c c-ok c-later (suc n) l s i =
         clean-sound c (λ m t. loops c n m t) c-ok (λ m t j. clean-loops c c-ok c-later n m t j) c-later
         (λ m t. loops-later c c-later n m t) (L l s) (turn l) s i (turns l s i)
 
-    pub clean-parse : (n : ℕ) (g : Goal) (s : St) → I (s .left) → After (Kept s (G g s)) (parse n g s)
+    pub clean-parse : (n : ℕ) (g : Goal) (s : St) → I (s .tokens) → After (Kept s (G g s)) (parse n g s)
     unfolding parse
     clean-parse zero g s i = tt
     clean-parse (suc n) g s i =
-        clean-sound (λ h t. parse n h t) (λ l t. loops (λ h u. parse n h u) (suc (suc (length (t .left)))) l t)
+        clean-sound (λ h t. parse n h t) (λ l t. loops (λ h u. parse n h u) (suc (suc (length (t .tokens)))) l t)
         (λ h t j. clean-parse n h t j)
         (λ l t j. clean-loops (λ h u. parse n h u) (λ h u k. clean-parse n h u k) (λ h u. parse-later n h u)
-        (suc (suc (length (t .left)))) l t j) (λ h t. parse-later n h t)
-        (λ l t. loops-later (λ h u. parse n h u) (λ h u. parse-later n h u) (suc (suc (length (t .left)))) l t)
+        (suc (suc (length (t .tokens)))) l t j) (λ h t. parse-later n h t)
+        (λ l t. loops-later (λ h u. parse n h u) (λ h u. parse-later n h u) (suc (suc (length (t .tokens)))) l t)
         (G g s) (rule g) s i (rules g s i)
 
     pub clean-module : (ts : List Tok) → I ts

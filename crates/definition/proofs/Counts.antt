@@ -29,7 +29,7 @@ pub pay : List Tok → ℕ
 pay ts = length ts + one ts
 
 abbrev budget : St → ℕ
-budget s = pay (s .left)
+budget s = pay (s .tokens)
 
 -- a token that is there is paid with; and its kind tells that it is
 abbrev Paid : List Tok → Type 0
@@ -57,7 +57,7 @@ fewer (t ∷ ts) [] h = omega arith
 fewer (t ∷ ts) (u ∷ us) h = omega arith
 
 abbrev R : St → Type 0
-R s = Paid (s .left)
+R s = Paid (s .tokens)
 
 abbrev M : Err → St → Type 0
 M e s = Unit {0}
@@ -86,12 +86,12 @@ PostTyped k s (fatal es) s′ = budget s′ ≤ budget s
 abbrev PostItems : Items → St → Items → St → Type 0
 PostItems i s a s′ =
     (length (a .recs) + budget s′ ≤ length (i .recs) + budget s)
-    × (a .count + length (s′ .left) ≤ i .count + length (s .left))
+    × (a .count + length (s′ .tokens) ≤ i .count + length (s .tokens))
 
 -- a list, or a body, and the token that opens it
 abbrev PostOpened : St → Items → St → Type 0
 PostOpened s a s′ =
-    (length (a .recs) + one (s .left) + budget s′ ≤ budget s) × (a .count + length (s′ .left) ≤ length (s .left))
+    (length (a .recs) + one (s .tokens) + budget s′ ≤ budget s) × (a .count + length (s′ .tokens) ≤ length (s .tokens))
 
 abbrev G : Goal → St → Ans Node → St → Type 0
 G Statement s a s′ = Post s a s′
@@ -126,7 +126,7 @@ typed-count name es s = omega (arith, is-kind)
 typed-identifier-count : (s : St) → wp′ P.parse-typed-identifier (PostTyped 2 s) s
 unfolding P.parse-typed-identifier ascii
 typed-identifier-count s = λ r. (
-  λ i. named (head (s .left) .text) [] (next-state s) (omega (arith, is-kind)),
+  λ i. named (head (s .tokens) .text) [] (next-state s) (omega (arith, is-kind)),
   λ n. (λ i m. omega arith, λ e m. named (ascii "<?>") _ (push _ (next-state s)) (omega (arith, not-end))),
 )
   where
@@ -175,13 +175,13 @@ type-count s r = (
     t : St
     t = next-state s
 
-    array : 1 + budget t ≤ budget s → wp′ (P.parse-array-type (head (s .left) .place)) (Spared s) t
+    array : 1 + budget t ≤ budget s → wp′ (P.parse-array-type (head (s .tokens) .place)) (Spared s) t
     array b =
-        let p : Place = head (s .left) .place in
+        let p : Place = head (s .tokens) .place in
         via G L R M (P.parse-array-type p) (Spared t) (Spared s) t (array-type-count p t) (omega arith) (omega arith)
 
     made : Items → Act (Ans Node)
-    made i = P.good (P.node (i .recs) 0x14 (head (s .left) .place) (two (i .count) ∷ []) []) []
+    made i = P.good (P.node (i .recs) 0x14 (head (s .tokens) .place) (two (i .count) ∷ []) []) []
 
     struct : 1 + budget t ≤ budget s → wp′ (P.parse-list StructFields >>= made) (Spared s) t
     struct b =
@@ -190,11 +190,11 @@ type-count s r = (
 
 -- ---- expressions
 
-prefix-count : (tag : ℕ) (s : St) → 0 < (head (s .left)) .kind → wp′ (P.prefix tag) (Spared s) s
+prefix-count : (tag : ℕ) (s : St) → 0 < (head (s .tokens)) .kind → wp′ (P.prefix tag) (Spared s) s
 unfolding P.prefix _>>=_
 prefix-count tag s k = simp length-append (omega arith)
 
-group-count : (s : St) → 0 < (head (s .left)) .kind → wp′ P.parse-group (Spared s) s
+group-count : (s : St) → 0 < (head (s .tokens)) .kind → wp′ P.parse-group (Spared s) s
 unfolding P.parse-group _>>=_
 group-count s k = simp length-append (omega arith)
 
@@ -242,7 +242,7 @@ call-count s =
     try G L R M _ _ (Spared s) _ _ (sizeof-count s)
     (λ e s′ p. (
       λ i. follow G L R M _ _ (PostOpened s′) _ _ (list-count Arguments s′)
-          (λ js s″ l q. simp length-append (omega (arith, is-kind, paid (s′ .left)))),
+          (λ js s″ l q. simp length-append (omega (arith, is-kind, paid (s′ .tokens)))),
       λ _. omega arith,
     ))
     (omega arith)
@@ -282,7 +282,7 @@ cascade-count l s = wp-cascade G L R M (Spared s) s (level-count s) (cast-count 
 operators-count : (l : Level) (e : Fallible Node) (s : St) → wp′ (operators-turn l e) (From e s) s
 unfolding operators-turn
 operators-count l e s =
-    wp-find G L R M (P.mapping l) _ _ _ s (head (s .left)) (mapping-positive l)
+    wp-find G L R M (P.mapping l) _ _ _ s (head (s .tokens)) (mapping-positive l)
     (λ k o r. try G L R M (P.cascade l) _ (Spared (next-state s)) _ _ (cascade-count l (next-state s))
     (simp length-append (omega arith)) (omega arith))
     (omega arith)
@@ -293,7 +293,7 @@ comparison-count s =
     try G L R M _ _ (Spared s) _ _ (bitwise-or-count s)
     (λ e s′ p. wp-find G L R M P.comparisons
     (λ o. next λ op. P.parse-bitwise-or >>? λ r. done (ok (P.binary 0x2E (byte o ∷ []) (op .place) e r)))
-    (done (ok e)) (Spared s) s′ (head (s′ .left)) comparisons-positive
+    (done (ok e)) (Spared s) s′ (head (s′ .tokens)) comparisons-positive
     (λ k o r. try G L R M P.parse-bitwise-or _ (Spared (next-state s′)) _ _ (bitwise-or-count (next-state s′))
     (simp length-append (omega arith)) (omega arith))
     (omega arith))
@@ -330,7 +330,7 @@ list-turn-count k i s =
 
     go : (a : Ans Node) (s′ : St) → Later s s′ → Post s a s′ → wp′ (P.after-item k (P.integrate i a)) (PostItems i s) s′
     go (ok x) s′ l p =
-        on (P.integrate i (ok x)) s′ (simp length-append (omega (arith, fewer (s .left) (s′ .left) (omega arith))))
+        on (P.integrate i (ok x)) s′ (simp length-append (omega (arith, fewer (s .tokens) (s′ .tokens) (omega arith))))
     go (fatal es) s′ l p = on (P.integrate i (fatal es)) s′ (omega (arith, later-left l))
 
 compound-count : (s : St) → wp′ P.parse-compound (Post s) s
@@ -387,7 +387,7 @@ body-turn-count i s = (
   λ _. (
     λ e m. omega arith,
     λ _. (
-      λ x s′ l p b s″ l₂. simp length-append (omega (arith, fewer (s .left) (s′ .left) (omega arith))),
+      λ x s′ l p b s″ l₂. simp length-append (omega (arith, fewer (s .tokens) (s′ .tokens) (omega arith))),
       λ es s′ l p b s″ l₂. omega (arith, later-left l),
     ),
   ),
@@ -436,7 +436,7 @@ statement-count s = (
         (omega arith) (omega arith),
     λ _. (
       λ i. follow G L R M P.parse-body _ (PostOpened s) _ _ (body-count s)
-          (simp length-append (omega (arith, is-kind, paid (s .left)))),
+          (simp length-append (omega (arith, is-kind, paid (s .tokens)))),
       λ _. (
         λ i r. simp length-append (omega (arith, is-kind)),
         λ _. (
@@ -487,7 +487,7 @@ function-count p x s r = (
   λ k r₂. (
     λ n. follow G L R M (P.parse-list Parameters) _ (PostOpened u) _ _ (list-count Parameters u) (λ ps v l q. (
       λ a r₃. (λ ty w l z. built ps ty w (omega (arith, is-kind)) (omega arith), λ es w l z. omega arith),
-      λ _. let h : 3 + length (ps .recs) + budget v ≤ budget s = omega (arith, is-kind, last-pays (t .left)) in
+      λ _. let h : 3 + length (ps .recs) + budget v ≤ budget s = omega (arith, is-kind, last-pays (t .tokens)) in
           built ps _ v (omega arith) (omega arith),
     )),
     λ _. (λ e m. omega arith, λ _ m. omega arith),
@@ -502,7 +502,7 @@ function-count p x s r = (
     u = next-state t
 
     name : Tok
-    name = head (t .left)
+    name = head (t .tokens)
 
     built : (ps : Items) (ty : Fallible Node) (w : St)
         → ((y : Fallible Node) (s′ : St) → Built ps ty w (ok y) s′ → Post s (ok y) s′)
@@ -561,7 +561,7 @@ module-turn-count i s =
   where
     go : (a : Ans Node) (s′ : St) → Later s s′ → Post s a s′ → (b : Items) (s″ : St) → Later s′ s″
         → PostItems (P.integrate i a) s′ b s″ → PostItems i s b s″
-    go (ok x) s′ l p b s″ l₂ = simp length-append (omega (arith, fewer (s .left) (s′ .left) (omega arith)))
+    go (ok x) s′ l p b s″ l₂ = simp length-append (omega (arith, fewer (s .tokens) (s′ .tokens) (omega arith)))
     go (fatal es) s′ l p b s″ l₂ = omega (arith, later-left l)
 
 rules : (g : Goal) (s : St) → wp′ (rule g) (G g s) s
@@ -593,7 +593,7 @@ Few ts i s = (length (i .recs) ≤ 1 + length ts) × (i .count ≤ length ts)
 module-count : (ts : List Tok) → After (Few ts) (parse-module ts)
 module-count ts =
     weaken (parse-module ts) (λ i s p. omega (arith, pay-bound ts))
-    (module-ind G L R M (λ s. paid (s .left)) (λ e s. tt) rules turns ts)
+    (module-ind G L R M (λ s. paid (s .tokens)) (λ e s. tt) rules turns ts)
 
 module _ (ts : List Tok) (i : Items) (s : St) (g : parse-module ts ≡ gives i s) where
   few : Few ts i s

@@ -31,12 +31,12 @@ same-cut false r r′ e = refl
 -- two ways to carry loops out that agree where a loop has its turns
 module _ (n : ℕ) (c : Goal → St → Res (Ans Node)) (o o′ : (l : Loop) → St → Res (Left l))
     (c-after : (g : Goal) (s : St) → After (λ a s′. Later s s′ × Called s s′) (c g s))
-    (o-after : (l : Loop) (s : St) → After (λ a s′. Later s s′) (o l s)) (agree : (l : Loop) (s : St) → rank l + length (s .left) ≤ n → o l s ≡ o′ l s) where
+    (o-after : (l : Loop) (s : St) → After (λ a s′. Later s s′) (o l s)) (agree : (l : Loop) (s : St) → rank l + length (s .tokens) ≤ n → o l s ≡ o′ l s) where
   run-same : {A : Type 0} (m : Act A) (Q : St → Type 0) (s : St) → Enough n m Q s → run c o m s ≡ run c o′ m s
   unfolding run
   run-same (done a) Q s h = refl
-  run-same (peek k) Q s h = run-same (k (head (s .left))) Q s h
-  run-same (consume r k) Q s h = run-same (k (head (s .left))) Q (advance r s) h
+  run-same (peek k) Q s h = run-same (k (head (s .tokens))) Q s h
+  run-same (consume r k) Q s h = run-same (k (head (s .tokens))) Q (advance r s) h
   run-same (make e m) Q s h =
       same-cut (ltb (length (s .full)) 255) (run c o m (push e s)) (run c o′ m (push e s))
       (run-same m Q (push e s) h)
@@ -56,11 +56,11 @@ module _ (c : Goal → St → Res (Ans Node)) (c-after : (g : Goal) (s : St) →
   all-later n l s = loops-later c (λ g s. weaken (c g s) (λ a s′ p. p .0) (c-after g s)) n l s
 
   -- more turns than enough change nothing
-  fuel : (n m : ℕ) (l : Loop) (s : St) → rank l + length (s .left) ≤ n → n ≤ m → loops c n l s ≡ loops c m l s
+  fuel : (n m : ℕ) (l : Loop) (s : St) → rank l + length (s .tokens) ≤ n → n ≤ m → loops c n l s ≡ loops c m l s
   unfolding loops
   fuel zero m l s h d = absurd (no l h)
     where
-      no : (l : Loop) → rank l + length (s .left) ≤ 0 → ⊥
+      no : (l : Loop) → rank l + length (s .tokens) ≤ 0 → ⊥
       no (Loop.Module i) h = omega arith
       no (Loop.Body i) h = omega arith
       no (Loop.ListOf k i) h = omega arith
@@ -74,20 +74,20 @@ module _ (c : Goal → St → Res (Ans Node)) (c-after : (g : Goal) (s : St) →
       (λ k t q. fuel n m k t q (omega arith)) (turn l) any s (turn-enough n l s h)
 
   once : (l : Loop) (s : St)
-      → loops c (suc (suc (length (s .left)))) l s
-      ≡ run c (λ k t. loops c (suc (suc (length (t .left)))) k t) (turn l) s
+      → loops c (suc (suc (length (s .tokens)))) l s
+      ≡ run c (λ k t. loops c (suc (suc (length (t .tokens)))) k t) (turn l) s
   unfolding loops
   once l s =
-      run-same (suc (length (s .left))) c (λ k t. loops c (suc (length (s .left))) k t)
-      (λ k t. loops c (suc (suc (length (t .left)))) k t) c-after
-      (λ k t. all-later (suc (length (s .left))) k t) agree (turn l) any s
-      (turn-enough (suc (length (s .left))) l s (omega (arith, rank-le l)))
+      run-same (suc (length (s .tokens))) c (λ k t. loops c (suc (length (s .tokens))) k t)
+      (λ k t. loops c (suc (suc (length (t .tokens)))) k t) c-after
+      (λ k t. all-later (suc (length (s .tokens))) k t) agree (turn l) any s
+      (turn-enough (suc (length (s .tokens))) l s (omega (arith, rank-le l)))
     where
-      agree : (k : Loop) (t : St) → rank k + length (t .left) ≤ suc (length (s .left))
-          → loops c (suc (length (s .left))) k t ≡ loops c (suc (suc (length (t .left)))) k t
+      agree : (k : Loop) (t : St) → rank k + length (t .tokens) ≤ suc (length (s .tokens))
+          → loops c (suc (length (s .tokens))) k t ≡ loops c (suc (suc (length (t .tokens)))) k t
       agree k t q =
-          fuel (suc (length (s .left))) (suc (suc (length (s .left))) + length (t .left)) k t q (omega arith)
-          ∙ sym (fuel (suc (suc (length (t .left)))) (suc (suc (length (s .left))) + length (t .left)) k t
+          fuel (suc (length (s .tokens))) (suc (suc (length (s .tokens))) + length (t .tokens)) k t q (omega arith)
+          ∙ sym (fuel (suc (suc (length (t .tokens)))) (suc (suc (length (s .tokens))) + length (t .tokens)) k t
           (omega (arith, rank-le k)) (omega arith))
 
 nothing : {A : Type 0} (q : Res A) → after q (λ a s. gives a s) ≡ q

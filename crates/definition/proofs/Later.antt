@@ -15,21 +15,21 @@ pub record Later (s s′ : St) : Type 0 where
   pub eaten : List Consumed
   pub made : List Err
   pub read : s′ .read ≡ s .read ++ eaten
-  pub left : s .left ≡ toks eaten ++ s′ .left
+  pub tokens : s .tokens ≡ toks eaten ++ s′ .tokens
   pub full : s′ .full ≡ s .full ++ made
 
 pub later-refl : (s : St) → Later s s
-later-refl s = record { eaten = []; made = []; read = sym (append-nil (s .read)); left = refl; full = sym (append-nil (s .full)) }
+later-refl s = record { eaten = []; made = []; read = sym (append-nil (s .read)); tokens = refl; full = sym (append-nil (s .full)) }
 
 pub later-trans : {s t u : St} → Later s t → Later t u → Later s u
 later-trans {s} {t} {u} p q = record {
   eaten = p .eaten ++ q .eaten;
   made = p .made ++ q .made;
   read = q .read ∙ ap (λ (x : List Consumed). x ++ q .eaten) (p .read) ∙ append-assoc (s .read) (p .eaten) (q .eaten);
-  left =
-      p .left ∙ ap (λ (x : List Tok). toks (p .eaten) ++ x) (q .left)
-      ∙ sym (append-assoc (toks (p .eaten)) (toks (q .eaten)) (u .left))
-      ∙ ap (λ (x : List Tok). x ++ u .left) (sym (map-append (λ (c : Consumed). c .tok) (p .eaten) (q .eaten)));
+  tokens =
+      p .tokens ∙ ap (λ (x : List Tok). toks (p .eaten) ++ x) (q .tokens)
+      ∙ sym (append-assoc (toks (p .eaten)) (toks (q .eaten)) (u .tokens))
+      ∙ ap (λ (x : List Tok). x ++ u .tokens) (sym (map-append (λ (c : Consumed). c .tok) (p .eaten) (q .eaten)));
   full = q .full ∙ ap (λ (x : List Err). x ++ q .made) (p .full) ∙ append-assoc (s .full) (p .made) (q .made);
 }
 
@@ -40,23 +40,23 @@ one-read r (t ∷ ts) = refl
 pub later-advance : (r : Tok → Role) (s : St) → Later s (advance r s)
 later-advance r s =
     record {
-      eaten = now-read r (s .left);
+      eaten = now-read r (s .tokens);
       made = [];
       read = refl;
-      left = one-read r (s .left);
+      tokens = one-read r (s .tokens);
       full = sym (append-nil (s .full));
     }
 
 pub later-push : (e : Err) (s : St) → Later s (push e s)
-later-push e s = record { eaten = []; made = e ∷ []; read = sym (append-nil (s .read)); left = refl; full = refl }
+later-push e s = record { eaten = []; made = e ∷ []; read = sym (append-nil (s .read)); tokens = refl; full = refl }
 
 -- a token is read, with no role of its own
 abbrev pub next-state : St → St
 next-state s = advance (λ _. plain) s
 
 -- the tokens left never grow in number, the errors made never fall
-pub later-left : {s s′ : St} → Later s s′ → length (s′ .left) ≤ length (s .left)
-later-left {s} {s′} p = omega (arith, simp length-append at (ap length (p .left)))
+pub later-left : {s s′ : St} → Later s s′ → length (s′ .tokens) ≤ length (s .tokens)
+later-left {s} {s′} p = omega (arith, simp length-append at (ap length (p .tokens)))
 
 pub later-full : {s s′ : St} → Later s s′ → length (s .full) ≤ length (s′ .full)
 later-full {s} {s′} p = omega (arith, simp length-append at (ap length (p .full)))

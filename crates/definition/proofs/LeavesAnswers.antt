@@ -32,8 +32,8 @@ drop-good : (xs ys : List Tok) → All Good (xs ++ ys) → All Good ys
 drop-good [] ys h = h
 drop-good (x ∷ xs) ys h = drop-good xs ys (h .1)
 
-pub known-later : (s s′ : St) → Later s s′ → Known (s .left) → Known (s′ .left)
-known-later s s′ l h = (drop-good (toks (l .eaten)) (s′ .left) (rw (l .left) at (h .0)), omega (arith, later-left l))
+pub known-later : (s s′ : St) → Later s s′ → Known (s .tokens) → Known (s′ .tokens)
+known-later s s′ l h = (drop-good (toks (l .eaten)) (s′ .tokens) (rw (l .tokens) at (h .0)), omega (arith, later-left l))
 
 -- a token that is there is well formed
 pub good : (ts : List Tok) → Known ts → head ts is K.End ≡ false → Good (head ts)
@@ -49,13 +49,13 @@ good-of k z (t ∷ ts) h i = h .0 .0
 -- one node of the kind is left, and a token was read
 pub record Item (k : ℕ) (s : St) (x : Fallible Node) (s′ : St) : Type 0 where
   pub leaves : Leaves (x .item .recs) (k ∷ [])
-  pub less : length (s′ .left) < length (s .left)
+  pub less : length (s′ .tokens) < length (s .tokens)
 
 -- and its place is one of the script's
 pub record Whole (k : ℕ) (s : St) (x : Fallible Node) (s′ : St) : Type 0 where
   pub leaves : Leaves (x .item .recs) (k ∷ [])
   pub place : Placed 1 (x .item .place)
-  pub less : length (s′ .left) < length (s .left)
+  pub less : length (s′ .tokens) < length (s .tokens)
 
 -- an expression goes on in a loop
 pub record Onward (e : Fallible Node) (x : Fallible Node) (s′ : St) : Type 0 where
@@ -65,7 +65,7 @@ pub record Onward (e : Fallible Node) (x : Fallible Node) (s′ : St) : Type 0 w
 -- a list goes on: as many nodes as are counted, and no more than tokens were read
 pub record Listing (k : ℕ) (i : Items) (s : St) (a : Items) (s′ : St) : Type 0 where
   pub leaves : Leaves (i .recs) (replicate (i .count) k) → Leaves (a .recs) (replicate (a .count) k)
-  pub count : a .count + length (s′ .left) ≤ i .count + length (s .left)
+  pub count : a .count + length (s′ .tokens) ≤ i .count + length (s .tokens)
 
 -- nothing is said of a fatal answer
 abbrev pub If : {A : Type 0} → (Fallible A → St → Type 0) → Ans A → St → Type 0
@@ -98,7 +98,7 @@ L (Suffixes e) s a s′ = If (Onward e) a s′
 L (Modifiers w) s a s′ = w .distinct ≤ 1 → w .internal ≤ 2 → (a .distinct ≤ 1) × (a .internal ≤ 2)
 
 abbrev pub R : St → Type 0
-R s = Known (s .left)
+R s = Known (s .tokens)
 
 abbrev pub M : Err → St → Type 0
 M e s = Unit {0}
@@ -112,20 +112,20 @@ reads k m s = awp m (If (Whole k s)) s
 
 pub expects : {B : Type 0} (r : Role) (k : ℕ) → T (ltb 0 k)
     → (f : Fallible Tok → Act (Ans B)) (W : Fallible B → St → Type 0) (s : St)
-    → (Good (head (s .left)) → length (tail (s .left)) < length (s .left)
-    → awp (f (record { item = head (s .left); errors = [] })) (If W) (advance (λ _. r) s))
+    → (Good (head (s .tokens)) → length (tail (s .tokens)) < length (s .tokens)
+    → awp (f (record { item = head (s .tokens); errors = [] })) (If W) (advance (λ _. r) s))
     → awp (P.expect-as r k >>? f) (If W) s
 unfolding _>>=_
-expects r k z f W s h = λ d. (λ i. h (good-of k z (s .left) d i) (there k z (s .left) i), λ _. (λ _ _. tt, λ _ _. tt))
+expects r k z f W s h = λ d. (λ i. h (good-of k z (s .tokens) d i) (there k z (s .tokens) i), λ _. (λ _ _. tt, λ _ _. tt))
 
 pub identifier : {B : Type 0} (f : Fallible Tok → Act (Ans B)) (W : Fallible B → St → Type 0) (s : St)
-    → (Good (head (s .left)) → length (tail (s .left)) < length (s .left)
-    → awp (f (record { item = head (s .left); errors = [] })) (If W) (advance (λ _. plain) s))
+    → (Good (head (s .tokens)) → length (tail (s .tokens)) < length (s .tokens)
+    → awp (f (record { item = head (s .tokens); errors = [] })) (If W) (advance (λ _. plain) s))
     → awp (P.expect-identifier >>? f) (If W) s
 unfolding _>>=_
 identifier f W s h =
     λ d. (
-      λ i. h (good-of K.Identifier tt (s .left) d i) (there K.Identifier tt (s .left) i),
+      λ i. h (good-of K.Identifier tt (s .tokens) d i) (there K.Identifier tt (s .tokens) i),
       λ _. (λ _ _. tt, λ _ _. tt),
     )
 

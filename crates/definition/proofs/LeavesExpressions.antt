@@ -42,46 +42,46 @@ group-leaves s = λ d. (
 )
   where
     after-group : (x : Fallible Node) (t : St) → Whole F.expression (advance (λ _. group) s) x t
-        → length (tail (t .left)) < length (s .left)
-    after-group x t p = omega (arith, p .less, tail-le (t .left), tail-le (s .left))
+        → length (tail (t .tokens)) < length (s .tokens)
+    after-group x t p = omega (arith, p .less, tail-le (t .tokens), tail-le (s .tokens))
 
-atom-leaves : (s : St) → Known (s .left) → reads F.expression P.parse-atom s
+atom-leaves : (s : St) → Known (s .tokens) → reads F.expression P.parse-atom s
 unfolding P.parse-atom find rows
 atom-leaves s d = (
-  λ i _. let h = good-of K.Integer tt (s .left) d i in
+  λ i _. let h = good-of K.Integer tt (s .tokens) d i in
       record {
         leaves = leaf _ refl refl refl (at (h .placed)
             (with-base (rw i at (h .formed .base)) (with-text (h .formed .utf8))));
         place = h .placed;
-        less = there K.Integer tt (s .left) i;
+        less = there K.Integer tt (s .tokens) i;
       },
   λ _. (
-    λ i _. let h = good-of K.Identifier tt (s .left) d i in
+    λ i _. let h = good-of K.Identifier tt (s .tokens) d i in
         record {
           leaves = leaf _ refl refl refl (at (h .placed) (with-text (h .formed .utf8)));
           place = h .placed;
-          less = there K.Identifier tt (s .left) i;
+          less = there K.Identifier tt (s .tokens) i;
         },
     λ _. (
-      λ i _. let h = good-of K.String tt (s .left) d i in
+      λ i _. let h = good-of K.String tt (s .tokens) d i in
           record {
             leaves = leaf _ refl refl refl (at (h .placed) (with-text (h .formed .utf8)));
             place = h .placed;
-            less = there K.String tt (s .left) i;
+            less = there K.String tt (s .tokens) i;
           },
       λ _. (
-        λ i _. let h = good-of K.KwTrue tt (s .left) d i in
+        λ i _. let h = good-of K.KwTrue tt (s .tokens) d i in
             record {
               leaves = leaf _ refl refl refl (at (h .placed) (with-byte {n = 1} (omega arith) (omega arith) nothing));
               place = h .placed;
-              less = there K.KwTrue tt (s .left) i;
+              less = there K.KwTrue tt (s .tokens) i;
             },
         λ _. (
-          λ i _. let h = good-of K.KwFalse tt (s .left) d i in
+          λ i _. let h = good-of K.KwFalse tt (s .tokens) d i in
               record {
                 leaves = leaf _ refl refl refl (at (h .placed) (with-byte {n = 0} (omega arith) (omega arith) nothing));
                 place = h .placed;
-                less = there K.KwFalse tt (s .left) i;
+                less = there K.KwFalse tt (s .tokens) i;
               },
           λ _.
               (λ i. group-leaves s, λ _ _. (λ _ _. tt, λ _ _. tt)),
@@ -91,13 +91,13 @@ atom-leaves s d = (
   ),
 )
 
-pub suffixes-leaves : (e : Fallible Node) (s : St) → Known (s .left) → awp (P.suffixes-turn e) (If (Onward e)) s
+pub suffixes-leaves : (e : Fallible Node) (s : St) → Known (s .tokens) → awp (P.suffixes-turn e) (If (Onward e)) s
 unfolding P.suffixes-turn find rows
 suffixes-leaves e s d = (
-  λ i _ _. let h = good-of K.Dot tt (s .left) d i in (
+  λ i _ _. let h = good-of K.Dot tt (s .tokens) d i in (
     λ _. tt,
     λ _. (
-      λ j. let h₂ = good-of K.Identifier tt (tail (s .left)) (known-tail (s .left) d) j in (
+      λ j. let h₂ = good-of K.Identifier tt (tail (s .tokens)) (known-tail (s .tokens) d) j in (
         λ x u l p. record {
           leaves = λ f. p .leaves (made _ refl refl (at (h .placed) (with-text (h₂ .formed .utf8))) f);
           place = λ _. p .place (h .placed);
@@ -108,7 +108,7 @@ suffixes-leaves e s d = (
     ),
   ),
   λ _. (
-    λ i _. let h = good-of K.DotStar tt (s .left) d i in (
+    λ i _. let h = good-of K.DotStar tt (s .tokens) d i in (
       λ x u l p. record {
         leaves = λ f. p .leaves (made _ refl refl (at (h .placed) nothing) f);
         place = λ _. p .place (h .placed);
@@ -116,7 +116,7 @@ suffixes-leaves e s d = (
       λ es u l p. tt,
     ),
     λ _. (
-      λ i _. let h = good-of K.LBracket tt (s .left) d i in
+      λ i _. let h = good-of K.LBracket tt (s .tokens) d i in
           calls Expression _ _ _ (λ x t p. expects plain K.RBracket tt _ _ _ (λ _ _. (
             λ y u l q. record {
               leaves = λ f. q .leaves (made _ refl refl (at (h .placed) nothing) (also f (p .leaves)));
@@ -135,7 +135,7 @@ goes-on : (s t u : St) (e x : Fallible Node) → Whole F.expression s e t → La
 goes-on s t u e x p l q =
     record { leaves = q .leaves (p .leaves); place = q .place (p .place); less = omega (arith, p .less, later-left l) }
 
-field-access-leaves : (s : St) → Known (s .left) → reads F.expression P.parse-field-access-or-index s
+field-access-leaves : (s : St) → Known (s .tokens) → reads F.expression P.parse-field-access-or-index s
 unfolding P.parse-field-access-or-index
 field-access-leaves s d =
     uses (Whole F.expression s) _ _ _ _ (atom-leaves s d) (λ e t l p. (
@@ -143,11 +143,11 @@ field-access-leaves s d =
       λ es u l₂ q. tt,
     ))
 
-sizeof-leaves : (s : St) → Known (s .left) → reads F.expression P.parse-sizeof s
+sizeof-leaves : (s : St) → Known (s .tokens) → reads F.expression P.parse-sizeof s
 unfolding P.parse-sizeof find rows
 sizeof-leaves s d = (
-  λ i _. let h = good-of K.KwSizeof tt (s .left) d i in
-      let b = there K.KwSizeof tt (s .left) i in
+  λ i _. let h = good-of K.KwSizeof tt (s .tokens) d i in
+      let b = there K.KwSizeof tt (s .tokens) i in
       expects plain K.LParen tt _ _ _ (λ _ b₂. calls Type' _ _ _
       (λ ty t p. expects plain K.RParen tt _ _ _ (λ _ b₃. record {
         leaves = made _ refl refl (at (h .placed) nothing) (p .leaves);
@@ -163,7 +163,7 @@ sizeof-leaves s d = (
 -- a list, or a body, after the token that opens it
 pub record Opened (k : ℕ) (s : St) (a : Items) (s′ : St) : Type 0 where
   pub leaves : Leaves (a .recs) (replicate (a .count) k)
-  pub count : a .count + length (s′ .left) ≤ length (tail (s .left))
+  pub count : a .count + length (s′ .tokens) ≤ length (tail (s .tokens))
 
 pub list-leaves : (k : Listed) (s : St) → awp (P.parse-list k) (Opened (kind-in k) s) s
 unfolding P.parse-list _>>=_
@@ -178,9 +178,9 @@ list-leaves k s = λ d. (
 pub record Typed (s : St) (x : Fallible P.Typed) (s′ : St) : Type 0 where
   pub leaves : Leaves (x .item .type) (F.type ∷ [])
   pub name : utf8 (x .item .name) ≡ true
-  pub less : length (s′ .left) < length (s .left)
+  pub less : length (s′ .tokens) < length (s .tokens)
 
-typed-leaves : (name : List ℕ) (es : List Err) (s t : St) → utf8 name ≡ true → length (t .left) ≤ length (s .left)
+typed-leaves : (name : List ℕ) (es : List Err) (s t : St) → utf8 name ≡ true → length (t .tokens) ≤ length (s .tokens)
     → awp (P.typed name es) (If (Typed s)) t
 unfolding P.typed
 typed-leaves name es s t u b =
@@ -193,9 +193,9 @@ typed-leaves name es s t u b =
 pub typed-identifier-leaves : (s : St) → awp P.parse-typed-identifier (If (Typed s)) s
 unfolding P.parse-typed-identifier ascii utf8
 typed-identifier-leaves s d = (
-  λ i. typed-leaves (head (s .left) .text) [] s (advance (λ _. plain) s)
-      (good-of K.Identifier tt (s .left) d i .formed .utf8) (tail-le (s .left)),
-  λ _. (λ _ _. tt, λ _ _. typed-leaves (ascii "<?>") _ s (push _ (advance (λ _. plain) s)) refl (tail-le (s .left))),
+  λ i. typed-leaves (head (s .tokens) .text) [] s (advance (λ _. plain) s)
+      (good-of K.Identifier tt (s .tokens) d i .formed .utf8) (tail-le (s .tokens)),
+  λ _. (λ _ _. tt, λ _ _. typed-leaves (ascii "<?>") _ s (push _ (advance (λ _. plain) s)) refl (tail-le (s .tokens))),
 )
 
 named-type-leaves : (s : St) → awp P.parse-named-type (If (Item F.named-type s)) s
@@ -224,12 +224,12 @@ item-leaves StructValues s = struct-field-leaves s
 after-item-leaves : (k : Listed) (i : Items) (s : St) → awp (P.after-item k i) (Listing (kind-in k) i s) s
 unfolding P.after-item
 after-item-leaves k i s = (
-  λ e d a t l p. record { leaves = p .leaves; count = omega (arith, p .count, tail-le (s .left)) },
+  λ e d a t l p. record { leaves = p .leaves; count = omega (arith, p .count, tail-le (s .tokens)) },
   λ _. (
     λ e a t l p. p,
     λ _. (
       λ e a t l p. p,
-      λ _ d m a t l p. record { leaves = p .leaves; count = omega (arith, p .count, tail-le (s .left)) },
+      λ _ d m a t l p. record { leaves = p .leaves; count = omega (arith, p .count, tail-le (s .tokens)) },
     ),
   ),
 )
@@ -239,7 +239,7 @@ unfolding P.list-turn
 list-turn-leaves k i s = (
   λ e m. record { leaves = λ f. f; count = omega arith },
   λ _. (
-    λ c d. record { leaves = λ f. f; count = omega (arith, tail-le (s .left)) },
+    λ c d. record { leaves = λ f. f; count = omega (arith, tail-le (s .tokens)) },
     λ c. follow G L R M _ _ (If (Item (kind-in k) s)) _ _ (item-leaves k s) go,
   ),
 )
@@ -261,12 +261,12 @@ list-turn-leaves k i s = (
           count = omega (arith, q .count, later-left l);
         }) (after-item-leaves k (P.integrate i (fatal es)) t)
 
-call-leaves : (s : St) → Known (s .left) → reads F.expression P.parse-call s
+call-leaves : (s : St) → Known (s .tokens) → reads F.expression P.parse-call s
 unfolding P.parse-call find rows
 call-leaves s d = uses (Whole F.expression s) _ _ _ _ (sizeof-leaves s d) (λ e t l p. (
   λ i. follow G L R M (P.parse-list Arguments) _ (Opened F.expression t) _ _ (list-leaves Arguments t)
       (λ a u l₂ q. record {
-        leaves = made _ refl refl (at (p .place) (with-count (omega (arith, q .count, tail-le (t .left), p .less, d .1))
+        leaves = made _ refl refl (at (p .place) (with-count (omega (arith, q .count, tail-le (t .tokens), p .less, d .1))
             nothing)) (also (p .leaves) (q .leaves));
         place = p .place;
         less = omega (arith, p .less, later-left l₂);
@@ -285,10 +285,10 @@ prefix-leaves tag w s d =
     calls Unary _ _ _ (λ x t p. record {
       leaves = w _ _ (p .place) (p .leaves);
       place = p .place;
-      less = omega (arith, p .less, tail-le (s .left));
+      less = omega (arith, p .less, tail-le (s .tokens));
     })
 
-pub unary-leaves : (s : St) → Known (s .left) → reads F.expression P.unary-rule s
+pub unary-leaves : (s : St) → Known (s .tokens) → reads F.expression P.unary-rule s
 unfolding P.unary-rule find rows
 unary-leaves s d = (
   λ _. prefix-leaves Tag.PointerTake (λ rs p h f. made _ refl refl (at h nothing) f) s,
@@ -308,7 +308,7 @@ cast-leaves s = (λ e t l p. (λ x u l₂ q. goes-on s t u e x p l₂ q, λ es u
 pub casts-leaves : (e : Fallible Node) (s : St) → awp (P.casts-turn e) (If (Onward e)) s
 unfolding P.casts-turn find rows _>>=_
 casts-leaves e s = (
-  λ i d. let h = good-of K.KwAs tt (s .left) d i in (
+  λ i d. let h = good-of K.KwAs tt (s .tokens) d i in (
     λ ty t l p. (
       λ x u l₂ q. record {
         leaves = λ f. q .leaves (made _ refl refl (at (h .placed) nothing) (also f (p .leaves)));
@@ -364,11 +364,11 @@ UpTo n [] = Unit {0}
 UpTo n (o ∷ os) = T (ltb 0 (o .kind)) × (o .op ≤ n) × UpTo n os
 
 find-leaves : {A : Type 0} (n : ℕ) (os : List P.Op) (y : ℕ → Act A) (m : Act A) (Q : A → St → Type 0) (s : St)
-    → UpTo n os → ((o : ℕ) → o ≤ n → (Known (s .left) → Good (head (s .left))) → awp (y o) Q s)
-    → awp m Q s → awp (P.find (head (s .left)) os y m) Q s
+    → UpTo n os → ((o : ℕ) → o ≤ n → (Known (s .tokens) → Good (head (s .tokens))) → awp (y o) Q s)
+    → awp m Q s → awp (P.find (head (s .tokens)) os y m) Q s
 find-leaves n [] y m Q s b h e = e
 find-leaves n (o ∷ os) y m Q s b h e =
-    (λ i. h (o .op) (b .1) (λ d. good-of (o .kind) (b .0) (s .left) d i), λ _. find-leaves n os y m Q s (b .2) h e)
+    (λ i. h (o .op) (b .1) (λ d. good-of (o .kind) (b .0) (s .tokens) d i), λ _. find-leaves n os y m Q s (b .2) h e)
 
 mapping-bound : (l : Level) → UpTo 7 (P.mapping l)
 mapping-bound BitOr = (tt, omega arith, tt)
@@ -407,18 +407,18 @@ comparison-leaves s = uses (Whole F.expression s) _ _ _ _ (bitwise-or-leaves s) 
       leaves = made _ refl refl (at (h .placed) (with-byte {n = o} (omega arith) b nothing))
           (also (p .leaves) (q .leaves));
       place = h .placed;
-      less = omega (arith, p .less, later-left k, tail-le (t .left));
+      less = omega (arith, p .less, later-left k, tail-le (t .tokens));
     })) p)
 
 pub expression-leaves : (s : St) → reads F.expression P.expression-rule s
 unfolding P.expression-rule find rows
 expression-leaves s = uses (Whole F.expression s) _ _ _ _ (comparison-leaves s) (λ e t l p. (
-  λ i d. let h = good-of K.DoubleAmpersand tt (t .left) d i in
+  λ i d. let h = good-of K.DoubleAmpersand tt (t .tokens) d i in
       uses (Whole F.expression (advance (λ _. plain) t)) _ _ _ _ (comparison-leaves (advance (λ _. plain) t))
       (λ r u k q. record {
         leaves = made _ refl refl (at (h .placed) nothing) (also (p .leaves) (q .leaves));
         place = h .placed;
-        less = omega (arith, p .less, later-left k, tail-le (t .left));
+        less = omega (arith, p .less, later-left k, tail-le (t .tokens));
       }),
   λ _. p,
 ))
@@ -429,8 +429,8 @@ or-false : (a b : Bool) → a || not b ≡ false → b ≡ true
 or-false true b e = clash e
 or-false false b e = not-false b e
 
-array-type-leaves : (s : St) → head (s .left) is K.LBracket ≡ true → Placed 1 (head (s .left) .place)
-    → awp (P.parse-array-type (head (s .left) .place)) (If (Whole F.type s)) (advance (λ _. plain) s)
+array-type-leaves : (s : St) → head (s .tokens) is K.LBracket ≡ true → Placed 1 (head (s .tokens) .place)
+    → awp (P.parse-array-type (head (s .tokens) .place)) (If (Whole F.type s)) (advance (λ _. plain) s)
 unfolding P.parse-array-type find rows
 array-type-leaves s i h = λ d. (
   λ _ _. tt,
@@ -439,13 +439,13 @@ array-type-leaves s i h = λ d. (
     λ n. expects plain K.RBracket tt _ _ _ (λ _ b. calls Type' _ _ _ (λ ty t p. record {
       leaves = made _ refl refl (at h (with-eight (below n) nothing)) (p .leaves);
       place = h;
-      less = omega (arith, p .less, there K.LBracket tt (s .left) i, tail-le (tail (s .left)));
+      less = omega (arith, p .less, there K.LBracket tt (s .tokens) i, tail-le (tail (s .tokens)));
     })),
   ),
 )
   where
     t₁ : Tok
-    t₁ = head (tail (s .left))
+    t₁ = head (tail (s .tokens))
 
     below : dashed (t₁ .text) || not (ltb (number (t₁ .base) 0 (t₁ .text)) (2 ^ 64)) ≡ false
         → number (t₁ .base) 0 (t₁ .text) < 2 ^ 64
@@ -453,33 +453,33 @@ array-type-leaves s i h = λ d. (
         ltb-true (number (t₁ .base) 0 (t₁ .text)) (2 ^ 64)
         (or-false (dashed (t₁ .text)) (ltb (number (t₁ .base) 0 (t₁ .text)) (2 ^ 64)) n)
 
-pub type-leaves : (s : St) → Known (s .left) → reads F.type P.type-rule s
+pub type-leaves : (s : St) → Known (s .tokens) → reads F.type P.type-rule s
 unfolding P.type-rule find rows
 type-leaves s d _ = (
-  λ i. let h = good-of K.Identifier tt (s .left) d i in
+  λ i. let h = good-of K.Identifier tt (s .tokens) d i in
       record {
         leaves = leaf _ refl refl refl (at (h .placed) (with-text (h .formed .utf8)));
         place = h .placed;
-        less = there K.Identifier tt (s .left) i;
+        less = there K.Identifier tt (s .tokens) i;
       },
   λ _. (
-    λ i. let h = good-of K.Star tt (s .left) d i in
+    λ i. let h = good-of K.Star tt (s .tokens) d i in
         calls Type' _ _ _ (λ ty t p. record {
           leaves = made _ refl refl (at (h .placed) nothing) (p .leaves);
           place = h .placed;
-          less = omega (arith, p .less, there K.Star tt (s .left) i);
+          less = omega (arith, p .less, there K.Star tt (s .tokens) i);
         }),
     λ _. (
-      λ i. array-type-leaves s i (good-of K.LBracket tt (s .left) d i .placed),
+      λ i. array-type-leaves s i (good-of K.LBracket tt (s .tokens) d i .placed),
       λ _. (
-        λ i. let h = good-of K.KwStruct tt (s .left) d i in
-            let b = there K.KwStruct tt (s .left) i in
+        λ i. let h = good-of K.KwStruct tt (s .tokens) d i in
+            let b = there K.KwStruct tt (s .tokens) i in
             follow G L R M (P.parse-list StructFields) _ (Opened F.named-type (advance (λ _. plain) s)) _ _
             (list-leaves StructFields (advance (λ _. plain) s)) (λ a t l q. record {
               leaves = made _ refl refl (at (h .placed)
-                  (with-count (omega (arith, q .count, b, tail-le (tail (s .left)), d .1)) nothing)) (q .leaves);
+                  (with-count (omega (arith, q .count, b, tail-le (tail (s .tokens)), d .1)) nothing)) (q .leaves);
               place = h .placed;
-              less = omega (arith, q .count, b, tail-le (tail (s .left)));
+              less = omega (arith, q .count, b, tail-le (tail (s .tokens)));
             }),
         λ _.
             (λ _ _. tt, λ _ _. tt),

@@ -27,25 +27,25 @@ use Rattle.definition.proofs.LeavesExpressions.{suffixes-leaves, Opened
 
 -- ---- declarations
 
-compound-leaves : (s : St) → Known (s .left) → awp P.parse-compound (If (Item F.compound s)) s
+compound-leaves : (s : St) → Known (s .tokens) → awp P.parse-compound (If (Item F.compound s)) s
 unfolding P.parse-compound find rows
 compound-leaves s d = expects plain K.Hash tt _ _ _ (λ h b. (
   λ _ _. tt,
   λ _. (
-    λ j. let h₂ = good-of K.LBracket tt (t .left) e j in
+    λ j. let h₂ = good-of K.LBracket tt (t .tokens) e j in
         follow G L R M (P.parse-list ArrayValues) _ (Opened F.expression t) _ _ (list-leaves ArrayValues t)
         (λ a u l q. record {
-          leaves = made _ refl refl (at (h₂ .placed) (with-count (omega (arith, q .count, tail-le (t .left), e .1))
+          leaves = made _ refl refl (at (h₂ .placed) (with-count (omega (arith, q .count, tail-le (t .tokens), e .1))
               nothing)) (q .leaves);
-          less = omega (arith, q .count, tail-le (t .left));
+          less = omega (arith, q .count, tail-le (t .tokens));
         }),
     λ _. (
-      λ j. let h₂ = good-of K.LBrace tt (t .left) e j in
+      λ j. let h₂ = good-of K.LBrace tt (t .tokens) e j in
           follow G L R M (P.parse-list StructValues) _ (Opened F.compound-field t) _ _ (list-leaves StructValues t)
           (λ a u l q. record {
             leaves = made _ refl refl (at (h₂ .placed)
-                (with-count (omega (arith, q .count, tail-le (t .left), e .1)) nothing)) (q .leaves);
-            less = omega (arith, q .count, tail-le (t .left));
+                (with-count (omega (arith, q .count, tail-le (t .tokens), e .1)) nothing)) (q .leaves);
+            less = omega (arith, q .count, tail-le (t .tokens));
           }),
       λ _ _. tt,
     ),
@@ -55,30 +55,30 @@ compound-leaves s d = expects plain K.Hash tt _ _ _ (λ h b. (
     t : St
     t = advance (λ _. plain) s
 
-    e : Known (t .left)
-    e = known-tail (s .left) d
+    e : Known (t .tokens)
+    e = known-tail (s .tokens) d
 
 -- a declaration: its type, and an initial value
 record Declared (s : St) (x : Fallible P.Typed) (s′ : St) : Type 0 where
   leaves : Leaves (x .item .type) (F.type ∷ F.initial-value ∷ [])
   name : utf8 (x .item .name) ≡ true
-  less : length (s′ .left) < length (s .left)
+  less : length (s′ .tokens) < length (s .tokens)
 
-var-like-leaves : (s : St) → Known (s .left) → awp P.parse-var-like-declaration (If (Declared s)) s
+var-like-leaves : (s : St) → Known (s .tokens) → awp P.parse-var-like-declaration (If (Declared s)) s
 unfolding P.parse-var-like-declaration find rows
 var-like-leaves s d = uses (Typed s) P.parse-typed-identifier _ _ _ (typed-identifier-leaves s) (λ x t l p. (
   λ i _. calls Expression _ _ _ (λ e u q. record {
     leaves = also (p .leaves) (made _ refl refl (bare nothing) (q .leaves));
     name = p .name;
-    less = omega (arith, p .less, q .less, tail-le (t .left));
+    less = omega (arith, p .less, q .less, tail-le (t .tokens));
   }),
   λ _. (
     λ i _. uses (Item F.compound (advance (λ _. plain) t)) P.parse-compound _ _ _
-        (compound-leaves (advance (λ _. plain) t) (known-tail (t .left) (known-later s t l d)))
+        (compound-leaves (advance (λ _. plain) t) (known-tail (t .tokens) (known-later s t l d)))
         (λ c u l₂ q. record {
           leaves = also (p .leaves) (made _ refl refl (bare nothing) (q .leaves));
           name = p .name;
-          less = omega (arith, p .less, q .less, tail-le (t .left));
+          less = omega (arith, p .less, q .less, tail-le (t .tokens));
         }),
     λ _.
         record { leaves = also (p .leaves) (leaf _ refl refl refl (bare nothing)); name = p .name; less = p .less },
@@ -88,7 +88,7 @@ var-like-leaves s d = uses (Typed s) P.parse-typed-identifier _ _ _ (typed-ident
 declaration-leaves : (tag k : ℕ)
     → ((rs : List Rec) (p : Place) (x : List ℕ) → Placed 1 p → utf8 x ≡ true
     → Leaves rs (F.type ∷ F.initial-value ∷ []) → Leaves (P.node rs tag p [] x .recs) (k ∷ []))
-    → (p : Place) → Placed 1 p → (s : St) → Known (s .left) → reads k (P.declaration tag p) s
+    → (p : Place) → Placed 1 p → (s : St) → Known (s .tokens) → reads k (P.declaration tag p) s
 unfolding P.declaration
 declaration-leaves tag k w p h s d =
     uses (Declared s) P.parse-var-like-declaration _ _ _ (var-like-leaves s d)
@@ -113,7 +113,7 @@ body-leaves s d = (
 body-turn-leaves : (i : Items) (s : St) → awp (P.body-turn i) (Listing F.statement i s) s
 unfolding P.body-turn
 body-turn-leaves i s = (
-  λ e d. record { leaves = λ f. f; count = omega (arith, tail-le (s .left)) },
+  λ e d. record { leaves = λ f. f; count = omega (arith, tail-le (s .tokens)) },
   λ _. (
     λ _ _. record { leaves = λ f. f; count = omega arith },
     λ _. (
@@ -132,7 +132,7 @@ more : (k : ℕ) (s : St) (m : Act (Ans Node)) → awp m (If (Whole k (advance (
 more k s m w = wp-mono G L R M (If (Whole k (advance (λ _. plain) s))) (If (Whole k s)) m (advance (λ _. plain) s) go w
   where
     go : (a : Ans Node) (t : St) → If (Whole k (advance (λ _. plain) s)) a t → If (Whole k s) a t
-    go (ok x) t p = record { leaves = p .leaves; place = p .place; less = omega (arith, p .less, tail-le (s .left)) }
+    go (ok x) t p = record { leaves = p .leaves; place = p .place; less = omega (arith, p .less, tail-le (s .tokens)) }
     go (fatal es) t p = tt
 
 return-leaves : (p : Place) → Placed 1 p → (s : St) → reads F.statement (P.parse-return p) s
@@ -141,7 +141,7 @@ return-leaves p h s = (
   λ j d. record {
     leaves = leaf _ refl refl refl (at h (with-byte {n = 0} (omega arith) (omega arith) nothing));
     place = h;
-    less = there K.Semicolon tt (s .left) j;
+    less = there K.Semicolon tt (s .tokens) j;
   },
   λ _.
       calls Expression _ _ _ (λ e t q. expects plain K.Semicolon tt _ _ _ (λ _ b. record {
@@ -158,7 +158,7 @@ if-leaves p h s = calls Expression _ _ _ (λ c t q. calls Statement _ _ _ (λ a 
     leaves = made _ refl refl (at h (with-byte {n = 3} (omega arith) (omega arith) nothing))
         (also (also (q .leaves) (r .leaves)) (z .leaves));
     place = h;
-    less = omega (arith, q .less, r .less, z .less, tail-le (u .left));
+    less = omega (arith, q .less, r .less, z .less, tail-le (u .tokens));
   }),
   λ _.
       record {
@@ -170,22 +170,22 @@ if-leaves p h s = calls Expression _ _ _ (λ c t q. calls Statement _ _ _ (λ a 
 )))
 
 after-expression-leaves : (p : Place) → Placed 1 p → (e : Node) (s t : St) → Leaves (e .recs) (F.expression ∷ [])
-    → length (t .left) < length (s .left) → Known (t .left)
+    → length (t .tokens) < length (s .tokens) → Known (t .tokens)
     → awp (P.after-expression p e) (If (Whole F.statement s)) t
 unfolding P.after-expression find rows
 after-expression-leaves p h e s t f b d = (
   λ i _. calls Expression _ _ _ (λ v u q. expects plain K.Semicolon tt _ _ _ (λ _ b₂. record {
     leaves = made _ refl refl (at h nothing) (also f (q .leaves));
     place = h;
-    less = omega (arith, q .less, tail-le (t .left));
+    less = omega (arith, q .less, tail-le (t .tokens));
   })),
   λ _. (
     λ i _. uses (Item F.compound (advance (λ _. plain) t)) P.parse-compound _ _ _
-        (compound-leaves (advance (λ _. plain) t) (known-tail (t .left) d))
+        (compound-leaves (advance (λ _. plain) t) (known-tail (t .tokens) d))
         (λ v u l q. expects plain K.Semicolon tt _ _ _ (λ _ b₂. record {
           leaves = made _ refl refl (at h nothing) (also f (q .leaves));
           place = h;
-          less = omega (arith, q .less, tail-le (t .left));
+          less = omega (arith, q .less, tail-le (t .tokens));
         })),
     λ _.
         expects plain K.Semicolon tt _ _ _ (λ _ b₂. record {
@@ -196,7 +196,7 @@ after-expression-leaves p h e s t f b d = (
   ),
 )
 
-expression-statement-leaves : (p : Place) → Placed 1 p → (s : St) → Known (s .left)
+expression-statement-leaves : (p : Place) → Placed 1 p → (s : St) → Known (s .tokens)
     → reads F.statement (P.expression-statement p) s
 unfolding P.expression-statement find rows _>>=_
 expression-statement-leaves p h s d = (
@@ -211,20 +211,20 @@ expression-statement-leaves p h s d = (
   λ es t l q. tt,
 )
 
-statement-leaves : (s : St) → Known (s .left) → reads F.statement P.statement-rule s
+statement-leaves : (s : St) → Known (s .tokens) → reads F.statement P.statement-rule s
 unfolding P.statement-rule find rows
 statement-leaves s d = (
-  λ i _. more F.statement s (P.parse-return (head (s .left) .place))
-      (return-leaves (head (s .left) .place) (good-of K.KwReturn tt (s .left) d i .placed) (advance (λ _. plain) s)),
+  λ i _. more F.statement s (P.parse-return (head (s .tokens) .place))
+      (return-leaves (head (s .tokens) .place) (good-of K.KwReturn tt (s .tokens) d i .placed) (advance (λ _. plain) s)),
   λ _. (
-    λ i _. more F.statement s (P.declaration Tag.VariableDeclaration (head (s .left) .place))
+    λ i _. more F.statement s (P.declaration Tag.VariableDeclaration (head (s .tokens) .place))
         (declaration-leaves Tag.VariableDeclaration F.statement
         (λ rs p x h u f. made _ refl refl (at h (with-text u)) f)
-        (head (s .left) .place) (good-of K.KwVar tt (s .left) d i .placed) (advance (λ _. plain) s)
-        (known-tail (s .left) d)),
+        (head (s .tokens) .place) (good-of K.KwVar tt (s .tokens) d i .placed) (advance (λ _. plain) s)
+        (known-tail (s .tokens) d)),
     λ _. (
-      λ i. let h = good-of K.LBrace tt (s .left) d i in
-          let b = there K.LBrace tt (s .left) i in
+      λ i. let h = good-of K.LBrace tt (s .tokens) d i in
+          let b = there K.LBrace tt (s .tokens) i in
           follow G L R M P.parse-body _ (Opened F.statement s) _ _ (body-leaves s)
           (λ a t l q. record {
             leaves = made _ refl refl (at (h .placed) (with-count (omega (arith, q .count, d .1)) nothing)) (q .leaves);
@@ -232,40 +232,40 @@ statement-leaves s d = (
             less = omega (arith, q .count);
           }),
       λ _. (
-        λ i _. let h = good-of K.KwLoop tt (s .left) d i in
+        λ i _. let h = good-of K.KwLoop tt (s .tokens) d i in
             calls Statement _ _ _ (λ b t p. record {
               leaves = made _ refl refl (at (h .placed) nothing) (p .leaves);
               place = h .placed;
-              less = omega (arith, p .less, tail-le (s .left));
+              less = omega (arith, p .less, tail-le (s .tokens));
             }),
         λ _. (
-          λ i _. let h = good-of K.KwWhile tt (s .left) d i in
+          λ i _. let h = good-of K.KwWhile tt (s .tokens) d i in
               calls Expression _ _ _ (λ c t p. calls Statement _ _ _ (λ b u q. record {
                 leaves = made _ refl refl (at (h .placed) nothing) (also (p .leaves) (q .leaves));
                 place = h .placed;
-                less = omega (arith, p .less, q .less, tail-le (s .left));
+                less = omega (arith, p .less, q .less, tail-le (s .tokens));
               })),
           λ _. (
-            λ i _. let h = good-of K.KwBreak tt (s .left) d i in
+            λ i _. let h = good-of K.KwBreak tt (s .tokens) d i in
                 expects plain K.Semicolon tt _ _ _ (λ _ b. record {
                   leaves = leaf _ refl refl refl (at (h .placed) nothing);
                   place = h .placed;
-                  less = omega (arith, tail-le (s .left));
+                  less = omega (arith, tail-le (s .tokens));
                 }),
             λ _. (
-              λ i _. more F.statement s (P.parse-if (head (s .left) .place))
-                  (if-leaves (head (s .left) .place) (good-of K.KwIf tt (s .left) d i .placed)
+              λ i _. more F.statement s (P.parse-if (head (s .tokens) .place))
+                  (if-leaves (head (s .tokens) .place) (good-of K.KwIf tt (s .tokens) d i .placed)
                   (advance (λ _. plain) s)),
               λ _. (
-                λ i _. let h = good-of K.InlineAssemblyFragment tt (s .left) d i in
+                λ i _. let h = good-of K.InlineAssemblyFragment tt (s .tokens) d i in
                     record {
                       leaves = leaf _ refl refl refl (at (h .placed) (with-text (h .formed .utf8)));
                       place = h .placed;
-                      less = there K.InlineAssemblyFragment tt (s .left) i;
+                      less = there K.InlineAssemblyFragment tt (s .tokens) i;
                     },
                 λ _. (
                   λ _ _. tt,
-                  λ e. expression-statement-leaves (head (s .left) .place) (good (s .left) d e .placed) s d,
+                  λ e. expression-statement-leaves (head (s .tokens) .place) (good (s .tokens) d e .placed) s d,
                 ),
               ),
             ),
@@ -281,7 +281,7 @@ statement-leaves s d = (
 function-body-leaves : (p : Place) → Placed 1 p → (x : ℕ) (name : Tok) → utf8 (name .text) ≡ true
     → (ps : Items) (r : Fallible Node) (s t : St) → Leaves (ps .recs) (replicate (ps .count) F.named-type)
     → Leaves (r .item .recs) (F.type ∷ []) → ps .count ≤ 2048
-    → length (t .left) < length (s .left) → length (s .left) ≤ 2048
+    → length (t .tokens) < length (s .tokens) → length (s .tokens) ≤ 2048
     → awp (P.function-body p x name ps r) (If (Whole F.item s)) t
 unfolding P.function-body find rows
 function-body-leaves p h x name n ps r s t fp fr c b d = (
@@ -295,26 +295,26 @@ function-body-leaves p h x name n ps r s t fp fr c b d = (
       follow G L R M P.parse-body _ (Opened F.statement t) _ _ (body-leaves t) (λ z u l q. record {
         leaves = made _ refl refl (at h (with-byte {n = 0} (omega arith) (omega arith) (with-count c (with-text n))))
             (all-three fp fr (made _ refl refl (at h
-            (with-count {n = z .count} (omega (arith, q .count, tail-le (t .left))) nothing)) (q .leaves)));
+            (with-count {n = z .count} (omega (arith, q .count, tail-le (t .tokens))) nothing)) (q .leaves)));
         place = h;
-        less = omega (arith, q .count, tail-le (t .left));
+        less = omega (arith, q .count, tail-le (t .tokens));
       }),
 )
 
-function-leaves : (p : Place) → Placed 1 p → (x : ℕ) (s : St) → Known (s .left)
+function-leaves : (p : Place) → Placed 1 p → (x : ℕ) (s : St) → Known (s .tokens)
     → reads F.item (P.function p x) s
 unfolding P.function find rows
 function-leaves p h x s d =
     expects plain K.KwFn tt _ _ _ (λ _ b. identifier _ _ _
     (λ n b₂. follow G L R M (P.parse-list Parameters) _ (Opened F.named-type u) _ _ (list-leaves Parameters u)
     (λ ps v l q. (
-      λ k _. calls Type' _ _ _ (λ ty w r. function-body-leaves p h x (head (tail (s .left))) (n .formed .utf8) ps ty s w
-          (q .leaves) (r .leaves) (omega (arith, q .count, tail-le (u .left), d .1))
-          (omega (arith, q .count, tail-le (u .left), r .less, tail-le (v .left))) (d .1)),
+      λ k _. calls Type' _ _ _ (λ ty w r. function-body-leaves p h x (head (tail (s .tokens))) (n .formed .utf8) ps ty s w
+          (q .leaves) (r .leaves) (omega (arith, q .count, tail-le (u .tokens), d .1))
+          (omega (arith, q .count, tail-le (u .tokens), r .less, tail-le (v .tokens))) (d .1)),
       λ _.
-          function-body-leaves p h x (head (tail (s .left))) (n .formed .utf8) ps void s v (q .leaves)
-          (leaf _ refl refl refl (at h nothing)) (omega (arith, q .count, tail-le (u .left), d .1))
-          (omega (arith, q .count, tail-le (u .left))) (d .1),
+          function-body-leaves p h x (head (tail (s .tokens))) (n .formed .utf8) ps void s v (q .leaves)
+          (leaf _ refl refl refl (at h nothing)) (omega (arith, q .count, tail-le (u .tokens), d .1))
+          (omega (arith, q .count, tail-le (u .tokens))) (d .1),
     ))))
   where
     u : St
@@ -323,16 +323,16 @@ function-leaves p h x s d =
     void : Fallible Node
     void = record { item = P.node [] Tag.Void p [] []; errors = [] }
 
-function-definition-leaves : (s : St) → Known (s .left) → Placed 1 (head (s .left) .place)
+function-definition-leaves : (s : St) → Known (s .tokens) → Placed 1 (head (s .tokens) .place)
     → reads F.item P.parse-function-definition s
 unfolding P.parse-function-definition
 function-definition-leaves s d h = (
-  λ i _. more F.item s (P.function (head (s .left) .place) 1)
-      (function-leaves (head (s .left) .place) h 1 (advance (λ _. plain) s) (known-tail (s .left) d)),
-  λ _. function-leaves (head (s .left) .place) h 0 s d,
+  λ i _. more F.item s (P.function (head (s .tokens) .place) 1)
+      (function-leaves (head (s .tokens) .place) h 1 (advance (λ _. plain) s) (known-tail (s .tokens) d)),
+  λ _. function-leaves (head (s .tokens) .place) h 0 s d,
 )
 
-type-alias-leaves : (s : St) → Known (s .left) → Placed 1 (head (s .left) .place)
+type-alias-leaves : (s : St) → Known (s .tokens) → Placed 1 (head (s .tokens) .place)
     → reads F.item P.parse-type-alias s
 unfolding P.parse-type-alias P.alias-rule find rows
 type-alias-leaves s d h w t l m = expects plain K.KwType tt _ _ _ (λ _ b d₂. (
@@ -342,29 +342,29 @@ type-alias-leaves s d h w t l m = expects plain K.KwType tt _ _ _ (λ _ b d₂. 
     λ _. expects plain K.Equals tt _ _ _ (λ _ b₂. calls Type' _ _ _
         (λ ty u p. expects plain K.Semicolon tt _ _ _ (λ _ b₃. record {
           leaves = made _ refl refl (at h (with-byte {n = w .distinct + w .internal} (omega arith)
-              (omega (arith, m (omega arith) (omega arith))) (with-text (good (tail (t .left)) d₂ e .formed .utf8))))
+              (omega (arith, m (omega arith) (omega arith))) (with-text (good (tail (t .tokens)) d₂ e .formed .utf8))))
               (p .leaves);
           place = h;
-          less = omega (arith, p .less, later-left l, b, tail-le (tail (t .left)));
+          less = omega (arith, p .less, later-left l, b, tail-le (tail (t .tokens)));
         }))),
   ),
 ))
 
-use-leaves : (s : St) → Known (s .left) → reads F.item P.parse-use s
+use-leaves : (s : St) → Known (s .tokens) → reads F.item P.parse-use s
 unfolding P.parse-use P.path-rule find rows
 use-leaves s d = expects plain K.KwUse tt _ _ _ (λ h b d₂. (
   λ _. tt,
   λ e. (
     λ _ _. tt,
     λ _. expects plain K.Semicolon tt _ _ _ (λ _ b₃. record {
-      leaves = leaf _ refl refl refl (at (h .placed) (with-text (good (tail (s .left)) d₂ e .formed .utf8)));
+      leaves = leaf _ refl refl refl (at (h .placed) (with-text (good (tail (s .tokens)) d₂ e .formed .utf8)));
       place = h .placed;
-      less = omega (arith, tail-le (tail (s .left)));
+      less = omega (arith, tail-le (tail (s .tokens)));
     }),
   ),
 ))
 
-top-level-item-leaves : (s : St) → Known (s .left) → head (s .left) is K.End ≡ false
+top-level-item-leaves : (s : St) → Known (s .tokens) → head (s .tokens) is K.End ≡ false
     → reads F.item P.parse-top-level-item s
 unfolding P.parse-top-level-item P.parse-top-level-var-declaration find rows
 top-level-item-leaves s d z = (
@@ -375,14 +375,14 @@ top-level-item-leaves s d z = (
       λ _. use-leaves s d,
       λ _. (
         λ _. expects plain K.KwVar tt _ _ _ (λ t b. more F.item s
-            (P.declaration Tag.TopLevelVariable (head (s .left) .place))
+            (P.declaration Tag.TopLevelVariable (head (s .tokens) .place))
             (declaration-leaves Tag.TopLevelVariable F.item (λ rs p x h u f. made _ refl refl (at h (with-text u)) f)
-            (head (s .left) .place) (h .placed) (advance (λ _. plain) s) (known-tail (s .left) d))),
+            (head (s .tokens) .place) (h .placed) (advance (λ _. plain) s) (known-tail (s .tokens) d))),
         λ _. (
           λ i _. record {
             leaves = leaf _ refl refl refl (at (h .placed) (with-text (h .formed .utf8)));
             place = h .placed;
-            less = there K.InlineAssemblyFragment tt (s .left) i;
+            less = there K.InlineAssemblyFragment tt (s .tokens) i;
           },
           λ _ _ _. tt,
         ),
@@ -391,10 +391,10 @@ top-level-item-leaves s d z = (
   ),
 )
   where
-    h : Good (head (s .left))
-    h = good (s .left) d z
+    h : Good (head (s .tokens))
+    h = good (s .tokens) d z
 
-module-turn-leaves : (i : Items) (s : St) → Known (s .left) → awp (P.module-turn i) (Listing F.item i s) s
+module-turn-leaves : (i : Items) (s : St) → Known (s .tokens) → awp (P.module-turn i) (Listing F.item i s) s
 unfolding P.module-turn
 module-turn-leaves i s d = (
   λ e. record { leaves = λ f. f; count = omega arith },
@@ -415,13 +415,13 @@ unfolding P.modifiers-turn
 modifiers-leaves w s =
     (λ i d a t l p x y. p (omega arith) y, λ _. (λ i d a t l p x y. p x (omega arith), λ _ x y. (x, y)))
 
-rules : (g : Goal) (s : St) → Known (s .left) → awp (P.rule g) (G g s) s
+rules : (g : Goal) (s : St) → Known (s .tokens) → awp (P.rule g) (G g s) s
 rules Statement s d = statement-leaves s d
 rules Expression s d = expression-leaves s
 rules Unary s d = unary-leaves s d
 rules Type' s d = type-leaves s d
 
-turns : (l : Loop) (s : St) → Known (s .left) → awp (P.turn l) (L l s) s
+turns : (l : Loop) (s : St) → Known (s .tokens) → awp (P.turn l) (L l s) s
 turns (Module i) s d = module-turn-leaves i s d
 turns (Body i) s d = body-turn-leaves i s
 turns (ListOf k i) s d = list-turn-leaves k i s

@@ -29,7 +29,7 @@ abbrev G : Goal → St → Ans Node → St → Type 0
 G g s a s′ = Unit {0}
 
 abbrev L : (l : Loop) → St → Left l → St → Type 0
-L (Module i) s a s′ = head (s′ .left) is K.End ≡ true
+L (Module i) s a s′ = head (s′ .tokens) is K.End ≡ true
 L (Body i) s a s′ = Unit {0}
 L (ListOf k i) s a s′ = Unit {0}
 L (Operators l e) s a s′ = Unit {0}
@@ -67,14 +67,14 @@ at-end (t ∷ ts) k e = absurd (omega (arith, is-kind t K.End e, k .0))
 
 pub all-read : (ts : List Tok) → Kinds ts → (i : Items) (s : St) → parse-module ts ≡ gives i s → toks (s .read) ≡ ts
 all-read ts k i s e =
-    go (subst (After (λ i s′. Later (begin ts) s′ × (head (s′ .left) is K.End ≡ true))) e
+    go (subst (After (λ i s′. Later (begin ts) s′ × (head (s′ .tokens) is K.End ≡ true))) e
     (module-ind G L R M (λ s. tt) (λ e s. tt) (λ g s. wp-always G L R M (G g s) (rule g) s (λ a s′. tt)) turns ts))
   where
-    go : Later (begin ts) s × (head (s .left) is K.End ≡ true) → toks (s .read) ≡ ts
+    go : Later (begin ts) s × (head (s .tokens) is K.End ≡ true) → toks (s .read) ≡ ts
     go h =
         let l : Later (begin ts) s = h .0 in
-        let n : s .left ≡ [] = at-end (s .left) (kinds-drop (toks (l .eaten)) (s .left) (subst Kinds (l .left) k)) (h .1) in
-        ap toks (l .read) ∙ sym (l .left ∙ ap (λ (x : List Tok). toks (l .eaten) ++ x) n ∙ append-nil (toks (l .eaten)))
+        let n : s .tokens ≡ [] = at-end (s .tokens) (kinds-drop (toks (l .eaten)) (s .tokens) (subst Kinds (l .tokens) k)) (h .1) in
+        ap toks (l .read) ∙ sym (l .tokens ∙ ap (λ (x : List Tok). toks (l .eaten) ++ x) n ∙ append-nil (toks (l .eaten)))
 
 -- ---- at most 255 errors
 
@@ -87,8 +87,8 @@ module _ (c : Goal → St → Res (Ans Node)) (o : (l : Loop) → St → Res (Le
   run-few : {A : Type 0} (m : Act A) (s : St) → length (s .full) ≤ 255 → After Few (run c o m s)
   unfolding run
   run-few (done a) s h = h
-  run-few (peek k) s h = run-few (k (head (s .left))) s h
-  run-few (consume r k) s h = run-few (k (head (s .left))) (advance r s) h
+  run-few (peek k) s h = run-few (k (head (s .tokens))) s h
+  run-few (consume r k) s h = run-few (k (head (s .tokens))) (advance r s) h
   run-few (make e m) s h =
       limit Few (ltb (length (s .full)) 255) (run c o m (push e s)) (λ t. run-few m (push e s)
       (omega (arith, ltb→lt (length (s .full)) 255 t, length-append (s .full) (e ∷ []))))
@@ -108,9 +108,9 @@ parse-few : (n : ℕ) (g : Goal) (s : St) → length (s .full) ≤ 255 → After
 unfolding parse
 parse-few zero g s h = tt
 parse-few (suc n) g s h =
-    run-few (λ h t. parse n h t) (λ l t. loops (λ h u. parse n h u) (suc (suc (length (t .left)))) l t)
+    run-few (λ h t. parse n h t) (λ l t. loops (λ h u. parse n h u) (suc (suc (length (t .tokens)))) l t)
     (λ g t k. parse-few n g t k)
-    (λ l t k. loops-few (λ h u. parse n h u) (λ h u j. parse-few n h u j) (suc (suc (length (t .left)))) l t k)
+    (λ l t k. loops-few (λ h u. parse n h u) (λ h u j. parse-few n h u j) (suc (suc (length (t .tokens)))) l t k)
     (rule g) s h
 
 module-few : (ts : List Tok) → After Few (parse-module ts)

@@ -51,15 +51,15 @@ distinct-drop : (xs ys : List Tok) → Distinct (xs ++ ys) → Distinct ys
 distinct-drop [] ys h = h
 distinct-drop (x ∷ xs) ys h = distinct-drop xs ys (h .1)
 
-pub fresh-later : {p : Place} {s s′ : St} → Later s s′ → Fresh p (s .left) → Fresh p (s′ .left)
+pub fresh-later : {p : Place} {s s′ : St} → Later s s′ → Fresh p (s .tokens) → Fresh p (s′ .tokens)
 fresh-later {p} {s} {s′} l h =
     record {
-      apart = apart-drop p (toks (l .eaten)) (s′ .left)
-          (subst (λ (ts : List Tok). Apart p ts) (l .left) (h .apart));
+      apart = apart-drop p (toks (l .eaten)) (s′ .tokens)
+          (subst (λ (ts : List Tok). Apart p ts) (l .tokens) (h .apart));
     }
 
-pub distinct-later : (s s′ : St) → Later s s′ → Distinct (s .left) → Distinct (s′ .left)
-distinct-later s s′ l h = distinct-drop (toks (l .eaten)) (s′ .left) (subst Distinct (l .left) h)
+pub distinct-later : (s s′ : St) → Later s s′ → Distinct (s .tokens) → Distinct (s′ .tokens)
+distinct-later s s′ l h = distinct-drop (toks (l .eaten)) (s′ .tokens) (subst Distinct (l .tokens) h)
 
 -- the token that is read has a place of its own
 pub fresh-head : (ts : List Tok) → Distinct ts → Fresh (head ts .place) (tail ts)
@@ -102,13 +102,13 @@ pub grew-as : {s u : St} {xs ys : List Norm} → Grew s xs u → xs ≡ ys → G
 grew-as {s} {u} p e = subst (λ (l : List Norm). Grew s l u) e p
 
 -- a token of kind k is read
-pub took : (r : Tok → Role) (k : ℕ) → T (ltb 0 k) → (s : St) → head (s .left) is k ≡ true
-    → Grew s (norm (r (head (tail (s .left)))) (head (s .left))) (advance r s)
+pub took : (r : Tok → Role) (k : ℕ) → T (ltb 0 k) → (s : St) → head (s .tokens) is k ≡ true
+    → Grew s (norm (r (head (tail (s .tokens)))) (head (s .tokens))) (advance r s)
 unfolding strip
 took r k h s i =
     record {
-      by = strip-append (s .read) (now-read r (s .left))
-          ∙ ap (λ (l : List Norm). strip (s .read) ++ l) (go (s .left) i);
+      by = strip-append (s .read) (now-read r (s .tokens))
+          ∙ ap (λ (l : List Norm). strip (s .read) ++ l) (go (s .tokens) i);
     }
   where
     go : (ts : List Tok) → head ts is k ≡ true → strip (now-read r ts) ≡ norm (r (head (tail ts))) (head ts)
@@ -135,16 +135,16 @@ symbol-norm k h t e = rw e (go (ltb 0 k) (is-named k) (eqb k K.Integer) (is-modi
     go true false false true h = absurd h
     go true false false false h = refl
 
-pub took-symbol : (k : ℕ) → T (is-symbol k) → (s : St) → head (s .left) is k ≡ true → Grew s (sym1 k) (advance (λ _. plain) s)
+pub took-symbol : (k : ℕ) → T (is-symbol k) → (s : St) → head (s .tokens) is k ≡ true → Grew s (sym1 k) (advance (λ _. plain) s)
 took-symbol k h s i =
     grew-as (took (λ _. plain) k (and-left (ltb 0 k) _ h) s i)
-    (symbol-norm k h (head (s .left)) (is-kind (head (s .left)) k i))
+    (symbol-norm k h (head (s .tokens)) (is-kind (head (s .tokens)) k i))
 
 -- `distinct` or `internal`
-pub took-modifier : (k : ℕ) → T (ltb 0 k && is-modifier k) → (s : St) → head (s .left) is k ≡ true → Grew s [] (advance (λ _. plain) s)
+pub took-modifier : (k : ℕ) → T (ltb 0 k && is-modifier k) → (s : St) → head (s .tokens) is k ≡ true → Grew s [] (advance (λ _. plain) s)
 took-modifier k h s i =
     grew-as (took (λ _. plain) k (and-left (ltb 0 k) _ h) s i)
-    (rw (is-kind (head (s .left)) k i) (go (ltb 0 k) (is-modifier k) _ h))
+    (rw (is-kind (head (s .tokens)) k i) (go (ltb 0 k) (is-modifier k) _ h))
   where
     go : (z m : Bool) (x : List Norm) → T (z && m) → pick m [] x ≡ []
     go true true x h = refl
@@ -154,30 +154,30 @@ took-modifier k h s i =
 abbrev pub is-name : ℕ → Bool
 is-name k = ltb 0 k && (is-named k && not (is-modifier k))
 
-pub took-name : (k : ℕ) → T (is-name k) → (s : St) → head (s .left) is k ≡ true
-    → Grew s (named k (head (s .left) .text) ∷ []) (advance (λ _. plain) s)
+pub took-name : (k : ℕ) → T (is-name k) → (s : St) → head (s .tokens) is k ≡ true
+    → Grew s (named k (head (s .tokens) .text) ∷ []) (advance (λ _. plain) s)
 took-name k h s i =
     grew-as (took (λ _. plain) k (and-left (ltb 0 k) _ h) s i)
-    (rw (is-kind (head (s .left)) k i) (go (ltb 0 k) (is-named k) (is-modifier k) h))
+    (rw (is-kind (head (s .tokens)) k i) (go (ltb 0 k) (is-named k) (is-modifier k) h))
   where
     go : (z a m : Bool) → T (z && (a && not m))
-        → pick m [] (pick a (named k (head (s .left) .text))
-        (pick (eqb k K.Integer) (integer (head (s .left) .base) (head (s .left) .text)) (symbol k)) ∷ [])
-        ≡ named k (head (s .left) .text) ∷ []
+        → pick m [] (pick a (named k (head (s .tokens) .text))
+        (pick (eqb k K.Integer) (integer (head (s .tokens) .base) (head (s .tokens) .text)) (symbol k)) ∷ [])
+        ≡ named k (head (s .tokens) .text) ∷ []
     go true true false h = refl
     go true true true h = absurd h
     go true false m h = absurd h
     go false a m h = absurd h
 
-pub took-integer : (s : St) → head (s .left) is K.Integer ≡ true
-    → Grew s (integer (head (s .left) .base) (head (s .left) .text) ∷ []) (advance (λ _. plain) s)
-took-integer s i = grew-as (took (λ _. plain) K.Integer tt s i) (rw (is-kind (head (s .left)) K.Integer i) refl)
+pub took-integer : (s : St) → head (s .tokens) is K.Integer ≡ true
+    → Grew s (integer (head (s .tokens) .base) (head (s .tokens) .text) ∷ []) (advance (λ _. plain) s)
+took-integer s i = grew-as (took (λ _. plain) K.Integer tt s i) (rw (is-kind (head (s .tokens)) K.Integer i) refl)
 
 -- an array's size
-pub took-size : (s : St) → head (s .left) is K.Integer ≡ true
-    → Grew s (sized K.Integer (number (head (s .left) .base) 0 (head (s .left) .text)) ∷ [])
+pub took-size : (s : St) → head (s .tokens) is K.Integer ≡ true
+    → Grew s (sized K.Integer (number (head (s .tokens) .base) 0 (head (s .tokens) .text)) ∷ [])
     (advance (λ _. size) s)
-took-size s i = grew-as (took (λ _. size) K.Integer tt s i) (rw (is-kind (head (s .left)) K.Integer i) refl)
+took-size s i = grew-as (took (λ _. size) K.Integer tt s i) (rw (is-kind (head (s .tokens)) K.Integer i) refl)
 
 -- ---- records that show tokens
 

@@ -21,8 +21,8 @@ use Rattle.definition.proofs.Shown.{Fresh, Distinct, Grew, _▸_, Shows
 
 abbrev pub Extra : Goal → Place → List Norm → St → Type 0
 Extra Statement p ts s = Unit {0}
-Extra Expression p ts s = Fresh p (s .left)
-Extra Unary p ts s = Fresh p (s .left)
+Extra Expression p ts s = Fresh p (s .tokens)
+Extra Unary p ts s = Fresh p (s .tokens)
 Extra Type' p ts s = 0 < length ts
 
 pub record Shown (g : Goal) (s : St) (x : Fallible Node) (s′ : St) : Type 0 where
@@ -36,9 +36,9 @@ pub record Shown (g : Goal) (s : St) (x : Fallible Node) (s′ : St) : Type 0 wh
 pub record Tail (e : Fallible Node) (s : St) (x : Fallible Node) (s′ : St) : Type 0 where
   pub toks : List Norm
   pub grew : Grew s toks s′
-  pub shows : (ts : List Norm) → Fresh (e .item .place) (s .left) → Shows (e .item .recs) (e .item .place) ts
+  pub shows : (ts : List Norm) → Fresh (e .item .place) (s .tokens) → Shows (e .item .recs) (e .item .place) ts
       → Shows (x .item .recs) (x .item .place) (ts ++ toks)
-  pub fresh : Fresh (e .item .place) (s .left) → Fresh (x .item .place) (s′ .left)
+  pub fresh : Fresh (e .item .place) (s .tokens) → Fresh (x .item .place) (s′ .tokens)
   pub none : e .errors ≡ [] → x .errors ≡ []
 
 -- items that a loop goes on with, up to a last token
@@ -64,8 +64,8 @@ pub record Rest (k : Listed) (a : Items) (due : List Norm) : Type 0 where
 pub record ListSequel (k : Listed) (i : Items) (s : St) (a : Items) (s′ : St) : Type 0 where
   pub toks : List Norm
   pub grew : Grew s toks s′
-  pub there : head (s .left) is K.End ≡ false
-  pub shows : (ts : List Norm) → ShowsItems comma i ts → Rest k a (start k i ts (head (s .left)) ++ toks)
+  pub there : head (s .tokens) is K.End ≡ false
+  pub shows : (ts : List Norm) → ShowsItems comma i ts → Rest k a (start k i ts (head (s .tokens)) ++ toks)
   pub none : i .errors ≡ [] → a .errors ≡ []
 
 abbrev pub G : Goal → St → Ans Node → St → Type 0
@@ -84,7 +84,7 @@ L (Suffixes e) s a s′ = TailOf e s a s′
 L (Modifiers w) s a s′ = Grew s [] s′
 
 abbrev pub R : St → Type 0
-R s = Distinct (s .left)
+R s = Distinct (s .tokens)
 
 abbrev pub M : Err → St → Type 0
 M e s = ⊥
@@ -96,15 +96,15 @@ cwp m Q s = wp G L R M m Q s
 
 -- `expect(..)?`
 pub expects : {B : Type 0} (r : Role) (k : ℕ) (f : Fallible Tok → Act (Ans B)) (Q : Ans B → St → Type 0) (s : St)
-    → (head (s .left) is k ≡ true → Distinct (s .left)
-    → cwp (f (record { item = head (s .left); errors = [] })) Q (advance (λ _. r) s))
+    → (head (s .tokens) is k ≡ true → Distinct (s .tokens)
+    → cwp (f (record { item = head (s .tokens); errors = [] })) Q (advance (λ _. r) s))
     → cwp (P.expect-as r k >>? f) Q s
 unfolding _>>=_
 expects r k f Q s h = λ d. (λ i. h i d, λ _. (λ _ m. absurd m, λ _ m. absurd m))
 
 pub identifier : {B : Type 0} (f : Fallible Tok → Act (Ans B)) (Q : Ans B → St → Type 0) (s : St)
-    → (head (s .left) is K.Identifier ≡ true → Distinct (s .left)
-    → cwp (f (record { item = head (s .left); errors = [] })) Q (next-state s))
+    → (head (s .tokens) is K.Identifier ≡ true → Distinct (s .tokens)
+    → cwp (f (record { item = head (s .tokens); errors = [] })) Q (next-state s))
     → cwp (P.expect-identifier >>? f) Q s
 unfolding _>>=_
 identifier f Q s h = λ d. (λ i. h i d, λ _. (λ _ m. absurd m, λ _ m. absurd m))

@@ -25,7 +25,7 @@ use Rattle.definition.proofs.ShownAnswers.{lead, start, Rest, ListSeque
 
 -- ---- parse_atom and what stands around it
 
-group-shown : (s : St) → head (s .left) is K.LParen ≡ true → cwp P.parse-group (G Expression s) s
+group-shown : (s : St) → head (s .tokens) is K.LParen ≡ true → cwp P.parse-group (G Expression s) s
 unfolding P.parse-group _>>=_
 group-shown s i = λ d. (
   λ x t l p d′. (
@@ -50,7 +50,7 @@ atom-shown s = (
     grew = took-integer s i;
     shows = record { on = λ st. after0 _ st };
     none = refl;
-    extra = fresh-head (s .left) d;
+    extra = fresh-head (s .tokens) d;
   },
   λ _. (
     λ i d. record {
@@ -58,7 +58,7 @@ atom-shown s = (
       grew = took-name K.Identifier tt s i;
       shows = record { on = λ st. after0 _ st };
       none = refl;
-      extra = fresh-head (s .left) d;
+      extra = fresh-head (s .tokens) d;
     },
     λ _. (
       λ i d. record {
@@ -66,7 +66,7 @@ atom-shown s = (
         grew = took-name K.String tt s i;
         shows = record { on = λ st. after0 _ st };
         none = refl;
-        extra = fresh-head (s .left) d;
+        extra = fresh-head (s .tokens) d;
       },
       λ _. (
         λ i d. record {
@@ -74,7 +74,7 @@ atom-shown s = (
           grew = took-symbol K.KwTrue tt s i;
           shows = record { on = λ st. after0 _ st };
           none = refl;
-          extra = fresh-head (s .left) d;
+          extra = fresh-head (s .tokens) d;
         },
         λ _. (
           λ i d. record {
@@ -82,7 +82,7 @@ atom-shown s = (
             grew = took-symbol K.KwFalse tt s i;
             shows = record { on = λ st. after0 _ st };
             none = refl;
-            extra = fresh-head (s .left) d;
+            extra = fresh-head (s .tokens) d;
           },
           λ _.
               (λ i. group-shown s i, λ _ d. (λ _ m. absurd m, λ _ m. absurd m)),
@@ -104,9 +104,9 @@ suffixes-shown e s = (
           grew = took-symbol K.Dot tt s i ▸ took-name K.Identifier tt (next-state s) j ▸ p .grew;
           shows =
               λ ts f h. shows-as
-              (p .shows (ts ++ sym1 K.Dot ++ (named K.Identifier _ ∷ [])) (fresh-tail (fresh-head (s .left) d))
+              (p .shows (ts ++ sym1 K.Dot ++ (named K.Identifier _ ∷ [])) (fresh-tail (fresh-head (s .tokens) d))
               (record { on = λ st. after1 h _ st })) (simp append-assoc);
-          fresh = λ f. p .fresh (fresh-tail (fresh-head (s .left) d));
+          fresh = λ f. p .fresh (fresh-tail (fresh-head (s .tokens) d));
           none = p .none;
         },
         λ es u l p. absurd p,
@@ -120,12 +120,12 @@ suffixes-shown e s = (
         toks = sym1 K.DotStar ++ p .toks;
         grew = took-symbol K.DotStar tt s i ▸ p .grew;
         shows =
-            λ ts f h. shows-as (p .shows (ts ++ sym1 K.DotStar) (fresh-head (s .left) d) (record {
+            λ ts f h. shows-as (p .shows (ts ++ sym1 K.DotStar) (fresh-head (s .tokens) d) (record {
               on = λ st. after1 h _ st ∙ ap
-                  (λ (b : Bool). entry (head (s .left) .place) (pick b (sym1 K.Star ++ ts) (ts ++ sym1 K.DotStar))
-                  ∷ st) (differs (e .item .place) (s .left) K.DotStar tt i f);
+                  (λ (b : Bool). entry (head (s .tokens) .place) (pick b (sym1 K.Star ++ ts) (ts ++ sym1 K.DotStar))
+                  ∷ st) (differs (e .item .place) (s .tokens) K.DotStar tt i f);
             })) (simp append-assoc);
-        fresh = λ f. p .fresh (fresh-head (s .left) d);
+        fresh = λ f. p .fresh (fresh-head (s .tokens) d);
         none = p .none;
       },
       λ es u l p. absurd p,
@@ -137,9 +137,9 @@ suffixes-shown e s = (
           grew = took-symbol K.LBracket tt s i ▸ p .grew ▸ took-symbol K.RBracket tt t j ▸ q .grew;
           shows =
               λ ts f h. shows-as (q .shows (ts ++ sym1 K.LBracket ++ p .toks ++ sym1 K.RBracket)
-              (fresh-tail (fresh-later l (fresh-head (s .left) d)))
+              (fresh-tail (fresh-later l (fresh-head (s .tokens) d)))
               (record { on = λ st. after2 h (p .shows) _ st })) (simp append-assoc);
-          fresh = λ f. q .fresh (fresh-tail (fresh-later l (fresh-head (s .left) d)));
+          fresh = λ f. q .fresh (fresh-tail (fresh-later l (fresh-head (s .tokens) d)));
           none = λ h. q .none (joined h (p .none));
         },
         λ es u l₂ q. absurd q,
@@ -162,7 +162,7 @@ sizeof-shown s = (
     grew = took-symbol K.KwSizeof tt s i ▸ took-symbol K.LParen tt (next-state s) j ▸ p .grew ▸ took-symbol K.RParen tt t k;
     shows = record { on = λ st. after1 (p .shows) _ st };
     none = p .none;
-    extra = fresh-tail (fresh-later l (fresh-tail (fresh-head (s .left) d)));
+    extra = fresh-tail (fresh-later l (fresh-tail (fresh-head (s .tokens) d)));
   }))),
   λ _. field-access-shown s,
 )
@@ -198,15 +198,15 @@ pub list-shown : (k : Listed) (s : St) → cwp (P.parse-list k) (List-shown k s)
 unfolding P.parse-list _>>=_
 list-shown k s = λ d. (λ i a t l p. found i a t p (p .shows [] (items-none comma [])), λ _. (λ _ m. absurd m, λ _ m. absurd m))
   where
-    found : head (s .left) is P.opener k ≡ true → (a : Items) (t : St)
+    found : head (s .tokens) is P.opener k ≡ true → (a : Items) (t : St)
         → (p : ListSequel k (P.no-items []) (next-state s) a t)
-        → Rest k a (start k (P.no-items []) [] (head (tail (s .left))) ++ p .toks) → List-shown k s a t
+        → Rest k a (start k (P.no-items []) [] (head (tail (s .tokens))) ++ p .toks) → List-shown k s a t
     found i a t p r =
         record {
           toks = r .all;
           grew = grew-as (took-symbol (P.opener k) (opener-symbol k) s i ▸ p .grew)
               (ap (λ (l : List Norm). sym1 (P.opener k) ++ l)
-              (ap (λ (l : List Norm). l ++ p .toks) (sym (pick-same (head (tail (s .left)) is P.closer k) []))
+              (ap (λ (l : List Norm). l ++ p .toks) (sym (pick-same (head (tail (s .tokens)) is P.closer k) []))
               ∙ r .whole));
           shows = r .shows;
           none = p .none refl;
@@ -242,12 +242,12 @@ after-item-shown : (k : Listed) (i : Items) (n : ℕ) → i .count ≡ suc n →
 unfolding P.after-item
 after-item-shown k i n c s = (
   λ e d a t l p. record {
-    toks = norm (P.comma-role k (head (tail (s .left)))) (head (s .left)) ++ p .toks;
+    toks = norm (P.comma-role k (head (tail (s .tokens)))) (head (s .tokens)) ++ p .toks;
     grew = took (P.comma-role k) K.Comma tt s e ▸ p .grew;
     shows =
         λ ts h. rest-as (p .shows ts h)
-        (comma-due (head (tail (s .left)) is P.closer k) (head (s .left)) ts (p .toks) (i .count) n c
-        (symbol-norm K.Comma tt (head (s .left)) (is-kind (head (s .left)) K.Comma e)));
+        (comma-due (head (tail (s .tokens)) is P.closer k) (head (s .tokens)) ts (p .toks) (i .count) n c
+        (symbol-norm K.Comma tt (head (s .tokens)) (is-kind (head (s .tokens)) K.Comma e)));
     none = p .none;
   },
   λ _. (
@@ -335,7 +335,7 @@ list-turn-shown k i s = (
       (λ c d. closes here c, λ c. follow G L R M _ _ (ItemOf s) _ _ (item-shown k s) (go here c)),
 )
   where
-    closes : head (s .left) is K.End ≡ false → head (s .left) is P.closer k ≡ true → ListSequel k i s i (next-state s)
+    closes : head (s .tokens) is K.End ≡ false → head (s .tokens) is P.closer k ≡ true → ListSequel k i s i (next-state s)
     closes here c =
         record {
           toks = sym1 (P.closer k);
@@ -349,7 +349,7 @@ list-turn-shown k i s = (
           none = λ h. h;
         }
 
-    go : head (s .left) is K.End ≡ false → head (s .left) is P.closer k ≡ false → (a : Ans Node) (t : St)
+    go : head (s .tokens) is K.End ≡ false → head (s .tokens) is P.closer k ≡ false → (a : Ans Node) (t : St)
         → Later s t → ItemOf s a t → cwp (P.after-item k (P.integrate i a)) (ListSequel k i s) t
     go here c (ok x) t l p =
         wp-mono G L R M (After-item k (P.integrate i (ok x)) t) (ListSequel k i s)
@@ -406,7 +406,7 @@ prefix-shown : (tag k : ℕ) → T (is-symbol k)
     → ((p : Place) (ts : List Norm) (st : List Entry)
     → step (record { tag = tag; place = some p; numbers = []; text = [] }) (entry p ts ∷ st)
     ≡ entry p (sym1 k ++ ts) ∷ st)
-    → (s : St) → head (s .left) is k ≡ true → cwp (P.prefix tag) (G Expression s) s
+    → (s : St) → head (s .tokens) is k ≡ true → cwp (P.prefix tag) (G Expression s) s
 unfolding P.prefix
 prefix-shown tag k z f s i d =
     calls Unary _ _ _ (λ x t l p. record {
@@ -459,9 +459,9 @@ casts-shown e s = (
       toks = sym1 K.KwAs ++ p .toks ++ q .toks;
       grew = took-symbol K.KwAs tt s i ▸ p .grew ▸ q .grew;
       shows =
-          λ ts f h. shows-as (q .shows (ts ++ sym1 K.KwAs ++ p .toks) (fresh-later l (fresh-head (s .left) d))
+          λ ts f h. shows-as (q .shows (ts ++ sym1 K.KwAs ++ p .toks) (fresh-later l (fresh-head (s .tokens) d))
           (record { on = λ st. after2 h (p .shows) _ st })) (simp append-assoc);
-      fresh = λ f. q .fresh (fresh-later l (fresh-head (s .left) d));
+      fresh = λ f. q .fresh (fresh-later l (fresh-head (s .tokens) d));
       none = λ h. q .none (joined h (p .none));
     },
     λ es u l₂ q. absurd q,
@@ -513,7 +513,7 @@ Tabled f (o ∷ os) = (f (o .op) ≡ o .kind) × T (is-symbol (o .kind)) × Tabl
 
 find-shown : {A : Type 0} (f : ℕ → ℕ) (os : List P.Op) (y : ℕ → Act A) (n : Act A) (Q : A → St → Type 0) (s : St)
     → Tabled f os → ((o : ℕ) → Grew s (sym1 (f o)) (next-state s) → cwp (y o) Q s) → cwp n Q s
-    → cwp (P.find (head (s .left)) os y n) Q s
+    → cwp (P.find (head (s .tokens)) os y n) Q s
 find-shown f [] y n Q s p h e = e
 find-shown f (o ∷ os) y n Q s p h e = (
   λ i. h (o .op) (grew-as (took-symbol (o .kind) (p .1) s i) (ap sym1 (sym (p .0)))),
@@ -541,9 +541,9 @@ operators-shown l e s =
         grew = g ▸ p .grew ▸ q .grew;
         shows =
             λ ts f h. shows-as
-            (q .shows (ts ++ sym1 (arithmetic o) ++ p .toks) (fresh-later k (fresh-head (s .left) d))
+            (q .shows (ts ++ sym1 (arithmetic o) ++ p .toks) (fresh-later k (fresh-head (s .tokens) d))
             (record { on = λ st. after2 h (p .shows) _ st })) (simp append-assoc);
-        fresh = λ f. q .fresh (fresh-later k (fresh-head (s .left) d));
+        fresh = λ f. q .fresh (fresh-later k (fresh-head (s .tokens) d));
         none = λ h. q .none (joined h (p .none));
       },
       λ es u l₂ q. absurd q,
@@ -562,7 +562,7 @@ comparison-shown s =
       grew = p .grew ▸ g ▸ q .grew;
       shows = record { on = λ st. after2 (p .shows) (q .shows) _ st };
       none = joined (p .none) (q .none);
-      extra = fresh-later k (fresh-head (t .left) d);
+      extra = fresh-later k (fresh-head (t .tokens) d);
     }))
     p)
 
@@ -575,15 +575,15 @@ expression-shown s =
         grew = p .grew ▸ took-symbol K.DoubleAmpersand tt t i ▸ q .grew;
         shows = record { on = λ st. after2 (p .shows) (q .shows) _ st };
         none = joined (p .none) (q .none);
-        extra = fresh-later k (fresh-head (t .left) d);
+        extra = fresh-later k (fresh-head (t .tokens) d);
       }),
       λ _. p,
     ))
 
 -- ---- types
 
-array-type-shown : (s : St) → head (s .left) is K.LBracket ≡ true
-    → cwp (P.parse-array-type (head (s .left) .place)) (G Type' s) (next-state s)
+array-type-shown : (s : St) → head (s .tokens) is K.LBracket ≡ true
+    → cwp (P.parse-array-type (head (s .tokens) .place)) (G Type' s) (next-state s)
 unfolding P.parse-array-type step
 array-type-shown s i = λ d. (
   λ _ m. absurd m,
@@ -628,7 +628,7 @@ type-shown s d = (
           shows =
               record {
                 on = λ st. after-items (q .shows) _
-                    (on-list (head (s .left) .place) (λ ts. sym1 K.KwStruct ++ sym1 K.LBrace ++ ts ++ sym1 K.RBrace))
+                    (on-list (head (s .tokens) .place) (λ ts. sym1 K.KwStruct ++ sym1 K.LBrace ++ ts ++ sym1 K.RBrace))
                     (λ st. refl) st;
               };
           none = refl;

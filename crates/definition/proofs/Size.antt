@@ -44,7 +44,7 @@ weight-append [] ys = omega arith
 weight-append (x ∷ xs) ys = omega (arith, weight-append xs ys)
 
 abbrev R : St → Type 0
-R s = cost (head (s .left)) + budget (tail (s .left)) ≡ budget (s .left)
+R s = cost (head (s .tokens)) + budget (tail (s .tokens)) ≡ budget (s .tokens)
 
 r-ok : (ts : List Tok) → cost (head ts) + budget (tail ts) ≡ budget ts
 unfolding budget
@@ -68,54 +68,54 @@ module _ (f : Err → ℕ) where
   -- k bytes are spared
   abbrev Post : ℕ → St → Ans Node → St → Type 0
   Post k s (ok x) s′ =
-      (weight (x .item .recs) + k + budget (s′ .left) ≤ budget (s .left))
+      (weight (x .item .recs) + k + budget (s′ .tokens) ≤ budget (s .tokens))
       × (tally (x .errors) + tally (s .full) ≤ tally (s′ .full))
-  Post k s (fatal es) s′ = (budget (s′ .left) ≤ budget (s .left)) × (tally es + tally (s .full) ≤ tally (s′ .full))
+  Post k s (fatal es) s′ = (budget (s′ .tokens) ≤ budget (s .tokens)) × (tally es + tally (s .full) ≤ tally (s′ .full))
 
   -- at most k bytes more than the tokens read pay for
   abbrev Over : ℕ → St → Ans Node → St → Type 0
   Over k s (ok x) s′ =
-      (weight (x .item .recs) + budget (s′ .left) ≤ k + budget (s .left))
+      (weight (x .item .recs) + budget (s′ .tokens) ≤ k + budget (s .tokens))
       × (tally (x .errors) + tally (s .full) ≤ tally (s′ .full))
-  Over k s (fatal es) s′ = (budget (s′ .left) ≤ budget (s .left)) × (tally es + tally (s .full) ≤ tally (s′ .full))
+  Over k s (fatal es) s′ = (budget (s′ .tokens) ≤ budget (s .tokens)) × (tally es + tally (s .full) ≤ tally (s′ .full))
 
   -- of a function whose parameters and return type are read, at most k bytes more
   abbrev Built : ℕ → Items → Fallible Node → St → Ans Node → St → Type 0
   Built k ps r s (ok x) s′ =
-      (weight (x .item .recs) + budget (s′ .left) ≤ k + weight (ps .recs) + weight (r .item .recs) + budget
-      (s .left))
+      (weight (x .item .recs) + budget (s′ .tokens) ≤ k + weight (ps .recs) + weight (r .item .recs) + budget
+      (s .tokens))
       × (tally (x .errors) + tally (s .full) ≤ tally (r .errors) + tally (ps .errors) + tally (s′ .full))
-  Built k ps r s (fatal es) s′ = (budget (s′ .left) ≤ budget (s .left)) × (tally es + tally (s .full) ≤ tally (s′ .full))
+  Built k ps r s (fatal es) s′ = (budget (s′ .tokens) ≤ budget (s .tokens)) × (tally es + tally (s .full) ≤ tally (s′ .full))
 
   abbrev PostTyped : St → Ans Typed → St → Type 0
   PostTyped s (ok x) s′ =
-      (weight (x .item .type) + length (x .item .name) + 16 + budget (s′ .left) ≤ budget (s .left))
+      (weight (x .item .type) + length (x .item .name) + 16 + budget (s′ .tokens) ≤ budget (s .tokens))
       × (tally (x .errors) + tally (s .full) ≤ tally (s′ .full))
-  PostTyped s (fatal es) s′ = (budget (s′ .left) ≤ budget (s .left)) × (tally es + tally (s .full) ≤ tally (s′ .full))
+  PostTyped s (fatal es) s′ = (budget (s′ .tokens) ≤ budget (s .tokens)) × (tally es + tally (s .full) ≤ tally (s′ .full))
 
   abbrev PostTyped′ : St → Ans Typed → St → Type 0
   PostTyped′ s (ok x) s′ =
-      (weight (x .item .type) + length (x .item .name) + 13 + budget (s′ .left) ≤ budget (s .left))
+      (weight (x .item .type) + length (x .item .name) + 13 + budget (s′ .tokens) ≤ budget (s .tokens))
       × (tally (x .errors) + tally (s .full) ≤ tally (s′ .full))
-  PostTyped′ s (fatal es) s′ = (budget (s′ .left) ≤ budget (s .left)) × (tally es + tally (s .full) ≤ tally (s′ .full))
+  PostTyped′ s (fatal es) s′ = (budget (s′ .tokens) ≤ budget (s .tokens)) × (tally es + tally (s .full) ≤ tally (s′ .full))
 
   -- of the name that is read already
   abbrev PostNamed : List ℕ → List Err → St → Ans Typed → St → Type 0
   PostNamed name es s (ok x) s′ =
-      (weight (x .item .type) + 16 + budget (s′ .left) ≤ budget (s .left))
+      (weight (x .item .type) + 16 + budget (s′ .tokens) ≤ budget (s .tokens))
       × (tally (x .errors) + tally (s .full) ≤ tally es + tally (s′ .full))
       × (length (x .item .name) ≡ length name)
-  PostNamed name es s (fatal es′) s′ = (budget (s′ .left) ≤ budget (s .left)) × (tally es′ + tally (s .full) ≤ tally (s′ .full))
+  PostNamed name es s (fatal es′) s′ = (budget (s′ .tokens) ≤ budget (s .tokens)) × (tally es′ + tally (s .full) ≤ tally (s′ .full))
 
   abbrev PostItems : Items → St → Items → St → Type 0
   PostItems i s a s′ =
-      (weight (a .recs) + budget (s′ .left) ≤ weight (i .recs) + budget (s .left))
+      (weight (a .recs) + budget (s′ .tokens) ≤ weight (i .recs) + budget (s .tokens))
       × (tally (a .errors) + tally (s .full) ≤ tally (i .errors) + tally (s′ .full))
 
   -- a list, or a body, and the token that opens it
   abbrev PostOpened : St → Items → St → Type 0
   PostOpened s a s′ =
-      (weight (a .recs) + cost (head (s .left)) + budget (s′ .left) ≤ budget (s .left))
+      (weight (a .recs) + cost (head (s .tokens)) + budget (s′ .tokens) ≤ budget (s .tokens))
       × (tally (a .errors) + tally (s .full) ≤ tally (s′ .full))
 
   abbrev spare : Goal → ℕ
@@ -129,9 +129,9 @@ module _ (f : Err → ℕ) where
 
   abbrev From : Fallible Node → St → Ans Node → St → Type 0
   From e s (ok x) s′ =
-      (weight (x .item .recs) + budget (s′ .left) ≤ weight (e .item .recs) + budget (s .left))
+      (weight (x .item .recs) + budget (s′ .tokens) ≤ weight (e .item .recs) + budget (s .tokens))
       × (tally (x .errors) + tally (s .full) ≤ tally (e .errors) + tally (s′ .full))
-  From e s (fatal es) s′ = (budget (s′ .left) ≤ budget (s .left)) × (tally es + tally (s .full) ≤ tally (s′ .full))
+  From e s (fatal es) s′ = (budget (s′ .tokens) ≤ budget (s .tokens)) × (tally es + tally (s .full) ≤ tally (s′ .full))
 
   abbrev L : (l : Loop) → St → Left l → St → Type 0
   L (Module i) s a s′ = PostItems i s a s′
@@ -140,7 +140,7 @@ module _ (f : Err → ℕ) where
   L (Operators l e) s a s′ = From e s a s′
   L (Casts e) s a s′ = From e s a s′
   L (Suffixes e) s a s′ = From e s a s′
-  L (Modifiers w) s a s′ = (budget (s′ .left) ≤ budget (s .left)) × (tally (s .full) ≤ tally (s′ .full))
+  L (Modifiers w) s a s′ = (budget (s′ .tokens) ≤ budget (s .tokens)) × (tally (s .full) ≤ tally (s′ .full))
 
   abbrev wp′ : {A : Type 0} → Act A → (A → St → Type 0) → St → Type 0
   wp′ m Q s = wp G L R M m Q s
@@ -152,7 +152,7 @@ module _ (f : Err → ℕ) where
   typed-identifier-size : (s : St) → wp′ P.parse-typed-identifier (PostTyped s) s
   unfolding P.parse-typed-identifier ascii
   typed-identifier-size s = λ r. (
-    λ i. named (head (s .left) .text) [] (next-state s) (omega (arith, is-kind)) (omega arith),
+    λ i. named (head (s .tokens) .text) [] (next-state s) (omega (arith, is-kind)) (omega arith),
     λ n. (
       λ i m. simp sums (omega (arith, is-kind)),
       λ e m. named (ascii "<?>") _ (push _ (next-state s))
@@ -160,17 +160,17 @@ module _ (f : Err → ℕ) where
     ),
   )
     where
-      named : (name : List ℕ) (es : List Err) (t : St) → length name + 0 + budget (t .left) ≤ budget (s .left)
+      named : (name : List ℕ) (es : List Err) (t : St) → length name + 0 + budget (t .tokens) ≤ budget (s .tokens)
           → tally es + tally (s .full) ≤ tally (t .full) → wp′ (P.typed name es) (PostTyped s) t
       named name es t b c =
           via G L R M (P.typed name es) (PostNamed name es t) (PostTyped s) t (typed-size name es t)
           (omega arith) (omega arith)
 
-  prefix-size : (tag : ℕ) (s : St) → tag ≤ 0x54 → 0 < (head (s .left)) .kind → wp′ (P.prefix tag) (Post 8 s) s
+  prefix-size : (tag : ℕ) (s : St) → tag ≤ 0x54 → 0 < (head (s .tokens)) .kind → wp′ (P.prefix tag) (Post 8 s) s
   unfolding P.prefix _>>=_
   prefix-size tag s h k = simp sums (omega arith)
 
-  group-size : (s : St) → 0 < (head (s .left)) .kind → wp′ P.parse-group (Post 8 s) s
+  group-size : (s : St) → 0 < (head (s .tokens)) .kind → wp′ P.parse-group (Post 8 s) s
   unfolding P.parse-group _>>=_
   group-size s k = simp sums (omega (arith, is-kind))
 
@@ -210,7 +210,7 @@ module _ (f : Err → ℕ) where
   after-item-size : (k : Listed) (i : Items) (s : St) → wp′ (P.after-item k i) (PostItems i s) s
   unfolding P.after-item
   after-item-size k i s =
-      let t : Tok = head (s .left) in
+      let t : Tok = head (s .tokens) in
       let es : List Err = P.error 15 (t .place) 0 (t .kind) ∷ [] in
       omega (arith, is-kind, tally-append (i .errors) es, tally-append (s .full) es)
 
@@ -237,15 +237,15 @@ module _ (f : Err → ℕ) where
       t : St
       t = next-state s
 
-      array : 16 + budget (t .left) ≤ budget (s .left) → wp′ (P.parse-array-type (head (s .left) .place)) (Post 0 s) t
+      array : 16 + budget (t .tokens) ≤ budget (s .tokens) → wp′ (P.parse-array-type (head (s .tokens) .place)) (Post 0 s) t
       array b =
-          let p : Place = head (s .left) .place in
+          let p : Place = head (s .tokens) .place in
           via G L R M (P.parse-array-type p) (Post 0 t) (Post 0 s) t (array-type-size p t) (omega arith) (omega arith)
 
       made : Items → Act (Ans Node)
-      made i = P.good (P.node (i .recs) 0x14 (head (s .left) .place) (two (i .count) ∷ []) []) []
+      made i = P.good (P.node (i .recs) 0x14 (head (s .tokens) .place) (two (i .count) ∷ []) []) []
 
-      struct : 16 + budget (t .left) ≤ budget (s .left) → wp′ (P.parse-list StructFields >>= made) (Post 0 s) t
+      struct : 16 + budget (t .tokens) ≤ budget (s .tokens) → wp′ (P.parse-list StructFields >>= made) (Post 0 s) t
       struct b =
           follow G L R M (P.parse-list StructFields) made (PostOpened t) (Post 0 s) t (list-size StructFields t)
           (simp sums (omega arith))
@@ -314,7 +314,7 @@ module _ (f : Err → ℕ) where
   operators-size : (l : Level) (e : Fallible Node) (s : St) → wp′ (operators-turn l e) (From e s) s
   unfolding operators-turn
   operators-size l e s =
-      wp-find G L R M (P.mapping l) _ _ _ s (head (s .left)) (mapping-positive l)
+      wp-find G L R M (P.mapping l) _ _ _ s (head (s .tokens)) (mapping-positive l)
       (λ k o r. try G L R M (P.cascade l) _ (Post 8 (next-state s)) _ _ (cascade-size l (next-state s))
       (simp sums (omega arith)) (omega arith))
       (omega arith)
@@ -325,7 +325,7 @@ module _ (f : Err → ℕ) where
       try G L R M _ _ (Post 8 s) _ _ (bitwise-or-size s)
       (λ e s′ p. wp-find G L R M P.comparisons
       (λ o. next λ op. P.parse-bitwise-or >>? λ r. done (ok (P.binary 0x2E (byte o ∷ []) (op .place) e r)))
-      (done (ok e)) (Post 8 s) s′ (head (s′ .left)) comparisons-positive
+      (done (ok e)) (Post 8 s) s′ (head (s′ .tokens)) comparisons-positive
       (λ k o r. try G L R M P.parse-bitwise-or _ (Post 8 (next-state s′)) _ _ (bitwise-or-size (next-state s′))
       (simp sums (omega arith)) (omega arith))
       (omega arith))
@@ -507,7 +507,7 @@ module _ (f : Err → ℕ) where
       u = next-state t
 
       name : Tok
-      name = head (t .left)
+      name = head (t .tokens)
 
       Is-built : Items → Fallible Node → St → Ans Node → St → Type 0
       Is-built ps ty w = Built (19 + length (name .text)) ps ty w
@@ -590,8 +590,8 @@ module _ (f : Err → ℕ) where
 
   -- of a call
   pub goal-size : (n : ℕ) (g : Goal) (s : St) → After (λ a s′. Later s s′ × G g s a s′) (parse n g s)
-  goal-size n g s = parse-ind G L R M (λ s. r-ok (s .left)) (λ e s. tt) rules turns n g s
+  goal-size n g s = parse-ind G L R M (λ s. r-ok (s .tokens)) (λ e s. tt) rules turns n g s
 
   -- of a whole reading
   pub module-size : (ts : List Tok) → After (λ i s′. (weight (i .recs) ≤ budget ts) × (tally (i .errors) ≤ tally (s′ .full))) (parse-module ts)
-  module-size ts = weaken (parse-module ts) (λ i s′ p. omega arith) (module-ind G L R M (λ s. r-ok (s .left)) (λ e s. tt) rules turns ts)
+  module-size ts = weaken (parse-module ts) (λ i s′ p. omega arith) (module-ind G L R M (λ s. r-ok (s .tokens)) (λ e s. tt) rules turns ts)

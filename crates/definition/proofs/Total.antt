@@ -46,28 +46,28 @@ Moves (refused n) = T (between 10 12 n)
 
 -- a call reads a token, where there is one
 abbrev pub Called : St → St → Type 0
-Called s s′ = head (s .left) is K.End ≡ false → length (s′ .left) < length (s .left)
+Called s s′ = head (s .tokens) is K.End ≡ false → length (s′ .tokens) < length (s .tokens)
 
 -- every loop in an act has its turns, of n, and Q holds in the end
 module _ (n : ℕ) where
   abbrev pub Enough : {A : Type 0} → Act A → (St → Type 0) → St → Type 0
   Enough (done a) Q s = Q s
-  Enough (peek k) Q s = Enough (k (head (s .left))) Q s
-  Enough (consume r k) Q s = Enough (k (head (s .left))) Q (advance r s)
+  Enough (peek k) Q s = Enough (k (head (s .tokens))) Q s
+  Enough (consume r k) Q s = Enough (k (head (s .tokens))) Q (advance r s)
   Enough (make e m) Q s = Enough m Q (push e s)
   Enough (if_then_else_ b m m′) Q s = (b ≡ true → Enough m Q s) × (b ≡ false → Enough m′ Q s)
   Enough (call g k) Q s = (a : Ans Node) (s′ : St) → Later s s′ → Called s s′ → Enough (k a) Q s′
-  Enough (loop l k) Q s = (rank l + length (s .left) ≤ n) × ((a : Left l) (s′ : St) → Later s s′ → Enough (k a) Q s′)
+  Enough (loop l k) Q s = (rank l + length (s .tokens) ≤ n) × ((a : Left l) (s′ : St) → Later s s′ → Enough (k a) Q s′)
   Enough panic Q s = Unit {0}
 
   -- where two more turns than tokens are left, every loop has its turns
-  pub plenty : {A : Type 0} (m : Act A) (Q : St → Type 0) (s₀ s : St) → Later s₀ s → 2 + length (s .left) ≤ n
-      → ((s′ : St) → length (s′ .left) ≤ length (s .left) → Q s′) → Enough m Q s
+  pub plenty : {A : Type 0} (m : Act A) (Q : St → Type 0) (s₀ s : St) → Later s₀ s → 2 + length (s .tokens) ≤ n
+      → ((s′ : St) → length (s′ .tokens) ≤ length (s .tokens) → Q s′) → Enough m Q s
   plenty (done a) Q s₀ s z h q = q s (omega arith)
-  plenty (peek k) Q s₀ s z h q = plenty (k (head (s .left))) Q s₀ s z h q
+  plenty (peek k) Q s₀ s z h q = plenty (k (head (s .tokens))) Q s₀ s z h q
   plenty (consume r k) Q s₀ s z h q =
-      plenty (k (head (s .left))) Q s₀ (advance r s) (later-trans z (later-advance r s))
-      (omega (arith, Gr.tail-le (s .left))) (λ s′ d. q s′ (omega (arith, Gr.tail-le (s .left))))
+      plenty (k (head (s .tokens))) Q s₀ (advance r s) (later-trans z (later-advance r s))
+      (omega (arith, Gr.tail-le (s .tokens))) (λ s′ d. q s′ (omega (arith, Gr.tail-le (s .tokens))))
   plenty (make e m) Q s₀ s z h q = plenty m Q s₀ (push e s) (later-trans z (later-push e s)) h q
   plenty (if_then_else_ b m m′) Q s₀ s z h q = (λ _. plenty m Q s₀ s z h q, λ _. plenty m′ Q s₀ s z h q)
   plenty (call g k) Q s₀ s z h q =
@@ -84,8 +84,8 @@ module _ (n : ℕ) where
       → ((a : A) (s′ : St) → P s′ → Enough (f a) Q s′) → Enough (m >>= f) Q s
   unfolding _>>=_
   enough-bind (done a) f P Q s h q = q a s h
-  enough-bind (peek k) f P Q s h q = enough-bind (k (head (s .left))) f P Q s h q
-  enough-bind (consume r k) f P Q s h q = enough-bind (k (head (s .left))) f P Q (advance r s) h q
+  enough-bind (peek k) f P Q s h q = enough-bind (k (head (s .tokens))) f P Q s h q
+  enough-bind (consume r k) f P Q s h q = enough-bind (k (head (s .tokens))) f P Q (advance r s) h q
   enough-bind (make e m) f P Q s h q = enough-bind m f P Q (push e s) h q
   enough-bind (if_then_else_ b m m′) f P Q s h q = (λ d. enough-bind m f P Q s (h .0 d) q, λ d. enough-bind m′ f P Q s (h .1 d) q)
   enough-bind (call g k) f P Q s h q = λ a s′ l c. enough-bind (k a) f P Q s′ (h a s′ l c) q
@@ -104,14 +104,14 @@ module _ (n : ℕ) where
   First panic = Unit {0}
 
   abbrev Less : St → St → Type 0
-  Less s s′ = length (s′ .left) < length (s .left)
+  Less s s′ = length (s′ .tokens) < length (s .tokens)
 
-  begins : {A : Type 0} (m : Act A) (s : St) → head (s .left) is K.End ≡ false → First m → 1 + length (s .left) ≤ n → Enough m (Less s) s
+  begins : {A : Type 0} (m : Act A) (s : St) → head (s .tokens) is K.End ≡ false → First m → 1 + length (s .tokens) ≤ n → Enough m (Less s) s
   begins (done a) s e r h = absurd r
-  begins (peek k) s e r h = begins (k (head (s .left))) s e (r (head (s .left))) h
+  begins (peek k) s e r h = begins (k (head (s .tokens))) s e (r (head (s .tokens))) h
   begins (consume p k) s e r h =
-      plenty (k (head (s .left))) (Less s) s (advance p s) (later-advance p s)
-      (omega (arith, Gr.tail-lt (s .left) e)) (λ s′ d. omega (arith, Gr.tail-lt (s .left) e))
+      plenty (k (head (s .tokens))) (Less s) s (advance p s) (later-advance p s)
+      (omega (arith, Gr.tail-lt (s .tokens) e)) (λ s′ d. omega (arith, Gr.tail-lt (s .tokens) e))
   begins (make x m) s e r h = absurd r
   begins (if_then_else_ b m m′) s e r h = (λ d. begins m s e (r .0 d) h, λ d. begins m′ s e (r .1 d) h)
   begins (call g k) s e r h = λ a s′ l c. plenty (k a) (Less s) s s′ l (omega (arith, c e)) (λ s″ d. omega (arith, c e))
@@ -129,12 +129,12 @@ module _ (n : ℕ) where
 
   module _ (c : Goal → St → Res (Ans Node)) (o : (l : Loop) → St → Res (Left l))
       (c-after : (g : Goal) (s : St) → After (λ a s′. Later s s′ × Called s s′) (c g s)) (c-moves : (g : Goal) (s : St) → Moves (c g s))
-      (o-after : (l : Loop) (s : St) → After (λ a s′. Later s s′) (o l s)) (o-moves : (l : Loop) (s : St) → rank l + length (s .left) ≤ n → Moves (o l s)) where
+      (o-after : (l : Loop) (s : St) → After (λ a s′. Later s s′) (o l s)) (o-moves : (l : Loop) (s : St) → rank l + length (s .tokens) ≤ n → Moves (o l s)) where
     run-moves : {A : Type 0} (m : Act A) (Q : St → Type 0) (s : St) → Enough m Q s → Moves (run c o m s)
     unfolding run
     run-moves (done a) Q s h = tt
-    run-moves (peek k) Q s h = run-moves (k (head (s .left))) Q s h
-    run-moves (consume r k) Q s h = run-moves (k (head (s .left))) Q (advance r s) h
+    run-moves (peek k) Q s h = run-moves (k (head (s .tokens))) Q s h
+    run-moves (consume r k) Q s h = run-moves (k (head (s .tokens))) Q (advance r s) h
     run-moves (make e m) Q s h = limited (ltb (length (s .full)) 255) (run c o m (push e s)) (run-moves m Q (push e s) h)
     run-moves (if_then_else_ true m m′) Q s h = run-moves m Q s (h .0 refl)
     run-moves (if_then_else_ false m m′) Q s h = run-moves m′ Q s (h .1 refl)
@@ -160,21 +160,21 @@ first-item n ArrayValues = tt
 first-item n StructValues = tt
 
 find-enough : {A : Type 0} (n : ℕ) (os : List P.Op) (y : ℕ → Act A) (m : Act A) (Q : St → Type 0) (s : St) → Positive os
-    → ((o : ℕ) → length (tail (s .left)) < length (s .left) → Enough n (y o) Q s) → Enough n m Q s
-    → Enough n (P.find (head (s .left)) os y m) Q s
+    → ((o : ℕ) → length (tail (s .tokens)) < length (s .tokens) → Enough n (y o) Q s) → Enough n m Q s
+    → Enough n (P.find (head (s .tokens)) os y m) Q s
 find-enough n [] y m Q s p h e = e
-find-enough n (o ∷ os) y m Q s p h e = (λ i. h (o .op) (there (o .kind) (p .0) (s .left) i), λ _. find-enough n os y m Q s (p .1) h e)
+find-enough n (o ∷ os) y m Q s p h e = (λ i. h (o .op) (there (o .kind) (p .0) (s .tokens) i), λ _. find-enough n os y m Q s (p .1) h e)
 
 -- an item of a module reads a token
-moved : (s s′ : St) → Later s s′ → head (s .left) is K.End ≡ false → head (s′ .left) is K.End ≡ true → length (s′ .left) < length (s .left)
-moved s s′ l e e′ = go (l .eaten) (l .left)
+moved : (s s′ : St) → Later s s′ → head (s .tokens) is K.End ≡ false → head (s′ .tokens) is K.End ≡ true → length (s′ .tokens) < length (s .tokens)
+moved s s′ l e e′ = go (l .eaten) (l .tokens)
   where
-    go : (cs : List Consumed) → s .left ≡ toks cs ++ s′ .left → length (s′ .left) < length (s .left)
+    go : (cs : List Consumed) → s .tokens ≡ toks cs ++ s′ .tokens → length (s′ .tokens) < length (s .tokens)
     go [] q = never-both e′ (subst (λ (ts : List Tok). head ts is K.End ≡ false) q e)
-    go (c ∷ cs) q = omega (arith, ap length q, length-append (toks cs) (s′ .left))
+    go (c ∷ cs) q = omega (arith, ap length q, length-append (toks cs) (s′ .tokens))
 
-alias-enough : (n : ℕ) (s : St) → head (s .left) is K.End ≡ false → 1 + length (s .left) ≤ n
-    → Enough n P.parse-type-alias (λ s′. length (s′ .left) < length (s .left)) s
+alias-enough : (n : ℕ) (s : St) → head (s .tokens) is K.End ≡ false → 1 + length (s .tokens) ≤ n
+    → Enough n P.parse-type-alias (λ s′. length (s′ .tokens) < length (s .tokens)) s
 unfolding P.parse-type-alias P.alias-rule _>>=_
 alias-enough n s e h = (
   h,
@@ -182,24 +182,24 @@ alias-enough n s e h = (
     λ i. (
       λ _. tt,
       λ _. (
-        λ _. omega (arith, there K.KwType tt (t .left) i, later-left l, Gr.tail-le (tail (t .left))),
+        λ _. omega (arith, there K.KwType tt (t .tokens) i, later-left l, Gr.tail-le (tail (t .tokens))),
         λ _. (
           λ _ a u l₂ c. elim a
-              [ ok ty ↦ (λ _. omega (arith, shorter t i, later-left l, later-left l₂, Gr.tail-le (u .left)), λ _. (λ _. omega (arith, shorter t i, later-left l, later-left l₂, Gr.tail-le (u .left)), λ _. omega (arith, shorter t i, later-left l, later-left l₂, Gr.tail-le (u .left)))) | fatal es ↦ omega (arith, shorter t i, later-left l, later-left l₂) ],
+              [ ok ty ↦ (λ _. omega (arith, shorter t i, later-left l, later-left l₂, Gr.tail-le (u .tokens)), λ _. (λ _. omega (arith, shorter t i, later-left l, later-left l₂, Gr.tail-le (u .tokens)), λ _. omega (arith, shorter t i, later-left l, later-left l₂, Gr.tail-le (u .tokens)))) | fatal es ↦ omega (arith, shorter t i, later-left l, later-left l₂) ],
           λ _.
               (λ _. omega (arith, shorter t i, later-left l), λ _. omega (arith, shorter t i, later-left l)),
         ),
       ),
     ),
-    λ _. (λ z. omega (arith, moved s t l e z, Gr.tail-le (t .left)), λ z. omega (arith, Gr.tail-lt (t .left) z, later-left l)),
+    λ _. (λ z. omega (arith, moved s t l e z, Gr.tail-le (t .tokens)), λ z. omega (arith, Gr.tail-lt (t .tokens) z, later-left l)),
   ),
 )
   where
-    shorter : (t : St) → head (t .left) is K.KwType ≡ true → length (tail (tail (tail (t .left)))) < length (t .left)
-    shorter t i = omega (arith, there K.KwType tt (t .left) i, Gr.tail-le (tail (t .left)), Gr.tail-le (tail (tail (t .left))))
+    shorter : (t : St) → head (t .tokens) is K.KwType ≡ true → length (tail (tail (tail (t .tokens)))) < length (t .tokens)
+    shorter t i = omega (arith, there K.KwType tt (t .tokens) i, Gr.tail-le (tail (t .tokens)), Gr.tail-le (tail (tail (t .tokens))))
 
-item-enough : (n : ℕ) (s : St) → head (s .left) is K.End ≡ false → 1 + length (s .left) ≤ n
-    → Enough n P.parse-top-level-item (λ s′. length (s′ .left) < length (s .left)) s
+item-enough : (n : ℕ) (s : St) → head (s .tokens) is K.End ≡ false → 1 + length (s .tokens) ≤ n
+    → Enough n P.parse-top-level-item (λ s′. length (s′ .tokens) < length (s .tokens)) s
 unfolding P.parse-top-level-item P.parse-function-definition P.function P.parse-use P.path-rule P.parse-top-level-var-declaration _>>=_
 item-enough n s e h = (
   λ _. begins n P.parse-function-definition s e (λ t. (λ _. tt, λ _. tt)) h,
@@ -210,17 +210,17 @@ item-enough n s e h = (
       λ _. (
         λ _. begins n P.parse-top-level-var-declaration s e (λ t. tt) h,
         λ _.
-            (λ _. Gr.tail-lt (s .left) e, λ _. Gr.tail-lt (s .left) e),
+            (λ _. Gr.tail-lt (s .tokens) e, λ _. Gr.tail-lt (s .tokens) e),
       ),
     ),
   ),
 )
 
-pub turn-enough : (n : ℕ) (l : Loop) (s : St) → rank l + length (s .left) ≤ suc n → Enough n (turn l) any s
+pub turn-enough : (n : ℕ) (l : Loop) (s : St) → rank l + length (s .tokens) ≤ suc n → Enough n (turn l) any s
 unfolding P.module-turn P.body-turn P.list-turn P.operators-turn P.casts-turn P.suffixes-turn P.modifiers-turn
 turn-enough n (Module i) s h = (
   λ _. tt,
-  λ e. enough-bind n P.parse-top-level-item _ (λ s′. length (s′ .left) < length (s .left)) any s
+  λ e. enough-bind n P.parse-top-level-item _ (λ s′. length (s′ .tokens) < length (s .tokens)) any s
       (item-enough n s e (omega arith)) (λ a s′ d. (omega arith, λ b s″ l. tt)),
 )
 turn-enough n (Body i) s h = (λ _. tt, λ _. (λ _. tt, λ e a s′ l c. (omega (arith, c e), λ b s″ l₂. tt)))
@@ -228,7 +228,7 @@ turn-enough n (ListOf k i) s h = (
   λ _. tt,
   λ e. (
     λ _. tt,
-    λ _. enough-bind n (P.item k) _ (λ s′. length (s′ .left) < length (s .left)) any s
+    λ _. enough-bind n (P.item k) _ (λ s′. length (s′ .tokens) < length (s .tokens)) any s
         (begins n (P.item k) s e (first-item n k) (omega arith))
         (λ a s′ d. plenty n (P.after-item k (P.integrate i a)) any s′ s′ (later-refl s′) (omega arith) (λ s″ d. tt)),
   ),
@@ -237,32 +237,32 @@ turn-enough n (Operators l e) s h =
     find-enough n (P.mapping l)
     (λ o. next λ op. P.cascade l >>? λ r. loop (Operators l (P.binary 0x2D (byte o ∷ []) (op .place) e r)) done)
     (done (ok e)) any s (mapping-positive l) (λ o d. plenty n
-    (P.cascade l >>? λ r. loop (Operators l (P.binary 0x2D (byte o ∷ []) (head (s .left) .place) e r)) done) any
+    (P.cascade l >>? λ r. loop (Operators l (P.binary 0x2D (byte o ∷ []) (head (s .tokens) .place) e r)) done) any
     (advance (λ _. plain) s) (advance (λ _. plain) s) (later-refl (advance (λ _. plain) s)) (omega arith)
     (λ s″ d. tt)) tt
 turn-enough n (Casts e) s h = (
-  λ i. plenty n (P.parse-type >>? λ ty. loop (Casts (P.binary 0x26 [] (head (s .left) .place) e ty)) done) any
+  λ i. plenty n (P.parse-type >>? λ ty. loop (Casts (P.binary 0x26 [] (head (s .tokens) .place) e ty)) done) any
       (advance (λ _. plain) s) (advance (λ _. plain) s) (later-refl (advance (λ _. plain) s))
-      (omega (arith, there K.KwAs tt (s .left) i)) (λ s″ d. tt),
+      (omega (arith, there K.KwAs tt (s .tokens) i)) (λ s″ d. tt),
   λ _. tt,
 )
 turn-enough n (Suffixes e) s h = (
-  λ i. (λ _. tt, λ _. (λ _. (omega (arith, there K.Dot tt (s .left) i, Gr.tail-le (tail (s .left))), λ a s′ l. tt), λ _. tt)),
+  λ i. (λ _. tt, λ _. (λ _. (omega (arith, there K.Dot tt (s .tokens) i, Gr.tail-le (tail (s .tokens))), λ a s′ l. tt), λ _. tt)),
   λ _. (
-    λ i. (omega (arith, there K.DotStar tt (s .left) i), λ a s′ l. tt),
+    λ i. (omega (arith, there K.DotStar tt (s .tokens) i), λ a s′ l. tt),
     λ _. (
       λ i. plenty n (P.parse-expression >>? λ x. P.expect K.RBracket >>? λ _. loop
-          (Suffixes (P.binary 0x25 [] (head (s .left) .place) e x)) done) any (advance (λ _. plain) s)
+          (Suffixes (P.binary 0x25 [] (head (s .tokens) .place) e x)) done) any (advance (λ _. plain) s)
           (advance (λ _. plain) s) (later-refl (advance (λ _. plain) s))
-          (omega (arith, there K.LBracket tt (s .left) i)) (λ s″ d. tt),
+          (omega (arith, there K.LBracket tt (s .tokens) i)) (λ s″ d. tt),
       λ _. tt,
     ),
   ),
 )
 turn-enough n (Modifiers w) s h = (
-  λ i. (omega (arith, there K.KwDistinct tt (s .left) i), λ a s′ l. tt),
+  λ i. (omega (arith, there K.KwDistinct tt (s .tokens) i), λ a s′ l. tt),
   λ _.
-      (λ i. (omega (arith, there K.KwInternal tt (s .left) i), λ a s′ l. tt), λ _. tt),
+      (λ i. (omega (arith, there K.KwInternal tt (s .tokens) i), λ a s′ l. tt), λ _. tt),
 )
 
 -- ---- a reading answers, or is refused with 10, 11 or 12
@@ -272,11 +272,11 @@ parse-after n g s = parse-ind Gr.G Gr.L Gr.R Gr.M (λ s. tt) (λ e s. tt) Gr.rul
 
 loops-moves : (c : Goal → St → Res (Ans Node)) → ((g : Goal) (s : St) → After (λ a s′. Later s s′ × Called s s′) (c g s))
     → ((g : Goal) (s : St) → Moves (c g s))
-    → (n : ℕ) (l : Loop) (s : St) → rank l + length (s .left) ≤ n → Moves (loops c n l s)
+    → (n : ℕ) (l : Loop) (s : St) → rank l + length (s .tokens) ≤ n → Moves (loops c n l s)
 unfolding loops
 loops-moves c ca cm zero l s h = absurd (none l h)
   where
-    none : (l : Loop) → rank l + length (s .left) ≤ 0 → ⊥
+    none : (l : Loop) → rank l + length (s .tokens) ≤ 0 → ⊥
     none (Module i) h = omega arith
     none (Body i) h = omega arith
     none (ListOf k i) h = omega arith
@@ -293,13 +293,13 @@ parse-moves : (n : ℕ) (g : Goal) (s : St) → Moves (parse n g s)
 unfolding parse
 parse-moves zero g s = tt
 parse-moves (suc n) g s =
-    run-moves (2 + length (s .left)) (λ h t. parse n h t)
-    (λ l t. loops (λ h u. parse n h u) (suc (suc (length (t .left)))) l t) (λ h t. parse-after n h t)
+    run-moves (2 + length (s .tokens)) (λ h t. parse n h t)
+    (λ l t. loops (λ h u. parse n h u) (suc (suc (length (t .tokens)))) l t) (λ h t. parse-after n h t)
     (λ h t. parse-moves n h t)
-    (λ l t. loops-later (λ h u. parse n h u) (λ h u. parse-later n h u) (suc (suc (length (t .left)))) l t)
+    (λ l t. loops-later (λ h u. parse n h u) (λ h u. parse-later n h u) (suc (suc (length (t .tokens)))) l t)
     (λ l t d. loops-moves (λ h u. parse n h u) (λ h u. parse-after n h u) (λ h u. parse-moves n h u)
-    (suc (suc (length (t .left)))) l t (omega (arith, rank-le l)))
-    (rule g) any s (plenty (2 + length (s .left)) (rule g) any s s (later-refl s) (omega arith) (λ s′ d. tt))
+    (suc (suc (length (t .tokens)))) l t (omega (arith, rank-le l)))
+    (rule g) any s (plenty (2 + length (s .tokens)) (rule g) any s s (later-refl s) (omega arith) (λ s′ d. tt))
 
 pub module-moves-within : (n : ℕ) (ts : List Tok) → Moves (parse-module-within n ts)
 unfolding parse-module-within

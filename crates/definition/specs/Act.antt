@@ -104,13 +104,13 @@ pub record Consumed : Type 0 where
   pub role : Role
 
 pub record St : Type 0 where
-  pub left : List Tok
+  pub tokens : List Tok
   pub read : List Consumed
   pub full : List Err
 
 -- the state that the parser begins in
 abbrev pub begin : List Tok → St
-begin ts = record { left = ts; read = []; full = [] }
+begin ts = record { tokens = ts; read = []; full = [] }
 
 -- a token is read; at the end nothing is
 abbrev pub now-read : (Tok → Role) → List Tok → List Consumed
@@ -118,10 +118,10 @@ now-read r [] = []
 now-read r (t ∷ ts) = record { tok = t; role = r (head ts) } ∷ []
 
 abbrev pub advance : (Tok → Role) → St → St
-advance r s = record { left = tail (s .left); read = s .read ++ now-read r (s .left); full = s .full }
+advance r s = record { tokens = tail (s .tokens); read = s .read ++ now-read r (s .tokens); full = s .full }
 
 abbrev pub push : Err → St → St
-push e s = record { left = s .left; read = s .read; full = s .full ++ (e ∷ []) }
+push e s = record { tokens = s .tokens; read = s .read; full = s .full ++ (e ∷ []) }
 
 -- an answer and the state after it, or a refusal
 pub data Res (A : Type 0) : Type 0 where
@@ -135,8 +135,8 @@ after (refused n) f = refused n
 -- carry an act out, given what calls and loops answer
 unfoldable pub run : {A : Type 0} → (Goal → St → Res (Ans Node)) → ((l : Loop) → St → Res (Left l)) → Act A → St → Res A
 run c o (done a) s = gives a s
-run c o (peek k) s = run c o (k (head (s .left))) s
-run c o (consume r k) s = run c o (k (head (s .left))) (advance r s)
+run c o (peek k) s = run c o (k (head (s .tokens))) s
+run c o (consume r k) s = run c o (k (head (s .tokens))) (advance r s)
 run c o (make e m) s = elim (ltb (length (s .full)) 255) [ true ↦ run c o m (push e s) | false ↦ refused 12 ]
 run c o (if_then_else_ b m n) s = elim b [ true ↦ run c o m s | false ↦ run c o n s ]
 run c o (call g k) s = after (c g s) (λ a s′. run c o (k a) s′)

@@ -570,7 +570,7 @@ loops c (suc n) l s = run c (λ m t. loops c n m t) (turn l) s
 -- one of the four functions, where n more calls of them may be opened
 unfoldable pub parse : ℕ → Goal → St → Res (Ans Node)
 parse zero g s = refused 10
-parse (suc n) g s = run (λ h t. parse n h t) (λ l t. loops (λ h u. parse n h u) (suc (suc (length (t .left)))) l t) (rule g) s
+parse (suc n) g s = run (λ h t. parse n h t) (λ l t. loops (λ h u. parse n h u) (suc (suc (length (t .tokens)))) l t) (rule g) s
 
 -- the whole parser, where at most n calls of the four may be open
 unfoldable pub parse-module-within : ℕ → List Tok → Res Items

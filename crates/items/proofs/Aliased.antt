@@ -57,7 +57,7 @@ module _ {w x : List ℕ} {n distinct internal at : ℕ} {t : Front} (u : Seen w
     read = λ rd. rd;
     is =
         λ d rd es. go-loop d (Modifiers (record { distinct = distinct; internal = internal }))
-        (record { left = rest w x n at; read = rd; full = es }) ∙ rw (run, no u m20, no u m21);
+        (record { tokens = rest w x n at; read = rd; full = es }) ∙ rw (run, no u m20, no u m21);
   }
 
   module _ {m : AliasWords} where
@@ -65,9 +65,9 @@ module _ {w x : List ℕ} {n distinct internal at : ℕ} {t : Front} (u : Seen w
     modifiers-on : {distinct′ internal′ : ℕ} → Modified w x n distinct′ internal′ (t .next) m
         → ((d : ℕ) (rd : List Consumed) (es : List Err)
         → go d (P.modifiers-turn (record { distinct = distinct; internal = internal }))
-        (record { left = rest w x n at; read = rd; full = es })
+        (record { tokens = rest w x n at; read = rd; full = es })
         ≡ go d (loop (Modifiers (record { distinct = distinct′; internal = internal′ })) done)
-        (record { left = rest w x n (t .next); read = past w x n at rd; full = es }))
+        (record { tokens = rest w x n (t .next); read = past w x n at rd; full = es }))
         → Modified w x n distinct internal at m
     modifiers-on M step = record {
       words = M .words;
@@ -78,7 +78,7 @@ module _ {w x : List ℕ} {n distinct internal at : ℕ} {t : Front} (u : Seen w
       read = λ rd. M .read (past w x n at rd);
       is =
           λ d rd es. go-loop d (Modifiers (record { distinct = distinct; internal = internal }))
-          (record { left = rest w x n at; read = rd; full = es }) ∙ step d rd es ∙ M .is d (past w x n at rd)
+          (record { tokens = rest w x n at; read = rd; full = es }) ∙ step d rd es ∙ M .is d (past w x n at rd)
           es;
     }
 

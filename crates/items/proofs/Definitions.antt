@@ -303,7 +303,7 @@ module _ (d : ℕ) (p : Place) (external : ℕ) (name : Tok) where
           → after q (λ ps S. go d (returning p external name ps) S)
           ≡ after (after q (λ ps S. go d (return-rule p >>? λ r. as-answer (signed ps r)) S))
           (λ z S. go d (or-return (function-on p external name) z) S)
-      one (gives ps S) = arrowed ps S (head (S .left) is K.RArrow)
+      one (gives ps S) = arrowed ps S (head (S .tokens) is K.RArrow)
       one (refused n) = refl
 
 -- ---- `function`

@@ -61,7 +61,7 @@ pub record Modified (w x : List ℕ) (n distinct internal at : ℕ) (m : AliasWo
   pub room : budget w x n (m .next) ≤ budget w x n at
   pub read : List Consumed → List Consumed
   pub is : (d : ℕ) (rd : List Consumed) (es : List Err)
-      → go d (loop (A.Modifiers (record { distinct = distinct; internal = internal })) done) (record { left = rest w x n at; read = rd; full = es }) ≡ gives words (record { left = rest w x n (m .next); read = read rd; full = es })
+      → go d (loop (A.Modifiers (record { distinct = distinct; internal = internal })) done) (record { tokens = rest w x n at; read = rd; full = es }) ≡ gives words (record { tokens = rest w x n (m .next); read = read rd; full = es })
 
 -- ---- the module
 

@@ -88,7 +88,7 @@ prefixed {k} {r} h g i =
     record {
       small = h;
       real = g;
-      is = λ d S e. i .is (head (S .left)) e (λ o. P.prefix (o + 1)) P.parse-call d S ∙ one (eqb r 0) refl d S;
+      is = λ d S e. i .is (head (S .tokens)) e (λ o. P.prefix (o + 1)) P.parse-call d S ∙ one (eqb r 0) refl d S;
     }
   where
     one : (b : Bool) → eqb r 0 ≡ b → (d : ℕ) (S : St)

@@ -46,7 +46,7 @@ module _ {A : Type 0} {w x : List ℕ} {n : ℕ} {r f r′ f′ : List ℕ} {s :
   unfolding go run
   makes h =
       rw (few, lt-ltb (s .full) 255 h, run)
-      (ap (λ (z : List Err). go d m (record { left = rest w x n (s .at); read = rd; full = z }))
+      (ap (λ (z : List Err). go d m (record { tokens = rest w x n (s .at); read = rd; full = z }))
       (sym (g .full h)))
 
   pub makes-none : 255 ≤ s .full → go d (make (unpack e) m) (st-of w x n f rd s) ≡ refused 12

@@ -106,7 +106,7 @@ is-arithmetic k = eqb k K.Bar || eqb k K.Caret || eqb k K.Ampersand || eqb k K.L
 pub record Prefix (k r : ℕ) : Type 0 where
   pub small : r ≤ 0x2B
   pub real : min r 1 ≤ k
-  pub is : (d : ℕ) (S : St) → head (S .left) .kind ≡ k → go d P.unary-rule S ≡ go d (elim (eqb r 0) [ true ↦ P.parse-call | false ↦ P.prefix r ]) S
+  pub is : (d : ℕ) (S : St) → head (S .tokens) .kind ≡ k → go d P.unary-rule S ≡ go d (elim (eqb r 0) [ true ↦ P.parse-call | false ↦ P.prefix r ]) S
 
 -- ---- literals, groups
 

@@ -25,7 +25,7 @@ use Rattle.steps.proofs.Answers.{good-of}
 
 -- what the definition says of it
 spared : (n : ℕ) (s : St) (x : Fallible Node) (s′ : St) → parse n Expression s ≡ gives (ok x) s′
-    → Z.weight (x .item .recs) + 8 + Z.budget (s′ .left) ≤ Z.budget (s .left)
+    → Z.weight (x .item .recs) + 8 + Z.budget (s′ .tokens) ≤ Z.budget (s .tokens)
 spared n s x s′ e = subst (After _) e (Z.goal-size (λ _. 1) n Expression s) .1 .0
 
 -- what the tokens pay, as the definition's laws and as the steps have it

@@ -47,42 +47,42 @@ here w x n s = head (rest w x n (s .at)) .place
 
 -- ---- which statement the next token begins
 
-miss : (S : St) (k j : ℕ) → head (S .left) .kind ≡ k → (k ≡ j → ⊥) → head (S .left) is j ≡ false
+miss : (S : St) (k j : ℕ) → head (S .tokens) .kind ≡ k → (k ≡ j → ⊥) → head (S .tokens) is j ≡ false
 miss S k j h g = ne-eqb _ _ (λ e. g (sym h ∙ e))
 
-hit : (S : St) (k : ℕ) → head (S .left) .kind ≡ k → head (S .left) is k ≡ true
+hit : (S : St) (k : ℕ) → head (S .tokens) .kind ≡ k → head (S .tokens) is k ≡ true
 hit S k h = eq-eqb _ _ h
 
 module _ (d : ℕ) (S : St) where
-  pub return-step : head (S .left) .kind ≡ 6
-      → go d P.statement-rule S ≡ go d (P.parse-return (head (S .left) .place)) (advance (λ _. plain) S)
+  pub return-step : head (S .tokens) .kind ≡ 6
+      → go d P.statement-rule S ≡ go d (P.parse-return (head (S .tokens) .place)) (advance (λ _. plain) S)
   unfolding go run P.statement-rule
   return-step h = rw (run, hit S 6 h)
 
-  pub var-step : head (S .left) .kind ≡ 5
-      → go d P.statement-rule S ≡ go d (P.declaration 0x42 (head (S .left) .place)) (advance (λ _. plain) S)
+  pub var-step : head (S .tokens) .kind ≡ 5
+      → go d P.statement-rule S ≡ go d (P.declaration 0x42 (head (S .tokens) .place)) (advance (λ _. plain) S)
   unfolding go run P.statement-rule
   var-step h = rw (run, miss S 5 6 h (λ e. omega arith), hit S 5 h)
 
-  pub block-step : head (S .left) .kind ≡ 39
+  pub block-step : head (S .tokens) .kind ≡ 39
       → go d P.statement-rule S
       ≡ go d
-      (P.parse-body >>= λ i. P.good (P.node (i .recs) 0x40 (head (S .left) .place) (two (i .count) ∷ []) [])
+      (P.parse-body >>= λ i. P.good (P.node (i .recs) 0x40 (head (S .tokens) .place) (two (i .count) ∷ []) [])
       (i .errors)) S
   unfolding go run P.statement-rule
   block-step h = rw (run, miss S 39 6 h (λ e. omega arith), miss S 39 5 h (λ e. omega arith), hit S 39 h)
 
-  pub loop-step : head (S .left) .kind ≡ 7
+  pub loop-step : head (S .tokens) .kind ≡ 7
       → go d P.statement-rule S
-      ≡ go d (P.parse-statement >>? λ b. done (ok (P.wrap 0x46 (head (S .left) .place) [] b)))
+      ≡ go d (P.parse-statement >>? λ b. done (ok (P.wrap 0x46 (head (S .tokens) .place) [] b)))
       (advance (λ _. plain) S)
   unfolding go run P.statement-rule
   loop-step h = rw (run, miss S 7 6 h (λ e. omega arith), miss S 7 5 h (λ e. omega arith), miss S 7 39 h (λ e. omega arith), hit S 7 h)
 
-  pub while-step : head (S .left) .kind ≡ 8
+  pub while-step : head (S .tokens) .kind ≡ 8
       → go d P.statement-rule S
       ≡ go d (P.parse-expression >>? λ c. P.parse-statement >>? λ b. done
-      (ok (P.binary 0x47 [] (head (S .left) .place) c b))) (advance (λ _. plain) S)
+      (ok (P.binary 0x47 [] (head (S .tokens) .place) c b))) (advance (λ _. plain) S)
   unfolding go run P.statement-rule
   while-step h =
       rw (
@@ -94,9 +94,9 @@ module _ (d : ℕ) (S : St) where
         hit S 8 h,
       )
 
-  pub break-step : head (S .left) .kind ≡ 9
+  pub break-step : head (S .tokens) .kind ≡ 9
       → go d P.statement-rule S
-      ≡ go d (P.expect K.Semicolon >>? λ _. P.good (P.node [] 0x48 (head (S .left) .place) [] []) [])
+      ≡ go d (P.expect K.Semicolon >>? λ _. P.good (P.node [] 0x48 (head (S .tokens) .place) [] []) [])
       (advance (λ _. plain) S)
   unfolding go run P.statement-rule
   break-step h =
@@ -110,7 +110,7 @@ module _ (d : ℕ) (S : St) where
         hit S 9 h,
       )
 
-  pub if-step : head (S .left) .kind ≡ 10 → go d P.statement-rule S ≡ go d (P.parse-if (head (S .left) .place)) (advance (λ _. plain) S)
+  pub if-step : head (S .tokens) .kind ≡ 10 → go d P.statement-rule S ≡ go d (P.parse-if (head (S .tokens) .place)) (advance (λ _. plain) S)
   unfolding go run P.statement-rule
   if-step h =
       rw (
@@ -124,9 +124,9 @@ module _ (d : ℕ) (S : St) where
         hit S 10 h,
       )
 
-  pub assembly-step : head (S .left) .kind ≡ 54
+  pub assembly-step : head (S .tokens) .kind ≡ 54
       → go d P.statement-rule S
-      ≡ go d (P.good (P.node [] 0x4A (head (S .left) .place) [] (head (S .left) .text)) [])
+      ≡ go d (P.good (P.node [] 0x4A (head (S .tokens) .place) [] (head (S .tokens) .text)) [])
       (advance (λ _. plain) S)
   unfolding go run P.statement-rule
   assembly-step h =
@@ -234,8 +234,8 @@ pub clean : (d k : ℕ) (f : Fallible Tok → Act (Ans Node)) (g : Act (Ans Node
     → go d (P.expect k >>? λ _. g) S ≡ go d (P.expect k >>? f) S
 unfolding go run _>>=_
 clean d k f g e S =
-    chosen (head (S .left) is k) _ _ _
-    (ap (λ (m : Act (Ans Node)). go d m (advance (λ _. plain) S)) (sym (e (head (S .left)))))
+    chosen (head (S .tokens) is k) _ _ _
+    (ap (λ (m : Act (Ans Node)). go d m (advance (λ _. plain) S)) (sym (e (head (S .tokens)))))
 
 -- ---- the functions
 

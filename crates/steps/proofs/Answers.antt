@@ -107,7 +107,7 @@ module _ {A : Type 0} (K : View A) {w x : List ℕ} {n : ℕ} {r f r′ f′ : L
             errors = unpack e ∷ [];
             read = rd;
             is = rw (few, l, run) (ap (λ (z : List Err). gives (fatal (unpack e ∷ []))
-                (record { left = rest w x n (s .at); read = rd; full = z })) (sym (v .full (ltb-true _ _ l))));
+                (record { tokens = rest w x n (s .at); read = rd; full = z })) (sym (v .full (ltb-true _ _ l))));
             tree = refl;
             rep = v .rep (ltb-true _ _ l);
           }

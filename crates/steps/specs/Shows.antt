@@ -24,7 +24,7 @@ use Rattle.steps.specs.Tokens.{rest, budget, Held}
 -- ---- states
 
 abbrev pub st-of : List ℕ → List ℕ → ℕ → List ℕ → List Consumed → State → St
-st-of w x n f rd s = record { left = rest w x n (s .at); read = rd; full = errs f (s .full) }
+st-of w x n f rd s = record { tokens = rest w x n (s .at); read = rd; full = errs f (s .full) }
 
 -- what each function asks of a state; one that writes asks for room
 pub record Asks (w x : List ℕ) (n : ℕ) (r f : List ℕ) (s : State) : Type 0 where
