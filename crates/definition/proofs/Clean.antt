@@ -7,7 +7,7 @@ use native.Mathlib.Omega.{arith}
 use lib.Dec.{ltb}
 use lib.ListN.{length, length-append}
 use Rattle.definition.specs.Fallible.{Err, Ans}
-use Rattle.definition.specs.Token.{Tok, head, tail}
+use Rattle.definition.specs.Token.{Tok, next-token, tail}
 use Rattle.definition.specs.Act.{Node, Goal, Loop, Module, Left, Act, done, peek, consume, make, if_then_else_, call, loop, panic, St, begin, Res, gives, refused, advance, push, run}
 use Rattle.definition.specs.Parser.{rule, turn, loops, parse, parse-module, no-items}
 use Rattle.definition.proofs.Later.{Later, later-refl, later-trans, later-advance, later-push, later-full, After, weaken}
@@ -23,8 +23,8 @@ module _ (c : Goal → St → Res (Ans Node)) (o : (l : Loop) → St → Res (Le
   pub run-later : {A : Type 0} (m : Act A) (s₀ s : St) → Later s₀ s → After (λ a s′. Later s₀ s′) (run c o m s)
   unfolding run
   run-later (done a) s₀ s l = l
-  run-later (peek k) s₀ s l = run-later (k (head (s .tokens))) s₀ s l
-  run-later (consume r k) s₀ s l = run-later (k (head (s .tokens))) s₀ (advance r s) (later-trans l (later-advance r s))
+  run-later (peek k) s₀ s l = run-later (k (next-token (s .tokens))) s₀ s l
+  run-later (consume r k) s₀ s l = run-later (k (next-token (s .tokens))) s₀ (advance r s) (later-trans l (later-advance r s))
   run-later (make e m) s₀ s l =
       limit (λ a s′. Later s₀ s′) (ltb (length (s .full)) 255) (run c o m (push e s))
       (λ _. run-later m s₀ (push e s) (later-trans l (later-push e s)))
@@ -92,11 +92,11 @@ module _ (G : Goal → St → Ans Node → St → Type 0) (L : (l : Loop) → St
     pub clean-sound : {A : Type 0} (Q : A → St → Type 0) (m : Act A) (s : St) → I (s .tokens) → cwp m Q s → After (Kept s Q) (run c o m s)
     unfolding run
     clean-sound Q (done a) s i h = (later-refl s, λ k. h)
-    clean-sound Q (peek k) s i h = clean-sound Q (k (head (s .tokens))) s i h
+    clean-sound Q (peek k) s i h = clean-sound Q (k (next-token (s .tokens))) s i h
     clean-sound Q (consume r k) s i h =
-        on-the-way Q s (advance r s) (run c o (k (head (s .tokens))) (advance r s)) (later-advance r s)
-        (λ q. clean-sound Q (k (head (s .tokens))) (advance r s) (I-tail (s .tokens) i) (h i))
-        (run-later c o c-later o-later (k (head (s .tokens))) (advance r s) (advance r s) (later-refl (advance r s)))
+        on-the-way Q s (advance r s) (run c o (k (next-token (s .tokens))) (advance r s)) (later-advance r s)
+        (λ q. clean-sound Q (k (next-token (s .tokens))) (advance r s) (I-tail (s .tokens) i) (h i))
+        (run-later c o c-later o-later (k (next-token (s .tokens))) (advance r s) (advance r s) (later-refl (advance r s)))
     clean-sound Q (make e m) s i h =
         limit (Kept s Q) (ltb (length (s .full)) 255) (run c o m (push e s))
         (λ _. dirty Q e s (run c o m (push e s)) (run-later c o c-later o-later m (push e s) (push e s) (later-refl (push e s))))

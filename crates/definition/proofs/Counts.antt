@@ -11,7 +11,7 @@ use Rattle.definition.specs.Ascii.{ascii}
 use Rattle.definition.specs.Source.{Place}
 use Rattle.definition.specs.Node.{byte, two}
 use Rattle.definition.specs.Fallible.{Err, Fallible, Ans, ok, fatal}
-use Rattle.definition.specs.Token.{Tok, head, tail}
+use Rattle.definition.specs.Token.{Tok, next-token, tail}
 use Rattle.definition.specs.Act.{Node, Items, Goal, Statement, Expression, Unary, Type', Loop, Module, Body, ListOf, Operators, Casts, Suffixes, Modifiers, Listed, Parameters, Arguments, StructFields, ArrayValues, StructValues, Level, Left, Words, Act, St, gives, push, next, done, _>>=_, _>>?_}
 use Rattle.definition.specs.Parser as P
 use Rattle.definition.specs.Parser.{rule, turn, statement-rule, expression-rule, unary-rule, type-rule, list-turn, body-turn, module-turn, operators-turn, casts-turn, suffixes-turn, modifiers-turn, Typed, parse-module}
@@ -33,7 +33,7 @@ budget s = pay (s .tokens)
 
 -- a token that is there is paid with; and its kind tells that it is
 abbrev Paid : List Tok → Type 0
-Paid ts = (one ts + pay (tail ts) ≤ pay ts) × (min (head ts .kind) 1 ≤ one ts) × (length (tail ts) ≤ length ts)
+Paid ts = (one ts + pay (tail ts) ≤ pay ts) × (min (next-token ts .kind) 1 ≤ one ts) × (length (tail ts) ≤ length ts)
 
 paid : (ts : List Tok) → Paid ts
 unfolding pay one
@@ -126,7 +126,7 @@ typed-count name es s = omega (arith, is-kind)
 typed-identifier-count : (s : St) → wp′ P.parse-typed-identifier (PostTyped 2 s) s
 unfolding P.parse-typed-identifier ascii
 typed-identifier-count s = λ r. (
-  λ i. named (head (s .tokens) .text) [] (next-state s) (omega (arith, is-kind)),
+  λ i. named (next-token (s .tokens) .text) [] (next-state s) (omega (arith, is-kind)),
   λ n. (λ i m. omega arith, λ e m. named (ascii "<?>") _ (push _ (next-state s)) (omega (arith, not-end))),
 )
   where
@@ -175,13 +175,13 @@ type-count s r = (
     t : St
     t = next-state s
 
-    array : 1 + budget t ≤ budget s → wp′ (P.parse-array-type (head (s .tokens) .place)) (Spared s) t
+    array : 1 + budget t ≤ budget s → wp′ (P.parse-array-type (next-token (s .tokens) .place)) (Spared s) t
     array b =
-        let p : Place = head (s .tokens) .place in
+        let p : Place = next-token (s .tokens) .place in
         via G L R M (P.parse-array-type p) (Spared t) (Spared s) t (array-type-count p t) (omega arith) (omega arith)
 
     made : Items → Act (Ans Node)
-    made i = P.good (P.node (i .recs) 0x14 (head (s .tokens) .place) (two (i .count) ∷ []) []) []
+    made i = P.good (P.node (i .recs) 0x14 (next-token (s .tokens) .place) (two (i .count) ∷ []) []) []
 
     struct : 1 + budget t ≤ budget s → wp′ (P.parse-list StructFields >>= made) (Spared s) t
     struct b =
@@ -190,11 +190,11 @@ type-count s r = (
 
 -- ---- expressions
 
-prefix-count : (tag : ℕ) (s : St) → 0 < (head (s .tokens)) .kind → wp′ (P.prefix tag) (Spared s) s
+prefix-count : (tag : ℕ) (s : St) → 0 < (next-token (s .tokens)) .kind → wp′ (P.prefix tag) (Spared s) s
 unfolding P.prefix _>>=_
 prefix-count tag s k = simp length-append (omega arith)
 
-group-count : (s : St) → 0 < (head (s .tokens)) .kind → wp′ P.parse-group (Spared s) s
+group-count : (s : St) → 0 < (next-token (s .tokens)) .kind → wp′ P.parse-group (Spared s) s
 unfolding P.parse-group _>>=_
 group-count s k = simp length-append (omega arith)
 
@@ -282,7 +282,7 @@ cascade-count l s = wp-cascade G L R M (Spared s) s (level-count s) (cast-count 
 operators-count : (l : Level) (e : Fallible Node) (s : St) → wp′ (operators-turn l e) (From e s) s
 unfolding operators-turn
 operators-count l e s =
-    wp-find G L R M (P.mapping l) _ _ _ s (head (s .tokens)) (mapping-positive l)
+    wp-find G L R M (P.mapping l) _ _ _ s (next-token (s .tokens)) (mapping-positive l)
     (λ k o r. try G L R M (P.cascade l) _ (Spared (next-state s)) _ _ (cascade-count l (next-state s))
     (simp length-append (omega arith)) (omega arith))
     (omega arith)
@@ -293,7 +293,7 @@ comparison-count s =
     try G L R M _ _ (Spared s) _ _ (bitwise-or-count s)
     (λ e s′ p. wp-find G L R M P.comparisons
     (λ o. next λ op. P.parse-bitwise-or >>? λ r. done (ok (P.binary 0x2E (byte o ∷ []) (op .place) e r)))
-    (done (ok e)) (Spared s) s′ (head (s′ .tokens)) comparisons-positive
+    (done (ok e)) (Spared s) s′ (next-token (s′ .tokens)) comparisons-positive
     (λ k o r. try G L R M P.parse-bitwise-or _ (Spared (next-state s′)) _ _ (bitwise-or-count (next-state s′))
     (simp length-append (omega arith)) (omega arith))
     (omega arith))
@@ -502,7 +502,7 @@ function-count p x s r = (
     u = next-state t
 
     name : Tok
-    name = head (t .tokens)
+    name = next-token (t .tokens)
 
     built : (ps : Items) (ty : Fallible Node) (w : St)
         → ((y : Fallible Node) (s′ : St) → Built ps ty w (ok y) s′ → Post s (ok y) s′)

@@ -7,7 +7,7 @@ use native.Mathlib.Omega.{arith}
 use lib.Dec.{ltb}
 use lib.ListN.{length}
 use Rattle.definition.specs.Fallible.{Ans}
-use Rattle.definition.specs.Token.{Tok, head}
+use Rattle.definition.specs.Token.{Tok, next-token}
 use Rattle.definition.specs.Act.{Node, Goal, Loop, Left, Act, done, peek, consume, make, if_then_else_, call, loop, panic, St, begin, Res, gives, refused, after, advance, push, run, _>>=_}
 use Rattle.definition.specs.Go.{go, turns}
 use Rattle.definition.specs.Parser.{rule, turn, loops, parse, parse-module-within, parse-module, no-items}
@@ -35,8 +35,8 @@ module _ (n : ℕ) (c : Goal → St → Res (Ans Node)) (o o′ : (l : Loop) →
   run-same : {A : Type 0} (m : Act A) (Q : St → Type 0) (s : St) → Enough n m Q s → run c o m s ≡ run c o′ m s
   unfolding run
   run-same (done a) Q s h = refl
-  run-same (peek k) Q s h = run-same (k (head (s .tokens))) Q s h
-  run-same (consume r k) Q s h = run-same (k (head (s .tokens))) Q (advance r s) h
+  run-same (peek k) Q s h = run-same (k (next-token (s .tokens))) Q s h
+  run-same (consume r k) Q s h = run-same (k (next-token (s .tokens))) Q (advance r s) h
   run-same (make e m) Q s h =
       same-cut (ltb (length (s .full)) 255) (run c o m (push e s)) (run c o′ m (push e s))
       (run-same m Q (push e s) h)

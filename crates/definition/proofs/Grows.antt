@@ -7,7 +7,7 @@ use native.Mathlib.Omega.{arith}
 use lib.Dec.{ltb, T, ltb→lt}
 use lib.ListN.{length}
 use Rattle.definition.specs.Kind as K
-use Rattle.definition.specs.Token.{Tok, head, tail, _is_, end-token}
+use Rattle.definition.specs.Token.{Tok, next-token, tail, _is_, end-token}
 use Rattle.definition.specs.Fallible.{Ans, Err, ok, fatal}
 use Rattle.definition.specs.Act.{Node, Goal, Statement, Expression, Unary, Type', Loop, Left, Act, done, peek, consume, make, if_then_else_, call, loop, panic, St, advance, push, _>>=_}
 use Rattle.definition.specs.Parser as P
@@ -20,7 +20,7 @@ abbrev pub Shorter : St → St → Type 0
 Shorter s₀ s = length (s .tokens) < length (s₀ .tokens)
 
 abbrev pub G : Goal → St → Ans Node → St → Type 0
-G g s a s′ = head (s .tokens) is K.End ≡ false → Shorter s s′
+G g s a s′ = next-token (s .tokens) is K.End ≡ false → Shorter s s′
 
 abbrev pub L : (l : Loop) → St → Left l → St → Type 0
 L l s a s′ = Unit {0}
@@ -35,20 +35,20 @@ pub tail-le : (ts : List Tok) → length (tail ts) ≤ length ts
 tail-le [] = omega arith
 tail-le (t ∷ ts) = omega arith
 
-pub tail-lt : (ts : List Tok) → head ts is K.End ≡ false → length (tail ts) < length ts
+pub tail-lt : (ts : List Tok) → next-token ts is K.End ≡ false → length (tail ts) < length ts
 tail-lt [] e = clash e
 tail-lt (t ∷ ts) e = omega arith
 
 -- a token of kind k is there
-pub there : (k : ℕ) → T (ltb 0 k) → (ts : List Tok) → head ts is k ≡ true → length (tail ts) < length ts
+pub there : (k : ℕ) → T (ltb 0 k) → (ts : List Tok) → next-token ts is k ≡ true → length (tail ts) < length ts
 there k h [] i = absurd (omega (arith, is-kind end-token k i, ltb→lt 0 k h))
 there k h (t ∷ ts) i = omega arith
 
 -- what is shorter stays so
 stays : {A : Type 0} (s₀ : St) (m : Act A) (s : St) → Shorter s₀ s → wp G L R M m (λ a s′. Shorter s₀ s′) s
 stays s₀ (done a) s h = h
-stays s₀ (peek k) s h = stays s₀ (k (head (s .tokens))) s h
-stays s₀ (consume r k) s h = λ _. stays s₀ (k (head (s .tokens))) (advance r s) (omega (arith, tail-le (s .tokens)))
+stays s₀ (peek k) s h = stays s₀ (k (next-token (s .tokens))) s h
+stays s₀ (consume r k) s h = λ _. stays s₀ (k (next-token (s .tokens))) (advance r s) (omega (arith, tail-le (s .tokens)))
 stays s₀ (make e m) s h = λ _. stays s₀ m (push e s) h
 stays s₀ (if_then_else_ b m n) s h = (λ e. stays s₀ m s h, λ e. stays s₀ n s h)
 stays s₀ (call g k) s h = (
@@ -72,10 +72,10 @@ Reads (call g k) = Unit {0}
 Reads (loop l k) = ⊥
 Reads panic = Unit {0}
 
-reads : {A : Type 0} (s : St) (m : Act A) → head (s .tokens) is K.End ≡ false → Reads m → wp G L R M m (λ a s′. Shorter s s′) s
+reads : {A : Type 0} (s : St) (m : Act A) → next-token (s .tokens) is K.End ≡ false → Reads m → wp G L R M m (λ a s′. Shorter s s′) s
 reads s (done a) e r = absurd r
-reads s (peek k) e r = reads s (k (head (s .tokens))) e (r (head (s .tokens)) e)
-reads s (consume p k) e r = λ _. stays s (k (head (s .tokens))) (advance p s) (tail-lt (s .tokens) e)
+reads s (peek k) e r = reads s (k (next-token (s .tokens))) e (r (next-token (s .tokens)) e)
+reads s (consume p k) e r = λ _. stays s (k (next-token (s .tokens))) (advance p s) (tail-lt (s .tokens) e)
 reads s (make x m) e r = absurd r
 reads s (if_then_else_ b m n) e r = (λ d. reads s m e (r .0 d), λ d. reads s n e (r .1 d))
 reads s (call g k) e r = (λ x s′ l p. stays s (k (ok x)) s′ (p e), λ es s′ l p. stays s (k (fatal es)) s′ (p e))
@@ -123,7 +123,7 @@ reads-first Unary =
 reads-first Type' = tt
 
 pub rules : (g : Goal) (s : St) → wp G L R M (rule g) (G g s) s
-rules g s = given (λ a s′. Shorter s s′) (rule g) s (head (s .tokens) is K.End) (λ e. reads s (rule g) e (reads-first g))
+rules g s = given (λ a s′. Shorter s s′) (rule g) s (next-token (s .tokens) is K.End) (λ e. reads s (rule g) e (reads-first g))
 
 pub turns : (l : Loop) (s : St) → wp G L R M (turn l) (L l s) s
 turns l s = wp-always G L R M (L l s) (turn l) s (λ a s′. tt)

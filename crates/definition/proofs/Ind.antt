@@ -7,7 +7,7 @@ use native.Mathlib.Omega.{arith}
 use lib.Dec.{ltb, T, ltb→lt}
 use lib.ListN.{length}
 use Rattle.definition.specs.Fallible.{Err, Fallible, Ans, ok, fatal}
-use Rattle.definition.specs.Token.{Tok, head}
+use Rattle.definition.specs.Token.{Tok, next-token}
 use Rattle.definition.specs.Act.{Node, Items, Words, Goal, Loop, Module, Body, ListOf, Operators, Casts, Suffixes, Modifiers, Level, BitOr, BitXor, BitAnd, Shift, AddSub, Mul, Left, Act, done, peek, consume, make, if_then_else_, call, loop, panic, St, begin, Res, gives, refused, after, advance, push, run, _>>=_, _>>?_, or-return}
 use Rattle.definition.specs.Parser as P
 use Rattle.definition.specs.Parser.{rule, turn, loops, parse, parse-module, no-items}
@@ -88,8 +88,8 @@ module _ (G : Goal → St → Ans Node → St → Type 0) (L : (l : Loop) → St
   -- what has to hold before an act, for Q to hold after it
   abbrev pub wp : {A : Type 0} → Act A → (A → St → Type 0) → St → Type 0
   wp (done a) Q s = Q a s
-  wp (peek k) Q s = wp (k (head (s .tokens))) Q s
-  wp (consume r k) Q s = R s → wp (k (head (s .tokens))) Q (advance r s)
+  wp (peek k) Q s = wp (k (next-token (s .tokens))) Q s
+  wp (consume r k) Q s = R s → wp (k (next-token (s .tokens))) Q (advance r s)
   wp (make e m) Q s = M e s → wp m Q (push e s)
   wp (if_then_else_ b m n) Q s = (b ≡ true → wp m Q s) × (b ≡ false → wp n Q s)
   wp (call g k) Q s = EachAns (λ a. (s′ : St) → Later s s′ → G g s a s′ → wp (k a) Q s′)
@@ -98,8 +98,8 @@ module _ (G : Goal → St → Ans Node → St → Type 0) (L : (l : Loop) → St
 
   pub wp-always : {A : Type 0} (Q : A → St → Type 0) (m : Act A) (s : St) → ((a : A) (s′ : St) → Q a s′) → wp m Q s
   wp-always Q (done a) s h = h a s
-  wp-always Q (peek k) s h = wp-always Q (k (head (s .tokens))) s h
-  wp-always Q (consume p k) s h = λ r. wp-always Q (k (head (s .tokens))) (advance p s) h
+  wp-always Q (peek k) s h = wp-always Q (k (next-token (s .tokens))) s h
+  wp-always Q (consume p k) s h = λ r. wp-always Q (k (next-token (s .tokens))) (advance p s) h
   wp-always Q (make x m) s h = λ r. wp-always Q m (push x s) h
   wp-always Q (if_then_else_ b m n) s h = (λ d. wp-always Q m s h, λ d. wp-always Q n s h)
   wp-always Q (call g k) s h = (λ x s′ l p. wp-always Q (k (ok x)) s′ h, λ es s′ l p. wp-always Q (k (fatal es)) s′ h)
@@ -108,8 +108,8 @@ module _ (G : Goal → St → Ans Node → St → Type 0) (L : (l : Loop) → St
 
   pub wp-mono : {A : Type 0} (P Q : A → St → Type 0) (m : Act A) (s : St) → ((a : A) (s′ : St) → P a s′ → Q a s′) → wp m P s → wp m Q s
   wp-mono P Q (done a) s h w = h a s w
-  wp-mono P Q (peek k) s h w = wp-mono P Q (k (head (s .tokens))) s h w
-  wp-mono P Q (consume p k) s h w = λ r. wp-mono P Q (k (head (s .tokens))) (advance p s) h (w r)
+  wp-mono P Q (peek k) s h w = wp-mono P Q (k (next-token (s .tokens))) s h w
+  wp-mono P Q (consume p k) s h w = λ r. wp-mono P Q (k (next-token (s .tokens))) (advance p s) h (w r)
   wp-mono P Q (make x m) s h w = λ r. wp-mono P Q m (push x s) h (w r)
   wp-mono P Q (if_then_else_ b m n) s h w = (λ d. wp-mono P Q m s h (w .0 d), λ d. wp-mono P Q n s h (w .1 d))
   wp-mono P Q (call g k) s h w = (
@@ -126,8 +126,8 @@ module _ (G : Goal → St → Ans Node → St → Type 0) (L : (l : Loop) → St
       → wp (m >>= f) Q s
   unfolding _>>=_
   wp-bind (done a) f Q s h = h
-  wp-bind (peek k) f Q s h = wp-bind (k (head (s .tokens))) f Q s h
-  wp-bind (consume p k) f Q s h = λ r. wp-bind (k (head (s .tokens))) f Q (advance p s) (h r)
+  wp-bind (peek k) f Q s h = wp-bind (k (next-token (s .tokens))) f Q s h
+  wp-bind (consume p k) f Q s h = λ r. wp-bind (k (next-token (s .tokens))) f Q (advance p s) (h r)
   wp-bind (make x m) f Q s h = λ r. wp-bind m f Q (push x s) (h r)
   wp-bind (if_then_else_ b m n) f Q s h = (λ d. wp-bind m f Q s (h .0 d), λ d. wp-bind n f Q s (h .1 d))
   wp-bind (call g k) f Q s h = (
@@ -145,8 +145,8 @@ module _ (G : Goal → St → Ans Node → St → Type 0) (L : (l : Loop) → St
   pub wp-later : {A : Type 0} (P Q : A → St → Type 0) (m : Act A) (s₀ s : St) → Later s₀ s
       → ((a : A) (s′ : St) → Later s₀ s′ → P a s′ → Q a s′) → wp m P s → wp m Q s
   wp-later P Q (done a) s₀ s l h w = h a s l w
-  wp-later P Q (peek k) s₀ s l h w = wp-later P Q (k (head (s .tokens))) s₀ s l h w
-  wp-later P Q (consume p k) s₀ s l h w = λ r. wp-later P Q (k (head (s .tokens))) s₀ (advance p s) (later-trans l (later-advance p s)) h (w r)
+  wp-later P Q (peek k) s₀ s l h w = wp-later P Q (k (next-token (s .tokens))) s₀ s l h w
+  wp-later P Q (consume p k) s₀ s l h w = λ r. wp-later P Q (k (next-token (s .tokens))) s₀ (advance p s) (later-trans l (later-advance p s)) h (w r)
   wp-later P Q (make x m) s₀ s l h w = λ r. wp-later P Q m s₀ (push x s) (later-trans l (later-push x s)) h (w r)
   wp-later P Q (if_then_else_ b m n) s₀ s l h w = (λ d. wp-later P Q m s₀ s l h (w .0 d), λ d. wp-later P Q n s₀ s l h (w .1 d))
   wp-later P Q (call g k) s₀ s l h w = (
@@ -252,8 +252,8 @@ module _ (G : Goal → St → Ans Node → St → Type 0) (L : (l : Loop) → St
           → After (λ a s′. Later s₀ s′ × Q a s′) (run c o m s)
       unfolding run
       sound Q (done a) s₀ s l h = (l, h)
-      sound Q (peek k) s₀ s l h = sound Q (k (head (s .tokens))) s₀ s l h
-      sound Q (consume r k) s₀ s l h = sound Q (k (head (s .tokens))) s₀ (advance r s) (later-trans l (later-advance r s)) (h (r-ok s))
+      sound Q (peek k) s₀ s l h = sound Q (k (next-token (s .tokens))) s₀ s l h
+      sound Q (consume r k) s₀ s l h = sound Q (k (next-token (s .tokens))) s₀ (advance r s) (later-trans l (later-advance r s)) (h (r-ok s))
       sound Q (make e m) s₀ s l h =
           limit (λ a s′. Later s₀ s′ × Q a s′) (ltb (length (s .full)) 255) (run c o m (push e s))
           (λ _. sound Q m s₀ (push e s) (later-trans l (later-push e s)) (h (m-ok e s)))

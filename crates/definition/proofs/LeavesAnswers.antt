@@ -8,7 +8,7 @@ use lib.Dec.{ltb, T, ltb→lt}
 use lib.ListN.{length, replicate}
 use Rattle.definition.specs.Kind as K
 use Rattle.definition.specs.Fallible.{Err, Fallible, Ans, ok, fatal}
-use Rattle.definition.specs.Token.{Tok, head, tail, _is_, end-token}
+use Rattle.definition.specs.Token.{Tok, next-token, tail, _is_, end-token}
 use Rattle.definition.specs.Act.{Node, Items, Goal, Statement, Expression, Unary, Type', Loop, Module, Body, ListOf, Operators, Casts, Suffixes, Modifiers, Listed, Parameters, Arguments, StructFields, ArrayValues, StructValues, Left, Role, plain, Act, done, call, St, advance, _>>=_, _>>?_, or-return}
 use Rattle.definition.specs.Parser as P
 use Rattle.definition.specs.Format as F
@@ -36,11 +36,11 @@ pub known-later : (s s′ : St) → Later s s′ → Known (s .tokens) → Known
 known-later s s′ l h = (drop-good (toks (l .eaten)) (s′ .tokens) (rw (l .tokens) at (h .0)), omega (arith, later-left l))
 
 -- a token that is there is well formed
-pub good : (ts : List Tok) → Known ts → head ts is K.End ≡ false → Good (head ts)
+pub good : (ts : List Tok) → Known ts → next-token ts is K.End ≡ false → Good (next-token ts)
 good [] h e = clash e
 good (t ∷ ts) h e = h .0 .0
 
-pub good-of : (k : ℕ) → T (ltb 0 k) → (ts : List Tok) → Known ts → head ts is k ≡ true → Good (head ts)
+pub good-of : (k : ℕ) → T (ltb 0 k) → (ts : List Tok) → Known ts → next-token ts is k ≡ true → Good (next-token ts)
 good-of k z [] h i = absurd (omega (arith, is-kind end-token k i, ltb→lt 0 k z))
 good-of k z (t ∷ ts) h i = h .0 .0
 
@@ -112,15 +112,15 @@ reads k m s = awp m (If (Whole k s)) s
 
 pub expects : {B : Type 0} (r : Role) (k : ℕ) → T (ltb 0 k)
     → (f : Fallible Tok → Act (Ans B)) (W : Fallible B → St → Type 0) (s : St)
-    → (Good (head (s .tokens)) → length (tail (s .tokens)) < length (s .tokens)
-    → awp (f (record { item = head (s .tokens); errors = [] })) (If W) (advance (λ _. r) s))
+    → (Good (next-token (s .tokens)) → length (tail (s .tokens)) < length (s .tokens)
+    → awp (f (record { item = next-token (s .tokens); errors = [] })) (If W) (advance (λ _. r) s))
     → awp (P.expect-as r k >>? f) (If W) s
 unfolding _>>=_
 expects r k z f W s h = λ d. (λ i. h (good-of k z (s .tokens) d i) (there k z (s .tokens) i), λ _. (λ _ _. tt, λ _ _. tt))
 
 pub identifier : {B : Type 0} (f : Fallible Tok → Act (Ans B)) (W : Fallible B → St → Type 0) (s : St)
-    → (Good (head (s .tokens)) → length (tail (s .tokens)) < length (s .tokens)
-    → awp (f (record { item = head (s .tokens); errors = [] })) (If W) (advance (λ _. plain) s))
+    → (Good (next-token (s .tokens)) → length (tail (s .tokens)) < length (s .tokens)
+    → awp (f (record { item = next-token (s .tokens); errors = [] })) (If W) (advance (λ _. plain) s))
     → awp (P.expect-identifier >>? f) (If W) s
 unfolding _>>=_
 identifier f W s h =

@@ -13,7 +13,7 @@ use Rattle.definition.specs.Kind as K
 use Rattle.definition.specs.Source.{Place, utf8}
 use Rattle.definition.specs.Node.{byte, Rec}
 use Rattle.definition.specs.Fallible.{Err, Fallible, Ans, ok, fatal}
-use Rattle.definition.specs.Token.{Tok, head, tail, _is_, number, dashed}
+use Rattle.definition.specs.Token.{Tok, next-token, tail, _is_, number, dashed}
 use Rattle.definition.specs.Act.{Node, Items, Expression, Unary, Type', Operators, Listed, Parameters, Arguments, StructFields, ArrayValues, StructValues, Level, BitOr, BitXor, BitAnd, Shift, AddSub, Mul, plain, group, Act, done, next, loop, St, advance, push, _>>=_, _>>?_}
 use Rattle.definition.specs.Parser as P
 use Rattle.definition.specs.Format as F
@@ -193,7 +193,7 @@ typed-leaves name es s t u b =
 pub typed-identifier-leaves : (s : St) → awp P.parse-typed-identifier (If (Typed s)) s
 unfolding P.parse-typed-identifier ascii utf8
 typed-identifier-leaves s d = (
-  λ i. typed-leaves (head (s .tokens) .text) [] s (advance (λ _. plain) s)
+  λ i. typed-leaves (next-token (s .tokens) .text) [] s (advance (λ _. plain) s)
       (good-of K.Identifier tt (s .tokens) d i .formed .utf8) (tail-le (s .tokens)),
   λ _. (λ _ _. tt, λ _ _. typed-leaves (ascii "<?>") _ s (push _ (advance (λ _. plain) s)) refl (tail-le (s .tokens))),
 )
@@ -364,8 +364,8 @@ UpTo n [] = Unit {0}
 UpTo n (o ∷ os) = T (ltb 0 (o .kind)) × (o .op ≤ n) × UpTo n os
 
 find-leaves : {A : Type 0} (n : ℕ) (os : List P.Op) (y : ℕ → Act A) (m : Act A) (Q : A → St → Type 0) (s : St)
-    → UpTo n os → ((o : ℕ) → o ≤ n → (Known (s .tokens) → Good (head (s .tokens))) → awp (y o) Q s)
-    → awp m Q s → awp (P.find (head (s .tokens)) os y m) Q s
+    → UpTo n os → ((o : ℕ) → o ≤ n → (Known (s .tokens) → Good (next-token (s .tokens))) → awp (y o) Q s)
+    → awp m Q s → awp (P.find (next-token (s .tokens)) os y m) Q s
 find-leaves n [] y m Q s b h e = e
 find-leaves n (o ∷ os) y m Q s b h e =
     (λ i. h (o .op) (b .1) (λ d. good-of (o .kind) (b .0) (s .tokens) d i), λ _. find-leaves n os y m Q s (b .2) h e)
@@ -429,8 +429,8 @@ or-false : (a b : Bool) → a || not b ≡ false → b ≡ true
 or-false true b e = clash e
 or-false false b e = not-false b e
 
-array-type-leaves : (s : St) → head (s .tokens) is K.LBracket ≡ true → Placed 1 (head (s .tokens) .place)
-    → awp (P.parse-array-type (head (s .tokens) .place)) (If (Whole F.type s)) (advance (λ _. plain) s)
+array-type-leaves : (s : St) → next-token (s .tokens) is K.LBracket ≡ true → Placed 1 (next-token (s .tokens) .place)
+    → awp (P.parse-array-type (next-token (s .tokens) .place)) (If (Whole F.type s)) (advance (λ _. plain) s)
 unfolding P.parse-array-type find rows
 array-type-leaves s i h = λ d. (
   λ _ _. tt,
@@ -445,7 +445,7 @@ array-type-leaves s i h = λ d. (
 )
   where
     t₁ : Tok
-    t₁ = head (tail (s .tokens))
+    t₁ = next-token (tail (s .tokens))
 
     below : dashed (t₁ .text) || not (ltb (number (t₁ .base) 0 (t₁ .text)) (2 ^ 64)) ≡ false
         → number (t₁ .base) 0 (t₁ .text) < 2 ^ 64

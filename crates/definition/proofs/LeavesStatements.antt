@@ -11,7 +11,7 @@ use Rattle.definition.specs.Kind as K
 use Rattle.definition.specs.Source.{Place, utf8}
 use Rattle.definition.specs.Node.{Rec, u16, field, nums-bytes, rec-bytes}
 use Rattle.definition.specs.Fallible.{Fallible, Ans, ok, fatal}
-use Rattle.definition.specs.Token.{Tok, head, tail, _is_}
+use Rattle.definition.specs.Token.{Tok, next-token, tail, _is_}
 use Rattle.definition.specs.Act.{Node, Items, Goal, Statement, Expression, Unary, Type', Loop, Module, Body, ListOf, Operators, Casts, Suffixes, Modifiers, Parameters, ArrayValues, StructValues, Words, plain, Act, St, begin, gives, advance, _>>=_}
 use Rattle.definition.specs.Parser as P
 use Rattle.definition.specs.Format as F
@@ -214,13 +214,13 @@ expression-statement-leaves p h s d = (
 statement-leaves : (s : St) → Known (s .tokens) → reads F.statement P.statement-rule s
 unfolding P.statement-rule find rows
 statement-leaves s d = (
-  λ i _. more F.statement s (P.parse-return (head (s .tokens) .place))
-      (return-leaves (head (s .tokens) .place) (good-of K.KwReturn tt (s .tokens) d i .placed) (advance (λ _. plain) s)),
+  λ i _. more F.statement s (P.parse-return (next-token (s .tokens) .place))
+      (return-leaves (next-token (s .tokens) .place) (good-of K.KwReturn tt (s .tokens) d i .placed) (advance (λ _. plain) s)),
   λ _. (
-    λ i _. more F.statement s (P.declaration Tag.VariableDeclaration (head (s .tokens) .place))
+    λ i _. more F.statement s (P.declaration Tag.VariableDeclaration (next-token (s .tokens) .place))
         (declaration-leaves Tag.VariableDeclaration F.statement
         (λ rs p x h u f. made _ refl refl (at h (with-text u)) f)
-        (head (s .tokens) .place) (good-of K.KwVar tt (s .tokens) d i .placed) (advance (λ _. plain) s)
+        (next-token (s .tokens) .place) (good-of K.KwVar tt (s .tokens) d i .placed) (advance (λ _. plain) s)
         (known-tail (s .tokens) d)),
     λ _. (
       λ i. let h = good-of K.LBrace tt (s .tokens) d i in
@@ -253,8 +253,8 @@ statement-leaves s d = (
                   less = omega (arith, tail-le (s .tokens));
                 }),
             λ _. (
-              λ i _. more F.statement s (P.parse-if (head (s .tokens) .place))
-                  (if-leaves (head (s .tokens) .place) (good-of K.KwIf tt (s .tokens) d i .placed)
+              λ i _. more F.statement s (P.parse-if (next-token (s .tokens) .place))
+                  (if-leaves (next-token (s .tokens) .place) (good-of K.KwIf tt (s .tokens) d i .placed)
                   (advance (λ _. plain) s)),
               λ _. (
                 λ i _. let h = good-of K.InlineAssemblyFragment tt (s .tokens) d i in
@@ -265,7 +265,7 @@ statement-leaves s d = (
                     },
                 λ _. (
                   λ _ _. tt,
-                  λ e. expression-statement-leaves (head (s .tokens) .place) (good (s .tokens) d e .placed) s d,
+                  λ e. expression-statement-leaves (next-token (s .tokens) .place) (good (s .tokens) d e .placed) s d,
                 ),
               ),
             ),
@@ -308,11 +308,11 @@ function-leaves p h x s d =
     expects plain K.KwFn tt _ _ _ (λ _ b. identifier _ _ _
     (λ n b₂. follow G L R M (P.parse-list Parameters) _ (Opened F.named-type u) _ _ (list-leaves Parameters u)
     (λ ps v l q. (
-      λ k _. calls Type' _ _ _ (λ ty w r. function-body-leaves p h x (head (tail (s .tokens))) (n .formed .utf8) ps ty s w
+      λ k _. calls Type' _ _ _ (λ ty w r. function-body-leaves p h x (next-token (tail (s .tokens))) (n .formed .utf8) ps ty s w
           (q .leaves) (r .leaves) (omega (arith, q .count, tail-le (u .tokens), d .1))
           (omega (arith, q .count, tail-le (u .tokens), r .less, tail-le (v .tokens))) (d .1)),
       λ _.
-          function-body-leaves p h x (head (tail (s .tokens))) (n .formed .utf8) ps void s v (q .leaves)
+          function-body-leaves p h x (next-token (tail (s .tokens))) (n .formed .utf8) ps void s v (q .leaves)
           (leaf _ refl refl refl (at h nothing)) (omega (arith, q .count, tail-le (u .tokens), d .1))
           (omega (arith, q .count, tail-le (u .tokens))) (d .1),
     ))))
@@ -323,16 +323,16 @@ function-leaves p h x s d =
     void : Fallible Node
     void = record { item = P.node [] Tag.Void p [] []; errors = [] }
 
-function-definition-leaves : (s : St) → Known (s .tokens) → Placed 1 (head (s .tokens) .place)
+function-definition-leaves : (s : St) → Known (s .tokens) → Placed 1 (next-token (s .tokens) .place)
     → reads F.item P.parse-function-definition s
 unfolding P.parse-function-definition
 function-definition-leaves s d h = (
-  λ i _. more F.item s (P.function (head (s .tokens) .place) 1)
-      (function-leaves (head (s .tokens) .place) h 1 (advance (λ _. plain) s) (known-tail (s .tokens) d)),
-  λ _. function-leaves (head (s .tokens) .place) h 0 s d,
+  λ i _. more F.item s (P.function (next-token (s .tokens) .place) 1)
+      (function-leaves (next-token (s .tokens) .place) h 1 (advance (λ _. plain) s) (known-tail (s .tokens) d)),
+  λ _. function-leaves (next-token (s .tokens) .place) h 0 s d,
 )
 
-type-alias-leaves : (s : St) → Known (s .tokens) → Placed 1 (head (s .tokens) .place)
+type-alias-leaves : (s : St) → Known (s .tokens) → Placed 1 (next-token (s .tokens) .place)
     → reads F.item P.parse-type-alias s
 unfolding P.parse-type-alias P.alias-rule find rows
 type-alias-leaves s d h w t l m = expects plain K.KwType tt _ _ _ (λ _ b d₂. (
@@ -364,7 +364,7 @@ use-leaves s d = expects plain K.KwUse tt _ _ _ (λ h b d₂. (
   ),
 ))
 
-top-level-item-leaves : (s : St) → Known (s .tokens) → head (s .tokens) is K.End ≡ false
+top-level-item-leaves : (s : St) → Known (s .tokens) → next-token (s .tokens) is K.End ≡ false
     → reads F.item P.parse-top-level-item s
 unfolding P.parse-top-level-item P.parse-top-level-var-declaration find rows
 top-level-item-leaves s d z = (
@@ -375,9 +375,9 @@ top-level-item-leaves s d z = (
       λ _. use-leaves s d,
       λ _. (
         λ _. expects plain K.KwVar tt _ _ _ (λ t b. more F.item s
-            (P.declaration Tag.TopLevelVariable (head (s .tokens) .place))
+            (P.declaration Tag.TopLevelVariable (next-token (s .tokens) .place))
             (declaration-leaves Tag.TopLevelVariable F.item (λ rs p x h u f. made _ refl refl (at h (with-text u)) f)
-            (head (s .tokens) .place) (h .placed) (advance (λ _. plain) s) (known-tail (s .tokens) d))),
+            (next-token (s .tokens) .place) (h .placed) (advance (λ _. plain) s) (known-tail (s .tokens) d))),
         λ _. (
           λ i _. record {
             leaves = leaf _ refl refl refl (at (h .placed) (with-text (h .formed .utf8)));
@@ -391,7 +391,7 @@ top-level-item-leaves s d z = (
   ),
 )
   where
-    h : Good (head (s .tokens))
+    h : Good (next-token (s .tokens))
     h = good (s .tokens) d z
 
 module-turn-leaves : (i : Items) (s : St) → Known (s .tokens) → awp (P.module-turn i) (Listing F.item i s) s

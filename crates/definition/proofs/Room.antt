@@ -11,7 +11,7 @@ use Rattle.definition.specs.Kind as K
 use Rattle.definition.specs.Source.{Place}
 use Rattle.definition.specs.Node.{Num, byte, two, eight, Rec, at-place, nums-bytes, rec-bytes, recs-bytes}
 use Rattle.definition.specs.Fallible.{Err, errs-bytes, Ans}
-use Rattle.definition.specs.Token.{Tok, head, _is_}
+use Rattle.definition.specs.Token.{Tok, next-token, _is_}
 use Rattle.definition.specs.Act.{Node, Items, Goal, Loop, Module, Body, ListOf, Operators, Casts, Suffixes, Modifiers, Left, Act, done, peek, consume, make, if_then_else_, call, loop, panic, St, begin, Res, gives, advance, push, run}
 use Rattle.definition.specs.Parser as P
 use Rattle.definition.specs.Parser.{rule, turn, loops, parse, parse-module}
@@ -29,7 +29,7 @@ abbrev G : Goal → St → Ans Node → St → Type 0
 G g s a s′ = Unit {0}
 
 abbrev L : (l : Loop) → St → Left l → St → Type 0
-L (Module i) s a s′ = head (s′ .tokens) is K.End ≡ true
+L (Module i) s a s′ = next-token (s′ .tokens) is K.End ≡ true
 L (Body i) s a s′ = Unit {0}
 L (ListOf k i) s a s′ = Unit {0}
 L (Operators l e) s a s′ = Unit {0}
@@ -61,16 +61,16 @@ kinds-drop : (xs ys : List Tok) → Kinds (xs ++ ys) → Kinds ys
 kinds-drop [] ys h = h
 kinds-drop (x ∷ xs) ys h = kinds-drop xs ys (h .1)
 
-at-end : (ts : List Tok) → Kinds ts → head ts is K.End ≡ true → ts ≡ []
+at-end : (ts : List Tok) → Kinds ts → next-token ts is K.End ≡ true → ts ≡ []
 at-end [] k e = refl
 at-end (t ∷ ts) k e = absurd (omega (arith, is-kind t K.End e, k .0))
 
 pub all-read : (ts : List Tok) → Kinds ts → (i : Items) (s : St) → parse-module ts ≡ gives i s → toks (s .read) ≡ ts
 all-read ts k i s e =
-    go (subst (After (λ i s′. Later (begin ts) s′ × (head (s′ .tokens) is K.End ≡ true))) e
+    go (subst (After (λ i s′. Later (begin ts) s′ × (next-token (s′ .tokens) is K.End ≡ true))) e
     (module-ind G L R M (λ s. tt) (λ e s. tt) (λ g s. wp-always G L R M (G g s) (rule g) s (λ a s′. tt)) turns ts))
   where
-    go : Later (begin ts) s × (head (s .tokens) is K.End ≡ true) → toks (s .read) ≡ ts
+    go : Later (begin ts) s × (next-token (s .tokens) is K.End ≡ true) → toks (s .read) ≡ ts
     go h =
         let l : Later (begin ts) s = h .0 in
         let n : s .tokens ≡ [] = at-end (s .tokens) (kinds-drop (toks (l .eaten)) (s .tokens) (subst Kinds (l .tokens) k)) (h .1) in
@@ -87,8 +87,8 @@ module _ (c : Goal → St → Res (Ans Node)) (o : (l : Loop) → St → Res (Le
   run-few : {A : Type 0} (m : Act A) (s : St) → length (s .full) ≤ 255 → After Few (run c o m s)
   unfolding run
   run-few (done a) s h = h
-  run-few (peek k) s h = run-few (k (head (s .tokens))) s h
-  run-few (consume r k) s h = run-few (k (head (s .tokens))) (advance r s) h
+  run-few (peek k) s h = run-few (k (next-token (s .tokens))) s h
+  run-few (consume r k) s h = run-few (k (next-token (s .tokens))) (advance r s) h
   run-few (make e m) s h =
       limit Few (ltb (length (s .full)) 255) (run c o m (push e s)) (λ t. run-few m (push e s)
       (omega (arith, ltb→lt (length (s .full)) 255 t, length-append (s .full) (e ∷ []))))

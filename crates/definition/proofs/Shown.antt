@@ -10,7 +10,7 @@ use Rattle.definition.specs.Kind as K
 use Rattle.definition.specs.Source.{Place}
 use Rattle.definition.specs.Node.{Rec}
 use Rattle.definition.specs.Fallible.{Err, Fallible, ok}
-use Rattle.definition.specs.Token.{Tok, head, tail, _is_, end-token, number}
+use Rattle.definition.specs.Token.{Tok, next-token, tail, _is_, end-token, number}
 use Rattle.definition.specs.Act.{Node, Items, Role, plain, size, Consumed, St, now-read, advance}
 use Rattle.definition.specs.Parser as P
 use Rattle.definition.proofs.Tests.{passed, is-kind}
@@ -62,7 +62,7 @@ pub distinct-later : (s s′ : St) → Later s s′ → Distinct (s .tokens) →
 distinct-later s s′ l h = distinct-drop (toks (l .eaten)) (s′ .tokens) (subst Distinct (l .tokens) h)
 
 -- the token that is read has a place of its own
-pub fresh-head : (ts : List Tok) → Distinct ts → Fresh (head ts .place) (tail ts)
+pub fresh-head : (ts : List Tok) → Distinct ts → Fresh (next-token ts .place) (tail ts)
 fresh-head [] h = record { apart = tt }
 fresh-head (t ∷ ts) h = record { apart = h .0 }
 
@@ -70,7 +70,7 @@ fresh-head (t ∷ ts) h = record { apart = h .0 }
 not-none : (k : ℕ) → T (ltb 0 k) → end-token is k ≡ true → ⊥
 not-none k h i = omega (arith, is-kind end-token k i, ltb→lt 0 k h)
 
-pub differs : (p : Place) (ts : List Tok) (k : ℕ) → T (ltb 0 k) → head ts is k ≡ true → Fresh p ts → same-place p (head ts .place) ≡ false
+pub differs : (p : Place) (ts : List Tok) (k : ℕ) → T (ltb 0 k) → next-token ts is k ≡ true → Fresh p ts → same-place p (next-token ts .place) ≡ false
 differs p [] k z i h = absurd (not-none k z i)
 differs p (t ∷ ts) k z i h = h .apart .0
 
@@ -102,8 +102,8 @@ pub grew-as : {s u : St} {xs ys : List Norm} → Grew s xs u → xs ≡ ys → G
 grew-as {s} {u} p e = subst (λ (l : List Norm). Grew s l u) e p
 
 -- a token of kind k is read
-pub took : (r : Tok → Role) (k : ℕ) → T (ltb 0 k) → (s : St) → head (s .tokens) is k ≡ true
-    → Grew s (norm (r (head (tail (s .tokens)))) (head (s .tokens))) (advance r s)
+pub took : (r : Tok → Role) (k : ℕ) → T (ltb 0 k) → (s : St) → next-token (s .tokens) is k ≡ true
+    → Grew s (norm (r (next-token (tail (s .tokens)))) (next-token (s .tokens))) (advance r s)
 unfolding strip
 took r k h s i =
     record {
@@ -111,9 +111,9 @@ took r k h s i =
           ∙ ap (λ (l : List Norm). strip (s .read) ++ l) (go (s .tokens) i);
     }
   where
-    go : (ts : List Tok) → head ts is k ≡ true → strip (now-read r ts) ≡ norm (r (head (tail ts))) (head ts)
+    go : (ts : List Tok) → next-token ts is k ≡ true → strip (now-read r ts) ≡ norm (r (next-token (tail ts))) (next-token ts)
     go [] i = absurd (not-none k h i)
-    go (t ∷ ts) i = append-nil (norm (r (head ts)) t)
+    go (t ∷ ts) i = append-nil (norm (r (next-token ts)) t)
 
 -- the kinds that are shown by themselves
 abbrev pub is-symbol : ℕ → Bool
@@ -135,16 +135,16 @@ symbol-norm k h t e = rw e (go (ltb 0 k) (is-named k) (eqb k K.Integer) (is-modi
     go true false false true h = absurd h
     go true false false false h = refl
 
-pub took-symbol : (k : ℕ) → T (is-symbol k) → (s : St) → head (s .tokens) is k ≡ true → Grew s (sym1 k) (advance (λ _. plain) s)
+pub took-symbol : (k : ℕ) → T (is-symbol k) → (s : St) → next-token (s .tokens) is k ≡ true → Grew s (sym1 k) (advance (λ _. plain) s)
 took-symbol k h s i =
     grew-as (took (λ _. plain) k (and-left (ltb 0 k) _ h) s i)
-    (symbol-norm k h (head (s .tokens)) (is-kind (head (s .tokens)) k i))
+    (symbol-norm k h (next-token (s .tokens)) (is-kind (next-token (s .tokens)) k i))
 
 -- `distinct` or `internal`
-pub took-modifier : (k : ℕ) → T (ltb 0 k && is-modifier k) → (s : St) → head (s .tokens) is k ≡ true → Grew s [] (advance (λ _. plain) s)
+pub took-modifier : (k : ℕ) → T (ltb 0 k && is-modifier k) → (s : St) → next-token (s .tokens) is k ≡ true → Grew s [] (advance (λ _. plain) s)
 took-modifier k h s i =
     grew-as (took (λ _. plain) k (and-left (ltb 0 k) _ h) s i)
-    (rw (is-kind (head (s .tokens)) k i) (go (ltb 0 k) (is-modifier k) _ h))
+    (rw (is-kind (next-token (s .tokens)) k i) (go (ltb 0 k) (is-modifier k) _ h))
   where
     go : (z m : Bool) (x : List Norm) → T (z && m) → pick m [] x ≡ []
     go true true x h = refl
@@ -154,30 +154,30 @@ took-modifier k h s i =
 abbrev pub is-name : ℕ → Bool
 is-name k = ltb 0 k && (is-named k && not (is-modifier k))
 
-pub took-name : (k : ℕ) → T (is-name k) → (s : St) → head (s .tokens) is k ≡ true
-    → Grew s (named k (head (s .tokens) .text) ∷ []) (advance (λ _. plain) s)
+pub took-name : (k : ℕ) → T (is-name k) → (s : St) → next-token (s .tokens) is k ≡ true
+    → Grew s (named k (next-token (s .tokens) .text) ∷ []) (advance (λ _. plain) s)
 took-name k h s i =
     grew-as (took (λ _. plain) k (and-left (ltb 0 k) _ h) s i)
-    (rw (is-kind (head (s .tokens)) k i) (go (ltb 0 k) (is-named k) (is-modifier k) h))
+    (rw (is-kind (next-token (s .tokens)) k i) (go (ltb 0 k) (is-named k) (is-modifier k) h))
   where
     go : (z a m : Bool) → T (z && (a && not m))
-        → pick m [] (pick a (named k (head (s .tokens) .text))
-        (pick (eqb k K.Integer) (integer (head (s .tokens) .base) (head (s .tokens) .text)) (symbol k)) ∷ [])
-        ≡ named k (head (s .tokens) .text) ∷ []
+        → pick m [] (pick a (named k (next-token (s .tokens) .text))
+        (pick (eqb k K.Integer) (integer (next-token (s .tokens) .base) (next-token (s .tokens) .text)) (symbol k)) ∷ [])
+        ≡ named k (next-token (s .tokens) .text) ∷ []
     go true true false h = refl
     go true true true h = absurd h
     go true false m h = absurd h
     go false a m h = absurd h
 
-pub took-integer : (s : St) → head (s .tokens) is K.Integer ≡ true
-    → Grew s (integer (head (s .tokens) .base) (head (s .tokens) .text) ∷ []) (advance (λ _. plain) s)
-took-integer s i = grew-as (took (λ _. plain) K.Integer tt s i) (rw (is-kind (head (s .tokens)) K.Integer i) refl)
+pub took-integer : (s : St) → next-token (s .tokens) is K.Integer ≡ true
+    → Grew s (integer (next-token (s .tokens) .base) (next-token (s .tokens) .text) ∷ []) (advance (λ _. plain) s)
+took-integer s i = grew-as (took (λ _. plain) K.Integer tt s i) (rw (is-kind (next-token (s .tokens)) K.Integer i) refl)
 
 -- an array's size
-pub took-size : (s : St) → head (s .tokens) is K.Integer ≡ true
-    → Grew s (sized K.Integer (number (head (s .tokens) .base) 0 (head (s .tokens) .text)) ∷ [])
+pub took-size : (s : St) → next-token (s .tokens) is K.Integer ≡ true
+    → Grew s (sized K.Integer (number (next-token (s .tokens) .base) 0 (next-token (s .tokens) .text)) ∷ [])
     (advance (λ _. size) s)
-took-size s i = grew-as (took (λ _. size) K.Integer tt s i) (rw (is-kind (head (s .tokens)) K.Integer i) refl)
+took-size s i = grew-as (took (λ _. size) K.Integer tt s i) (rw (is-kind (next-token (s .tokens)) K.Integer i) refl)
 
 -- ---- records that show tokens
 

@@ -8,7 +8,7 @@ use Rattle.definition.specs.Choice.{pick}
 use Rattle.definition.specs.Kind as K
 use Rattle.definition.specs.Source.{Place}
 use Rattle.definition.specs.Fallible.{Err, Fallible, Ans}
-use Rattle.definition.specs.Token.{Tok, head, _is_}
+use Rattle.definition.specs.Token.{Tok, next-token, _is_}
 use Rattle.definition.specs.Act.{Node, Items, Goal, Statement, Expression, Unary, Type', Loop, Module, Body, ListOf, Operators, Casts, Suffixes, Modifiers, Listed, Left, Role, Act, done, call, St, advance, _>>=_, _>>?_}
 use Rattle.definition.specs.Parser as P
 use Rattle.definition.proofs.Strip.{Norm}
@@ -64,8 +64,8 @@ pub record Rest (k : Listed) (a : Items) (due : List Norm) : Type 0 where
 pub record ListSequel (k : Listed) (i : Items) (s : St) (a : Items) (s′ : St) : Type 0 where
   pub toks : List Norm
   pub grew : Grew s toks s′
-  pub there : head (s .tokens) is K.End ≡ false
-  pub shows : (ts : List Norm) → ShowsItems comma i ts → Rest k a (start k i ts (head (s .tokens)) ++ toks)
+  pub there : next-token (s .tokens) is K.End ≡ false
+  pub shows : (ts : List Norm) → ShowsItems comma i ts → Rest k a (start k i ts (next-token (s .tokens)) ++ toks)
   pub none : i .errors ≡ [] → a .errors ≡ []
 
 abbrev pub G : Goal → St → Ans Node → St → Type 0
@@ -96,15 +96,15 @@ cwp m Q s = wp G L R M m Q s
 
 -- `expect(..)?`
 pub expects : {B : Type 0} (r : Role) (k : ℕ) (f : Fallible Tok → Act (Ans B)) (Q : Ans B → St → Type 0) (s : St)
-    → (head (s .tokens) is k ≡ true → Distinct (s .tokens)
-    → cwp (f (record { item = head (s .tokens); errors = [] })) Q (advance (λ _. r) s))
+    → (next-token (s .tokens) is k ≡ true → Distinct (s .tokens)
+    → cwp (f (record { item = next-token (s .tokens); errors = [] })) Q (advance (λ _. r) s))
     → cwp (P.expect-as r k >>? f) Q s
 unfolding _>>=_
 expects r k f Q s h = λ d. (λ i. h i d, λ _. (λ _ m. absurd m, λ _ m. absurd m))
 
 pub identifier : {B : Type 0} (f : Fallible Tok → Act (Ans B)) (Q : Ans B → St → Type 0) (s : St)
-    → (head (s .tokens) is K.Identifier ≡ true → Distinct (s .tokens)
-    → cwp (f (record { item = head (s .tokens); errors = [] })) Q (next-state s))
+    → (next-token (s .tokens) is K.Identifier ≡ true → Distinct (s .tokens)
+    → cwp (f (record { item = next-token (s .tokens); errors = [] })) Q (next-state s))
     → cwp (P.expect-identifier >>? f) Q s
 unfolding _>>=_
 identifier f Q s h = λ d. (λ i. h i d, λ _. (λ _ m. absurd m, λ _ m. absurd m))

@@ -12,7 +12,7 @@ use Rattle.definition.specs.Kind as K
 use Rattle.definition.specs.Source.{Place, nowhere}
 use Rattle.definition.specs.Node.{byte, Rec}
 use Rattle.definition.specs.Fallible.{Fallible, Ans, ok, fatal}
-use Rattle.definition.specs.Token.{Tok, head, tail, _is_}
+use Rattle.definition.specs.Token.{Tok, next-token, tail, _is_}
 use Rattle.definition.specs.Act.{Node, Items, Expression, Unary, Type', Operators, Listed, Parameters, Arguments, StructFields, ArrayValues, StructValues, Level, BitOr, BitXor, BitAnd, Shift, AddSub, Mul, plain, group, final, size, Act, done, next, loop, St, advance, _>>=_, _>>?_}
 use Rattle.definition.specs.Parser as P
 use Rattle.definition.proofs.Strip.{Norm, named, integer, sized, norm}
@@ -25,7 +25,7 @@ use Rattle.definition.proofs.ShownAnswers.{lead, start, Rest, ListSeque
 
 -- ---- parse_atom and what stands around it
 
-group-shown : (s : St) → head (s .tokens) is K.LParen ≡ true → cwp P.parse-group (G Expression s) s
+group-shown : (s : St) → next-token (s .tokens) is K.LParen ≡ true → cwp P.parse-group (G Expression s) s
 unfolding P.parse-group _>>=_
 group-shown s i = λ d. (
   λ x t l p d′. (
@@ -122,7 +122,7 @@ suffixes-shown e s = (
         shows =
             λ ts f h. shows-as (p .shows (ts ++ sym1 K.DotStar) (fresh-head (s .tokens) d) (record {
               on = λ st. after1 h _ st ∙ ap
-                  (λ (b : Bool). entry (head (s .tokens) .place) (pick b (sym1 K.Star ++ ts) (ts ++ sym1 K.DotStar))
+                  (λ (b : Bool). entry (next-token (s .tokens) .place) (pick b (sym1 K.Star ++ ts) (ts ++ sym1 K.DotStar))
                   ∷ st) (differs (e .item .place) (s .tokens) K.DotStar tt i f);
             })) (simp append-assoc);
         fresh = λ f. p .fresh (fresh-head (s .tokens) d);
@@ -198,15 +198,15 @@ pub list-shown : (k : Listed) (s : St) → cwp (P.parse-list k) (List-shown k s)
 unfolding P.parse-list _>>=_
 list-shown k s = λ d. (λ i a t l p. found i a t p (p .shows [] (items-none comma [])), λ _. (λ _ m. absurd m, λ _ m. absurd m))
   where
-    found : head (s .tokens) is P.opener k ≡ true → (a : Items) (t : St)
+    found : next-token (s .tokens) is P.opener k ≡ true → (a : Items) (t : St)
         → (p : ListSequel k (P.no-items []) (next-state s) a t)
-        → Rest k a (start k (P.no-items []) [] (head (tail (s .tokens))) ++ p .toks) → List-shown k s a t
+        → Rest k a (start k (P.no-items []) [] (next-token (tail (s .tokens))) ++ p .toks) → List-shown k s a t
     found i a t p r =
         record {
           toks = r .all;
           grew = grew-as (took-symbol (P.opener k) (opener-symbol k) s i ▸ p .grew)
               (ap (λ (l : List Norm). sym1 (P.opener k) ++ l)
-              (ap (λ (l : List Norm). l ++ p .toks) (sym (pick-same (head (tail (s .tokens)) is P.closer k) []))
+              (ap (λ (l : List Norm). l ++ p .toks) (sym (pick-same (next-token (tail (s .tokens)) is P.closer k) []))
               ∙ r .whole));
           shows = r .shows;
           none = p .none refl;
@@ -242,12 +242,12 @@ after-item-shown : (k : Listed) (i : Items) (n : ℕ) → i .count ≡ suc n →
 unfolding P.after-item
 after-item-shown k i n c s = (
   λ e d a t l p. record {
-    toks = norm (P.comma-role k (head (tail (s .tokens)))) (head (s .tokens)) ++ p .toks;
+    toks = norm (P.comma-role k (next-token (tail (s .tokens)))) (next-token (s .tokens)) ++ p .toks;
     grew = took (P.comma-role k) K.Comma tt s e ▸ p .grew;
     shows =
         λ ts h. rest-as (p .shows ts h)
-        (comma-due (head (tail (s .tokens)) is P.closer k) (head (s .tokens)) ts (p .toks) (i .count) n c
-        (symbol-norm K.Comma tt (head (s .tokens)) (is-kind (head (s .tokens)) K.Comma e)));
+        (comma-due (next-token (tail (s .tokens)) is P.closer k) (next-token (s .tokens)) ts (p .toks) (i .count) n c
+        (symbol-norm K.Comma tt (next-token (s .tokens)) (is-kind (next-token (s .tokens)) K.Comma e)));
     none = p .none;
   },
   λ _. (
@@ -335,7 +335,7 @@ list-turn-shown k i s = (
       (λ c d. closes here c, λ c. follow G L R M _ _ (ItemOf s) _ _ (item-shown k s) (go here c)),
 )
   where
-    closes : head (s .tokens) is K.End ≡ false → head (s .tokens) is P.closer k ≡ true → ListSequel k i s i (next-state s)
+    closes : next-token (s .tokens) is K.End ≡ false → next-token (s .tokens) is P.closer k ≡ true → ListSequel k i s i (next-state s)
     closes here c =
         record {
           toks = sym1 (P.closer k);
@@ -349,7 +349,7 @@ list-turn-shown k i s = (
           none = λ h. h;
         }
 
-    go : head (s .tokens) is K.End ≡ false → head (s .tokens) is P.closer k ≡ false → (a : Ans Node) (t : St)
+    go : next-token (s .tokens) is K.End ≡ false → next-token (s .tokens) is P.closer k ≡ false → (a : Ans Node) (t : St)
         → Later s t → ItemOf s a t → cwp (P.after-item k (P.integrate i a)) (ListSequel k i s) t
     go here c (ok x) t l p =
         wp-mono G L R M (After-item k (P.integrate i (ok x)) t) (ListSequel k i s)
@@ -406,7 +406,7 @@ prefix-shown : (tag k : ℕ) → T (is-symbol k)
     → ((p : Place) (ts : List Norm) (st : List Entry)
     → step (record { tag = tag; place = some p; numbers = []; text = [] }) (entry p ts ∷ st)
     ≡ entry p (sym1 k ++ ts) ∷ st)
-    → (s : St) → head (s .tokens) is k ≡ true → cwp (P.prefix tag) (G Expression s) s
+    → (s : St) → next-token (s .tokens) is k ≡ true → cwp (P.prefix tag) (G Expression s) s
 unfolding P.prefix
 prefix-shown tag k z f s i d =
     calls Unary _ _ _ (λ x t l p. record {
@@ -513,7 +513,7 @@ Tabled f (o ∷ os) = (f (o .op) ≡ o .kind) × T (is-symbol (o .kind)) × Tabl
 
 find-shown : {A : Type 0} (f : ℕ → ℕ) (os : List P.Op) (y : ℕ → Act A) (n : Act A) (Q : A → St → Type 0) (s : St)
     → Tabled f os → ((o : ℕ) → Grew s (sym1 (f o)) (next-state s) → cwp (y o) Q s) → cwp n Q s
-    → cwp (P.find (head (s .tokens)) os y n) Q s
+    → cwp (P.find (next-token (s .tokens)) os y n) Q s
 find-shown f [] y n Q s p h e = e
 find-shown f (o ∷ os) y n Q s p h e = (
   λ i. h (o .op) (grew-as (took-symbol (o .kind) (p .1) s i) (ap sym1 (sym (p .0)))),
@@ -582,8 +582,8 @@ expression-shown s =
 
 -- ---- types
 
-array-type-shown : (s : St) → head (s .tokens) is K.LBracket ≡ true
-    → cwp (P.parse-array-type (head (s .tokens) .place)) (G Type' s) (next-state s)
+array-type-shown : (s : St) → next-token (s .tokens) is K.LBracket ≡ true
+    → cwp (P.parse-array-type (next-token (s .tokens) .place)) (G Type' s) (next-state s)
 unfolding P.parse-array-type step
 array-type-shown s i = λ d. (
   λ _ m. absurd m,
@@ -628,7 +628,7 @@ type-shown s d = (
           shows =
               record {
                 on = λ st. after-items (q .shows) _
-                    (on-list (head (s .tokens) .place) (λ ts. sym1 K.KwStruct ++ sym1 K.LBrace ++ ts ++ sym1 K.RBrace))
+                    (on-list (next-token (s .tokens) .place) (λ ts. sym1 K.KwStruct ++ sym1 K.LBrace ++ ts ++ sym1 K.RBrace))
                     (λ st. refl) st;
               };
           none = refl;

@@ -8,7 +8,7 @@ use Rattle.definition.specs.Kind as K
 use Rattle.definition.specs.Source.{Place, nowhere}
 use Rattle.definition.specs.Node.{Rec}
 use Rattle.definition.specs.Fallible.{Err, Fallible, Ans}
-use Rattle.definition.specs.Token.{head, _is_}
+use Rattle.definition.specs.Token.{next-token, _is_}
 use Rattle.definition.specs.Act.{Node, Items, Statement, Expression, ArrayValues, StructValues, plain, St, _>>=_}
 use Rattle.definition.specs.Parser as P
 use Rattle.definition.proofs.Ind.{Sure, follow, try-sure}
@@ -34,7 +34,7 @@ compound-shown s = expects plain K.Hash _ _ _ (λ i d. (
       shows =
           record {
             on = λ st. after-items (q .shows) _
-                (on-list (head (t .tokens) .place) (λ ts. sym1 K.Hash ++ sym1 K.LBracket ++ ts ++ sym1 K.RBracket))
+                (on-list (next-token (t .tokens) .place) (λ ts. sym1 K.Hash ++ sym1 K.LBracket ++ ts ++ sym1 K.RBracket))
                 (λ st. refl) st;
           };
       none = q .none;
@@ -47,7 +47,7 @@ compound-shown s = expects plain K.Hash _ _ _ (λ i d. (
         shows =
             record {
               on = λ st. after-items (q .shows) _
-                  (on-list (head (t .tokens) .place) (λ ts. sym1 K.Hash ++ sym1 K.LBrace ++ ts ++ sym1 K.RBrace))
+                  (on-list (next-token (t .tokens) .place) (λ ts. sym1 K.Hash ++ sym1 K.LBrace ++ ts ++ sym1 K.RBrace))
                   (λ st. refl) st;
             };
         none = q .none;
@@ -102,11 +102,11 @@ var-like-shown s = try-sure G L R M (Typed-shown s) P.parse-typed-identifier _ _
           none = joined (p .none) e;
         }
 
-pub declaration-shown : (tag : ℕ) (s : St) → head (s .tokens) is K.KwVar ≡ true
+pub declaration-shown : (tag : ℕ) (s : St) → next-token (s .tokens) is K.KwVar ≡ true
     → ((p a b : Place) (tx : List ℕ) (xs ys : List Norm) (st : List Entry)
     → step (record { tag = tag; place = some p; numbers = []; text = tx }) (entry b ys ∷ entry a xs ∷ st)
     ≡ entry p (sym1 K.KwVar ++ (named K.Identifier tx ∷ []) ++ sym1 K.Colon ++ xs ++ ys ++ sym1 K.Semicolon) ∷ st)
-    → cwp (P.declaration tag (head (s .tokens) .place)) (G Statement s) (next-state s)
+    → cwp (P.declaration tag (next-token (s .tokens) .place)) (G Statement s) (next-state s)
 unfolding P.declaration
 declaration-shown tag s i f =
     try-sure G L R M (Declared-shown (next-state s)) P.parse-var-like-declaration _ _ _
@@ -117,14 +117,14 @@ declaration-shown tag s i f =
           record {
             on = λ st. unparse-append (x .item .type) (made x ∷ []) st ∙ after0 (made x)
                 (unparse (x .item .type) st) ∙ ap (λ (l : List Entry). step (made x) l) (p .shows st) ∙ f
-                (head (s .tokens) .place) (p .at₁) (p .at₂) (x .item .name) (p .type) (p .value) st;
+                (next-token (s .tokens) .place) (p .at₁) (p .at₂) (x .item .name) (p .type) (p .value) st;
           };
       none = p .none;
       extra = tt;
     }))
   where
     made : Fallible P.Typed → Rec
-    made x = record { tag = tag; place = some (head (s .tokens) .place); numbers = []; text = x .item .name }
+    made x = record { tag = tag; place = some (next-token (s .tokens) .place); numbers = []; text = x .item .name }
 
 -- ---- bodies and statements
 
@@ -167,7 +167,7 @@ body-turn-shown i s = (
   ),
 )
 
-return-shown : (s : St) → head (s .tokens) is K.KwReturn ≡ true → cwp (P.parse-return (head (s .tokens) .place)) (G Statement s) (next-state s)
+return-shown : (s : St) → next-token (s .tokens) is K.KwReturn ≡ true → cwp (P.parse-return (next-token (s .tokens) .place)) (G Statement s) (next-state s)
 unfolding P.parse-return step
 return-shown s i = (
   λ j d. record {
@@ -187,7 +187,7 @@ return-shown s i = (
       })),
 )
 
-if-shown : (s : St) → head (s .tokens) is K.KwIf ≡ true → cwp (P.parse-if (head (s .tokens) .place)) (G Statement s) (next-state s)
+if-shown : (s : St) → next-token (s .tokens) is K.KwIf ≡ true → cwp (P.parse-if (next-token (s .tokens) .place)) (G Statement s) (next-state s)
 unfolding P.parse-if step
 if-shown s i = calls Expression _ _ _ (λ c t l p. calls Statement _ _ _ (λ a u l₂ q. (
   λ j d. calls Statement _ _ _ (λ b v l₃ r. record {
@@ -265,7 +265,7 @@ statement-shown s = (
         shows =
             record {
               on = λ st. after-items (q .shows) _
-                  (on-list (head (s .tokens) .place) (λ ts. sym1 K.LBrace ++ ts ++ sym1 K.RBrace)) (λ st. refl) st;
+                  (on-list (next-token (s .tokens) .place) (λ ts. sym1 K.LBrace ++ ts ++ sym1 K.RBrace)) (λ st. refl) st;
             };
         none = q .none;
         extra = tt;
@@ -305,7 +305,7 @@ statement-shown s = (
                   extra = tt;
                 },
                 λ _.
-                    (λ _ m. absurd m, λ _. expression-statement-shown s (head (s .tokens) .place)),
+                    (λ _ m. absurd m, λ _. expression-statement-shown s (next-token (s .tokens) .place)),
               ),
             ),
           ),

@@ -10,7 +10,7 @@ use Rattle.definition.specs.Ascii.{ascii}
 use Rattle.definition.specs.Source.{Place}
 use Rattle.definition.specs.Node.{Num, byte, two, eight, Rec}
 use Rattle.definition.specs.Fallible.{Err, Fallible, Ans, ok, fatal}
-use Rattle.definition.specs.Token.{Tok, head, tail}
+use Rattle.definition.specs.Token.{Tok, next-token, tail}
 use Rattle.definition.specs.Cost.{cost}
 unfoldable pub use Rattle.definition.specs.Cost.{spend as budget}
 use Rattle.definition.specs.Act.{Node, Items, Goal, Statement, Expression, Unary, Type', Loop, Module, Body, ListOf, Operators, Casts, Suffixes, Modifiers, Listed, Parameters, Arguments, StructFields, ArrayValues, StructValues, Level, Left, Words, Act, St, push, next, done, _>>=_, _>>?_}
@@ -44,9 +44,9 @@ weight-append [] ys = omega arith
 weight-append (x ∷ xs) ys = omega (arith, weight-append xs ys)
 
 abbrev R : St → Type 0
-R s = cost (head (s .tokens)) + budget (tail (s .tokens)) ≡ budget (s .tokens)
+R s = cost (next-token (s .tokens)) + budget (tail (s .tokens)) ≡ budget (s .tokens)
 
-r-ok : (ts : List Tok) → cost (head ts) + budget (tail ts) ≡ budget ts
+r-ok : (ts : List Tok) → cost (next-token ts) + budget (tail ts) ≡ budget ts
 unfolding budget
 r-ok [] = refl
 r-ok (t ∷ ts) = refl
@@ -115,7 +115,7 @@ module _ (f : Err → ℕ) where
   -- a list, or a body, and the token that opens it
   abbrev PostOpened : St → Items → St → Type 0
   PostOpened s a s′ =
-      (weight (a .recs) + cost (head (s .tokens)) + budget (s′ .tokens) ≤ budget (s .tokens))
+      (weight (a .recs) + cost (next-token (s .tokens)) + budget (s′ .tokens) ≤ budget (s .tokens))
       × (tally (a .errors) + tally (s .full) ≤ tally (s′ .full))
 
   abbrev spare : Goal → ℕ
@@ -152,7 +152,7 @@ module _ (f : Err → ℕ) where
   typed-identifier-size : (s : St) → wp′ P.parse-typed-identifier (PostTyped s) s
   unfolding P.parse-typed-identifier ascii
   typed-identifier-size s = λ r. (
-    λ i. named (head (s .tokens) .text) [] (next-state s) (omega (arith, is-kind)) (omega arith),
+    λ i. named (next-token (s .tokens) .text) [] (next-state s) (omega (arith, is-kind)) (omega arith),
     λ n. (
       λ i m. simp sums (omega (arith, is-kind)),
       λ e m. named (ascii "<?>") _ (push _ (next-state s))
@@ -166,11 +166,11 @@ module _ (f : Err → ℕ) where
           via G L R M (P.typed name es) (PostNamed name es t) (PostTyped s) t (typed-size name es t)
           (omega arith) (omega arith)
 
-  prefix-size : (tag : ℕ) (s : St) → tag ≤ 0x54 → 0 < (head (s .tokens)) .kind → wp′ (P.prefix tag) (Post 8 s) s
+  prefix-size : (tag : ℕ) (s : St) → tag ≤ 0x54 → 0 < (next-token (s .tokens)) .kind → wp′ (P.prefix tag) (Post 8 s) s
   unfolding P.prefix _>>=_
   prefix-size tag s h k = simp sums (omega arith)
 
-  group-size : (s : St) → 0 < (head (s .tokens)) .kind → wp′ P.parse-group (Post 8 s) s
+  group-size : (s : St) → 0 < (next-token (s .tokens)) .kind → wp′ P.parse-group (Post 8 s) s
   unfolding P.parse-group _>>=_
   group-size s k = simp sums (omega (arith, is-kind))
 
@@ -210,7 +210,7 @@ module _ (f : Err → ℕ) where
   after-item-size : (k : Listed) (i : Items) (s : St) → wp′ (P.after-item k i) (PostItems i s) s
   unfolding P.after-item
   after-item-size k i s =
-      let t : Tok = head (s .tokens) in
+      let t : Tok = next-token (s .tokens) in
       let es : List Err = P.error 15 (t .place) 0 (t .kind) ∷ [] in
       omega (arith, is-kind, tally-append (i .errors) es, tally-append (s .full) es)
 
@@ -237,13 +237,13 @@ module _ (f : Err → ℕ) where
       t : St
       t = next-state s
 
-      array : 16 + budget (t .tokens) ≤ budget (s .tokens) → wp′ (P.parse-array-type (head (s .tokens) .place)) (Post 0 s) t
+      array : 16 + budget (t .tokens) ≤ budget (s .tokens) → wp′ (P.parse-array-type (next-token (s .tokens) .place)) (Post 0 s) t
       array b =
-          let p : Place = head (s .tokens) .place in
+          let p : Place = next-token (s .tokens) .place in
           via G L R M (P.parse-array-type p) (Post 0 t) (Post 0 s) t (array-type-size p t) (omega arith) (omega arith)
 
       made : Items → Act (Ans Node)
-      made i = P.good (P.node (i .recs) 0x14 (head (s .tokens) .place) (two (i .count) ∷ []) []) []
+      made i = P.good (P.node (i .recs) 0x14 (next-token (s .tokens) .place) (two (i .count) ∷ []) []) []
 
       struct : 16 + budget (t .tokens) ≤ budget (s .tokens) → wp′ (P.parse-list StructFields >>= made) (Post 0 s) t
       struct b =
@@ -314,7 +314,7 @@ module _ (f : Err → ℕ) where
   operators-size : (l : Level) (e : Fallible Node) (s : St) → wp′ (operators-turn l e) (From e s) s
   unfolding operators-turn
   operators-size l e s =
-      wp-find G L R M (P.mapping l) _ _ _ s (head (s .tokens)) (mapping-positive l)
+      wp-find G L R M (P.mapping l) _ _ _ s (next-token (s .tokens)) (mapping-positive l)
       (λ k o r. try G L R M (P.cascade l) _ (Post 8 (next-state s)) _ _ (cascade-size l (next-state s))
       (simp sums (omega arith)) (omega arith))
       (omega arith)
@@ -325,7 +325,7 @@ module _ (f : Err → ℕ) where
       try G L R M _ _ (Post 8 s) _ _ (bitwise-or-size s)
       (λ e s′ p. wp-find G L R M P.comparisons
       (λ o. next λ op. P.parse-bitwise-or >>? λ r. done (ok (P.binary 0x2E (byte o ∷ []) (op .place) e r)))
-      (done (ok e)) (Post 8 s) s′ (head (s′ .tokens)) comparisons-positive
+      (done (ok e)) (Post 8 s) s′ (next-token (s′ .tokens)) comparisons-positive
       (λ k o r. try G L R M P.parse-bitwise-or _ (Post 8 (next-state s′)) _ _ (bitwise-or-size (next-state s′))
       (simp sums (omega arith)) (omega arith))
       (omega arith))
@@ -507,7 +507,7 @@ module _ (f : Err → ℕ) where
       u = next-state t
 
       name : Tok
-      name = head (t .tokens)
+      name = next-token (t .tokens)
 
       Is-built : Items → Fallible Node → St → Ans Node → St → Type 0
       Is-built ps ty w = Built (19 + length (name .text)) ps ty w

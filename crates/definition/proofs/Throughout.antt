@@ -1,7 +1,7 @@
 -- The induction over the parser, where something is known of the tokens left, whatever is read. Assumes nothing.
 use mathlib.Core.List.{List, []}
 use Rattle.definition.specs.Fallible.{Err, Ans, ok, fatal}
-use Rattle.definition.specs.Token.{Tok, head, tail}
+use Rattle.definition.specs.Token.{Tok, next-token, tail}
 use Rattle.definition.specs.Act.{Node, Goal, Loop, Module, Left, Act, done, peek, consume, make, if_then_else_, call, loop, panic, St, begin, advance, push}
 use Rattle.definition.specs.Parser.{rule, turn, parse-module, no-items}
 use Rattle.definition.proofs.Later.{Later, After, weaken}
@@ -29,9 +29,9 @@ module _ (G : Goal → St → Ans Node → St → Type 0) (L : (l : Loop) → St
     carry : {A : Type 0} (X : Type 0) (Q : A → St → Type 0) (m : Act A) (s : St) → (X → I (s .tokens))
         → (X → wp G L Known Any m Q s) → wp G′ L′ None Any m (λ a s′. X → Q a s′) s
     carry X Q (done a) s i h = h
-    carry X Q (peek k) s i h = carry X Q (k (head (s .tokens))) s i h
+    carry X Q (peek k) s i h = carry X Q (k (next-token (s .tokens))) s i h
     carry X Q (consume r k) s i h =
-        λ _. carry X Q (k (head (s .tokens))) (advance r s) (λ x. I-tail (s .tokens) (i x)) (λ x. h x (i x))
+        λ _. carry X Q (k (next-token (s .tokens))) (advance r s) (λ x. I-tail (s .tokens) (i x)) (λ x. h x (i x))
     carry X Q (make e m) s i h = λ _. carry X Q m (push e s) i (λ x. h x tt)
     carry X Q (if_then_else_ b m n) s i h = (λ d. carry X Q m s i (λ x. h x .0 d), λ d. carry X Q n s i (λ x. h x .1 d))
     carry X Q (call g k) s i h = (

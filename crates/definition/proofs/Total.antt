@@ -10,7 +10,7 @@ use Rattle.definition.specs.Classes.{between}
 use Rattle.definition.specs.Kind as K
 use Rattle.definition.specs.Fallible.{Ans, ok, fatal}
 use Rattle.definition.specs.Node.{byte}
-use Rattle.definition.specs.Token.{Tok, head, tail, _is_}
+use Rattle.definition.specs.Token.{Tok, next-token, tail, _is_}
 use Rattle.definition.specs.Act.{Node, Goal, Loop, Module, Body, ListOf, Operators, Casts, Suffixes, Modifiers, Listed, Parameters, Arguments, StructFields, ArrayValues, StructValues, Left, Consumed, Act, done, peek, consume, make, if_then_else_, call, loop, panic, St, begin, Res, gives, refused, after, plain, advance, push, run, next, _>>=_, _>>?_}
 use Rattle.definition.specs.Parser as P
 use Rattle.definition.specs.Parser.{rule, turn, loops, parse, parse-module-within, parse-module}
@@ -46,14 +46,14 @@ Moves (refused n) = T (between 10 12 n)
 
 -- a call reads a token, where there is one
 abbrev pub Called : St → St → Type 0
-Called s s′ = head (s .tokens) is K.End ≡ false → length (s′ .tokens) < length (s .tokens)
+Called s s′ = next-token (s .tokens) is K.End ≡ false → length (s′ .tokens) < length (s .tokens)
 
 -- every loop in an act has its turns, of n, and Q holds in the end
 module _ (n : ℕ) where
   abbrev pub Enough : {A : Type 0} → Act A → (St → Type 0) → St → Type 0
   Enough (done a) Q s = Q s
-  Enough (peek k) Q s = Enough (k (head (s .tokens))) Q s
-  Enough (consume r k) Q s = Enough (k (head (s .tokens))) Q (advance r s)
+  Enough (peek k) Q s = Enough (k (next-token (s .tokens))) Q s
+  Enough (consume r k) Q s = Enough (k (next-token (s .tokens))) Q (advance r s)
   Enough (make e m) Q s = Enough m Q (push e s)
   Enough (if_then_else_ b m m′) Q s = (b ≡ true → Enough m Q s) × (b ≡ false → Enough m′ Q s)
   Enough (call g k) Q s = (a : Ans Node) (s′ : St) → Later s s′ → Called s s′ → Enough (k a) Q s′
@@ -64,9 +64,9 @@ module _ (n : ℕ) where
   pub plenty : {A : Type 0} (m : Act A) (Q : St → Type 0) (s₀ s : St) → Later s₀ s → 2 + length (s .tokens) ≤ n
       → ((s′ : St) → length (s′ .tokens) ≤ length (s .tokens) → Q s′) → Enough m Q s
   plenty (done a) Q s₀ s z h q = q s (omega arith)
-  plenty (peek k) Q s₀ s z h q = plenty (k (head (s .tokens))) Q s₀ s z h q
+  plenty (peek k) Q s₀ s z h q = plenty (k (next-token (s .tokens))) Q s₀ s z h q
   plenty (consume r k) Q s₀ s z h q =
-      plenty (k (head (s .tokens))) Q s₀ (advance r s) (later-trans z (later-advance r s))
+      plenty (k (next-token (s .tokens))) Q s₀ (advance r s) (later-trans z (later-advance r s))
       (omega (arith, Gr.tail-le (s .tokens))) (λ s′ d. q s′ (omega (arith, Gr.tail-le (s .tokens))))
   plenty (make e m) Q s₀ s z h q = plenty m Q s₀ (push e s) (later-trans z (later-push e s)) h q
   plenty (if_then_else_ b m m′) Q s₀ s z h q = (λ _. plenty m Q s₀ s z h q, λ _. plenty m′ Q s₀ s z h q)
@@ -84,8 +84,8 @@ module _ (n : ℕ) where
       → ((a : A) (s′ : St) → P s′ → Enough (f a) Q s′) → Enough (m >>= f) Q s
   unfolding _>>=_
   enough-bind (done a) f P Q s h q = q a s h
-  enough-bind (peek k) f P Q s h q = enough-bind (k (head (s .tokens))) f P Q s h q
-  enough-bind (consume r k) f P Q s h q = enough-bind (k (head (s .tokens))) f P Q (advance r s) h q
+  enough-bind (peek k) f P Q s h q = enough-bind (k (next-token (s .tokens))) f P Q s h q
+  enough-bind (consume r k) f P Q s h q = enough-bind (k (next-token (s .tokens))) f P Q (advance r s) h q
   enough-bind (make e m) f P Q s h q = enough-bind m f P Q (push e s) h q
   enough-bind (if_then_else_ b m m′) f P Q s h q = (λ d. enough-bind m f P Q s (h .0 d) q, λ d. enough-bind m′ f P Q s (h .1 d) q)
   enough-bind (call g k) f P Q s h q = λ a s′ l c. enough-bind (k a) f P Q s′ (h a s′ l c) q
@@ -106,11 +106,11 @@ module _ (n : ℕ) where
   abbrev Less : St → St → Type 0
   Less s s′ = length (s′ .tokens) < length (s .tokens)
 
-  begins : {A : Type 0} (m : Act A) (s : St) → head (s .tokens) is K.End ≡ false → First m → 1 + length (s .tokens) ≤ n → Enough m (Less s) s
+  begins : {A : Type 0} (m : Act A) (s : St) → next-token (s .tokens) is K.End ≡ false → First m → 1 + length (s .tokens) ≤ n → Enough m (Less s) s
   begins (done a) s e r h = absurd r
-  begins (peek k) s e r h = begins (k (head (s .tokens))) s e (r (head (s .tokens))) h
+  begins (peek k) s e r h = begins (k (next-token (s .tokens))) s e (r (next-token (s .tokens))) h
   begins (consume p k) s e r h =
-      plenty (k (head (s .tokens))) (Less s) s (advance p s) (later-advance p s)
+      plenty (k (next-token (s .tokens))) (Less s) s (advance p s) (later-advance p s)
       (omega (arith, Gr.tail-lt (s .tokens) e)) (λ s′ d. omega (arith, Gr.tail-lt (s .tokens) e))
   begins (make x m) s e r h = absurd r
   begins (if_then_else_ b m m′) s e r h = (λ d. begins m s e (r .0 d) h, λ d. begins m′ s e (r .1 d) h)
@@ -133,8 +133,8 @@ module _ (n : ℕ) where
     run-moves : {A : Type 0} (m : Act A) (Q : St → Type 0) (s : St) → Enough m Q s → Moves (run c o m s)
     unfolding run
     run-moves (done a) Q s h = tt
-    run-moves (peek k) Q s h = run-moves (k (head (s .tokens))) Q s h
-    run-moves (consume r k) Q s h = run-moves (k (head (s .tokens))) Q (advance r s) h
+    run-moves (peek k) Q s h = run-moves (k (next-token (s .tokens))) Q s h
+    run-moves (consume r k) Q s h = run-moves (k (next-token (s .tokens))) Q (advance r s) h
     run-moves (make e m) Q s h = limited (ltb (length (s .full)) 255) (run c o m (push e s)) (run-moves m Q (push e s) h)
     run-moves (if_then_else_ true m m′) Q s h = run-moves m Q s (h .0 refl)
     run-moves (if_then_else_ false m m′) Q s h = run-moves m′ Q s (h .1 refl)
@@ -161,19 +161,19 @@ first-item n StructValues = tt
 
 find-enough : {A : Type 0} (n : ℕ) (os : List P.Op) (y : ℕ → Act A) (m : Act A) (Q : St → Type 0) (s : St) → Positive os
     → ((o : ℕ) → length (tail (s .tokens)) < length (s .tokens) → Enough n (y o) Q s) → Enough n m Q s
-    → Enough n (P.find (head (s .tokens)) os y m) Q s
+    → Enough n (P.find (next-token (s .tokens)) os y m) Q s
 find-enough n [] y m Q s p h e = e
 find-enough n (o ∷ os) y m Q s p h e = (λ i. h (o .op) (there (o .kind) (p .0) (s .tokens) i), λ _. find-enough n os y m Q s (p .1) h e)
 
 -- an item of a module reads a token
-moved : (s s′ : St) → Later s s′ → head (s .tokens) is K.End ≡ false → head (s′ .tokens) is K.End ≡ true → length (s′ .tokens) < length (s .tokens)
+moved : (s s′ : St) → Later s s′ → next-token (s .tokens) is K.End ≡ false → next-token (s′ .tokens) is K.End ≡ true → length (s′ .tokens) < length (s .tokens)
 moved s s′ l e e′ = go (l .eaten) (l .tokens)
   where
     go : (cs : List Consumed) → s .tokens ≡ toks cs ++ s′ .tokens → length (s′ .tokens) < length (s .tokens)
-    go [] q = never-both e′ (subst (λ (ts : List Tok). head ts is K.End ≡ false) q e)
+    go [] q = never-both e′ (subst (λ (ts : List Tok). next-token ts is K.End ≡ false) q e)
     go (c ∷ cs) q = omega (arith, ap length q, length-append (toks cs) (s′ .tokens))
 
-alias-enough : (n : ℕ) (s : St) → head (s .tokens) is K.End ≡ false → 1 + length (s .tokens) ≤ n
+alias-enough : (n : ℕ) (s : St) → next-token (s .tokens) is K.End ≡ false → 1 + length (s .tokens) ≤ n
     → Enough n P.parse-type-alias (λ s′. length (s′ .tokens) < length (s .tokens)) s
 unfolding P.parse-type-alias P.alias-rule _>>=_
 alias-enough n s e h = (
@@ -195,10 +195,10 @@ alias-enough n s e h = (
   ),
 )
   where
-    shorter : (t : St) → head (t .tokens) is K.KwType ≡ true → length (tail (tail (tail (t .tokens)))) < length (t .tokens)
+    shorter : (t : St) → next-token (t .tokens) is K.KwType ≡ true → length (tail (tail (tail (t .tokens)))) < length (t .tokens)
     shorter t i = omega (arith, there K.KwType tt (t .tokens) i, Gr.tail-le (tail (t .tokens)), Gr.tail-le (tail (tail (t .tokens))))
 
-item-enough : (n : ℕ) (s : St) → head (s .tokens) is K.End ≡ false → 1 + length (s .tokens) ≤ n
+item-enough : (n : ℕ) (s : St) → next-token (s .tokens) is K.End ≡ false → 1 + length (s .tokens) ≤ n
     → Enough n P.parse-top-level-item (λ s′. length (s′ .tokens) < length (s .tokens)) s
 unfolding P.parse-top-level-item P.parse-function-definition P.function P.parse-use P.path-rule P.parse-top-level-var-declaration _>>=_
 item-enough n s e h = (
@@ -237,11 +237,11 @@ turn-enough n (Operators l e) s h =
     find-enough n (P.mapping l)
     (λ o. next λ op. P.cascade l >>? λ r. loop (Operators l (P.binary 0x2D (byte o ∷ []) (op .place) e r)) done)
     (done (ok e)) any s (mapping-positive l) (λ o d. plenty n
-    (P.cascade l >>? λ r. loop (Operators l (P.binary 0x2D (byte o ∷ []) (head (s .tokens) .place) e r)) done) any
+    (P.cascade l >>? λ r. loop (Operators l (P.binary 0x2D (byte o ∷ []) (next-token (s .tokens) .place) e r)) done) any
     (advance (λ _. plain) s) (advance (λ _. plain) s) (later-refl (advance (λ _. plain) s)) (omega arith)
     (λ s″ d. tt)) tt
 turn-enough n (Casts e) s h = (
-  λ i. plenty n (P.parse-type >>? λ ty. loop (Casts (P.binary 0x26 [] (head (s .tokens) .place) e ty)) done) any
+  λ i. plenty n (P.parse-type >>? λ ty. loop (Casts (P.binary 0x26 [] (next-token (s .tokens) .place) e ty)) done) any
       (advance (λ _. plain) s) (advance (λ _. plain) s) (later-refl (advance (λ _. plain) s))
       (omega (arith, there K.KwAs tt (s .tokens) i)) (λ s″ d. tt),
   λ _. tt,
@@ -252,7 +252,7 @@ turn-enough n (Suffixes e) s h = (
     λ i. (omega (arith, there K.DotStar tt (s .tokens) i), λ a s′ l. tt),
     λ _. (
       λ i. plenty n (P.parse-expression >>? λ x. P.expect K.RBracket >>? λ _. loop
-          (Suffixes (P.binary 0x25 [] (head (s .tokens) .place) e x)) done) any (advance (λ _. plain) s)
+          (Suffixes (P.binary 0x25 [] (next-token (s .tokens) .place) e x)) done) any (advance (λ _. plain) s)
           (advance (λ _. plain) s) (later-refl (advance (λ _. plain) s))
           (omega (arith, there K.LBracket tt (s .tokens) i)) (λ s″ d. tt),
       λ _. tt,

@@ -13,7 +13,7 @@ use Rattle.definition.specs.Kind as K
 use Rattle.definition.specs.Source.{Place}
 use Rattle.definition.specs.Node.{byte, two, Rec}
 use Rattle.definition.specs.Fallible.{Fallible, Ans, ok, fatal}
-use Rattle.definition.specs.Token.{Tok, head, tail}
+use Rattle.definition.specs.Token.{Tok, next-token, tail}
 use Rattle.definition.specs.Act.{Node, Items, Goal, Statement, Expression, Unary, Type', Loop, Module, Body, ListOf, Operators, Casts, Suffixes, Modifiers, Parameters, Words, plain, St, begin, Res, gives, _>>=_, _>>?_}
 use Rattle.definition.specs.Parser as P
 use Rattle.definition.proofs.Ind.{follow}
@@ -123,13 +123,13 @@ function-shown s t p x g =
     expects plain K.KwFn _ _ _
     (λ i d. identifier _ _ _ (λ j d₂. follow G L R M _ _ (List-shown Parameters (next-state (next-state t))) _ _ (list-shown Parameters (next-state (next-state t))) (λ ps u l q. (
       λ k d₃. calls Type' _ _ _
-          (λ ty v l₂ r. function-body-shown s v p (head (tail (t .tokens))) ps ty (q .toks) (r .toks) (ty .item .place) (q .shows) (r .shows) (q .none) (r .none) x
+          (λ ty v l₂ r. function-body-shown s v p (next-token (tail (t .tokens))) ps ty (q .toks) (r .toks) (ty .item .place) (q .shows) (r .shows) (q .none) (r .none) x
           (grew-as (g ▸ took-symbol K.KwFn tt t i ▸ took-name K.Identifier tt (next-state t) j ▸ q .grew
           ▸ (took-symbol K.RArrow tt u k ▸ r .grew))
-          (ap (λ (l : List Norm). before x ++ sym1 K.KwFn ++ (named K.Identifier (head (tail (t .tokens)) .text) ∷ [])
+          (ap (λ (l : List Norm). before x ++ sym1 K.KwFn ++ (named K.Identifier (next-token (tail (t .tokens)) .text) ∷ [])
           ++ (sym1 K.LParen ++ q .toks ++ sym1 K.RParen) ++ l) (arrow (r .toks) (r .extra))))),
       λ _.
-          function-body-shown s u p (head (tail (t .tokens))) ps
+          function-body-shown s u p (next-token (tail (t .tokens))) ps
           (record { item = P.node [] 0x11 p [] []; errors = [] }) (q .toks) [] p (q .shows)
           (record { on = λ st. after0 _ st }) (q .none) refl x
           (grew-as (g ▸ took-symbol K.KwFn tt t i ▸ took-name K.Identifier tt (next-state t) j ▸ q .grew) (sym (append-nil _))),
@@ -138,9 +138,9 @@ function-shown s t p x g =
 function-definition-shown : (s : St) → cwp P.parse-function-definition (G Statement s) s
 unfolding P.parse-function-definition
 function-definition-shown s = (
-  λ i d. function-shown s (next-state s) (head (s .tokens) .place) 1 (took-symbol K.KwExtern tt s i),
+  λ i d. function-shown s (next-state s) (next-token (s .tokens) .place) 1 (took-symbol K.KwExtern tt s i),
   λ _.
-      function-shown s s (head (s .tokens) .place) 0 (grew-refl s),
+      function-shown s s (next-token (s .tokens) .place) 0 (grew-refl s),
 )
 
 modifiers-shown : (w : Words) (s : St) → cwp (P.modifiers-turn w) (L (Modifiers w) s) s

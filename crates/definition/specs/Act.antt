@@ -7,7 +7,7 @@ use lib.ListN.{length}
 use Rattle.definition.specs.Source.{Place}
 use Rattle.definition.specs.Node.{Rec}
 use Rattle.definition.specs.Fallible.{Err, Fallible, Ans, ok, fatal}
-use Rattle.definition.specs.Token.{Tok, head, tail}
+use Rattle.definition.specs.Token.{Tok, next-token, tail}
 
 -- what a node of the tree is to the functions above it: its place, and its records, children first
 pub record Node : Type 0 where
@@ -115,7 +115,7 @@ begin ts = record { tokens = ts; read = []; full = [] }
 -- a token is read; at the end nothing is
 abbrev pub now-read : (Tok → Role) → List Tok → List Consumed
 now-read r [] = []
-now-read r (t ∷ ts) = record { tok = t; role = r (head ts) } ∷ []
+now-read r (t ∷ ts) = record { tok = t; role = r (next-token ts) } ∷ []
 
 abbrev pub advance : (Tok → Role) → St → St
 advance r s = record { tokens = tail (s .tokens); read = s .read ++ now-read r (s .tokens); full = s .full }
@@ -135,8 +135,8 @@ after (refused n) f = refused n
 -- carry an act out, given what calls and loops answer
 unfoldable pub run : {A : Type 0} → (Goal → St → Res (Ans Node)) → ((l : Loop) → St → Res (Left l)) → Act A → St → Res A
 run c o (done a) s = gives a s
-run c o (peek k) s = run c o (k (head (s .tokens))) s
-run c o (consume r k) s = run c o (k (head (s .tokens))) (advance r s)
+run c o (peek k) s = run c o (k (next-token (s .tokens))) s
+run c o (consume r k) s = run c o (k (next-token (s .tokens))) (advance r s)
 run c o (make e m) s = elim (ltb (length (s .full)) 255) [ true ↦ run c o m (push e s) | false ↦ refused 12 ]
 run c o (if_then_else_ b m n) s = elim b [ true ↦ run c o m s | false ↦ run c o n s ]
 run c o (call g k) s = after (c g s) (λ a s′. run c o (k a) s′)

@@ -26,9 +26,9 @@ infix 50 _is_
 abbrev pub _is_ : Tok → ℕ → Bool
 t is k = eqb (t .kind) k
 
-abbrev pub head : List Tok → Tok
-head [] = end-token
-head (t ∷ ts) = t
+abbrev pub next-token : List Tok → Tok
+next-token [] = end-token
+next-token (t ∷ ts) = t
 
 abbrev pub tail : List Tok → List Tok
 tail [] = []

@@ -31,13 +31,13 @@ use leaves::operator;
 use leaves::prefix;
 use node::Numbers;
 use node::write_bare;
-use steps::Front;
+use steps::Token;
 use steps::and_expect;
 use steps::expect;
 use steps::expect_identifier;
-use steps::finish;
-use steps::finish_text;
-use steps::head;
+use steps::peek;
+use steps::write_node;
+use steps::write_text_node;
 ghost use Prim.Native.Nat.{_<_, _≤_};
 ghost use Rattle.definition.specs.Parser as P;
 ghost use Rattle.leaves.specs.Leaves.{listed-of, level-of};
@@ -85,14 +85,14 @@ fn boolean(
         return a;
     };
     let s = a.state;
-    let t = head(tokens, text, n, s.at);
+    let t = peek(tokens, text, n, s.at);
     if t.kind != kind::DOUBLE_AMPERSAND {
         return a;
     }
     let on = State { at: t.next, ..s };
     let b = comparison(tokens, text, n, file, rep, full, on, left);
     let c = abandon(rep, b, st, s);
-    finish(file, text, c, t, tag::BOOLEAN_AND, Numbers::None)
+    write_node(file, text, c, t, tag::BOOLEAN_AND, Numbers::None)
 }
 
 // bit_or [(`==` | `<` | `<=` | `>` | `>=`) bit_or]
@@ -115,7 +115,7 @@ fn comparison(
         return a;
     };
     let s = a.state;
-    let t = head(tokens, text, n, s.at);
+    let t = peek(tokens, text, n, s.at);
     let op = comparison_operator(t.kind);
     if op == 0 {
         return a;
@@ -124,7 +124,7 @@ fn comparison(
     let b = bit_or(tokens, text, n, file, rep, full, on, left);
     let c = abandon(rep, b, st, s);
     let numbers = Numbers::Byte(op - 1);
-    finish(file, text, c, t, tag::COMPARISON_BIN_OP, numbers)
+    write_node(file, text, c, t, tag::COMPARISON_BIN_OP, numbers)
 }
 
 // parse_bitwise_or: bit_xor {`|` bit_xor}. All levels begin with the operand that is read here: where no operator of theirs
@@ -148,7 +148,7 @@ fn bit_or(
         return a;
     };
     let s = a.state;
-    let t = head(tokens, text, n, s.at);
+    let t = peek(tokens, text, n, s.at);
     if !arithmetic(t.kind) {
         return a;
     }
@@ -302,7 +302,7 @@ fn operators(
             return a;
         };
         let s = a.state;
-        let t = head(tokens, text, n, s.at);
+        let t = peek(tokens, text, n, s.at);
         let op = operator(level, t.kind);
         if op == 0 {
             return a;
@@ -311,7 +311,7 @@ fn operators(
         let b = cascade(tokens, text, n, file, rep, full, level, on, left);
         let c = abandon(rep, b, from, s);
         let numbers = Numbers::Byte(op - 1);
-        a = finish(file, text, c, t, tag::ARITHMETIC_BIN_OP, numbers);
+        a = write_node(file, text, c, t, tag::ARITHMETIC_BIN_OP, numbers);
     }
 }
 
@@ -336,14 +336,14 @@ fn cast(
             return a;
         };
         let s = a.state;
-        let t = head(tokens, text, n, s.at);
+        let t = peek(tokens, text, n, s.at);
         if t.kind != kind::KW_AS {
             return a;
         }
         let on = State { at: t.next, ..s };
         let b = ty(tokens, text, n, file, rep, full, on, left);
         let c = abandon(rep, b, st, s);
-        a = finish(file, text, c, t, tag::CAST, Numbers::None);
+        a = write_node(file, text, c, t, tag::CAST, Numbers::None);
     }
 }
 
@@ -361,8 +361,8 @@ fn operand(
     requires { ⌜ Asked tokens text n file rep full st ⌝ }
     ensures { λ r. ⌜ Parses P.parse-unary tokens text n file rep full st left r ⌝ }
 {
-    let t = head(tokens, text, n, st.at);
-    let u = head(tokens, text, n, t.next);
+    let t = peek(tokens, text, n, st.at);
+    let u = peek(tokens, text, n, t.next);
     if (left == 0) | !name_alone(t.kind, u.kind) {
         return unary(tokens, text, n, file, rep, full, st, left);
     }
@@ -386,19 +386,19 @@ fn unary(
     if left == 0 {
         return refuse(n, st, refusal::NESTING);
     }
-    let t = head(tokens, text, n, st.at);
+    let t = peek(tokens, text, n, st.at);
     let tag = prefix(t.kind);
     if tag == 0 {
         return call(tokens, text, n, file, rep, full, st, left - 1);
     }
     let on = State { at: t.next, ..st };
     let a = unary(tokens, text, n, file, rep, full, on, left - 1);
-    let place = Front {
+    let place = Token {
         line: a.line,
         column: a.column,
         ..t
     };
-    finish(file, text, a, place, tag, Numbers::None)
+    write_node(file, text, a, place, tag, Numbers::None)
 }
 
 // sizeof [arguments]; what the arguments report is dropped.
@@ -421,18 +421,18 @@ fn call(
         return a;
     };
     let s = a.state;
-    let t = head(tokens, text, n, s.at);
+    let t = peek(tokens, text, n, s.at);
     if t.kind != kind::L_PAREN {
         return a;
     }
     let b = list(tokens, text, n, file, rep, full, Listed::Arguments, s, left);
     let c = silence(b, s.reported);
-    let place = Front {
+    let place = Token {
         line: a.line,
         column: a.column,
         ..t
     };
-    finish(file, text, c, place, tag::CALL, Numbers::Two(b.line))
+    write_node(file, text, c, place, tag::CALL, Numbers::Two(b.line))
 }
 
 // `sizeof` `(` type `)` | field_access_or_index
@@ -449,7 +449,7 @@ fn sizeof(
     requires { ⌜ Asked tokens text n file rep full st ⌝ }
     ensures { λ r. ⌜ Parses P.parse-sizeof tokens text n file rep full st left r ⌝ }
 {
-    let t = head(tokens, text, n, st.at);
+    let t = peek(tokens, text, n, st.at);
     if t.kind != kind::KW_SIZEOF {
         return access(tokens, text, n, file, rep, full, st, left);
     }
@@ -462,7 +462,7 @@ fn sizeof(
     let s = a.state;
     let b = ty(tokens, text, n, file, rep, full, s, left);
     let c = and_expect(tokens, text, n, rep, full, b, kind::R_PAREN, st);
-    finish(file, text, c, t, tag::SIZEOF, Numbers::None)
+    write_node(file, text, c, t, tag::SIZEOF, Numbers::None)
 }
 
 // parse_field_access_or_index: atom {`.` name | `.*` | `[` expression `]`}
@@ -486,9 +486,9 @@ fn access(
             return a;
         };
         let s = a.state;
-        let t = head(tokens, text, n, s.at);
+        let t = peek(tokens, text, n, s.at);
         if t.kind == kind::DOT {
-            let u = head(tokens, text, n, t.next);
+            let u = peek(tokens, text, n, t.next);
             let on = State { at: u.next, ..s };
             if u.kind == kind::END {
                 return refuse(n, s, refusal::END_AFTER_WORD);
@@ -511,7 +511,7 @@ fn access(
                 line: a.line,
                 column: a.column,
             };
-            a = finish_text(file, text, c, t, tag::FIELD_ACCESS, Numbers::None, u);
+            a = write_text_node(file, text, c, t, tag::FIELD_ACCESS, Numbers::None, u);
             continue;
         }
         let on = State { at: t.next, ..s };
@@ -522,7 +522,7 @@ fn access(
                 line: a.line,
                 column: a.column,
             };
-            a = finish(file, text, c, t, tag::POINTER_DEREFERENCE, Numbers::None);
+            a = write_node(file, text, c, t, tag::POINTER_DEREFERENCE, Numbers::None);
             continue;
         }
         if t.kind != kind::L_BRACKET {
@@ -531,7 +531,7 @@ fn access(
         let b = expression(tokens, text, n, file, rep, full, on, left);
         let c = abandon(rep, b, st, s);
         let d = and_expect(tokens, text, n, rep, full, c, kind::R_BRACKET, st);
-        a = finish(file, text, d, t, tag::INDEX, Numbers::None);
+        a = write_node(file, text, d, t, tag::INDEX, Numbers::None);
     }
 }
 
@@ -549,7 +549,7 @@ fn atom(
     requires { ⌜ Asked tokens text n file rep full st ⌝ }
     ensures { λ r. ⌜ Parses P.parse-atom tokens text n file rep full st left r ⌝ }
 {
-    let t = head(tokens, text, n, st.at);
+    let t = peek(tokens, text, n, st.at);
     if t.kind != kind::L_PAREN {
         return literal(tokens, text, n, file, rep, full, st);
     }
@@ -578,7 +578,7 @@ fn bare_name(
         return a;
     };
     let s = a.state;
-    let t = head(tokens, text, n, at);
+    let t = peek(tokens, text, n, at);
     if t.kind == kind::IDENTIFIER {
         let pos = write_bare(file, text, s.pos, tag, Numbers::None, t.start, t.len);
         return Answer {
@@ -616,7 +616,7 @@ pub fn ty(
     if left == 0 {
         return refuse(n, st, refusal::NESTING);
     }
-    let t = head(tokens, text, n, st.at);
+    let t = peek(tokens, text, n, st.at);
     let on = State { at: t.next, ..st };
     if t.kind == kind::IDENTIFIER {
         let a = Answer {
@@ -625,11 +625,11 @@ pub fn ty(
             line: t.line,
             column: t.column,
         };
-        return finish_text(file, text, a, t, tag::NAME, Numbers::None, t);
+        return write_text_node(file, text, a, t, tag::NAME, Numbers::None, t);
     }
     if t.kind == kind::STAR {
         let a = ty(tokens, text, n, file, rep, full, on, left - 1);
-        return finish(file, text, a, t, tag::POINTER, Numbers::None);
+        return write_node(file, text, a, t, tag::POINTER, Numbers::None);
     }
     if t.kind == kind::L_BRACKET {
         return array(tokens, text, n, file, rep, full, t, on, left - 1);
@@ -638,7 +638,7 @@ pub fn ty(
         let what = Listed::StructFields;
         let a = list(tokens, text, n, file, rep, full, what, on, left - 1);
         let b = silence(a, st.reported);
-        return finish(file, text, b, t, tag::STRUCT, Numbers::Two(a.line));
+        return write_node(file, text, b, t, tag::STRUCT, Numbers::Two(a.line));
     }
     if t.kind == kind::END {
         let error = entry(parse_error::TYPE_AT_END, 0, 0, 0, 0);
@@ -656,14 +656,14 @@ fn array(
     file: &mut [u8],
     rep: &mut [usize],
     full: &mut [usize],
-    lead: Front,
+    lead: Token,
     st: State,
     left: usize,
 ) -> Answer
     requires { ⌜ Asked tokens text n file rep full st × ((lead .line < 65536) × (lead .column < 65536)) ⌝ }
     ensures { λ r. ⌜ Parses (P.parse-array-type (place-of lead)) tokens text n file rep full st left r ⌝ }
 {
-    let t = head(tokens, text, n, st.at);
+    let t = peek(tokens, text, n, st.at);
     let on = State { at: t.next, ..st };
     if t.kind != kind::INTEGER {
         let error = entry(parse_error::ARRAY_SIZE, lead.line, lead.column, 0, 0);
@@ -688,7 +688,7 @@ fn array(
     let s = a.state;
     let b = ty(tokens, text, n, file, rep, full, s, left);
     let numbers = Numbers::Eight(size.number);
-    finish(file, text, b, lead, tag::ARRAY, numbers)
+    write_node(file, text, b, lead, tag::ARRAY, numbers)
 }
 
 // A typed identifier, after its name, whose construct reports from `j` on.
@@ -732,7 +732,7 @@ pub fn typed_name(
     requires { ⌜ Asked tokens text n file rep full st ⌝ }
     ensures { λ r. ⌜ ReadsTyped tokens text n file rep full st left r ⌝ }
 {
-    let t = head(tokens, text, n, st.at);
+    let t = peek(tokens, text, n, st.at);
     let on = State { at: t.next, ..st };
     if t.kind == kind::IDENTIFIER {
         return typed(tokens, text, n, file, rep, full, st.reported, on, left);
@@ -785,7 +785,7 @@ fn field(
     requires { ⌜ Asked tokens text n file rep full st ⌝ }
     ensures { λ r. ⌜ Parses P.parse-compound-struct-field tokens text n file rep full st left r ⌝ }
 {
-    let t = head(tokens, text, n, st.at);
+    let t = peek(tokens, text, n, st.at);
     let a = expect_identifier(tokens, text, n, rep, full, st);
     let b = and_expect(tokens, text, n, rep, full, a, kind::EQUALS, st);
     let how = b.how;
@@ -794,12 +794,12 @@ fn field(
     };
     let s = b.state;
     let c = expression(tokens, text, n, file, rep, full, s, left);
-    let place = Front {
+    let place = Token {
         line: b.line,
         column: b.column,
         ..t
     };
-    finish_text(file, text, c, place, tag::COMPOUND_FIELD, Numbers::None, t)
+    write_text_node(file, text, c, place, tag::COMPOUND_FIELD, Numbers::None, t)
 }
 
 // An item of a list.
@@ -851,7 +851,7 @@ pub fn list(
     let mut count = 0;
     let mut s = a.state;
     loop {
-        let t = head(tokens, text, n, s.at);
+        let t = peek(tokens, text, n, s.at);
         if t.kind == kind::END {
             let error = entry(parse_error::LIST_AT_END, 0, 0, 0, 0);
             let b = note(n, rep, full, s, error);

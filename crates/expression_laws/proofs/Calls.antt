@@ -11,7 +11,7 @@ use Rattle.definition.specs.Source.{Place}
 use Rattle.definition.specs.Node.{Num, two, Rec, recs-bytes}
 use Rattle.definition.specs.Fallible.{Err, Fallible, Ans, ok, fatal}
 use Rattle.definition.specs.Kind as K
-use Rattle.definition.specs.Token.{Tok, head, _is_}
+use Rattle.definition.specs.Token.{Tok, next-token, _is_}
 use Rattle.definition.specs.Act as A
 use Rattle.definition.specs.Act.{Act, done, Node, Unary, Arguments, Consumed, Role, plain, group, St, Res, gives, refused, after, or-return, run, now-read, _>>=_, _>>?_}
 use Rattle.definition.specs.Parser as P
@@ -27,7 +27,7 @@ use Rattle.fallible.specs.Answers.{silent}
 use Rattle.node.specs.Put.{rec-of, size-of, Room}
 use Rattle.node.specs.declared.Numbers.the-variants.{None, Two}
 use Rattle.node.specs.declared.Record.{Record}
-use Rattle.steps.specs.declared.Front.{Front}
+use Rattle.steps.specs.declared.Token.{Token}
 use Rattle.steps.specs.Tokens.{rest, budget, Seen}
 use Rattle.steps.specs.Shows.{st-of, Asked, Moved, View, Good, Bad, ShowsOf, Shows, Reads, Goes, GoesOn, node, items, token, Expects, Follows, Expected, Finished}
 use Rattle.steps.proofs.Tokens.{alive, yes, no, fore, adv}
@@ -42,7 +42,7 @@ use Rattle.expression_laws.proofs.Joins.{goes-none}
 
 -- ---- a token, an operand, and the record after it
 
-module _ {A : Type 0} {K : View A} {w x : List ℕ} {n d : ℕ} {o r f o1 r1 f1 o2 : List ℕ} {s : State} {b y : Answer} {t : Front} {v : Record} {m : Act (Ans A)} {M : Act (Ans Node)} (p : A → Place) (ns : A → List Num) (text : List ℕ)
+module _ {A : Type 0} {K : View A} {w x : List ℕ} {n d : ℕ} {o r f o1 r1 f1 o2 : List ℕ} {s : State} {b y : Answer} {t : Token} {v : Record} {m : Act (Ans A)} {M : Act (Ans Node)} (p : A → Place) (ns : A → List Num) (text : List ℕ)
     (q : Asked w x n o r f s) (u : Seen w x n (s .at) t) (B : Reads K w x n d m o r f (fore s t) o1 r1 f1 b) (F : Finished x o1 b v o2 y)
     (paid : size-of v ≤ 16 * min (t .kind) 1 + t .len) (made : (i : A) → K .fine (b .line) (b .column) i → rec-of x v ≡ record { tag = v .tag; place = some (p i); numbers = ns i; text = text }) where
   pub wraps-token : (rd′ : List Consumed → List Consumed)
@@ -72,7 +72,7 @@ module _ {A : Type 0} {K : View A} {w x : List ℕ} {n d : ℕ} {o r f o1 r1 f1 
 
 -- ---- prefixes
 
-module _ {w x : List ℕ} {n d : ℕ} {o r f : List ℕ} {s : State} {t : Front} {tag : ℕ} (q : Asked w x n o r f s)
+module _ {w x : List ℕ} {n d : ℕ} {o r f : List ℕ} {s : State} {t : Token} {tag : ℕ} (q : Asked w x n o r f s)
     (nz : d ≡ 0 → ⊥) (u : Seen w x n (s .at) t) (k : Prefix (t .kind) tag) where
   pub unary-none : {o1 r1 f1 : List ℕ} {a : Answer} → tag ≡ 0 → Reads node w x n (d - 1) P.parse-call o r f s o1 r1 f1 a
       → Reads node w x n d P.parse-unary o r f s o1 r1 f1 a
@@ -124,7 +124,7 @@ module _ {A : Type 0} {K : View A} {w x : List ℕ} {n : ℕ} {o r f : List ℕ}
       one Fatal z g = absurd (never z)
       one (Refused m) z g = g
 
-module _ {w x : List ℕ} {n d i j : ℕ} {o r f : List ℕ} {a : Answer} {t : Front} (q : GoesOn w x n o r f a i j)
+module _ {w x : List ℕ} {n d i j : ℕ} {o r f : List ℕ} {a : Answer} {t : Token} (q : GoesOn w x n o r f a i j)
     (z : a .how ≡ Done) (u : Seen w x n (a .state .at) t) where
   pub call-none : (t .kind ≡ 41 → ⊥) → Goes node node w x n d call-on i j o r f a o r f a
   unfolding go run
@@ -135,7 +135,7 @@ module _ {w x : List ℕ} {n d i j : ℕ} {o r f : List ℕ} {a : Answer} {t : F
     pub call-moved : Moved w x n i j (a .state) (y .state)
     call-moved =
         let e : budget w x n (y .state .at) ≡ budget w x n (b .state .at) = ap (λ (k : ℕ). budget w x n k) (F .at) in
-        let s : head (rest w x n (a .state .at)) .kind ≡ 41 = u .kind ∙ h in
+        let s : next-token (rest w x n (a .state .at)) .kind ≡ 41 = u .kind ∙ h in
         record {
           at = omega (arith, F .at, B .moved);
           end = omega (arith, F .at, B .moved);
@@ -175,7 +175,7 @@ module _ {w x : List ℕ} {n d i j : ℕ} {o r f : List ℕ} {a : Answer} {t : F
       o2 y) C F)
 
 -- what the list is asked with: a place after the operand's, and room for the record after it
-pub call-later : {w x : List ℕ} {n d : ℕ} {m : Act (Ans Node)} {o r f o1 r1 f1 : List ℕ} {s : State} {a : Answer} {t : Front}
+pub call-later : {w x : List ℕ} {n d : ℕ} {m : Act (Ans Node)} {o r f o1 r1 f1 : List ℕ} {s : State} {a : Answer} {t : Token}
     → Asked w x n o r f s → Reads node w x n d m o r f s o1 r1 f1 a → Seen w x n (a .state .at) t → t .kind ≡ 41
     → s .at < a .state .at
 call-later {s = s} q B u h =
@@ -211,22 +211,22 @@ expect-seam d role k g (refused n) = refl
 abbrev sized : Tok → Fallible Node → Act (Ans Node)
 sized op ty = P.good (P.node (ty .item .recs) 0x2F (op .place) [] []) (ty .errors)
 
-sizeof-step : {w x : List ℕ} {n : ℕ} {t : Front} (d : ℕ) (f : List ℕ) (s : State) → Seen w x n (s .at) t → t .kind ≡ 17
+sizeof-step : {w x : List ℕ} {n : ℕ} {t : Token} (d : ℕ) (f : List ℕ) (s : State) → Seen w x n (s .at) t → t .kind ≡ 17
     → (rd : List Consumed)
     → go d P.parse-sizeof (st-of w x n f rd s)
     ≡ after (go d (P.expect-as plain 41) (st-of w x n f (past w x n (s .at) rd) (fore s t))) (λ z S. go d
-    (or-return (λ _. P.parse-type >>? λ ty. P.expect-as plain 42 >>? λ _. sized (head (rest w x n (s .at))) ty) z)
+    (or-return (λ _. P.parse-type >>? λ ty. P.expect-as plain 42 >>? λ _. sized (next-token (rest w x n (s .at))) ty) z)
     S)
 unfolding go run P.parse-sizeof
 sizeof-step {w} {x} {n} d f s u h rd =
     rw (run, yes u h) (ap
     (λ (S : St). go d (P.expect-as plain 41 >>? λ _. P.parse-type >>? λ ty. P.expect-as plain 42 >>? λ _. sized
-    (head (rest w x n (s .at))) ty) S) (adv s u (λ _. plain) f rd)
+    (next-token (rest w x n (s .at))) ty) S) (adv s u (λ _. plain) f rd)
     ∙ go-bind d (P.expect-as plain 41)
-    (or-return (λ _. P.parse-type >>? λ ty. P.expect-as plain 42 >>? λ _. sized (head (rest w x n (s .at))) ty))
+    (or-return (λ _. P.parse-type >>? λ ty. P.expect-as plain 42 >>? λ _. sized (next-token (rest w x n (s .at))) ty))
     _)
 
-module _ {w x : List ℕ} {n d : ℕ} {o r f : List ℕ} {s : State} {t : Front} (q : Asked w x n o r f s) (u : Seen w x n (s .at) t) where
+module _ {w x : List ℕ} {n d : ℕ} {o r f : List ℕ} {s : State} {t : Token} (q : Asked w x n o r f s) (u : Seen w x n (s .at) t) where
   pub sizeof-other : {o1 r1 f1 : List ℕ} {a : Answer} → (t .kind ≡ 17 → ⊥)
       → Reads node w x n d P.parse-field-access-or-index o r f s o1 r1 f1 a
       → Reads node w x n d P.parse-sizeof o r f s o1 r1 f1 a
@@ -285,11 +285,11 @@ module _ {w x : List ℕ} {n d : ℕ} {o r f : List ℕ} {s : State} {t : Front}
               (go d P.parse-type (st-of w x n f1 (g .read) (a .state)))) (kept .1) (B .is (g .read))) in
               say (sizeof-step d f s u h rd ∙ follows d _ (g .is)
               ∙ go-bind d P.parse-type
-              (or-return (λ ty. P.expect-as plain 42 >>? λ _. sized (head (rest w x n (s .at))) ty))
+              (or-return (λ ty. P.expect-as plain 42 >>? λ _. sized (next-token (rest w x n (s .at))) ty))
               (st-of w x n f1 (g .read) (a .state))
-              ∙ expect-seam d plain 42 (sized (head (rest w x n (s .at))))
+              ∙ expect-seam d plain 42 (sized (next-token (rest w x n (s .at))))
               (go d P.parse-type (st-of w x n f1 (g .read) (a .state))))
-              (finishes d (λ _. head (rest w x n (s .at)) .place) (λ _. []) [] F (λ i _. rw (u .place))
+              (finishes d (λ _. next-token (rest w x n (s .at)) .place) (λ _. []) [] F (λ i _. rw (u .place))
               (expects-behind (sizeof-asks z B lr lf) C plain d (length-take-le (s .pos) o (omega arith))
               (errs-length r (s .reported) (omega arith)) v));
         }
@@ -323,7 +323,7 @@ module _ {w x : List ℕ} {n : ℕ} {o r f r1 f1 : List ℕ} {a y : Answer} (d :
       tree = ap (λ (l : ℕ). take l o) (v .expects .pos) ∙ g .tree
 
       one : (h : How) → v .b .how ≡ h → ClosingOf h a (v .b) y
-          → ShowsOf h (token (head (rest w x n (a .state .at)))) (take (a .state .pos) o)
+          → ShowsOf h (token (next-token (rest w x n (a .state .at)))) (take (a .state .pos) o)
           (errs r (a .state .reported)) [] [] w x n o r1 f1 (v .b) (go d (P.expect-as group 42) S)
           → Shows node T E [] [] w x n o r1 f1 y (after q (λ z S. go d (closing z) S))
       one Done h m t =
@@ -373,7 +373,7 @@ module _ {w x : List ℕ} {n : ℕ} {o r f r1 f1 : List ℕ} {a y : Answer} (d :
       tree = ap (λ (l : ℕ). take l o) (v .expects .pos) ∙ g .tree
 
       one : (h : How) → v .b .how ≡ h → ClosingOf h a (v .b) y
-          → ShowsOf h (token (head (rest w x n (a .state .at)))) (take (a .state .pos) o)
+          → ShowsOf h (token (next-token (rest w x n (a .state .at)))) (take (a .state .pos) o)
           (errs r (a .state .reported)) [] [] w x n o r1 f1 (v .b) (go d (P.expect-as group 42) S)
           → Shows node T E [] [] w x n o r1 f1 y (after q (λ z S. go d (closing z) S))
       one Done h m t =
@@ -409,7 +409,7 @@ module _ {w x : List ℕ} {n : ℕ} {o r f r1 f1 : List ℕ} {a y : Answer} (d :
       one Fatal z m g = closes-bad z g m
       one (Refused k) z m g = rw (m .0, m .1 .0, m .1 .1) (record { told = rw (z, g) })
 
-module _ {w x : List ℕ} {n d : ℕ} {o r f : List ℕ} {s : State} {t : Front} (q : Asked w x n o r f s) (u : Seen w x n (s .at) t) where
+module _ {w x : List ℕ} {n d : ℕ} {o r f : List ℕ} {s : State} {t : Token} (q : Asked w x n o r f s) (u : Seen w x n (s .at) t) where
   pub atom-group : {o1 r1 f1 r2 f2 : List ℕ} {a y : Answer} → t .kind ≡ 41
       → Reads node w x n d P.parse-expression o r f (fore s t) o1 r1 f1 a → Closed w x n r1 f1 a r2 f2 y
       → Reads node w x n d P.parse-atom o r f s o1 r2 f2 y

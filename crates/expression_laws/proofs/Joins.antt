@@ -18,7 +18,7 @@ use Rattle.fallible.specs.declared.Answer.{Answer}
 use Rattle.fallible.specs.Answers.{Abandoned, Cuts}
 use Rattle.node.specs.Put.{rec-of, size-of, Room}
 use Rattle.node.specs.declared.Record.{Record}
-use Rattle.steps.specs.declared.Front.{Front}
+use Rattle.steps.specs.declared.Token.{Token}
 use Rattle.steps.specs.Tokens.{budget, Seen}
 use Rattle.steps.specs.Shows.{st-of, Asked, Moved, View, Good, Shows, Reads, Goes, GoesOn, node, Finished}
 use Rattle.steps.proofs.Tokens.{fore}
@@ -82,7 +82,7 @@ module _ {w x : List ℕ} {n i j : ℕ} {o r f : List ℕ} {a : Answer} (q : Goe
 
 -- ---- another operand, and the record of both
 
-module _ {A : Type 0} {K : View A} {w x : List ℕ} {n d i j : ℕ} {o r f o1 r1 f1 r2 o2 : List ℕ} {a b c y : Answer} {t : Front} {v : Record} {m : Act (Ans A)}
+module _ {A : Type 0} {K : View A} {w x : List ℕ} {n d i j : ℕ} {o r f o1 r1 f1 r2 o2 : List ℕ} {a b c y : Answer} {t : Token} {v : Record} {m : Act (Ans A)}
     (q : GoesOn w x n o r f a i j) (u : Seen w x n (a .state .at) t) (B : Reads K w x n d m o r f (fore (a .state) t) o1 r1 f1 b) (C : Abandoned r1 b i j (a .state .reported) r2 c) (F : Finished x o1 c v o2 y) (paid : size-of v ≤ 16 * min (t .kind) 1) where
   pub joined-moved : Moved w x n i j (a .state) (y .state)
   joined-moved =
@@ -103,7 +103,7 @@ module _ {A : Type 0} {K : View A} {w x : List ℕ} {n d i j : ℕ} {o r f o1 r1
   joined-on e g h = record { asked = asked-moved (q .asked) joined-moved e g h; pos = joined-moved .pos; reported = joined-moved .reported }
 
 -- Behind the answer a, the token t is read and then b by the act m; what `?` leaves of it is c; y has the record v.
-module _ {A : Type 0} {K : View A} {w x : List ℕ} {n d i j : ℕ} {o r f o1 r1 f1 r2 o2 : List ℕ} {a b c y : Answer} {t : Front} {v : Record} {m : Act (Ans A)} (p : Place) (ns : List Num)
+module _ {A : Type 0} {K : View A} {w x : List ℕ} {n d i j : ℕ} {o r f o1 r1 f1 r2 o2 : List ℕ} {a b c y : Answer} {t : Token} {v : Record} {m : Act (Ans A)} (p : Place) (ns : List Num)
     (q : GoesOn w x n o r f a i j) (z : a .how ≡ Done) (u : Seen w x n (a .state .at) t)
     (B : Reads K w x n d m o r f (fore (a .state) t) o1 r1 f1 b)
     (C : Abandoned r1 b i j (a .state .reported) r2 c) (F : Finished x o1 c v o2 y)
@@ -157,7 +157,7 @@ module _ {A : Type 0} {K : View A} {w x : List ℕ} {n d i j : ℕ} {o r f o1 r1
 -- ---- what the steps ask for
 
 module _ {A : Type 0} {K : View A} {w x : List ℕ} {n d i j : ℕ} {o r f o1 r1 f1 : List ℕ} {a b : Answer}
-    {t : Front} {m : Act (Ans A)} (q : GoesOn w x n o r f a i j) (u : Seen w x n (a .state .at) t)
+    {t : Token} {m : Act (Ans A)} (q : GoesOn w x n o r f a i j) (u : Seen w x n (a .state .at) t)
     (B : Reads K w x n d m o r f (fore (a .state) t) o1 r1 f1 b) where
   pub join-cuts : length r1 ≡ length r → Cuts r1 b i j (a .state .reported)
   join-cuts e =

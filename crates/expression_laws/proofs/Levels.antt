@@ -9,7 +9,7 @@ use borrow.Author.Tests.{eq-eqb, ne-eqb}
 use Rattle.definition.specs.Node.{byte}
 use Rattle.definition.specs.Fallible.{Fallible, Ans, ok}
 use Rattle.definition.specs.Kind as K
-use Rattle.definition.specs.Token.{Tok, head, _is_}
+use Rattle.definition.specs.Token.{Tok, next-token, _is_}
 use Rattle.definition.specs.Act as A
 use Rattle.definition.specs.Act.{Act, done, Operators, Casts, Node, plain, St, run, next, _>>?_}
 use Rattle.definition.specs.Parser as P
@@ -20,7 +20,7 @@ use Rattle.fallible.specs.declared.State.{State}
 use Rattle.fallible.specs.declared.Answer.{Answer}
 use Rattle.fallible.specs.Answers.{Abandoned}
 use Rattle.node.specs.declared.Numbers.the-variants.{None, Byte}
-use Rattle.steps.specs.declared.Front.{Front}
+use Rattle.steps.specs.declared.Token.{Token}
 use Rattle.steps.specs.Tokens.{rest, Seen}
 use Rattle.steps.specs.Shows.{st-of, Asked, Reads, Goes, GoesOn, node, Finished}
 pub use Rattle.steps.specs.Shows.{untexted as at-operator}
@@ -55,7 +55,7 @@ module _ {ops : List P.Op} {c op : ℕ} (k : Operator ops c op) (t : Tok) (e : t
   one-found : (op ≡ 0 → ⊥) → go d (P.find t ops found other) S ≡ go d (found (op - 1)) S
   one-found h = k .is t e found other d S ∙ rw (ne-eqb op 0 h)
 
-module _ {w x : List ℕ} {n d i j : ℕ} {o r f : List ℕ} {a : Answer} {t : Front} (q : GoesOn w x n o r f a i j)
+module _ {w x : List ℕ} {n d i j : ℕ} {o r f : List ℕ} {a : Answer} {t : Token} (q : GoesOn w x n o r f a i j)
     (z : a .how ≡ Done) (u : Seen w x n (a .state .at) t) where
   -- ---- `&&`
 
@@ -69,9 +69,9 @@ module _ {w x : List ℕ} {n d i j : ℕ} {o r f : List ℕ} {a : Answer} {t : F
       → Goes node node w x n d and-on i j o r f a o2 r2 f1 y
   unfolding go run
   and-found h B C F =
-      goes-joined (head (rest w x n (a .state .at)) .place) [] q z u B C F (omega arith) (rw (u .place))
+      goes-joined (next-token (rest w x n (a .state .at)) .place) [] q z u B C F (omega arith) (rw (u .place))
       (past w x n (a .state .at)) (λ e rd. rw (run, yes u h) (ap (λ (S : St). go d
-      (P.parse-comparison >>? λ r. done (ok (P.binary 0x2C [] (head (rest w x n (a .state .at)) .place) e r))) S)
+      (P.parse-comparison >>? λ r. done (ok (P.binary 0x2C [] (next-token (rest w x n (a .state .at)) .place) e r))) S)
       (adv (a .state) u (λ _. plain) f rd)))
 
   -- ---- comparisons and operators of a level
@@ -80,7 +80,7 @@ module _ {w x : List ℕ} {n d i j : ℕ} {o r f : List ℕ} {a : Answer} {t : F
   unfolding go run
   compare-none k h =
       goes-none q z
-      (λ e rd. none-found k (head (rest w x n (a .state .at))) (u .kind) d (compared e) (done (ok e))
+      (λ e rd. none-found k (next-token (rest w x n (a .state .at))) (u .kind) d (compared e) (done (ok e))
       (st-of w x n f rd (a .state)) h)
 
   pub compare-found : {op : ℕ} {o1 r1 f1 r2 o2 : List ℕ} {b c y : Answer} → Operator P.comparisons (t .kind) op → (op ≡ 0 → ⊥)
@@ -89,11 +89,11 @@ module _ {w x : List ℕ} {n d i j : ℕ} {o r f : List ℕ} {a : Answer} {t : F
       → Goes node node w x n d compare-on i j o r f a o2 r2 f1 y
   unfolding go run
   compare-found {op} k h B C F =
-      goes-joined (head (rest w x n (a .state .at)) .place) (byte (op - 1) ∷ []) q z u B C F
+      goes-joined (next-token (rest w x n (a .state .at)) .place) (byte (op - 1) ∷ []) q z u B C F
       (omega (arith, k .real)) (rw (u .place)) (past w x n (a .state .at))
-      (λ e rd. one-found k (head (rest w x n (a .state .at))) (u .kind) d (compared e) (done (ok e))
+      (λ e rd. one-found k (next-token (rest w x n (a .state .at))) (u .kind) d (compared e) (done (ok e))
       (st-of w x n f rd (a .state)) h ∙ ap (λ (S : St). go d (P.parse-bitwise-or >>? λ r. done
-      (ok (P.binary 0x2E (byte (op - 1) ∷ []) (head (rest w x n (a .state .at)) .place) e r))) S)
+      (ok (P.binary 0x2E (byte (op - 1) ∷ []) (next-token (rest w x n (a .state .at)) .place) e r))) S)
       (adv (a .state) u (λ _. plain) f rd))
 
   module _ (l : A.Level) {op : ℕ} (k : Operator (P.mapping l) (t .kind) op) where
@@ -101,7 +101,7 @@ module _ {w x : List ℕ} {n d i j : ℕ} {o r f : List ℕ} {a : Answer} {t : F
     unfolding go run P.operators-turn
     operators-none h =
         goes-none q z (λ e rd. go-loop d (Operators l e) (st-of w x n f rd (a .state)) ∙ none-found k
-        (head (rest w x n (a .state .at))) (u .kind) d (operated l e) (done (ok e))
+        (next-token (rest w x n (a .state .at))) (u .kind) d (operated l e) (done (ok e))
         (st-of w x n f rd (a .state)) h)
 
     pub operators-more : {o1 r1 f1 r2 o2 o3 r3 f3 : List ℕ} {b c y y′ : Answer} → (op ≡ 0 → ⊥)
@@ -112,13 +112,13 @@ module _ {w x : List ℕ} {n d i j : ℕ} {o r f : List ℕ} {a : Answer} {t : F
         → Goes node node w x n d (operators-on l) i j o r f a o3 r3 f3 y′
     unfolding go run P.operators-turn
     operators-more h B C F G =
-        goes-turn (head (rest w x n (a .state .at)) .place) (byte (op - 1) ∷ []) q z u B C F
+        goes-turn (next-token (rest w x n (a .state .at)) .place) (byte (op - 1) ∷ []) q z u B C F
         (omega (arith, k .real)) (rw (u .place)) (past w x n (a .state .at))
-        (λ e b. P.binary 0x2D (byte (op - 1) ∷ []) (head (rest w x n (a .state .at)) .place) e b) (λ e b. refl)
+        (λ e b. P.binary 0x2D (byte (op - 1) ∷ []) (next-token (rest w x n (a .state .at)) .place) e b) (λ e b. refl)
         (λ e rd. go-loop d (Operators l e) (st-of w x n f rd (a .state)) ∙ one-found k
-        (head (rest w x n (a .state .at))) (u .kind) d (operated l e) (done (ok e))
+        (next-token (rest w x n (a .state .at))) (u .kind) d (operated l e) (done (ok e))
         (st-of w x n f rd (a .state)) h ∙ ap (λ (S : St). go d (P.cascade l >>? λ b. operators-on l
-        (P.binary 0x2D (byte (op - 1) ∷ []) (head (rest w x n (a .state .at)) .place) e b)) S)
+        (P.binary 0x2D (byte (op - 1) ∷ []) (next-token (rest w x n (a .state .at)) .place) e b)) S)
         (adv (a .state) u (λ _. plain) f rd)) G
 
   -- ---- casts
@@ -133,11 +133,11 @@ module _ {w x : List ℕ} {n d i j : ℕ} {o r f : List ℕ} {a : Answer} {t : F
       → Goes node node w x n d casts-on i j o2 r2 f1 y o3 r3 f3 y′ → Goes node node w x n d casts-on i j o r f a o3 r3 f3 y′
   unfolding go run P.casts-turn
   casts-more h B C F G =
-      goes-turn (head (rest w x n (a .state .at)) .place) [] q z u B C F (omega arith) (rw (u .place))
-      (past w x n (a .state .at)) (λ e b. P.binary 0x26 [] (head (rest w x n (a .state .at)) .place) e b)
+      goes-turn (next-token (rest w x n (a .state .at)) .place) [] q z u B C F (omega arith) (rw (u .place))
+      (past w x n (a .state .at)) (λ e b. P.binary 0x26 [] (next-token (rest w x n (a .state .at)) .place) e b)
       (λ e b. refl)
       (λ e rd. go-loop d (Casts e) (st-of w x n f rd (a .state)) ∙ rw (run, yes u h) (ap (λ (S : St). go d
-      (P.parse-type >>? λ b. casts-on (P.binary 0x26 [] (head (rest w x n (a .state .at)) .place) e b)) S)
+      (P.parse-type >>? λ b. casts-on (P.binary 0x26 [] (next-token (rest w x n (a .state .at)) .place) e b)) S)
       (adv (a .state) u (λ _. plain) f rd))) G
 
 -- ---- the six levels, the tightest first

@@ -9,7 +9,7 @@ use types.Run.{OneOf}
 use denote.Enum.Declared.{tagOf}
 use Rattle.definition.specs.Node.{recs-bytes}
 use Rattle.definition.specs.Fallible.{Err, Ans}
-use Rattle.definition.specs.Token.{Tok, head}
+use Rattle.definition.specs.Token.{Tok, next-token}
 use Rattle.definition.specs.Act as A
 use Rattle.definition.specs.Act.{Node, Items, ListOf, Act, done, make, loop, plain, Consumed, St, Res, gives, refused, after, run, _>>=_}
 use Rattle.definition.specs.Parser as P
@@ -22,7 +22,7 @@ use Rattle.fallible.specs.declared.Answer.{Answer}
 use Rattle.fallible.specs.Lists.{unpack, error-at, errs}
 use Rattle.fallible.specs.Answers.{noted, Raised}
 use Rattle.fallible.proofs.How.{the-type}
-use Rattle.steps.specs.declared.Front.{Front}
+use Rattle.steps.specs.declared.Token.{Token}
 use Rattle.steps.specs.Tokens.{rest, Seen}
 use Rattle.steps.specs.Shows.{st-of, Asks, Asked, ShowsOf, Shows, node, token, items, Reads, Expects}
 use Rattle.steps.proofs.Tokens.{yes, no, fore, adv}
@@ -84,7 +84,7 @@ module _ {w x : List ℕ} {n wanted : ℕ} (k : A.Listed) {o r f r1 f1 : List �
     (q : Asked w x n o r f s) (c : (wanted ≡ P.opener k) × ((0 < wanted) × (wanted < 256)))
     (e : Expects w x n (λ role. P.expect-as role wanted) r f s r1 f1 a) where
   opens : (d : ℕ) (rd : List Consumed)
-      → Shows (token (head (rest w x n (s .at)))) (take (s .pos) o) (errs r (s .reported)) [] [] w x n o r1 f1 a
+      → Shows (token (next-token (rest w x n (s .at)))) (take (s .pos) o) (errs r (s .reported)) [] [] w x n o r1 f1 a
       (go d (P.expect (P.opener k)) (st-of w x n f rd s))
   opens d rd = rw (← c .0) (e .is plain d rd o)
 
@@ -109,7 +109,7 @@ module _ {w x : List ℕ} {n wanted : ℕ} (k : A.Listed) {o r f r1 f1 : List �
   }
     where
       one : (rd : List Consumed) (g : How) → OneOf (0 ∷ 1 ∷ []) (tagOf the-type g)
-          → ShowsOf g (token (head (rest w x n (s .at)))) (take (s .pos) o) (errs r (s .reported)) [] [] w x n o
+          → ShowsOf g (token (next-token (rest w x n (s .at)))) (take (s .pos) o) (errs r (s .reported)) [] [] w x n o
           r1 f1 a (go d (P.expect (P.opener k)) (st-of w x n f rd s))
           → Shows items (take (s .pos) o) (errs r (s .reported)) [] [] w x n o2 r2 f2 y
           (after (go d (P.expect (P.opener k)) (st-of w x n f rd s))
@@ -125,7 +125,7 @@ module _ {w x : List ℕ} {n wanted : ℕ} (k : A.Listed) {o r f r1 f1 : List �
 
 -- ---- its loop
 
-module _ {w x : List ℕ} {n count : ℕ} (k : A.Listed) {o r f : List ℕ} {s : State} {t : Front}
+module _ {w x : List ℕ} {n count : ℕ} (k : A.Listed) {o r f : List ℕ} {s : State} {t : Token}
     (q : Asked w x n o r f s × (count ≤ s .at)) (v : Seen w x n (s .at) t) where
   pub rest-end : {d e : ℕ} {r1 f1 : List ℕ} {b : Answer} → t .kind ≡ 0 → unpack e ≡ error-at 14 0 0 0 0
       → Raised (noted n s) r f s e r1 f1 b
@@ -200,7 +200,7 @@ module _ {w x : List ℕ} {n count : ℕ} (k : A.Listed) {o r f : List ℕ} {s :
 
 -- ---- what their calls ask for
 
-module _ {w x : List ℕ} {n d count : ℕ} {act : Act (Ans Node)} {o r f o1 r1 f1 : List ℕ} {s : State} {t : Front}
+module _ {w x : List ℕ} {n d count : ℕ} {act : Act (Ans Node)} {o r f o1 r1 f1 : List ℕ} {s : State} {t : Token}
     {b : Answer} (q : Asked w x n o r f s × (count ≤ s .at)) (v : Seen w x n (s .at) t) (m0 : t .kind ≡ 0 → ⊥)
     (u : Reads node w x n d act o r f s o1 r1 f1 b) where
   pub comma-asks : length r1 ≡ length r → length f1 ≡ length f → Asks w x n r1 f1 (b .state)

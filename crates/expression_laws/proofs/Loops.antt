@@ -20,7 +20,7 @@ use Rattle.fallible.specs.declared.How.the-variants.{Done, Fatal, Refused}
 use Rattle.fallible.specs.declared.Answer.{Answer}
 use Rattle.fallible.specs.Lists.{unpack, errs}
 use Rattle.fallible.specs.Answers.{noted, Raised}
-use Rattle.steps.specs.declared.Front.{Front}
+use Rattle.steps.specs.declared.Token.{Token}
 use Rattle.steps.specs.Tokens.{Seen}
 use Rattle.steps.specs.Shows.{st-of, Asked, View, ShowsOf, Shows, Reads, node, items}
 use Rattle.steps.proofs.Tokens.{fore}
@@ -56,7 +56,7 @@ refusal {A} {K} {T} {E} {w} {x} {n} {o} {r} {f} {o′} {r′} {f′} {T′} {E�
 
 -- ---- a turn that ends the loop `on`
 
-module _ {w x : List ℕ} {n d count : ℕ} (on : Items → Act Items) {o r f : List ℕ} {s : State} {t : Front}
+module _ {w x : List ℕ} {n d count : ℕ} (on : Items → Act Items) {o r f : List ℕ} {s : State} {t : Token}
     (q : Asked w x n o r f s × (count ≤ s .at)) (v : Seen w x n (s .at) t) where
   -- after the token that closes it
   pub loop-closed : ((rd : List Consumed) (l : Items)
@@ -187,7 +187,7 @@ module _ {w x : List ℕ} {n d : ℕ} {o r f o1 r1 f1 : List ℕ} {s : State} {b
 
 -- what the next turn asks for: an item that a token begins passes it
 pub loop-asked : {w x : List ℕ} {n d count k : ℕ} {m : Act (Ans Node)} {o r f o1 r1 f1 : List ℕ} {s : State} {b : Answer}
-    {t : Front}
+    {t : Token}
     → Asked w x n o r f s × (count ≤ s .at) → Seen w x n (s .at) t → (t .kind ≡ 0 → ⊥)
     → Reads node w x n d m o r f s o1 r1 f1 b → Counted (b .how) count k → length o1 ≡ length o
     → length r1 ≡ length r → length f1 ≡ length f

@@ -12,7 +12,7 @@ use borrow.Author.Tests.{eq-eqb, ne-eqb}
 use Rattle.definition.specs.Ascii.{ascii}
 use Rattle.definition.specs.Node.{recs-bytes}
 use Rattle.definition.specs.Fallible.{Err, Fallible, Ans, ok}
-use Rattle.definition.specs.Token.{Tok, head}
+use Rattle.definition.specs.Token.{Tok, next-token}
 use Rattle.definition.specs.Act.{Node, Act, make, plain, Consumed, St, Res, gives, after, or-return, run, _>>?_}
 use Rattle.definition.specs.Parser as P
 use Rattle.definition.specs.Go.{go}
@@ -27,7 +27,7 @@ use Rattle.fallible.specs.Lists.{unpack, error-at, errs}
 use Rattle.fallible.specs.Answers.{refused-at, one-more, raised, noted, Raised, AbandonedOf, Abandoned, Cuts}
 use Rattle.fallible.proofs.How.{the-type}
 use Rattle.fallible.proofs.Grown.{errs-length}
-use Rattle.steps.specs.declared.Front.{Front}
+use Rattle.steps.specs.declared.Token.{Token}
 use Rattle.steps.specs.Tokens.{rest, budget, Seen}
 use Rattle.steps.specs.Shows.{st-of, Asks, Asked, Moved, View, Good, ShowsOf, Shows, done-of, node, typed, token, Reads, Expects, Finished, Follows, Followed, ExpectedOf, Expected}
 use Rattle.steps.proofs.Tokens.{yes, no, fore, adv}
@@ -40,7 +40,7 @@ use Rattle.expression_laws.proofs.Types.{moved-onward, past, paid, reco
 -- ---- `bare_name`
 
 -- the text of a token is as long as its record says
-pub text-length : {w x : List ℕ} {n at : ℕ} {t : Front} → Seen w x n at t → length (head (rest w x n at) .text) ≡ t .len
+pub text-length : {w x : List ℕ} {n at : ℕ} {t : Token} → Seen w x n at t → length (next-token (rest w x n at) .text) ≡ t .len
 text-length {x = x} {t = t} v = rw (v .text) (length-take-le (t .len) (drop (t .start) x) (simp length-drop (omega arith)))
 
 -- what is put in place of a name
@@ -56,10 +56,10 @@ module _ {w x : List ℕ} {n : ℕ} {o : List ℕ} {a : Answer} {tag at : ℕ} (
       one Fatal nd = (refl, refl)
       one (Refused m) nd = (refl, refl)
 
-  module _ {t : Front} (z : a .how ≡ Done) (v : Seen w x n at t) where
+  module _ {t : Token} (z : a .how ≡ Done) (v : Seen w x n at t) where
     -- the name is written
-    named : {o′ : List ℕ} {p k : ℕ} {name : List ℕ} → name-of (head (rest w x n at)) ≡ name
-        → length name ≤ 3 + length (head (rest w x n at) .text) → k ≡ 3 + length name
+    named : {o′ : List ℕ} {p k : ℕ} {name : List ℕ} → name-of (next-token (rest w x n at)) ≡ name
+        → length name ≤ 3 + length (next-token (rest w x n at) .text) → k ≡ 3 + length name
         → Wrote o (a .state .pos) (bare-of tag None name) k o′ p
         → BareNamed w x n o a tag at o′ (record {
           how = a .how;
@@ -105,7 +105,7 @@ module _ {w x : List ℕ} {n : ℕ} {o : List ℕ} {a : Answer} {tag at : ℕ} (
 
 -- there is room for either
 module _ {w x : List ℕ} {n : ℕ} {o : List ℕ} {a : Answer} {at : ℕ} (q : NameRoom w x n o a at) (z : a .how ≡ Done) where
-  pub bare-room : {t : Front} → Seen w x n at t → Room o x (a .state .pos) (16 + t .len) (t .start) (t .len)
+  pub bare-room : {t : Token} → Seen w x n at t → Room o x (a .state .pos) (16 + t .len) (t .start) (t .len)
   bare-room v = let d : done-of (a .how) ≡ 1 = rw z in record { room = omega (arith, q .room, text-length v); part = v .part }
 
   pub unknown-room : Room o unknown (a .state .pos) (16 + 3) 0 3
@@ -185,7 +185,7 @@ module _ {w x : List ℕ} {n d j : ℕ} {o r f r1 f1 r2 : List ℕ} {s : State} 
     typed-there z u k =
         let m = abandoned-moved (moved-onward (e .moved) (u .moved)) k in
         let b : budget w x n (y .state .at) ≡ budget w x n (c .state .at) = ap (λ (i : ℕ). budget w x n i) (k .at) in
-        let g : (rd : List Consumed) → Good (token (head (rest w x n (s .at)))) (take (s .pos) o) (errs r (s .reported)) [] [] w x n o r1 f1 a (go d (P.expect 49) (st-of w x n f rd s)) =
+        let g : (rd : List Consumed) → Good (token (next-token (rest w x n (s .at)))) (take (s .pos) o) (errs r (s .reported)) [] [] w x n o r1 f1 a (go d (P.expect 49) (st-of w x n f rd s)) =
         λ rd. good-of z (e .is plain d rd o) in
         let da : done-of (a .how) ≡ 1 = rw z in
         record {
@@ -232,7 +232,7 @@ error-same : (d : ℕ) {X Y : Err} {S S′ : St} → X ≡ Y → S ≡ S′
     → go d (make X (P.typed (ascii "<?>") (X ∷ []))) S ≡ go d (make Y (P.typed (ascii "<?>") (Y ∷ []))) S′
 error-same d p q = rw (p, q)
 
-module _ {w x : List ℕ} {n : ℕ} {o r f : List ℕ} {s : State} {t : Front} (q : Asked w x n o r f s) (v : Seen w x n (s .at) t) where
+module _ {w x : List ℕ} {n : ℕ} {o r f : List ℕ} {s : State} {t : Token} (q : Asked w x n o r f s) (v : Seen w x n (s .at) t) where
   pub identifier-name : {d : ℕ} {o1 r1 f1 : List ℕ} {a : Answer} → t .kind ≡ 1
       → TypedOn w x n d (s .reported) o r f (fore s t) o1 r1 f1 a → ReadsTyped w x n d o r f s o1 r1 f1 a
   unfolding go run P.parse-typed-identifier
@@ -242,8 +242,8 @@ module _ {w x : List ℕ} {n : ℕ} {o r f : List ℕ} {s : State} {t : Front} (
     spare = omega (arith, text-length v, v .pays, u .spare, done-le (a .how));
     is =
         λ rd. renamed (rw (eq-eqb _ _ (v .kind ∙ z))) (say (rw (run, yes v z)
-        (ap (λ (S : St). go d (P.typed (head (rest w x n (s .at)) .text) []) S) (adv s v (λ _. plain) f rd)))
-        (u .is (past w x n (s .at) rd) (head (rest w x n (s .at)) .text) (errs r (s .reported)) [] (len-rep q)
+        (ap (λ (S : St). go d (P.typed (next-token (rest w x n (s .at)) .text) []) S) (adv s v (λ _. plain) f rd)))
+        (u .is (past w x n (s .at) rd) (next-token (rest w x n (s .at)) .text) (errs r (s .reported)) [] (len-rep q)
         (sym (append-nil _))));
   }
 
@@ -252,7 +252,7 @@ module _ {w x : List ℕ} {n : ℕ} {o r f : List ℕ} {s : State} {t : Front} (
         → Raised (raised n (fore s t)) r f (fore s t) e r′ f′ a → ReadsTyped w x n d o r f s o r′ f′ a
     unfolding go run P.parse-typed-identifier
     identifier-end {d} {a = a} z i g =
-        let u : Reads (typed (name-of (head (rest w x n (s .at))))) w x n d P.parse-typed-identifier o r f s o _ _ a =
+        let u : Reads (typed (name-of (next-token (rest w x n (s .at))))) w x n d P.parse-typed-identifier o r f s o _ _ a =
         raise-reads (q .asks) v plain g d
         (λ rd. rw (run, no v m1, yes v z) (raise-same d (sym i) (adv s v (λ _. plain) f rd))) in
         record {
@@ -261,7 +261,7 @@ module _ {w x : List ℕ} {n : ℕ} {o r f : List ℕ} {s : State} {t : Front} (
           spare =
               made-so Fatal n (fore s t)
               (λ y. y .state .pos + budget w x n (y .state .at) + 32 * done-of (y .how) + length
-              (head (rest w x n (s .at)) .text) ≤ s .pos + budget w x n (s .at)) (g .is)
+              (next-token (rest w x n (s .at)) .text) ≤ s .pos + budget w x n (s .at)) (g .is)
               (λ _. omega (arith, text-length v, v .pays))
               (λ _. omega (arith, text-length v, v .pays, spent w x n));
           is = u .is;
@@ -313,13 +313,13 @@ name-on y = P.good (P.bare (y .item .type) 21 (y .item .name)) (y .errors)
 
 bare-shows : {T : List ℕ} {E : List Err} {w x : List ℕ} {n at : ℕ} {o r f o′ : List ℕ} {a y : Answer}
     {q : Res (Ans P.Typed)} (d : ℕ)
-    → BareNamed w x n o a 21 at o′ y → Shows (typed (name-of (head (rest w x n at)))) T E [] [] w x n o r f a q
+    → BareNamed w x n o a 21 at o′ y → Shows (typed (name-of (next-token (rest w x n at)))) T E [] [] w x n o r f a q
     → Shows node T E [] [] w x n o′ r f y (after q (λ z S. go d (or-return name-on z) S))
 unfolding go run
 bare-shows {T} {E} {w} {x} {n} {at} {o} {r} {f} {o′} {a} {y} {q} d u v = record { told = one (a .how) refl (u .is) (v .told) }
   where
     one : (h : How) → a .how ≡ h → BareNamedOf h w x n o a 21 at o′ y
-        → ShowsOf h (typed (name-of (head (rest w x n at)))) T E [] [] w x n o r f a q
+        → ShowsOf h (typed (name-of (next-token (rest w x n at)))) T E [] [] w x n o r f a q
         → ShowsOf (y .how) node T E [] [] w x n o′ r f y (after q (λ z S. go d (or-return name-on z) S))
     one Done z m g =
         rw (m .0) (record {
@@ -390,7 +390,7 @@ expected-there {w} {x} {n} {k} {i} {j} {r} {f} {r′} {f′} {a} {y} v z = one (
     on e F zc h =
         let zb : F .b .how ≡ Done = ap (λ (b : Answer). b .how) (sym (h .0)) ∙ zc in
         let st : y .state ≡ F .b .state = ap (λ (b : Answer). b .state) (F .is) ∙ ap (λ (b : Answer). b .state) (h .0) in
-        let g : (d : ℕ) (rd : List Consumed) → Good (token (head (rest w x n (a .state .at)))) (take (a .state .pos) []) (errs r (a .state .reported)) [] [] w x n [] (F .between) f′ (F .b) (go d (P.expect k) (st-of w x n f rd (a .state))) =
+        let g : (d : ℕ) (rd : List Consumed) → Good (token (next-token (rest w x n (a .state .at)))) (take (a .state .pos) []) (errs r (a .state .reported)) [] [] w x n [] (F .between) f′ (F .b) (go d (P.expect k) (st-of w x n f rd (a .state))) =
         λ d rd. good-of zb (F .expects .is plain d rd []) in
         record {
           there = e;
@@ -461,7 +461,7 @@ equals-on id _ = P.parse-expression >>? value-on id
 abbrev field-on : Fallible Tok → Act (Ans Node)
 field-on id = P.expect 26 >>? equals-on id
 
-module _ {w x : List ℕ} {n : ℕ} {o r f r1 f1 : List ℕ} {s : State} {t : Front} {a : Answer}
+module _ {w x : List ℕ} {n : ℕ} {o r f r1 f1 : List ℕ} {s : State} {t : Token} {a : Answer}
     (q : Asked w x n o r f s) (v : Seen w x n (s .at) t)
     (e : Expects w x n (λ role. P.expect-identifier) r f s r1 f1 a) where
   pub field-follows : length r1 ≡ length r → length f1 ≡ length f → Follows w x n r1 f1 a (s .pos) (s .reported)
@@ -514,10 +514,10 @@ module _ {w x : List ℕ} {n : ℕ} {o r f r1 f1 : List ℕ} {s : State} {t : Fr
       unfolding P.parse-compound-struct-field
       field-done F =
           let m = expected-there u z in
-          let g : (rd : List Consumed) → Good (token (head (rest w x n (s .at)))) (take (s .pos) o) (errs r (s .reported)) [] [] w x n o r1 f1 a (go d P.expect-identifier (st-of w x n f rd s)) =
+          let g : (rd : List Consumed) → Good (token (next-token (rest w x n (s .at)))) (take (s .pos) o) (errs r (s .reported)) [] [] w x n o r1 f1 a (go d P.expect-identifier (st-of w x n f rd s)) =
           λ rd. good-of (m .there) (e .is plain d rd o) in
           let id : List Consumed → Fallible Tok = λ rd. record { item = g rd .item; errors = g rd .errors } in
-          record-reads {K = node} (head (rest w x n (s .at)) .place) (λ _. []) (head (rest w x n (s .at)) .text) F
+          record-reads {K = node} (next-token (rest w x n (s .at)) .place) (λ _. []) (next-token (rest w x n (s .at)) .text) F
           (moved-onward (moved-trans (e .moved) (u .moved)) (h .moved))
           (omega (arith, e .on, u .moved .at, h .moved .at)) (omega (arith, field-paid))
           (λ _ _. rw (m .line, m .column, g [] .holds .1, v .text))
@@ -558,7 +558,7 @@ module _ {w x : List ℕ} {n j : ℕ} {o r f r1 f1 : List ℕ} {s : State} {a : 
     type-cuts u l k g = cuts-moved (type-asked l k .asks) (u .moved) (v .low) (v .first) g
 
 -- after an error noted
-module _ {w x : List ℕ} {n e : ℕ} {o r f r1 f1 : List ℕ} {s : State} {t : Front} {b : Answer}
+module _ {w x : List ℕ} {n e : ℕ} {o r f r1 f1 : List ℕ} {s : State} {t : Token} {b : Answer}
     (q : Asked w x n o r f s) (v : Seen w x n (s .at) t)
     (g : Raised (noted n (fore s t)) r f (fore s t) e r1 f1 b) where
   pub noted-moved : Moved w x n (s .pos) (s .reported) s (b .state)

@@ -10,7 +10,7 @@ use borrow.Author.Tests.{eqb-false, not-false}
 use Rattle.definition.specs.Parser as P
 use Rattle.fallible.specs.declared.State.{State}
 use Rattle.fallible.specs.declared.Answer.{Answer}
-use Rattle.steps.specs.declared.Front.{Front}
+use Rattle.steps.specs.declared.Token.{Token}
 use Rattle.steps.specs.Tokens.{Seen}
 use Rattle.steps.specs.Shows.{Asked, Reads, node, Finished}
 use Rattle.leaves.specs.Leaves.{there, identifier, is-name-alone}
@@ -21,7 +21,7 @@ use Rattle.expression_laws.proofs.Joins.{then-asked, goes-on}
 use Rattle.expression_laws.proofs.Suffixes.{suffix-none}
 use Rattle.expression_laws.proofs.Calls.{call-on, call-none, sizeof-other, unary-none}
 
-module _ {w x : List ℕ} {n : ℕ} {o r f o1 : List ℕ} {s : State} {t u : Front} {a : Answer}
+module _ {w x : List ℕ} {n : ℕ} {o r f o1 : List ℕ} {s : State} {t u : Token} {a : Answer}
     (q : Asked w x n o r f s) (v : Seen w x n (s .at) t) (e : Seen w x n (a .state .at) u)
     (F : Finished x o (there s t) (identifier t) o1 a) (same : length o1 ≡ length o) where
   name-access : (d : ℕ) → NameAlone (t .kind) (u .kind) → Reads node w x n d P.parse-field-access-or-index o r f s o1 r f a
@@ -37,7 +37,7 @@ module _ {w x : List ℕ} {n : ℕ} {o r f o1 : List ℕ} {s : State} {t u : Fro
       let b = sizeof-other q v (λ z. omega (arith, m .name, z)) (name-access d m) in
       then-asked call-on q b (call-none (goes-on q b same refl refl) (F .is .0) e (m .paren))
 
-module _ {w x : List ℕ} {n d : ℕ} {o r f o1 : List ℕ} {s : State} {t u : Front} {a : Answer}
+module _ {w x : List ℕ} {n d : ℕ} {o r f o1 : List ℕ} {s : State} {t u : Token} {a : Answer}
     (q : Asked w x n o r f s) (v : Seen w x n (s .at) t) (e : Seen w x n (t .next) u) where
   pub name-operand : {b : Bool} → b ≡ is-name-alone (t .kind) (u .kind) → (eqb d 0 || not b) ≡ false
       → Finished x o (there s t) (identifier t) o1 a → length o1 ≡ length o

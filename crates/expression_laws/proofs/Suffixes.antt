@@ -8,7 +8,7 @@ use lib.ListN.{length, take}
 use Rattle.definition.specs.Source.{Place}
 use Rattle.definition.specs.Fallible.{Err, Fallible, Ans, ok}
 use Rattle.definition.specs.Kind as K
-use Rattle.definition.specs.Token.{Tok, head, _is_}
+use Rattle.definition.specs.Token.{Tok, next-token, _is_}
 use Rattle.definition.specs.Act as Act
 use Rattle.definition.specs.Act.{Act, Suffixes, Node, Consumed, plain, St, Res, gives, after, or-return, run, _>>?_}
 use Rattle.definition.specs.Parser as P
@@ -23,7 +23,7 @@ use Rattle.fallible.specs.Answers.{refused-at, noted, Raised, Abandoned}
 use Rattle.node.specs.Put.{rec-of}
 use Rattle.node.specs.declared.Numbers.the-variants.{None}
 use Rattle.node.specs.declared.Record.{Record}
-use Rattle.steps.specs.declared.Front.{Front}
+use Rattle.steps.specs.declared.Token.{Token}
 use Rattle.steps.specs.Tokens.{rest, budget, Seen}
 use Rattle.steps.specs.Shows.{st-of, Asks, Moved, Shows, Reads, Goes, GoesOn, node, Follows, Expected, Finished}
 use Rattle.steps.proofs.Tokens.{yes, no, fore, adv}
@@ -48,16 +48,16 @@ dotted p e n =
     (Act.if_then_else_ (n is K.Identifier) (suffixes-on (P.wrap 0x29 p (n .text) e))
     (Act.make (P.error 4 (n .place) 0 0) (P.good (e .item) (e .errors ++ (P.error 4 (n .place) 0 0 ∷ [])))))
 
-dot-step : {w x : List ℕ} {n : ℕ} {t : Front} (d : ℕ) (f : List ℕ) (s : State) → Seen w x n (s .at) t → t .kind ≡ 34
+dot-step : {w x : List ℕ} {n : ℕ} {t : Token} (d : ℕ) (f : List ℕ) (s : State) → Seen w x n (s .at) t → t .kind ≡ 34
     → (e : Fallible Node) (rd : List Consumed)
     → go d (suffixes-on e) (st-of w x n f rd s)
-    ≡ go d (Act.next (dotted (head (rest w x n (s .at)) .place) e))
+    ≡ go d (Act.next (dotted (next-token (rest w x n (s .at)) .place) e))
     (st-of w x n f (past w x n (s .at) rd) (fore s t))
 unfolding go run P.suffixes-turn
 dot-step {w} {x} {n} d f s u h e rd =
     go-loop d (Suffixes e) (st-of w x n f rd s)
     ∙ rw (run, yes u h)
-    (ap (λ (S : St). go d (Act.next (dotted (head (rest w x n (s .at)) .place) e)) S) (adv s u (λ _. plain) f rd))
+    (ap (λ (S : St). go d (Act.next (dotted (next-token (rest w x n (s .at)) .place) e)) S) (adv s u (λ _. plain) f rd))
 
 -- ---- a record after the operand itself, and the next turn
 
@@ -89,7 +89,7 @@ module _ {w x : List ℕ} {n d i j : ℕ} {o r f o2 o3 r3 f3 : List ℕ} {a y y�
   }
 
 -- where a turn without an index leads
-module _ {w x : List ℕ} {n i j : ℕ} {o r f : List ℕ} {a : Answer} {t : Front} (q : GoesOn w x n o r f a i j)
+module _ {w x : List ℕ} {n i j : ℕ} {o r f : List ℕ} {a : Answer} {t : Token} (q : GoesOn w x n o r f a i j)
     (u : Seen w x n (a .state .at) t) where
   pub star-moved : {o2 : List ℕ} {y : Answer} → t .kind ≡ 35
       → Finished x o (record { how = a .how; state = fore (a .state) t; line = a .line; column = a .column })
@@ -108,7 +108,7 @@ module _ {w x : List ℕ} {n i j : ℕ} {o r f : List ℕ} {a : Answer} {t : Fro
         few = omega (arith, F .full, q .asked .asks .few);
       }
 
-  pub dot-moved : {v : Front} {o2 : List ℕ} {y : Answer} → Seen w x n (t .next) v → v .kind ≡ 1
+  pub dot-moved : {v : Token} {o2 : List ℕ} {y : Answer} → Seen w x n (t .next) v → v .kind ≡ 1
       → Finished x o
       (record { how = a .how; state = fore (fore (a .state) t) v; line = a .line; column = a .column })
       (record { tag = 0x29; line = t .line; column = t .column; numbers = None; start = v .start; len = v .len })
@@ -127,7 +127,7 @@ module _ {w x : List ℕ} {n i j : ℕ} {o r f : List ℕ} {a : Answer} {t : Fro
         few = omega (arith, F .full, q .asked .asks .few);
       }
 
-module _ {w x : List ℕ} {n d i j : ℕ} {o r f : List ℕ} {a : Answer} {t : Front} (q : GoesOn w x n o r f a i j)
+module _ {w x : List ℕ} {n d i j : ℕ} {o r f : List ℕ} {a : Answer} {t : Token} (q : GoesOn w x n o r f a i j)
     (z : a .how ≡ Done) (u : Seen w x n (a .state .at) t) where
   pub suffix-none : (t .kind ≡ 34 → ⊥) → (t .kind ≡ 35 → ⊥) → (t .kind ≡ 43 → ⊥) → Goes node node w x n d suffixes-on i j o r f a o r f a
   unfolding go run P.suffixes-turn
@@ -141,15 +141,15 @@ module _ {w x : List ℕ} {n d i j : ℕ} {o r f : List ℕ} {a : Answer} {t : F
       → Goes node node w x n d suffixes-on i j o2 r f y o3 r3 f3 y′ → Goes node node w x n d suffixes-on i j o r f a o3 r3 f3 y′
   unfolding go run P.suffixes-turn
   suffix-star h k F G =
-      goes-wrapped (head (rest w x n (a .state .at)) .place) [] q z F (rw (u .place)) (past w x n (a .state .at)) refl refl refl
+      goes-wrapped (next-token (rest w x n (a .state .at)) .place) [] q z F (rw (u .place)) (past w x n (a .state .at)) refl refl refl
       (star-moved q u k F)
       (λ e rd. go-loop d (Suffixes e) (st-of w x n f rd (a .state)) ∙ rw (run, no u h, yes u k)
-      (ap (λ (S : St). go d (suffixes-on (P.wrap 0x28 (head (rest w x n (a .state .at)) .place) [] e)) S)
+      (ap (λ (S : St). go d (suffixes-on (P.wrap 0x28 (next-token (rest w x n (a .state .at)) .place) [] e)) S)
       (adv (a .state) u (λ _. plain) f rd))) G
 
   -- ---- `.name`
 
-  module _ {v : Front} (h : t .kind ≡ 34) (s : Seen w x n (t .next) v) where
+  module _ {v : Token} (h : t .kind ≡ 34) (s : Seen w x n (t .next) v) where
     pub dot-end : {y : Answer} → v .kind ≡ 0 → y ≡ refused-at n (a .state) 11 → Goes node node w x n d suffixes-on i j o r f a o r f y
     unfolding go run P.suffixes-turn
     dot-end k e =
@@ -190,11 +190,11 @@ module _ {w x : List ℕ} {n d i j : ℕ} {o r f : List ℕ} {a : Answer} {t : F
         → Goes node node w x n d suffixes-on i j o2 r f y o3 r3 f3 y′ → Goes node node w x n d suffixes-on i j o r f a o3 r3 f3 y′
     unfolding go run P.suffixes-turn
     dot-name m k F G =
-        goes-wrapped (head (rest w x n (a .state .at)) .place) (head (rest w x n (t .next)) .text) q z F
+        goes-wrapped (next-token (rest w x n (a .state .at)) .place) (next-token (rest w x n (t .next)) .text) q z F
         (rw (u .place, s .text)) (past-two w x n (a .state .at) (t .next)) refl refl refl
         (dot-moved q u s k F)
         (λ e rd. dot-step d f (a .state) u h e rd ∙ rw (run, no s m, yes s k) (ap (λ (S : St). go d (suffixes-on
-        (P.wrap 0x29 (head (rest w x n (a .state .at)) .place) (head (rest w x n (t .next)) .text) e)) S)
+        (P.wrap 0x29 (next-token (rest w x n (a .state .at)) .place) (next-token (rest w x n (t .next)) .text) e)) S)
         (adv (fore (a .state) t) s (λ _. plain) f (past w x n (a .state .at) rd)))) G
 
     -- another token: error 4, and the loop ends
@@ -226,7 +226,7 @@ module _ {w x : List ℕ} {n d i j : ℕ} {o r f : List ℕ} {a : Answer} {t : F
               say
               (follows d suffixes-on (h2 .is) ∙ dot-step d f (a .state) u h (record { item = h2 .item; errors = h2 .errors }) (h2 .read)
               ∙ rw (run, no s m, no s k)
-              (ap (λ (S : St). go d (Act.make (P.error 4 (head (rest w x n (t .next)) .place) 0 0) (P.good (h2 .item) (h2 .errors ++ (P.error 4 (head (rest w x n (t .next)) .place) 0 0 ∷ [])))) S) (adv (fore (a .state) t) s (λ _. plain) f (past w x n (a .state .at) (h2 .read)))
+              (ap (λ (S : St). go d (Act.make (P.error 4 (next-token (rest w x n (t .next)) .place) 0 0) (P.good (h2 .item) (h2 .errors ++ (P.error 4 (next-token (rest w x n (t .next)) .place) 0 0 ∷ [])))) S) (adv (fore (a .state) t) s (λ _. plain) f (past w x n (a .state .at) (h2 .read)))
               ∙ ap (λ (er : Err). go d (Act.make er (P.good (h2 .item) (h2 .errors ++ (er ∷ []))))
               (st-of w x n f (past-two w x n (a .state .at) (t .next) (h2 .read)) (fore (fore (a .state) t) v)))
               (rw (s .place) (sym c))))
@@ -299,7 +299,7 @@ module _ {w x : List ℕ} {n d i j : ℕ} {o r f : List ℕ} {a : Answer} {t : F
       is = λ T E p li lj y.
           let g = good-of z y in
           let e : Fallible Node = record { item = g .item; errors = g .errors } in
-          let pl : Place = head (rest w x n (a .state .at)) .place in
+          let pl : Place = next-token (rest w x n (a .state .at)) .place in
           let S1 : St = st-of w x n f (past w x n (a .state .at) (g .read)) (fore (a .state) t) in
           let q1 : Res (Ans Node) = go d P.parse-expression S1 in
           say

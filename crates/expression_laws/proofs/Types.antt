@@ -12,7 +12,7 @@ use borrow.Author.Tests.{ltb-true, ltb-false}
 use Rattle.definition.specs.Source.{Place}
 use Rattle.definition.specs.Node.{Num, two, eight}
 use Rattle.definition.specs.Fallible.{Err, Fallible, Ans}
-use Rattle.definition.specs.Token.{Tok, head, number}
+use Rattle.definition.specs.Token.{Tok, next-token, number}
 use Rattle.definition.specs.Act.{Node, Items, Type', StructFields, Act, Role, plain, size, Consumed, St, Res, gives, refused, after, or-return, now-read, run, _>>=_, _>>?_}
 use Rattle.definition.specs.Parser as P
 use Rattle.definition.specs.Go.{go}
@@ -27,7 +27,7 @@ use Rattle.fallible.specs.declared.Answer.{Answer}
 use Rattle.fallible.specs.Lists.{unpack, error-at, errs}
 use Rattle.fallible.specs.Answers.{refused-at, raised, Raised, silent}
 use Rattle.fallible.proofs.Grown.{errs-length}
-use Rattle.steps.specs.declared.Front.{Front}
+use Rattle.steps.specs.declared.Token.{Token}
 use Rattle.steps.specs.Tokens.{rest, spend, budget, Held, Seen}
 use Rattle.steps.specs.Shows.{st-of, Asked, Moved, View, Good, ShowsOf, Shows, node, items, Reads, Expects, Finished, texted, untexted}
 use Rattle.steps.proofs.Tokens.{rest-cons, rest-nil, alive, yes, no, fore, adv}
@@ -82,16 +82,16 @@ passed w x n i (suc k) =
     (λ h. rw (e, rest-cons w x n i h) (omega (arith, passed w x n (i + 1) k)))
 
 -- once the token at i is passed, what it pays for is spent
-pub paid : {w x : List ℕ} {n : ℕ} (i j : ℕ) → Held w x n → i + min (head (rest w x n i) .kind) 1 ≤ j
-    → budget w x n j + 16 * min (head (rest w x n i) .kind) 1 + length (head (rest w x n i) .text) ≤ budget w x n
+pub paid : {w x : List ℕ} {n : ℕ} (i j : ℕ) → Held w x n → i + min (next-token (rest w x n i) .kind) 1 ≤ j
+    → budget w x n j + 16 * min (next-token (rest w x n i) .kind) 1 + length (next-token (rest w x n i) .text) ≤ budget w x n
     i
 unfolding spend
 paid {w} {x} {n} i j q h = either n i end on
   where
-    end : n ≤ i → budget w x n j + 16 * min (head (rest w x n i) .kind) 1 + length (head (rest w x n i) .text) ≤ budget w x n i
+    end : n ≤ i → budget w x n j + 16 * min (next-token (rest w x n i) .kind) 1 + length (next-token (rest w x n i) .text) ≤ budget w x n i
     end g = let a : n ≤ j = omega arith in rw (rest-nil w x n j a, rest-nil w x n i g) (omega arith)
 
-    on : i < n → budget w x n j + 16 * min (head (rest w x n i) .kind) 1 + length (head (rest w x n i) .text) ≤ budget w x n i
+    on : i < n → budget w x n j + 16 * min (next-token (rest w x n i) .kind) 1 + length (next-token (rest w x n i) .text) ≤ budget w x n i
     on g =
         let l = alive q g in
         let e : i + 1 + (j - (i + 1)) ≡ j = omega arith in
@@ -130,7 +130,7 @@ module _ {A : Type 0} {K : View A} {w x : List ℕ} {n d : ℕ} {m : Act (Ans No
     {s : State} {b y : Answer} {v : Record} (p : Place) (ns : A → List Num) (text : List ℕ)
     (F : Finished x o1 b v o2 y) where
   pub record-reads : Moved w x n (s .pos) (s .reported) s (b .state)
-      → s .at + min (head (rest w x n (s .at)) .kind) 1 ≤ b .state .at
+      → s .at + min (next-token (rest w x n (s .at)) .kind) 1 ≤ b .state .at
       → b .state .pos + budget w x n (b .state .at) + size-of v ≤ s .pos + budget w x n (s .at)
       → ((i : A) → K .fine (b .line) (b .column) i → rec-of x v ≡ record { tag = v .tag; place = some p; numbers = ns i; text = text })
       → (q : List Consumed → Res (Ans A))
@@ -203,26 +203,26 @@ module _ {w x : List ℕ} {n d : ℕ} {o r f : List ℕ} {s : State} (q : Asked 
   pub type-deep : {a : Answer} → d ≡ 0 → a ≡ refused-at n s 10 → Reads node w x n d P.parse-type o r f s o r f a
   type-deep z e = deep Type' (q .asks) z e
 
-  module _ {t : Front} (nz : d ≡ 0 → ⊥) (v : Seen w x n (s .at) t) where
+  module _ {t : Token} (nz : d ≡ 0 → ⊥) (v : Seen w x n (s .at) t) where
     pub type-name : {o′ : List ℕ} {y : Answer} → t .kind ≡ 1 → Finished x o (there s t) (texted t 16 None t) o′ y
         → Reads node w x n d P.parse-type o r f s o′ r f y
     unfolding go run P.type-rule
     type-name z u =
         down Type' nz
-        (leaf-reads (q .asks) v [] (head (rest w x n (s .at)) .text) u (omega arith) (rw (v .place, v .text))
+        (leaf-reads (q .asks) v [] (next-token (rest w x n (s .at)) .text) u (omega arith) (rw (v .place, v .text))
         (d - 1) (λ rd. rw (run, yes v z)))
 
     module _ (m1 : t .kind ≡ 1 → ⊥) where
       -- after `*`
       abbrev star-on : Fallible Node → Act (Ans Node)
-      star-on e = wrapped node [] [] 18 (λ _. head (rest w x n (s .at)) .place) (λ _. []) [] e
+      star-on e = wrapped node [] [] 18 (λ _. next-token (rest w x n (s .at)) .place) (λ _. []) [] e
 
       pub type-star : {o1 r1 f1 o2 : List ℕ} {b y : Answer} → t .kind ≡ 24
           → Reads node w x n (d - 1) P.parse-type o r f (fore s t) o1 r1 f1 b
           → Finished x o1 b (untexted t 18 None) o2 y → Reads node w x n d P.parse-type o r f s o2 r1 f1 y
       unfolding go run P.type-rule
       type-star z u F = down Type' nz
-          (record-reads (head (rest w x n (s .at)) .place) (λ _. []) [] F (moved-onward (fore-moved (q .asks) v) (u .moved)) (omega (arith, v .kind, v .on, u .moved .at)) (omega arith) (λ _ _. rw (v .place))
+          (record-reads (next-token (rest w x n (s .at)) .place) (λ _. []) [] F (moved-onward (fore-moved (q .asks) v) (u .moved)) (omega (arith, v .kind, v .on, u .moved .at)) (omega arith) (λ _ _. rw (v .place))
           (λ rd. go (d - 1) P.parse-type (st-of w x n f (past w x n (s .at) rd) (fore s t)))
           (λ rd. rw (run, no v m1, yes v z)
           (ap (λ (S : St). go (d - 1) (P.parse-type >>? star-on) S) (adv s v (λ _. plain) f rd)) ∙ go-bind
@@ -247,7 +247,7 @@ module _ {w x : List ℕ} {n d : ℕ} {o r f : List ℕ} {s : State} (q : Asked 
         module _ (m43 : t .kind ≡ 43 → ⊥) where
           -- after a list of fields
           abbrev struct-on : Fallible Items → Act (Ans Node)
-          struct-on e = wrapped items [] [] 20 (λ _. head (rest w x n (s .at)) .place) (λ i. two (i .count) ∷ []) [] e
+          struct-on e = wrapped items [] [] 20 (λ _. next-token (rest w x n (s .at)) .place) (λ i. two (i .count) ∷ []) [] e
 
           pub type-struct : {o1 r1 f1 o2 : List ℕ} {a b y : Answer} → t .kind ≡ 16
               → ReadsList w x n (d - 1) StructFields o r f (fore s t) o1 r1 f1 a → b ≡ silent a (s .reported)
@@ -258,7 +258,7 @@ module _ {w x : List ℕ} {n d : ℕ} {o r f : List ℕ} {s : State} (q : Asked 
               let G : Finished x o1 (silent a (s .reported)) (untexted t 20 (Two (a .line))) o2 y = rw e at F in
               let mv = moved-onward (fore-moved (q .asks) v) (u .moved) in
               down Type' nz
-              (record-reads {K = items} (head (rest w x n (s .at)) .place) (λ i. two (i .count) ∷ []) [] G (record { at = mv .at; end = mv .end; pos = mv .pos; room = mv .room; reported = omega arith; less = omega arith; full = mv .full; few = mv .few }) (omega (arith, v .kind, v .on, u .moved .at)) (omega arith) (λ i h. rw (v .place, h))
+              (record-reads {K = items} (next-token (rest w x n (s .at)) .place) (λ i. two (i .count) ∷ []) [] G (record { at = mv .at; end = mv .end; pos = mv .pos; room = mv .room; reported = omega arith; less = omega arith; full = mv .full; few = mv .few }) (omega (arith, v .kind, v .on, u .moved .at)) (omega arith) (λ i h. rw (v .place, h))
               (λ rd. after (go (d - 1) (P.parse-list StructFields >>= as-answer)
               (st-of w x n f (past w x n (s .at) rd) (fore s t)))
               (λ z S. go (d - 1) (or-return (λ y. P.good (y .item) []) z) S))
@@ -294,7 +294,7 @@ not-false : (b : Bool) → not b ≡ false → b ≡ true
 not-false true e = refl
 not-false false e = sym e
 
-module _ {w x : List ℕ} {n : ℕ} (line column : ℕ) {o r f : List ℕ} {s : State} {t : Front}
+module _ {w x : List ℕ} {n : ℕ} (line column : ℕ) {o r f : List ℕ} {s : State} {t : Token}
     (q : Asked w x n o r f s × ((line < 65536) × (column < 65536))) (v : Seen w x n (s .at) t) where
   pub array-no-integer : {d e : ℕ} {r′ f′ : List ℕ} {y : Answer} → (t .kind ≡ 2 → ⊥) → unpack e ≡ error-at 9 line column 0 0
       → Raised (raised n (fore s t)) r f (fore s t) e r′ f′ y
@@ -306,7 +306,7 @@ module _ {w x : List ℕ} {n : ℕ} (line column : ℕ) {o r f : List ℕ} {s : 
 
   module _ {u : Size} (z : t .kind ≡ 2) (k : Valued (take (t .len) (drop (t .start) x)) (t .base) u) where
     -- the size as the definition has it
-    fit : unfit (head (rest w x n (s .at)) .base) (head (rest w x n (s .at)) .text) ≡ not (u .fits)
+    fit : unfit (next-token (rest w x n (s .at)) .base) (next-token (rest w x n (s .at)) .text) ≡ not (u .fits)
     fit = rw (v .text, v .base) (k .fits)
 
     pub array-no-size : {d e : ℕ} {r′ f′ : List ℕ} {y : Answer} → not (u .fits) ≡ true → unpack e ≡ error-at 10 line column 0 0
@@ -323,7 +323,7 @@ module _ {w x : List ℕ} {n : ℕ} (line column : ℕ) {o r f : List ℕ} {s : 
       abbrev array-on : Fallible Node → Act (Ans Node)
       array-on b =
           wrapped node [] [] 19 (λ _. place-at line column)
-          (λ _. eight (number (head (rest w x n (s .at)) .base) 0 (head (rest w x n (s .at)) .text)) ∷ []) [] b
+          (λ _. eight (number (next-token (rest w x n (s .at)) .base) 0 (next-token (rest w x n (s .at)) .text)) ∷ []) [] b
 
       abbrev bracket-on : Fallible Tok → Act (Ans Node)
       bracket-on _ = P.parse-type >>? array-on
@@ -358,7 +358,7 @@ module _ {w x : List ℕ} {n : ℕ} (line column : ℕ) {o r f : List ℕ} {s : 
           let g : (rd : List Consumed) → Good _ _ _ [] [] w x n o r1 f1 a (go d (P.expect 44) (st-of w x n f (past-as size w x n (s .at) rd) (fore s t))) =
           λ rd. good-of za (e .is plain d (past-as size w x n (s .at) rd) o) in
           record-reads {K = node} (place-at line column)
-          (λ _. eight (number (head (rest w x n (s .at)) .base) 0 (head (rest w x n (s .at)) .text)) ∷ []) [] F
+          (λ _. eight (number (next-token (rest w x n (s .at)) .base) 0 (next-token (rest w x n (s .at)) .text)) ∷ []) [] F
           (moved-onward (fore-moved (q .0 .asks) v) (moved-onward (e .moved) (c .moved)))
           (omega (arith, v .kind, v .on, e .moved .at, c .moved .at)) (omega arith)
           (λ _ _. rw (v .text, v .base, k .number (not-false (u .fits) fits)))
@@ -377,7 +377,7 @@ module _ {w x : List ℕ} {n : ℕ} {o r f : List ℕ} {s : State} (q : Asked w 
   pub room-moved : {i j : ℕ} {o1 : List ℕ} {t : State} → Moved w x n i j s t → length o1 ≡ length o → Room o1 x (t .pos) (16 + 0) 0 0
   room-moved m l = record { room = omega (arith, q .room, m .room); part = omega arith }
 
-  module _ {t : Front} (v : Seen w x n (s .at) t) where
+  module _ {t : Token} (v : Seen w x n (s .at) t) where
     -- a record with the token's text
     pub room-token : Room o x (s .pos) (16 + t .len) (t .start) (t .len)
     room-token = record { room = omega (arith, q .room, v .pays); part = v .part }

@@ -11,7 +11,7 @@ pub use Rattle.definition.specs.Source.{spot as place-at}
 use Rattle.definition.specs.Node.{recs-bytes}
 use Rattle.definition.specs.Fallible.{Err, Fallible, Ans, ok}
 use Rattle.definition.specs.Kind as K
-use Rattle.definition.specs.Token.{Tok, head}
+use Rattle.definition.specs.Token.{Tok, next-token}
 use Rattle.definition.specs.Act as A
 use Rattle.definition.specs.Act.{Items, Node, Act, done, loop, ListOf, Casts, Suffixes, Operators, Consumed, _>>=_, _>>?_}
 use Rattle.definition.specs.Parser as P
@@ -23,12 +23,12 @@ use Rattle.fallible.specs.declared.How.{How}
 use Rattle.fallible.specs.declared.How.the-variants.{Done, Fatal, Refused}
 use Rattle.fallible.specs.declared.Answer.{Answer}
 use Rattle.fallible.specs.Lists.{errs}
-use Rattle.steps.specs.declared.Front.{Front}
+use Rattle.steps.specs.declared.Token.{Token}
 use Rattle.steps.specs.Tokens.{rest, budget, Held}
 use Rattle.leaves.specs.Leaves.{level-at}
 use Rattle.steps.specs.Shows.{st-of, Moved, Shows, done-of, typed, items}
 
-abbrev pub place-of : Front → Place
+abbrev pub place-of : Token → Place
 place-of t = place-at (t .line) (t .column)
 
 -- ---- the loops, after an operand
@@ -56,10 +56,10 @@ name-of t = pick (eqb (t .kind) K.Identifier) (t .text) (ascii "<?>")
 pub record NameRoom (w x : List ℕ) (n : ℕ) (o : List ℕ) (a : Answer) (at : ℕ) : Type 0 where
   pub held : Held w x n
   pub within : at ≤ n
-  pub room : a .state .pos + 19 * done-of (a .how) + length (head (rest w x n at) .text) ≤ length o
+  pub room : a .state .pos + 19 * done-of (a .how) + length (next-token (rest w x n at) .text) ≤ length o
 
 abbrev pub BareNamedOf : How → List ℕ → List ℕ → ℕ → List ℕ → Answer → ℕ → ℕ → List ℕ → Answer → Type 0
-BareNamedOf Done w x n o a tag at o′ y = (y .how ≡ Done) × (Wrote o (a .state .pos) (bare-of tag None (name-of (head (rest w x n at)))) (3 + length (name-of (head (rest w x n at)))) o′ (y .state .pos) × ((y .line ≡ 0) × (y .column ≡ 0)))
+BareNamedOf Done w x n o a tag at o′ y = (y .how ≡ Done) × (Wrote o (a .state .pos) (bare-of tag None (name-of (next-token (rest w x n at)))) (3 + length (name-of (next-token (rest w x n at)))) o′ (y .state .pos) × ((y .line ≡ 0) × (y .column ≡ 0)))
 BareNamedOf Fatal w x n o a tag at o′ y = (y ≡ a) × (o′ ≡ o)
 BareNamedOf (Refused m) w x n o a tag at o′ y = (y ≡ a) × (o′ ≡ o)
 
@@ -68,16 +68,16 @@ pub record BareNamed (w x : List ℕ) (n : ℕ) (o : List ℕ) (a : Answer) (tag
   pub reported : y .state .reported ≡ a .state .reported
   pub full : y .state .full ≡ a .state .full
   pub low : a .state .pos ≤ y .state .pos
-  pub high : y .state .pos ≤ a .state .pos + 6 * done-of (a .how) + length (head (rest w x n p) .text)
+  pub high : y .state .pos ≤ a .state .pos + 6 * done-of (a .how) + length (next-token (rest w x n p) .text)
   pub is : BareNamedOf (a .how) w x n o a tag p o′ y
 
 -- ---- typed identifiers
 
 pub record ReadsTyped (w x : List ℕ) (n d : ℕ) (o r f : List ℕ) (s : State) (o′ r′ f′ : List ℕ) (a : Answer) : Type 0 where
   pub moved : Moved w x n (s .pos) (s .reported) s (a .state)
-  pub on : s .at + min (head (rest w x n (s .at)) .kind) 1 ≤ a .state .at
-  pub spare : a .state .pos + budget w x n (a .state .at) + 32 * done-of (a .how) + length (head (rest w x n (s .at)) .text) ≤ s .pos + budget w x n (s .at)
-  pub is : (rd : List Consumed) → Shows (typed (name-of (head (rest w x n (s .at))))) (take (s .pos) o) (errs r (s .reported)) [] [] w x n o′ r′ f′ a (go d P.parse-typed-identifier (st-of w x n f rd s))
+  pub on : s .at + min (next-token (rest w x n (s .at)) .kind) 1 ≤ a .state .at
+  pub spare : a .state .pos + budget w x n (a .state .at) + 32 * done-of (a .how) + length (next-token (rest w x n (s .at)) .text) ≤ s .pos + budget w x n (s .at)
+  pub is : (rd : List Consumed) → Shows (typed (name-of (next-token (rest w x n (s .at))))) (take (s .pos) o) (errs r (s .reported)) [] [] w x n o′ r′ f′ a (go d P.parse-typed-identifier (st-of w x n f rd s))
 
 -- after the name: the construct has the errors since j
 pub record TypedOn (w x : List ℕ) (n d j : ℕ) (o r f : List ℕ) (s : State) (o′ r′ f′ : List ℕ) (a : Answer) : Type 0 where
@@ -94,8 +94,8 @@ as-answer i = done (ok (record { item = i; errors = i .errors }))
 
 pub record ReadsList (w x : List ℕ) (n d : ℕ) (k : A.Listed) (o r f : List ℕ) (s : State) (o′ r′ f′ : List ℕ) (a : Answer) : Type 0 where
   pub moved : Moved w x n (s .pos) (s .reported) s (a .state)
-  pub on : s .at + min (head (rest w x n (s .at)) .kind) 1 ≤ a .state .at
-  pub spare : a .state .pos + budget w x n (a .state .at) + 16 * min (head (rest w x n (s .at)) .kind) 1 ≤ s .pos + budget w x n (s .at)
+  pub on : s .at + min (next-token (rest w x n (s .at)) .kind) 1 ≤ a .state .at
+  pub spare : a .state .pos + budget w x n (a .state .at) + 16 * min (next-token (rest w x n (s .at)) .kind) 1 ≤ s .pos + budget w x n (s .at)
   pub never : a .how ≡ Fatal → ⊥
   pub is : (rd : List Consumed) → Shows items (take (s .pos) o) (errs r (s .reported)) [] [] w x n o′ r′ f′ a (go d (P.parse-list k >>= as-answer) (st-of w x n f rd s))
 

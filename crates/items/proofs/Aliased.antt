@@ -12,7 +12,7 @@ use Rattle.definition.specs.Source.{Place}
 use Rattle.definition.specs.Node.{byte}
 use Rattle.definition.specs.Fallible.{Err, Fallible, Ans}
 use Rattle.definition.specs.Kind as K
-use Rattle.definition.specs.Token.{Tok, head, _is_}
+use Rattle.definition.specs.Token.{Tok, next-token, _is_}
 use Rattle.definition.specs.Act as A
 use Rattle.definition.specs.Act.{Act, done, loop, Loop, Left, Modifiers, next, panic, if_then_else_, Node, Consumed, plain, St, Res, after, or-return, run, _>>=_, _>>?_}
 use Rattle.definition.specs.Parser as P
@@ -26,7 +26,7 @@ use Rattle.fallible.specs.Lists.{unpack, error-at, errs}
 use Rattle.fallible.specs.Answers.{refused-at, raised, Raised}
 use Rattle.node.specs.Put.{Room}
 use Rattle.node.specs.declared.Numbers.the-variants.{None, Byte}
-use Rattle.steps.specs.declared.Front.{Front}
+use Rattle.steps.specs.declared.Token.{Token}
 use Rattle.steps.specs.Tokens.{rest, budget, Seen}
 use Rattle.steps.specs.Shows.{st-of, Asked, Moved, Good, Reads, node, token, Expects, Expected, Follows, Finished}
 use Rattle.steps.proofs.Tokens.{yes, no, fore, adv}
@@ -45,7 +45,7 @@ use Rattle.items.specs.Items.{Modified}
 
 -- ---- `modifiers`
 
-module _ {w x : List ℕ} {n distinct internal at : ℕ} {t : Front} (u : Seen w x n at t) where
+module _ {w x : List ℕ} {n distinct internal at : ℕ} {t : Token} (u : Seen w x n at t) where
   pub modifiers-none : at ≤ n → (t .kind ≡ 20 → ⊥) → (t .kind ≡ 21 → ⊥) → Modified w x n distinct internal at (record { words = distinct + internal; next = at })
   unfolding go run P.modifiers-turn
   modifiers-none h m20 m21 = record {
@@ -120,7 +120,7 @@ abbrev by : ℕ → ℕ → (Tok → Act (Ans Node)) → Act (Ans Node)
 by k e m = next λ n. if_then_else_ (n is K.End) panic (if_then_else_ (not (n is k)) (P.raise (P.error e (n .place) 0 0)) (m n))
 
 module _ (d k number : ℕ) (m : Tok → Act (Ans Node)) {w x : List ℕ} {n : ℕ} {o r f : List ℕ} {s : State}
-    {t : Front} (q : Asked w x n o r f s) (u : Seen w x n (s .at) t) where
+    {t : Token} (q : Asked w x n o r f s) (u : Seen w x n (s .at) t) where
   by-end : {y : Answer} → t .kind ≡ 0 → y ≡ refused-at n s 11 → Reads node w x n d (by k number m) o r f s o r f y
   unfolding go run
   by-end h e =
@@ -141,11 +141,11 @@ module _ (d k number : ℕ) (m : Tok → Act (Ans Node)) {w x : List ℕ} {n : �
 
   by-there : 0 < k → t .kind ≡ k → (rd : List Consumed)
       → go d (by k number m) (st-of w x n f rd s)
-      ≡ go d (m (head (rest w x n (s .at)))) (st-of w x n f (past w x n (s .at) rd) (fore s t))
+      ≡ go d (m (next-token (rest w x n (s .at)))) (st-of w x n f (past w x n (s .at) rd) (fore s t))
   unfolding go run
   by-there g h rd =
       rw (run, no {k = 0} u (λ z. omega (arith, g, h, z)), yes u h)
-      (ap (λ (S : St). go d (m (head (rest w x n (s .at)))) S) (adv s u (λ _. plain) f rd))
+      (ap (λ (S : St). go d (m (next-token (rest w x n (s .at)))) S) (adv s u (λ _. plain) f rd))
 
 -- ---- `alias`
 
@@ -160,7 +160,7 @@ abbrev name-on : ℕ → Place → Tok → Act (Ans Node)
 name-on words p n = P.expect 26 >>? λ _. equals-on words p n
 
 -- what follows the name is paid for by it
-module _ {w x : List ℕ} {n d : ℕ} {o r f r1 f1 o1 r2 f2 : List ℕ} {s : State} {t : Front} {a b : Answer}
+module _ {w x : List ℕ} {n d : ℕ} {o r f r1 f1 o1 r2 f2 : List ℕ} {s : State} {t : Token} {a b : Answer}
     (q : Asked w x n o r f s) (u : Seen w x n (s .at) t)
     (X : Expects w x n (λ role. P.expect-as role 26) r f (fore s t) r1 f1 a)
     (B : Reads node w x n d P.parse-type o r1 f1 (a .state) o1 r2 f2 b) where
@@ -180,7 +180,7 @@ module _ {w x : List ℕ} {n d : ℕ} {o r f r1 f1 o1 r2 f2 : List ℕ} {s : Sta
     pub alias-room : length o1 ≡ length o → Room o1 x (c .state .pos) (16 + t .len) (t .start) (t .len)
     alias-room l = record { room = omega (arith, alias-paid, q .room); part = u .part }
 
-module _ (d words line column : ℕ) {w x : List ℕ} {n : ℕ} {o r f : List ℕ} {s : State} {t : Front}
+module _ (d words line column : ℕ) {w x : List ℕ} {n : ℕ} {o r f : List ℕ} {s : State} {t : Token}
     (q : Asked w x n o r f s) (u : Seen w x n (s .at) t) where
   pub alias-end : {y : Answer} → t .kind ≡ 0 → y ≡ refused-at n s 11
       → Reads node w x n d (alias-rule words (place-at line column)) o r f s o r f y
@@ -197,12 +197,12 @@ module _ (d words line column : ℕ) {w x : List ℕ} {n : ℕ} {o r f : List �
     alias-named : (rd : List Consumed)
         → go d (alias-rule words (place-at line column)) (st-of w x n f rd s)
         ≡ after (go d (P.expect 26) (st-of w x n f (past w x n (s .at) rd) (fore s t)))
-        (λ z S. go d (or-return (λ _. equals-on words (place-at line column) (head (rest w x n (s .at)))) z) S)
+        (λ z S. go d (or-return (λ _. equals-on words (place-at line column) (next-token (rest w x n (s .at)))) z) S)
     unfolding alias-rule
     alias-named rd =
         by-there d 1 16 (name-on words (place-at line column)) q u (omega arith) h rd
         ∙ go-bind d (P.expect 26)
-        (or-return (λ _. equals-on words (place-at line column) (head (rest w x n (s .at)))))
+        (or-return (λ _. equals-on words (place-at line column) (next-token (rest w x n (s .at)))))
         (st-of w x n f (past w x n (s .at) rd) (fore s t))
 
     pub alias-stops : Stopped a → Reads node w x n d (alias-rule words (place-at line column)) o r f s o r1 f1 a
@@ -228,15 +228,15 @@ module _ (d words line column : ℕ) {w x : List ℕ} {n : ℕ} {o r f : List �
     alias-done z B lr lf C F =
         let g : (rd : List Consumed) → Good _ _ _ [] [] w x n o r1 f1 a (go d (P.expect 26) (st-of w x n f (past w x n (s .at) rd) (fore s t))) =
         λ rd. good-of z (X .is plain d (past w x n (s .at) rd) o) in
-        let end : Fallible Node → Act (Ans Node) = aliased words (place-at line column) (head (rest w x n (s .at))) in
-        record-reads {K = node} (place-at line column) (λ _. byte words ∷ []) (head (rest w x n (s .at)) .text) F
+        let end : Fallible Node → Act (Ans Node) = aliased words (place-at line column) (next-token (rest w x n (s .at))) in
+        record-reads {K = node} (place-at line column) (λ _. byte words ∷ []) (next-token (rest w x n (s .at)) .text) F
         (moved-trans (moved-trans (moved-trans (fore-moved (q .asks) u) (X .moved)) (B .moved)) (C .moved))
         (omega (arith, C .moved .at, B .moved .at, X .moved .at, u .on, u .kind))
         (omega (arith, alias-paid q u X B h C))
         (λ _ _. rw (u .text))
         (λ rd. after (go d P.parse-type (st-of w x n f1 (g rd .read) (a .state))) (λ z S. go d (or-return (expecting plain 50) z) S))
         (λ rd. alias-named rd ∙ follows d
-        (λ _. equals-on words (place-at line column) (head (rest w x n (s .at)))) (g rd .is) ∙ go-bind d
+        (λ _. equals-on words (place-at line column) (next-token (rest w x n (s .at)))) (g rd .is) ∙ go-bind d
         P.parse-type (or-return (λ ty. P.expect 50 >>? λ _. end ty)) (st-of w x n f1 (g rd .read) (a .state))
         ∙ expect-seam d plain 50 end (go d P.parse-type (st-of w x n f1 (g rd .read) (a .state))))
         (λ rd. expects-behind (alias-follows q u X B z lr lf) C plain d
@@ -274,7 +274,7 @@ module _ {w x : List ℕ} {n : ℕ} {o r f : List ℕ} {s : State} {m : AliasWor
         few = q .asks .few;
       }
 
-module _ (d : ℕ) {w x : List ℕ} {n : ℕ} {o r f : List ℕ} {s : State} {t : Front} {m : AliasWords}
+module _ (d : ℕ) {w x : List ℕ} {n : ℕ} {o r f : List ℕ} {s : State} {t : Token} {m : AliasWords}
     (q : Asked w x n o r f s) (u : Seen w x n (s .at) t) (M : Modified w x n 0 0 (s .at) m) where
   modified-step : (rd : List Consumed)
       → go d P.parse-type-alias (st-of w x n f rd s)
@@ -282,7 +282,7 @@ module _ (d : ℕ) {w x : List ℕ} {n : ℕ} {o r f : List ℕ} {s : State} {t 
       (st-of w x n f (M .read rd) (onto s (m .next)))
   unfolding go run P.parse-type-alias alias-rule
   modified-step rd =
-      let p : Place = head (rest w x n (s .at)) .place in
+      let p : Place = next-token (rest w x n (s .at)) .place in
       let S : St = st-of w x n f (M .read rd) (onto s (m .next)) in
       loop-bind d (Modifiers (record { distinct = 0; internal = 0 })) (typed-on p) (st-of w x n f rd s)
       ∙ ap (λ (z : Res A.Words). after z (λ v T. go d (typed-on p v) T)) (M .is d rd (errs f (s .full)))
@@ -298,11 +298,11 @@ module _ (d : ℕ) {w x : List ℕ} {n : ℕ} {o r f : List ℕ} {s : State} {t 
       }
     where
       -- a token was passed before `type`, or none
-      passed : (b : Bool) → ltb (s .at) (m .next) ≡ b → s .at + min (head (rest w x n (s .at)) .kind) 1 ≤ y .state .at
+      passed : (b : Bool) → ltb (s .at) (m .next) ≡ b → s .at + min (next-token (rest w x n (s .at)) .kind) 1 ≤ y .state .at
       passed true e = omega (arith, ltb-true (s .at) (m .next) e, R .moved .at)
       passed false e =
           let h : m .next ≡ s .at = omega (arith, ltb-false (s .at) (m .next) e, M .up) in
-          omega (arith, R .on, h, ap (λ (i : ℕ). head (rest w x n i) .kind) h)
+          omega (arith, R .on, h, ap (λ (i : ℕ). next-token (rest w x n i) .kind) h)
 
 -- ---- `path`
 
@@ -311,7 +311,7 @@ abbrev string-on : Place → Tok → Act (Ans Node)
 string-on p n = P.expect 50 >>? λ _. P.good (P.node [] 0x52 p [] (n .text)) []
 
 -- what follows the string is paid for by it
-module _ {w x : List ℕ} {n : ℕ} {o r f r1 f1 : List ℕ} {s : State} {t : Front} {a : Answer}
+module _ {w x : List ℕ} {n : ℕ} {o r f r1 f1 : List ℕ} {s : State} {t : Token} {a : Answer}
     (q : Asked w x n o r f s) (u : Seen w x n (s .at) t) (h : t .kind ≡ 3)
     (X : Expects w x n (λ role. P.expect-as role 50) r f (fore s t) r1 f1 a) where
   path-paid : a .state .pos + budget w x n (a .state .at) + (16 + t .len) ≤ s .pos + budget w x n (s .at)
@@ -320,7 +320,7 @@ module _ {w x : List ℕ} {n : ℕ} {o r f r1 f1 : List ℕ} {s : State} {t : Fr
   pub path-room : Room o x (a .state .pos) (16 + t .len) (t .start) (t .len)
   path-room = record { room = omega (arith, path-paid, q .room); part = u .part }
 
-module _ (d line column : ℕ) {w x : List ℕ} {n : ℕ} {o r f : List ℕ} {s : State} {t : Front}
+module _ (d line column : ℕ) {w x : List ℕ} {n : ℕ} {o r f : List ℕ} {s : State} {t : Token}
     (q : Asked w x n o r f s) (u : Seen w x n (s .at) t) where
   pub path-end : {y : Answer} → t .kind ≡ 0 → y ≡ refused-at n s 11 → Reads node w x n d (path-rule (place-at line column)) o r f s o r f y
   unfolding path-rule
@@ -340,8 +340,8 @@ module _ (d line column : ℕ) {w x : List ℕ} {n : ℕ} {o r f : List ℕ} {s 
         → Reads node w x n d (path-rule (place-at line column)) o r f s o1 r1 f1 y
     unfolding path-rule
     path-done F =
-        let text : List ℕ = head (rest w x n (s .at)) .text in
-        let end : Fallible Tok → Act (Ans Node) = wrapped (token (head (rest w x n (t .next)))) [] [] 0x52
+        let text : List ℕ = next-token (rest w x n (s .at)) .text in
+        let end : Fallible Tok → Act (Ans Node) = wrapped (token (next-token (rest w x n (t .next)))) [] [] 0x52
         (λ _. place-at line column) (λ _. []) text in
         record-reads (place-at line column) (λ _. []) text F (moved-onward (fore-moved (q .asks) u) (X .moved))
         (omega (arith, X .moved .at, u .on, u .kind)) (omega (arith, path-paid q u h X)) (λ _ _. rw (u .text))
@@ -354,7 +354,7 @@ module _ (d line column : ℕ) {w x : List ℕ} {n : ℕ} {o r f : List ℕ} {s 
 
 -- ---- `use_path`, `top_level_var_declaration`
 
-module _ (d : ℕ) {w x : List ℕ} {n : ℕ} (f : List ℕ) (s : State) {t : Front} (u : Seen w x n (s .at) t) (rd : List Consumed) where
+module _ (d : ℕ) {w x : List ℕ} {n : ℕ} (f : List ℕ) (s : State) {t : Token} (u : Seen w x n (s .at) t) (rd : List Consumed) where
   use-step : go d P.parse-use (st-of w x n f rd s)
       ≡ go d (P.expect 18 >>? λ _. path-rule (place-at (t .line) (t .column))) (st-of w x n f rd s)
   unfolding go run P.parse-use path-rule
@@ -365,7 +365,7 @@ module _ (d : ℕ) {w x : List ℕ} {n : ℕ} (f : List ℕ) (s : State) {t : Fr
   unfolding go run P.parse-top-level-var-declaration
   var-step = ap (λ (p : Place). go d (P.expect 5 >>? λ _. P.declaration 0x53 p) (st-of w x n f rd s)) (u .place)
 
-module _ {w x : List ℕ} {n d : ℕ} {o r f r1 f1 : List ℕ} {s : State} {t : Front} {a : Answer} (u : Seen w x n (s .at) t) where
+module _ {w x : List ℕ} {n d : ℕ} {o r f r1 f1 : List ℕ} {s : State} {t : Token} {a : Answer} (u : Seen w x n (s .at) t) where
   module _ (X : Expects w x n (λ role. P.expect-as role 18) r f s r1 f1 a) where
     pub use-stops : Stopped a → Reads node w x n d P.parse-use o r f s o r1 f1 a
     use-stops nd = keyword-stops (path-rule (place-at (t .line) (t .column))) X (use-step d f s u) nd

@@ -10,7 +10,7 @@ use Rattle.definition.specs.Source.{Place}
 use Rattle.definition.specs.Node.{byte, two, Rec}
 use Rattle.definition.specs.Fallible.{Err, Fallible, Ans, ok, fatal}
 use Rattle.definition.specs.Kind as K
-use Rattle.definition.specs.Token.{Tok, head, _is_}
+use Rattle.definition.specs.Token.{Tok, next-token, _is_}
 use Rattle.definition.specs.Act as A
 use Rattle.definition.specs.Act.{Act, Items, Node, peek, next, if_then_else_, plain, St, Res, gives, refused, after, or-return, advance, run, _>>=_, _>>?_}
 use Rattle.definition.specs.Parser as P
@@ -25,7 +25,7 @@ use Rattle.fallible.specs.Lists.{errs}
 use Rattle.fallible.specs.Orders.{Exchanged}
 use Rattle.node.specs.Put.{Room}
 use Rattle.node.specs.declared.Numbers.the-variants.{Two, ByteTwo}
-use Rattle.steps.specs.declared.Front.{Front}
+use Rattle.steps.specs.declared.Token.{Token}
 use Rattle.steps.specs.Tokens.{rest, budget, Seen}
 use Rattle.steps.specs.Shows.{st-of, Asked, Moved, Good, Shows, Reads, done-of, node, token, items, Expects, Follows, Expected, Finished}
 use Rattle.steps.proofs.Tokens.{yes, no, fore, adv}
@@ -58,7 +58,7 @@ module _ {w x : List ℕ} {n name i j : ℕ} {o r f : List ℕ} {a : Answer} (q 
   pub external-follows : Follows w x n r f a i j
   external-follows = record { asks = q .asked .asks; pos = q .pos; reported = q .reported }
 
-  module _ {t : Front} {r1 f1 : List ℕ} {b : Answer} (u : Seen w x n name t) (X : Expected w x n 50 i j r f a r1 f1 b) where
+  module _ {t : Token} {r1 f1 : List ℕ} {b : Answer} (u : Seen w x n name t) (X : Expected w x n 50 i j r f a r1 f1 b) where
     pub external-room : Room o x (b .state .pos) (16 + t .len) (t .start) (t .len)
     external-room = record { room = omega (arith, q .room, X .high, text-length u); part = u .part }
 
@@ -88,10 +88,10 @@ module _ {w x : List ℕ} {n name i j : ℕ} {o r f : List ℕ} {a : Answer} (q 
                 few = omega (arith, F .full, X .moved);
               };
           is = λ T E p li lj v.
-              say (outside-seam d (place-at line column) (head (rest w x n name)) p
-              ∙ expect-seam d plain 50 (outside (place-at line column) (head (rest w x n name))) p)
+              say (outside-seam d (place-at line column) (next-token (rest w x n name)) p
+              ∙ expect-seam d plain 50 (outside (place-at line column) (next-token (rest w x n name))) p)
               (finishes d (λ _. place-at line column) (λ i. byte 1 ∷ two (i .count) ∷ [])
-              (head (rest w x n name) .text) F (λ k h. rw (h, expected-line X, u .text))
+              (next-token (rest w x n name) .text) F (λ k h. rw (h, expected-line X, u .text))
               (expects-behind external-follows X plain d li lj v));
         }
 
@@ -141,7 +141,7 @@ module _ {w x : List ℕ} {n d name i j : ℕ} {o r f : List ℕ} {a : Answer} (
           full = omega arith;
           few = q .asked .asks .few;
         };
-    is = λ T E h li lj v. stops d (function-on p 0 (head (rest w x n name))) h nd v;
+    is = λ T E h li lj v. stops d (function-on p 0 (next-token (rest w x n name))) h nd v;
   }
 
   module _ {o1 r1 f1 : List ℕ} {b : Answer} (z : a .how ≡ Done) (B : ReadsBody w x n d o r f (a .state) o1 r1 f1 b) where
@@ -160,10 +160,10 @@ module _ {w x : List ℕ} {n d name i j : ℕ} {o r f : List ℕ} {a : Answer} (
           };
       is = λ T E h li lj v.
           let g = good-of z v in
-          say (follows d (function-on p 0 (head (rest w x n name))) (g .is)
-          ∙ body-first d p (head (rest w x n name)) (record { item = g .item; errors = g .errors })
+          say (follows d (function-on p 0 (next-token (rest w x n name))) (g .is)
+          ∙ body-first d p (next-token (rest w x n name)) (record { item = g .item; errors = g .errors })
           (st-of w x n f (g .read) (a .state)))
-          (stops d (bodied p (head (rest w x n name)) (record { item = g .item; errors = g .errors })) _ nd
+          (stops d (bodied p (next-token (rest w x n name)) (record { item = g .item; errors = g .errors })) _ nd
           (rebased (B .never) (g .item .recs) (g .errors) (g .tree) (g .rep) (B .is (g .read))));
     }
 
@@ -179,7 +179,7 @@ module _ {w x : List ℕ} {n d name i j : ℕ} {o r f : List ℕ} {a : Answer} (
       ),
     )
 
-module _ {w x : List ℕ} {n d name i j line column : ℕ} {o r f : List ℕ} {a : Answer} (q : FunctionAsked w x n o r f name a i j) {o1 r1 f1 o2 : List ℕ} {b c : Answer} {t : Front} (z : a .how ≡ Done) (B : ReadsBody w x n d o r f (a .state) o1 r1 f1 b)
+module _ {w x : List ℕ} {n d name i j line column : ℕ} {o r f : List ℕ} {a : Answer} (q : FunctionAsked w x n o r f name a i j) {o1 r1 f1 o2 : List ℕ} {b c : Answer} {t : Token} (z : a .how ≡ Done) (B : ReadsBody w x n d o r f (a .state) o1 r1 f1 b)
     (F : Finished x o1 b (record { tag = 0x40; line = line; column = column; numbers = Two (b .line); start = 0; len = 0 }) o2 c) (u : Seen w x n name t) where
   pub whole-room : length o2 ≡ length o → Room o2 x (c .state .pos) (16 + t .len) (t .start) (t .len)
   whole-room l = record { room = omega (arith, q .room, B .moved .room, F .high, text-length u, l); part = u .part }
@@ -187,7 +187,7 @@ module _ {w x : List ℕ} {n d name i j line column : ℕ} {o r f : List ℕ} {a
   module _ {r2 o3 : List ℕ} {y : Answer} (h : b .how ≡ Done)
       (X : Exchanged r1 j (a .state .reported) (b .state .reported) r2)
       (G : Finished x o2 c (record { tag = 0x50; line = line; column = column; numbers = ByteTwo 0 (a .line); start = t .start; len = t .len }) o3 y) where
-    whole-moved : Moved w x n i j (up (19 + length (head (rest w x n name) .text)) (a .state)) (y .state)
+    whole-moved : Moved w x n i j (up (19 + length (next-token (rest w x n name) .text)) (a .state)) (y .state)
     whole-moved =
         let e : budget w x n (y .state .at) ≡ budget w x n (b .state .at) = ap (λ (k : ℕ). budget w x n k) (G .at ∙ F .at) in
         let k = text-length u in
@@ -224,10 +224,10 @@ module _ {w x : List ℕ} {n d name i j line column : ℕ} {o r f : List ℕ} {a
           })
 
       whole-shown : Shows node T E [] [] w x n o3 r2 f1 y
-          (after k (λ z S. go d (or-return (function-on (place-at line column) 0 (head (rest w x n name))) z) S))
+          (after k (λ z S. go d (or-return (function-on (place-at line column) 0 (next-token (rest w x n name))) z) S))
       whole-shown =
           let p : Place = place-at line column in
-          let nm : Tok = head (rest w x n name) in
+          let nm : Tok = next-token (rest w x n name) in
           let e : Fallible Items = record { item = g .item; errors = g .errors } in
           say (follows d (function-on p 0 nm) (g .is) ∙ body-first d p nm e (st-of w x n f (g .read) (a .state))
           ∙ follows d (bodied p nm e) (s .is)
@@ -303,7 +303,7 @@ module _ (d : ℕ) (p : Place) (external : ℕ) (name : Tok) where
           → after q (λ ps S. go d (returning p external name ps) S)
           ≡ after (after q (λ ps S. go d (return-rule p >>? λ r. as-answer (signed ps r)) S))
           (λ z S. go d (or-return (function-on p external name) z) S)
-      one (gives ps S) = arrowed ps S (head (S .tokens) is K.RArrow)
+      one (gives ps S) = arrowed ps S (next-token (S .tokens) is K.RArrow)
       one (refused n) = refl
 
 -- ---- `function`
@@ -349,10 +349,10 @@ module _ {w x : List ℕ} {n d : ℕ} {o r f r1 f1 : List ℕ} {s : State} {a : 
               ∙ follows d (λ _. P.expect-identifier >>? headed p external) (g .is)
               ∙ go-bind d P.expect-identifier (or-return (headed p external))
               (st-of w x n f1 (g .read) (a .state)))
-              (stops {K = token (head (rest w x n (a .state .at)))} {rs = []} {es = []} d (headed p external) _ nd
-              (subst (λ (T : List ℕ). Shows (token (head (rest w x n (a .state .at)))) T (errs r (s .reported)) [] [] w x n o r2 f2 b (go d P.expect-identifier (st-of w x n f1 (g .read) (a .state)))) (ap (λ (k : ℕ). take k o) (X .pos))
+              (stops {K = token (next-token (rest w x n (a .state .at)))} {rs = []} {es = []} d (headed p external) _ nd
+              (subst (λ (T : List ℕ). Shows (token (next-token (rest w x n (a .state .at)))) T (errs r (s .reported)) [] [] w x n o r2 f2 b (go d P.expect-identifier (st-of w x n f1 (g .read) (a .state)))) (ap (λ (k : ℕ). take k o) (X .pos))
               (subst
-              (λ (E : List Err). Shows (token (head (rest w x n (a .state .at)))) (take (a .state .pos) o) E []
+              (λ (E : List Err). Shows (token (next-token (rest w x n (a .state .at)))) (take (a .state .pos) o) E []
               [] w x n o r2 f2 b (go d P.expect-identifier (st-of w x n f1 (g .read) (a .state)))) (kept .1)
               (Y .is plain d (g .read) o))));
         }
@@ -360,7 +360,7 @@ module _ {w x : List ℕ} {n d : ℕ} {o r f r1 f1 : List ℕ} {s : State} {a : 
     module _ {p : Place} {o3 r3 f3 : List ℕ} {c : Answer} (q : Asked w x n o r f s) (y : b .how ≡ Done)
         (G : ReadsSignature w x n d p o r2 f2 (b .state) o3 r3 f3 c) where
       -- `fn` and the name pay for the records of the type, the block and the function
-      function-pays : c .state .pos + budget w x n (c .state .at) + 25 + length (head (rest w x n (a .state .at)) .text)
+      function-pays : c .state .pos + budget w x n (c .state .at) + 25 + length (next-token (rest w x n (a .state .at)) .text)
           ≤ s .pos + budget w x n (s .at)
       function-pays =
           let da : done-of (a .how) ≡ 1 = rw z in
@@ -423,7 +423,7 @@ module _ {w x : List ℕ} {n d : ℕ} {o r f r1 f1 : List ℕ} {s : State} {a : 
 
 -- ---- `function_definition`
 
-module _ {w x : List ℕ} {n d : ℕ} {o r f o1 r1 f1 : List ℕ} {s : State} {t : Front} {y : Answer} (u : Seen w x n (s .at) t) where
+module _ {w x : List ℕ} {n d : ℕ} {o r f o1 r1 f1 : List ℕ} {s : State} {t : Token} {y : Answer} (u : Seen w x n (s .at) t) where
   pub definition-external : t .kind ≡ 19
       → Reads node w x n d (P.function (place-at (t .line) (t .column)) 1) o r f (fore s t) o1 r1 f1 y
       → Reads node w x n d P.parse-function-definition o r f s o1 r1 f1 y
@@ -433,7 +433,7 @@ module _ {w x : List ℕ} {n d : ℕ} {o r f o1 r1 f1 : List ℕ} {s : State} {t
     on = omega (arith, B .moved .at, u .on, u .kind);
     is =
         λ rd. say (rw (run, yes u h)
-        (ap (λ (S : St). go d (P.function (head (rest w x n (s .at)) .place) 1) S) (adv s u (λ _. plain) f rd)
+        (ap (λ (S : St). go d (P.function (next-token (rest w x n (s .at)) .place) 1) S) (adv s u (λ _. plain) f rd)
         ∙ ap (λ (p : Place). go d (P.function p 1) (st-of w x n f (past w x n (s .at) rd) (fore s t))) (u .place)))
         (B .is (past w x n (s .at) rd));
   }

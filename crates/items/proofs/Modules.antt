@@ -6,7 +6,7 @@ use Prim.Native.Nat.{ℕ, _≤_}
 use native.Mathlib.Omega.{arith}
 use lib.Dec.{eqb}
 use Rattle.definition.specs.Node.{recs-bytes}
-use Rattle.definition.specs.Token.{head, _is_}
+use Rattle.definition.specs.Token.{next-token, _is_}
 use Rattle.definition.specs.Act.{Items, Module, plain, Consumed, Res, gives, after, run, _>>=_}
 use Rattle.definition.specs.Parser as P
 use Rattle.definition.specs.Go.{go}
@@ -17,7 +17,7 @@ use Rattle.fallible.specs.declared.Answer.{Answer}
 use Rattle.fallible.specs.Lists.{unpack, error-at, errs}
 use Rattle.fallible.specs.Answers.{raised, Raised}
 use Rattle.node.specs.declared.Numbers.the-variants.{None}
-use Rattle.steps.specs.declared.Front.{Front}
+use Rattle.steps.specs.declared.Token.{Token}
 use Rattle.steps.specs.Tokens.{rest, Seen}
 use Rattle.steps.specs.Shows.{st-of, Asked, Reads, node, Finished, texted}
 use Rattle.steps.proofs.Tokens.{yes, no, fore, adv}
@@ -34,15 +34,15 @@ use Rattle.items.specs.Items.{ReadsModule}
 -- ---- `top_level_item`
 
 -- a token of one of two kinds, or of three
-module _ {w x : List ℕ} {n at : ℕ} {t : Front} {c : Bool} (u : Seen w x n at t) where
-  either : (i j : ℕ) → (eqb (t .kind) i || eqb (t .kind) j) ≡ c → (head (rest w x n at) is i || head (rest w x n at) is j) ≡ c
+module _ {w x : List ℕ} {n at : ℕ} {t : Token} {c : Bool} (u : Seen w x n at t) where
+  either : (i j : ℕ) → (eqb (t .kind) i || eqb (t .kind) j) ≡ c → (next-token (rest w x n at) is i || next-token (rest w x n at) is j) ≡ c
   either i j h = rw (u .kind) h
 
   any : (i j k : ℕ) → ((eqb (t .kind) i || eqb (t .kind) j) || eqb (t .kind) k) ≡ c
-      → ((head (rest w x n at) is i || head (rest w x n at) is j) || head (rest w x n at) is k) ≡ c
+      → ((next-token (rest w x n at) is i || next-token (rest w x n at) is j) || next-token (rest w x n at) is k) ≡ c
   any i j k h = rw (u .kind) h
 
-module _ {w x : List ℕ} {n d : ℕ} {o r f : List ℕ} {s : State} {t : Front} (u : Seen w x n (s .at) t) where
+module _ {w x : List ℕ} {n d : ℕ} {o r f : List ℕ} {s : State} {t : Token} (u : Seen w x n (s .at) t) where
   pub item-function : {o1 r1 f1 : List ℕ} {y : Answer} → (eqb (t .kind) 4 || eqb (t .kind) 19) ≡ true
       → Reads node w x n d P.parse-function-definition o r f s o1 r1 f1 y
       → Reads node w x n d P.parse-top-level-item o r f s o1 r1 f1 y
@@ -84,7 +84,7 @@ module _ {w x : List ℕ} {n d : ℕ} {o r f : List ℕ} {s : State} {t : Front}
               → Reads node w x n d P.parse-top-level-item o r f s o1 r f y
           unfolding go run P.parse-top-level-item
           item-assembly h F =
-              leaf-reads (q .asks) u [] (head (rest w x n (s .at)) .text) F (omega (arith, h))
+              leaf-reads (q .asks) u [] (next-token (rest w x n (s .at)) .text) F (omega (arith, h))
               (rw (u .place, u .text)) d
               (λ rd. rw (run, either u 4 19 mf, any u 15 20 21 ma, no u m18, no u m5, yes u h))
 
@@ -100,7 +100,7 @@ module _ {w x : List ℕ} {n d : ℕ} {o r f : List ℕ} {s : State} {t : Front}
 
 -- ---- `module`
 
-module _ {w x : List ℕ} {n d count : ℕ} {o r f : List ℕ} {s : State} {t : Front}
+module _ {w x : List ℕ} {n d count : ℕ} {o r f : List ℕ} {s : State} {t : Token}
     (q : Asked w x n o r f s × (count ≤ s .at)) (v : Seen w x n (s .at) t) where
   pub module-end : t .kind ≡ 0 → LoopOn items-on w x n d count o r f s o r f (record { how = Done; state = s; line = count; column = 0 })
   unfolding go run P.module-turn

@@ -7,7 +7,7 @@ use native.Mathlib.Decide.{decLe}
 use lib.ListN.{length, take}
 use lib.Seq.{take-at}
 use Rattle.definition.specs.Fallible.{Err, Fallible, Ans}
-use Rattle.definition.specs.Token.{head}
+use Rattle.definition.specs.Token.{next-token}
 use Rattle.definition.specs.Act.{Act, Items, St, Res, gives, refused, after, or-return, run, _>>=_}
 use Rattle.definition.specs.Go.{go}
 use Rattle.definition.proofs.Flat.{go-bind}
@@ -68,7 +68,7 @@ turned {r} {r′} {j} {k} {m} E es fs x jk km lj lk e =
     (e ∙ sym (append-assoc E es fs))
 
 -- a token that pays is of some kind
-pub real : {w x : List ℕ} {n : ℕ} (i : ℕ) → Held w x n → 16 ≤ budget w x n i → 0 < head (rest w x n i) .kind
+pub real : {w x : List ℕ} {n : ℕ} (i : ℕ) → Held w x n → 16 ≤ budget w x n i → 0 < next-token (rest w x n i) .kind
 unfolding spend
 real {w} {x} {n} i q h =
     elim (decLe n i)

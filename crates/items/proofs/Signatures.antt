@@ -21,7 +21,7 @@ use Rattle.fallible.specs.Lists.{errs}
 use Rattle.fallible.specs.Answers.{Abandoned, Cuts}
 use Rattle.fallible.specs.Orders.{Exchanged}
 use Rattle.node.specs.declared.Numbers.the-variants.{None}
-use Rattle.steps.specs.declared.Front.{Front}
+use Rattle.steps.specs.declared.Token.{Token}
 use Rattle.steps.specs.Tokens.{budget, Seen}
 use Rattle.steps.specs.Shows.{st-of, Asked, Moved, Good, Shows, Reads, node, items, Finished}
 use Rattle.steps.proofs.Tokens.{yes, no, fore, adv}
@@ -35,7 +35,7 @@ use Rattle.items.proofs.Orders.{answered, still, turned}
 
 -- ---- `return_type`
 
-module _ {w x : List ℕ} {n d line column : ℕ} {o r f : List ℕ} {s : State} {t : Front} (u : Seen w x n (s .at) t) where
+module _ {w x : List ℕ} {n d line column : ℕ} {o r f : List ℕ} {s : State} {t : Token} (u : Seen w x n (s .at) t) where
   pub type-given : {o1 r1 f1 : List ℕ} {y : Answer} → t .kind ≡ 51
       → Reads node w x n d P.parse-type o r f (fore s t) o1 r1 f1 y
       → ReadsType w x n d (place-at line column) o r f s o1 r1 f1 y

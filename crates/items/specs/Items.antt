@@ -6,7 +6,7 @@ use Prim.Native.Nat.{ℕ, _+_, _≤_}
 use lib.ListN.{length, take}
 use Rattle.definition.specs.Source.{Place}
 use Rattle.definition.specs.Fallible.{Err, Ans}
-use Rattle.definition.specs.Token.{head}
+use Rattle.definition.specs.Token.{next-token}
 use Rattle.definition.specs.Act as A
 use Rattle.definition.specs.Act.{Items, done, loop, Consumed, begin, Res, gives, after, or-return, _>>=_}
 use Rattle.definition.specs.Parser as P
@@ -41,14 +41,14 @@ pub record ReadsSignature (w x : List ℕ) (n d : ℕ) (p : Place) (o r f : List
 pub record FunctionAsked (w x : List ℕ) (n : ℕ) (o r f : List ℕ) (name : ℕ) (a : Answer) (i j : ℕ) : Type 0 where
   pub asked : Asked w x n o r f (a .state)
   pub within : name ≤ n
-  pub room : a .state .pos + budget w x n (a .state .at) + 41 + length (head (rest w x n name) .text) ≤ length o
+  pub room : a .state .pos + budget w x n (a .state .at) + 41 + length (next-token (rest w x n name) .text) ≤ length o
   pub pos : i ≤ a .state .pos
   pub reported : j ≤ a .state .reported
 
 pub record FunctionOn (w x : List ℕ) (n d external : ℕ) (p : Place) (name i j : ℕ) (o r f : List ℕ) (a : Answer) (o′ r′ f′ : List ℕ) (y : Answer) : Type 0 where
-  pub moved : Moved w x n i j (up (19 + length (head (rest w x n name) .text)) (a .state)) (y .state)
+  pub moved : Moved w x n i j (up (19 + length (next-token (rest w x n name) .text)) (a .state)) (y .state)
   pub is : (T : List ℕ) (E : List Err) (q : Res (Ans Items)) → length T ≡ i → length E ≡ j → Shows items T E [] [] w x n o r f a q
-      → Shows node T E [] [] w x n o′ r′ f′ y (after q (λ z S. go d (or-return (function-on p external (head (rest w x n name))) z) S))
+      → Shows node T E [] [] w x n o′ r′ f′ y (after q (λ z S. go d (or-return (function-on p external (next-token (rest w x n name))) z) S))
 
 -- ---- aliases and paths
 

@@ -11,13 +11,13 @@ use fallible::exchange;
 use leaves::Listed;
 use node::Numbers;
 use statement::body;
-use steps::Front;
+use steps::Token;
 use steps::and_expect;
 use steps::expect;
 use steps::expect_identifier;
-use steps::finish;
-use steps::finish_text;
-use steps::head;
+use steps::peek;
+use steps::write_node;
+use steps::write_text_node;
 ghost use Prim.Native.Nat.{ℕ};
 ghost use Rattle.definition.specs.Parser as P;
 ghost use Rattle.expression_laws.specs.Post.{place-of};
@@ -33,14 +33,14 @@ fn return_type(
     file: &mut [u8],
     rep: &mut [usize],
     full: &mut [usize],
-    lead: Front,
+    lead: Token,
     st: State,
     left: usize,
 ) -> Answer
     requires { ⌜ Asked tokens text n file rep full st ⌝ }
     ensures { λ r. ⌜ ReadsType (place-of lead) tokens text n file rep full st left r ⌝ }
 {
-    let t = head(tokens, text, n, st.at);
+    let t = peek(tokens, text, n, st.at);
     if t.kind == kind::R_ARROW {
         let on = State { at: t.next, ..st };
         return ty(tokens, text, n, file, rep, full, on, left);
@@ -51,7 +51,7 @@ fn return_type(
         line: lead.line,
         column: lead.column,
     };
-    finish(file, text, a, lead, tag::VOID, Numbers::None)
+    write_node(file, text, a, lead, tag::VOID, Numbers::None)
 }
 
 // parameters return_type. The answer's `line` is the count of parameters; the errors of the type are reported before theirs, and a fatal type drops theirs.
@@ -62,7 +62,7 @@ fn signature(
     file: &mut [u8],
     rep: &mut [usize],
     full: &mut [usize],
-    lead: Front,
+    lead: Token,
     st: State,
     left: usize,
 ) -> Answer
@@ -100,7 +100,7 @@ fn external_function(
     file: &mut [u8],
     rep: &mut [usize],
     full: &mut [usize],
-    lead: Front,
+    lead: Token,
     name: usize,
     a: Answer,
     from: State,
@@ -108,10 +108,10 @@ fn external_function(
     requires { ⌜ FunctionAsked tokens text n file rep full name a from ⌝ }
     ensures { λ r. ⌜ ((d : ℕ) → FunctionOn 1 (place-of lead) tokens text n file rep full name a from d r) ⌝ }
 {
-    let t = head(tokens, text, n, name);
+    let t = peek(tokens, text, n, name);
     let b = and_expect(tokens, text, n, rep, full, a, kind::SEMICOLON, from);
     let numbers = Numbers::ByteTwo(1, a.line);
-    finish_text(file, text, b, lead, tag::FUNCTION_DEFINITION, numbers, t)
+    write_text_node(file, text, b, lead, tag::FUNCTION_DEFINITION, numbers, t)
 }
 
 // A function's body and its record. The body's errors are reported before those of the signature.
@@ -122,7 +122,7 @@ fn whole_function(
     file: &mut [u8],
     rep: &mut [usize],
     full: &mut [usize],
-    lead: Front,
+    lead: Token,
     name: usize,
     a: Answer,
     from: State,
@@ -143,10 +143,10 @@ fn whole_function(
     };
     let e = b.state;
     exchange(rep, from.reported, s.reported, e.reported);
-    let c = finish(file, text, b, lead, tag::BLOCK, Numbers::Two(b.line));
-    let t = head(tokens, text, n, name);
+    let c = write_node(file, text, b, lead, tag::BLOCK, Numbers::Two(b.line));
+    let t = peek(tokens, text, n, name);
     let numbers = Numbers::ByteTwo(0, a.line);
-    finish_text(file, text, c, lead, tag::FUNCTION_DEFINITION, numbers, t)
+    write_text_node(file, text, c, lead, tag::FUNCTION_DEFINITION, numbers, t)
 }
 
 // `fn` name signature (`;` | body), the first where the function is external.
@@ -158,7 +158,7 @@ fn function(
     rep: &mut [usize],
     full: &mut [usize],
     external: bool,
-    lead: Front,
+    lead: Token,
     st: State,
     left: usize,
 ) -> Answer
@@ -198,7 +198,7 @@ pub fn function_definition(
     requires { ⌜ Asked tokens text n file rep full st ⌝ }
     ensures { λ r. ⌜ Parses P.parse-function-definition tokens text n file rep full st left r ⌝ }
 {
-    let t = head(tokens, text, n, st.at);
+    let t = peek(tokens, text, n, st.at);
     if t.kind == kind::KW_EXTERN {
         let on = State { at: t.next, ..st };
         return function(tokens, text, n, file, rep, full, true, t, on, left);

@@ -16,8 +16,8 @@ use node::Numbers;
 use others::top_level_var_declaration;
 use others::type_alias;
 use others::use_path;
-use steps::finish_text;
-use steps::head;
+use steps::peek;
+use steps::write_text_node;
 ghost use Rattle.definition.specs.Parser as P;
 ghost use Rattle.steps.specs.Contract.{Asked, Parses};
 ghost use Rattle.items.specs.Contract.{ReadsModule};
@@ -36,7 +36,7 @@ fn top_level_item(
     requires { ⌜ Asked tokens text n file rep full st ⌝ }
     ensures { λ r. ⌜ Parses P.parse-top-level-item tokens text n file rep full st left r ⌝ }
 {
-    let t = head(tokens, text, n, st.at);
+    let t = peek(tokens, text, n, st.at);
     if (t.kind == kind::KW_FN) | (t.kind == kind::KW_EXTERN) {
         return function_definition(tokens, text, n, file, rep, full, st, left);
     }
@@ -57,7 +57,7 @@ fn top_level_item(
             line: t.line,
             column: t.column,
         };
-        return finish_text(file, text, a, t, tag::TOP_LEVEL_ASSEMBLY, Numbers::None, t);
+        return write_text_node(file, text, a, t, tag::TOP_LEVEL_ASSEMBLY, Numbers::None, t);
     }
     let error = entry(parse_error::TOP_LEVEL, t.line, t.column, 0, t.kind);
     raise(n, rep, full, on, error)
@@ -86,7 +86,7 @@ pub fn module(
         full: 0,
     };
     loop {
-        let t = head(tokens, text, n, st.at);
+        let t = peek(tokens, text, n, st.at);
         if t.kind == kind::END {
             return Answer {
                 how: How::Done,

@@ -12,11 +12,11 @@ use fallible::raise;
 use fallible::refuse;
 use node::Numbers;
 use statement::declarations::declaration;
-use steps::Front;
+use steps::Token;
 use steps::and_expect;
 use steps::expect;
-use steps::finish_text;
-use steps::head;
+use steps::peek;
+use steps::write_text_node;
 ghost use Prim.Native.Nat.{ℕ, _+_, _≤_};
 ghost use Rattle.definition.specs.Parser as P;
 ghost use Rattle.steps.specs.Tokens.{Held};
@@ -40,7 +40,7 @@ fn modifiers(tokens: &[u32], text: &[u8], n: usize, from: usize) -> AliasWords
     let mut internal = 0;
     let mut at = from;
     loop {
-        let t = head(tokens, text, n, at);
+        let t = peek(tokens, text, n, at);
         if t.kind == kind::KW_DISTINCT {
             distinct = 1;
             at = t.next;
@@ -67,14 +67,14 @@ fn alias(
     rep: &mut [usize],
     full: &mut [usize],
     words: u8,
-    lead: Front,
+    lead: Token,
     st: State,
     left: usize,
 ) -> Answer
     requires { ⌜ Asked tokens text n file rep full st ⌝ }
     ensures { λ r. ⌜ Parses (alias-rule words (place-of lead)) tokens text n file rep full st left r ⌝ }
 {
-    let t = head(tokens, text, n, st.at);
+    let t = peek(tokens, text, n, st.at);
     let on = State { at: t.next, ..st };
     if t.kind == kind::END {
         return refuse(n, st, refusal::END_AFTER_WORD);
@@ -92,7 +92,7 @@ fn alias(
     let b = ty(tokens, text, n, file, rep, full, s, left);
     let c = and_expect(tokens, text, n, rep, full, b, kind::SEMICOLON, st);
     let numbers = Numbers::Byte(words);
-    finish_text(file, text, c, lead, tag::TYPE_ALIAS, numbers, t)
+    write_text_node(file, text, c, lead, tag::TYPE_ALIAS, numbers, t)
 }
 
 // parse_type_alias: modifiers `type` alias
@@ -110,7 +110,7 @@ pub fn type_alias(
     ensures { λ r. ⌜ Parses P.parse-type-alias tokens text n file rep full st left r ⌝ }
 {
     let at = st.at;
-    let t = head(tokens, text, n, at);
+    let t = peek(tokens, text, n, at);
     let m = modifiers(tokens, text, n, at);
     let on = State { at: m.next, ..st };
     let a = expect(tokens, text, n, rep, full, on, kind::KW_TYPE);
@@ -130,13 +130,13 @@ fn path(
     file: &mut [u8],
     rep: &mut [usize],
     full: &mut [usize],
-    lead: Front,
+    lead: Token,
     st: State,
 ) -> Answer
     requires { ⌜ Asked tokens text n file rep full st ⌝ }
     ensures { λ r. ⌜ ((d : ℕ) → Parses (path-rule (place-of lead)) tokens text n file rep full st d r) ⌝ }
 {
-    let t = head(tokens, text, n, st.at);
+    let t = peek(tokens, text, n, st.at);
     let on = State { at: t.next, ..st };
     if t.kind == kind::END {
         return refuse(n, st, refusal::END_AFTER_WORD);
@@ -146,7 +146,7 @@ fn path(
         return raise(n, rep, full, on, error);
     }
     let a = expect(tokens, text, n, rep, full, on, kind::SEMICOLON);
-    finish_text(file, text, a, lead, tag::USE, Numbers::None, t)
+    write_text_node(file, text, a, lead, tag::USE, Numbers::None, t)
 }
 
 // parse_use: `use` path
@@ -162,7 +162,7 @@ pub fn use_path(
     requires { ⌜ Asked tokens text n file rep full st ⌝ }
     ensures { λ r. ⌜ ((d : ℕ) → Parses P.parse-use tokens text n file rep full st d r) ⌝ }
 {
-    let t = head(tokens, text, n, st.at);
+    let t = peek(tokens, text, n, st.at);
     let a = expect(tokens, text, n, rep, full, st, kind::KW_USE);
     let how = a.how;
     let How::Done = how else {
@@ -186,7 +186,7 @@ pub fn top_level_var_declaration(
     requires { ⌜ Asked tokens text n file rep full st ⌝ }
     ensures { λ r. ⌜ Parses P.parse-top-level-var-declaration tokens text n file rep full st left r ⌝ }
 {
-    let t = head(tokens, text, n, st.at);
+    let t = peek(tokens, text, n, st.at);
     let a = expect(tokens, text, n, rep, full, st, kind::KW_VAR);
     let how = a.how;
     let How::Done = how else {

@@ -10,7 +10,7 @@ use types.Run.{OneOf}
 use denote.Enum.Declared.{tagOf}
 use Rattle.definition.specs.Node.{Num, byte, recs-bytes}
 use Rattle.definition.specs.Fallible.{Ans, ok}
-use Rattle.definition.specs.Token.{head}
+use Rattle.definition.specs.Token.{next-token}
 use Rattle.definition.specs.Act.{Node, Act, plain, Consumed, St, gives, advance, now-read, run}
 use Rattle.definition.specs.Parser as P
 use Rattle.definition.specs.Go.{go}
@@ -24,7 +24,7 @@ use Rattle.fallible.specs.declared.Answer.{Answer}
 use Rattle.fallible.specs.Lists.{unpack, error-at, errs}
 use Rattle.fallible.specs.Answers.{raised, Raised}
 use Rattle.fallible.proofs.How.{the-type}
-use Rattle.steps.specs.declared.Front.{Front}
+use Rattle.steps.specs.declared.Token.{Token}
 use Rattle.steps.specs.Tokens.{rest, budget, Seen}
 use Rattle.steps.specs.Shows.{st-of, Asks, node, token, Reads, Expects, Finished, texted, untexted}
 use Rattle.steps.proofs.Tokens.{yes, no, fore, adv}
@@ -35,16 +35,16 @@ use Rattle.leaves.proofs.Errors.{raise-reads}
 
 -- ---- a token alone is a node: the record z is written after it
 
-module _ {w x : List ℕ} {n : ℕ} {o o′ r f : List ℕ} {s : State} {t : Front} {z : Record} {y : Answer}
+module _ {w x : List ℕ} {n : ℕ} {o o′ r f : List ℕ} {s : State} {t : Token} {z : Record} {y : Answer}
     {m : Act (Ans Node)} (q : Asks w x n r f s) (v : Seen w x n (s .at) t) (ns : List Num) (text : List ℕ)
     (u : Finished x o (there s t) z o′ y) where
   pub leaf-reads : size-of z ≤ 16 * min (t .kind) 1 + t .len
       → rec-of x z
-      ≡ record { tag = z .tag; place = some (head (rest w x n (s .at)) .place); numbers = ns; text = text }
+      ≡ record { tag = z .tag; place = some (next-token (rest w x n (s .at)) .place); numbers = ns; text = text }
       → (d : ℕ)
       → ((rd : List Consumed)
       → go d m (st-of w x n f rd s)
-      ≡ go d (P.good (P.node [] (z .tag) (head (rest w x n (s .at)) .place) ns text) [])
+      ≡ go d (P.good (P.node [] (z .tag) (next-token (rest w x n (s .at)) .place) ns text) [])
       (advance (λ _. plain) (st-of w x n f rd s)))
       → Reads node w x n d m o r f s o′ r f y
   unfolding recs-bytes
@@ -64,12 +64,12 @@ module _ {w x : List ℕ} {n : ℕ} {o o′ r f : List ℕ} {s : State} {t : Fro
     on = omega (arith, v .kind, v .on, u .at);
     is =
         λ rd. say (g rd
-        ∙ ap (λ (S : St). go d (P.good (P.node [] (z .tag) (head (rest w x n (s .at)) .place) ns text) []) S)
+        ∙ ap (λ (S : St). go d (P.good (P.node [] (z .tag) (next-token (rest w x n (s .at)) .place) ns text) []) S)
         (adv s v (λ _. plain) f rd))
-        (finishes {K = token (head (rest w x n (s .at)))} {rs = []} {es = []} {q = gives (ok (record { item = head (rest w x n (s .at)); errors = [] })) (st-of w x n f (rd ++ now-read (λ _. plain) (rest w x n (s .at))) (fore s t))} d (λ _. head (rest w x n (s .at)) .place) (λ _. ns) text u (λ _ _. e)
+        (finishes {K = token (next-token (rest w x n (s .at)))} {rs = []} {es = []} {q = gives (ok (record { item = next-token (rest w x n (s .at)); errors = [] })) (st-of w x n f (rd ++ now-read (λ _. plain) (rest w x n (s .at))) (fore s t))} d (λ _. next-token (rest w x n (s .at)) .place) (λ _. ns) text u (λ _ _. e)
         (record {
           told = record {
-            item = head (rest w x n (s .at));
+            item = next-token (rest w x n (s .at));
             errors = [];
             read = rd ++ now-read (λ _. plain) (rest w x n (s .at));
             is = refl;
@@ -86,21 +86,21 @@ module _ {w x : List ℕ} {n : ℕ} {o o′ r f : List ℕ} {s : State} {t : Fro
 abbrev pub Atom : List ℕ → List ℕ → ℕ → List ℕ → List ℕ → List ℕ → State → List ℕ → List ℕ → List ℕ → Answer → Type 0
 Atom w x n o r f s o′ r′ f′ y = (d : ℕ) → Reads node w x n d P.parse-atom o r f s o′ r′ f′ y
 
-module _ {w x : List ℕ} {n : ℕ} {o r f : List ℕ} {s : State} {t : Front} (q : Literal w x n o r f s) (v : Seen w x n (s .at) t) where
+module _ {w x : List ℕ} {n : ℕ} {o r f : List ℕ} {s : State} {t : Token} (q : Literal w x n o r f s) (v : Seen w x n (s .at) t) where
   pub integer-reads : {o′ : List ℕ} {y : Answer} → t .kind ≡ 2
       → Finished x o (there s t) (texted t 33 (Byte (t .base % 256)) t) o′ y → Atom w x n o r f s o′ r f y
   unfolding go run P.parse-atom
   integer-reads z u d =
       let b : t .base % 256 ≡ t .base = omega (arith, v .bases) in
-      leaf-reads (q .asked .asks) v (byte (head (rest w x n (s .at)) .base) ∷ [])
-      (head (rest w x n (s .at)) .text) u (omega arith) (rw (v .place, v .text, v .base, b)) d
+      leaf-reads (q .asked .asks) v (byte (next-token (rest w x n (s .at)) .base) ∷ [])
+      (next-token (rest w x n (s .at)) .text) u (omega arith) (rw (v .place, v .text, v .base, b)) d
       (λ rd. rw (run, yes v z))
 
   module _ (m2 : t .kind ≡ 2 → ⊥) where
     pub name-reads : {o′ : List ℕ} {y : Answer} → t .kind ≡ 1 → Finished x o (there s t) (identifier t) o′ y → Atom w x n o r f s o′ r f y
     unfolding go run P.parse-atom
     name-reads z u d =
-        leaf-reads (q .asked .asks) v [] (head (rest w x n (s .at)) .text) u (omega arith)
+        leaf-reads (q .asked .asks) v [] (next-token (rest w x n (s .at)) .text) u (omega arith)
         (rw (v .place, v .text)) d (λ rd. rw (run, no v m2, yes v z))
 
     module _ (m1 : t .kind ≡ 1 → ⊥) where
@@ -108,7 +108,7 @@ module _ {w x : List ℕ} {n : ℕ} {o r f : List ℕ} {s : State} {t : Front} (
           → Atom w x n o r f s o′ r f y
       unfolding go run P.parse-atom
       string-reads z u d =
-          leaf-reads (q .asked .asks) v [] (head (rest w x n (s .at)) .text) u (omega arith)
+          leaf-reads (q .asked .asks) v [] (next-token (rest w x n (s .at)) .text) u (omega arith)
           (rw (v .place, v .text)) d (λ rd. rw (run, no v m2, no v m1, yes v z))
 
       module _ (m3 : t .kind ≡ 3 → ⊥) where

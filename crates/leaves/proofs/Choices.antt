@@ -7,7 +7,7 @@ use native.Mathlib.Omega.{arith}
 use lib.Dec.{eqb}
 use borrow.Author.Tests.{eq-eqb, ne-eqb, eqb-true, eqb-false, not-true}
 use Rattle.definition.specs.Fallible.{Ans}
-use Rattle.definition.specs.Token.{Tok, head}
+use Rattle.definition.specs.Token.{Tok, next-token}
 use Rattle.definition.specs.Act as A
 use Rattle.definition.specs.Act.{Node, Act, St, run}
 use Rattle.definition.specs.Kind as K
@@ -88,7 +88,7 @@ prefixed {k} {r} h g i =
     record {
       small = h;
       real = g;
-      is = λ d S e. i .is (head (S .tokens)) e (λ o. P.prefix (o + 1)) P.parse-call d S ∙ one (eqb r 0) refl d S;
+      is = λ d S e. i .is (next-token (S .tokens)) e (λ o. P.prefix (o + 1)) P.parse-call d S ∙ one (eqb r 0) refl d S;
     }
   where
     one : (b : Bool) → eqb r 0 ≡ b → (d : ℕ) (S : St)

@@ -19,7 +19,7 @@ use Rattle.fallible.specs.declared.Answer.{Answer}
 use Rattle.fallible.specs.Lists.{unpack, errs}
 use Rattle.fallible.specs.Answers.{refused-at, one-more, making, raised, Raised}
 use Rattle.fallible.proofs.Grown.{errs-length}
-use Rattle.steps.specs.declared.Front.{Front}
+use Rattle.steps.specs.declared.Token.{Token}
 use Rattle.steps.specs.Tokens.{rest, Seen}
 use Rattle.steps.specs.Shows.{st-of, Asks, View, Reads}
 use Rattle.steps.proofs.Tokens.{fore}
@@ -54,7 +54,7 @@ module _ {A : Type 0} {w x : List ℕ} {n : ℕ} {r f r′ f′ : List ℕ} {s :
   makes-none h = rw (few, le-ltb (s .full) 255 h, run)
 
 -- an error is raised after a token
-module _ {A : Type 0} {K : View A} {w x : List ℕ} {n : ℕ} {o r f r′ f′ : List ℕ} {s : State} {t : Front}
+module _ {A : Type 0} {K : View A} {w x : List ℕ} {n : ℕ} {o r f r′ f′ : List ℕ} {s : State} {t : Token}
     {m : Act (Ans A)} {e : ℕ} {a : Answer} (q : Asks w x n r f s) (v : Seen w x n (s .at) t) (role : Role)
     (g : Raised (raised n (fore s t)) r f (fore s t) e r′ f′ a) (d : ℕ) where
   pub raise-reads : ((rd : List Consumed)

@@ -13,7 +13,7 @@ use Rattle.fallible.specs.declared.How.the-variants.{Done}
 use Rattle.fallible.specs.declared.Answer.{Answer}
 use Rattle.fallible.specs.Lists.{unpack, error-at}
 use Rattle.fallible.specs.Answers.{noted, Raised}
-use Rattle.steps.specs.declared.Front.{Front}
+use Rattle.steps.specs.declared.Token.{Token}
 use Rattle.steps.specs.Tokens.{rest, Seen}
 use Rattle.steps.specs.Shows.{st-of, Asks, Moved}
 use Rattle.steps.proofs.Tokens.{yes, no, fore, adv}
@@ -29,7 +29,7 @@ make-same : (d : ℕ) (k : Listed) (i : Items) {X Y : Err} {S S′ : St} → X �
     ≡ go d (make Y (loop (ListOf k (P.with-error i Y)) done)) S′
 make-same d k i p q = rw (p, q)
 
-module _ {w x : List ℕ} {n : ℕ} {r f : List ℕ} {s : State} {close : ℕ} {t : Front} (q : Asks w x n r f s) (v : Seen w x n (s .at) t) where
+module _ {w x : List ℕ} {n : ℕ} {r f : List ℕ} {s : State} {close : ℕ} {t : Token} (q : Asks w x n r f s) (v : Seen w x n (s .at) t) where
   -- nothing is made, and the list goes on
   goes : {s′ : State} (read : Listed → List Consumed → List Consumed) → Moved w x n (s .pos) (s .reported) s s′
       → s′ .pos ≡ s .pos → s′ .reported ≡ s .reported

@@ -6,7 +6,7 @@ use Prim.Native.Nat.{ℕ, min, _+_, _-_, _^_, _≤_}
 use lib.Dec.{eqb, ltb}
 use Rattle.definition.specs.Choice.{pick}
 use Rattle.definition.specs.Fallible.{Err, Ans}
-use Rattle.definition.specs.Token.{Tok, head, dashed, number}
+use Rattle.definition.specs.Token.{Tok, next-token, dashed, number}
 use Rattle.definition.specs.Act as A
 use Rattle.definition.specs.Act.{Items, Node, Act, done, loop, ListOf, Consumed, St, refused}
 use Rattle.definition.specs.Kind as K
@@ -19,7 +19,7 @@ use Rattle.fallible.specs.declared.How.{How}
 use Rattle.fallible.specs.declared.How.the-variants.{Done, Fatal, Refused}
 use Rattle.fallible.specs.declared.Answer.{Answer}
 use Rattle.fallible.specs.Lists.{errs}
-use Rattle.steps.specs.declared.Front.{Front}
+use Rattle.steps.specs.declared.Token.{Token}
 use Rattle.steps.specs.Tokens.{rest}
 use Rattle.steps.specs.Shows.{st-of, Asked, Moved, Expects, texted}
 use Rattle.leaves.specs.declared.Listed.{Listed}
@@ -106,16 +106,16 @@ is-arithmetic k = eqb k K.Bar || eqb k K.Caret || eqb k K.Ampersand || eqb k K.L
 pub record Prefix (k r : ℕ) : Type 0 where
   pub small : r ≤ 0x2B
   pub real : min r 1 ≤ k
-  pub is : (d : ℕ) (S : St) → head (S .tokens) .kind ≡ k → go d P.unary-rule S ≡ go d (elim (eqb r 0) [ true ↦ P.parse-call | false ↦ P.prefix r ]) S
+  pub is : (d : ℕ) (S : St) → next-token (S .tokens) .kind ≡ k → go d P.unary-rule S ≡ go d (elim (eqb r 0) [ true ↦ P.parse-call | false ↦ P.prefix r ]) S
 
 -- ---- literals, groups
 
 -- the answer of a token that is read
-abbrev pub there : State → Front → Answer
+abbrev pub there : State → Token → Answer
 there s t = record { how = Done; state = record { at = t .next; pos = s .pos; reported = s .reported; full = s .full }; line = t .line; column = t .column }
 
 -- the record of a name
-abbrev pub identifier : Front → Record
+abbrev pub identifier : Token → Record
 identifier t = texted t 0x20 None t
 
 -- a name, and the next token neither a suffix nor the arguments of a call
@@ -125,7 +125,7 @@ is-name-alone k next = eqb k K.Identifier && not (eqb next K.Dot) && not (eqb ne
 -- no parenthesis opens what is read
 pub record Literal (w x : List ℕ) (n : ℕ) (o r f : List ℕ) (s : State) : Type 0 where
   pub asked : Asked w x n o r f s
-  pub bare : head (rest w x n (s .at)) .kind ≡ 41 → ⊥
+  pub bare : next-token (rest w x n (s .at)) .kind ≡ 41 → ⊥
 
 -- after the item a, `)` is asked for: b is that answer
 abbrev pub ClosingOf : How → Answer → Answer → Answer → Type 0

@@ -11,9 +11,9 @@ use fallible::raise;
 use node::Numbers;
 use node::Record;
 use node::write_record;
-use steps::Front;
+use steps::Token;
 use steps::expect;
-use steps::head;
+use steps::peek;
 ghost use mathlib.Core.Path.{_≡_};
 ghost use Prim.Native.Nat.{ℕ, _+_, _<_, _≤_};
 ghost use lib.ListN.{length, take, drop};
@@ -95,7 +95,7 @@ pub fn comma(
     requires { ⌜ Asks tokens text n rep full st ⌝ }
     ensures { λ r. ⌜ Commas close tokens text n rep full st r ⌝ }
 {
-    let t = head(tokens, text, n, st.at);
+    let t = peek(tokens, text, n, st.at);
     let on = State { at: t.next, ..st };
     if t.kind == kind::COMMA {
         return Answer {
@@ -278,7 +278,7 @@ pub fn prefix(k: u32) -> u8
 }
 
 // A leaf of the tree: the token's record, the state after it.
-fn leaf(file: &mut [u8], text: &[u8], st: State, t: Front, tag: u8, numbers: Numbers) -> Answer
+fn leaf(file: &mut [u8], text: &[u8], st: State, t: Token, tag: u8, numbers: Numbers) -> Answer
     requires { ⌜ Room file text (st .pos) (16 + t .len) (t .start) (t .len) ⌝ }
     ensures { λ r. ⌜ Finishes (texted t tag numbers t) file text (there st t) r ⌝ }
 {
@@ -304,7 +304,7 @@ fn leaf(file: &mut [u8], text: &[u8], st: State, t: Front, tag: u8, numbers: Num
 }
 
 // A name.
-pub fn name(file: &mut [u8], text: &[u8], st: State, t: Front) -> Answer
+pub fn name(file: &mut [u8], text: &[u8], st: State, t: Token) -> Answer
     requires { ⌜ Room file text (st .pos) (16 + t .len) (t .start) (t .len) ⌝ }
     ensures { λ r. ⌜ Finishes (identifier t) file text (there st t) r ⌝ }
 {
@@ -335,7 +335,7 @@ pub fn literal(
     requires { ⌜ Literal tokens text n file rep full st ⌝ }
     ensures { λ r. ⌜ ((d : ℕ) → Parses P.parse-atom tokens text n file rep full st d r) ⌝ }
 {
-    let t = head(tokens, text, n, st.at);
+    let t = peek(tokens, text, n, st.at);
     if t.kind == kind::INTEGER {
         let base = (t.base % 256) as u8;
         return leaf(file, text, st, t, tag::INTEGER, Numbers::Byte(base));
@@ -346,7 +346,7 @@ pub fn literal(
     if t.kind == kind::STRING {
         return leaf(file, text, st, t, tag::STRING, Numbers::None);
     }
-    let bare = Front {
+    let bare = Token {
         start: 0,
         len: 0,
         ..t

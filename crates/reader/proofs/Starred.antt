@@ -56,18 +56,18 @@ row-holds x e o o′ r h a =
     ap T.file a ∙ anywhere (x .script) o (replicate 65536 1) h (omega (arith, length-replicate {A = ℕ} 65536 1))
     ∙ ap (λ (y : Row). y .file) e
 
-head-or : Row → List Row → Row
-head-or x [] = x
-head-or x (y ∷ ys) = y
+next-token-or : Row → List Row → Row
+next-token-or x [] = x
+next-token-or x (y ∷ ys) = y
 
 tail-of : List Row → List Row
 tail-of [] = []
 tail-of (y ∷ ys) = ys
 
 each : (xs : List Row) → map answered xs ≡ xs → Each xs
-unfolding head-or tail-of
+unfolding next-token-or tail-of
 each [] e = none-left
-each (x ∷ xs) e = one-more (row-holds x (ap (head-or x) e)) (each xs (ap tail-of e))
+each (x ∷ xs) e = one-more (row-holds x (ap (next-token-or x) e)) (each xs (ap tail-of e))
 
 pub starred : Each table
 starred = each table holds

@@ -130,7 +130,7 @@ ran-end {s} {n} {i} e h = ap (λ (x : Need). eqb (x .missing) 0) (sym (ap (ran-n
 
 pub record Ended (bs : List ℕ) (n : ℕ) (ch : Ch) (p : Place) (cs : List Ch) : Type 0 where
   pub fits : n ≤ length bs
-  pub head : cs ≡ ch ∷ or-none (decode fresh p (drop n bs))
+  pub next-token : cs ≡ ch ∷ or-none (decode fresh p (drop n bs))
   pub tail : decode fresh p (drop n bs) ≡ some (or-none (decode fresh p (drop n bs)))
 
 none-some : {A : Type 0} {x : Option (List Ch)} {cs : List Ch} → x ≡ none → x ≡ some cs → A
@@ -158,14 +158,14 @@ within-tests b bs ih l m k p cs false u e f = none-some {x = none} refl f
 within-tests b bs ih l m zero p cs true true e f =
     record {
       fits = omega arith;
-      head = and-then-head _ (decode fresh (after l p) bs) _ f;
+      next-token = and-then-head _ (decode fresh (after l p) bs) _ f;
       tail = and-then-tail (record { byte = l; more = m ++ (b ∷ []); place = p }) (decode fresh (after l p) bs)
           _ f;
     }
 within-tests b bs ih l m (suc j) p cs true true e f = absurd (omega (arith, leb-true (suc (suc j)) 1 e))
 within-tests b bs ih l m k p cs true false e f =
     let g = ih l (m ++ (b ∷ [])) k 128 191 p cs (omega (arith, leb-false (suc k) 1 e)) f in
-    record { fits = omega (arith, g .fits); head = rw append-assoc at (g .head); tail = g .tail }
+    record { fits = omega (arith, g .fits); next-token = rw append-assoc at (g .next-token); tail = g .tail }
 
 within-law : (bs : List ℕ) → Within bs
 unfolding Within decode
@@ -179,7 +179,7 @@ unfolding Within
 fresh-lead b bs p cs single h e =
     record {
       fits = omega arith;
-      head = and-then-head _ (decode fresh (after b p) bs) _ e;
+      next-token = and-then-head _ (decode fresh (after b p) bs) _ e;
       tail = and-then-tail (record { byte = b; more = []; place = p }) (decode fresh (after b p) bs) _ e;
     }
 fresh-lead b bs p cs (with-more n lo hi) h e = within-law bs b [] n lo hi p cs (h .0) e
@@ -198,7 +198,7 @@ module _ {s : List ℕ} {c : Cursor} (z : Stands s c) (h : c .at < length s) whe
   pub rest-head : rest s c
       ≡ char s c ∷ or-none (decode fresh (after (getD s (c .at) 0) (placed c))
       (drop (more (lead (getD s (c .at) 0))) (drop (c .at + 1) s)))
-  rest-head = here .head
+  rest-head = here .next-token
 
   pub step-inside : c .at + (more (lead (getD s (c .at) 0)) + 1) ≤ length s
   step-inside = omega (arith, here .fits, length-drop (c .at + 1) s)
@@ -212,7 +212,7 @@ module _ {s : List ℕ} {c : Cursor} (z : Stands s c) (h : c .at < length s) whe
       let d : drop (more (lead (getD s (c .at) 0))) (drop (c .at + 1) s) ≡ drop (r .at) s = drop-drop
       (more (lead (getD s (c .at) 0))) (c .at + 1) s ∙ ap (λ (n : ℕ). drop n s) q in
       record {
-        chars = rw (d, sym f) at (here .head);
+        chars = rw (d, sym f) at (here .next-token);
         stands =
             record {
               is = rw (d, sym f) at (here .tail);

@@ -22,7 +22,7 @@ use Rattle.fallible.specs.Answers.{Abandoned, Cuts}
 use Rattle.node.specs.Put.{Room}
 use Rattle.node.specs.declared.Numbers.the-variants.{None}
 use Rattle.node.specs.declared.Record.{Record}
-use Rattle.steps.specs.declared.Front.{Front}
+use Rattle.steps.specs.declared.Token.{Token}
 use Rattle.steps.specs.Tokens.{budget, Seen}
 use Rattle.steps.specs.Shows.{st-of, Asked, Moved, View, Shows, Reads, node, Expected, Follows, done-of, FinishedOf, Finished}
 use Rattle.steps.proofs.Tokens.{yes, no, fore, adv}
@@ -46,7 +46,7 @@ placed tag line column = record { tag = tag; line = line; column = column; numbe
 abbrev any-node : View Node
 any-node = record { recs = λ y. y .recs; fine = λ l c y. Unit {0} }
 
-module _ {w x : List ℕ} {n d : ℕ} {o r f : List ℕ} {s : State} {t : Front} {i line column : ℕ}
+module _ {w x : List ℕ} {n d : ℕ} {o r f : List ℕ} {s : State} {t : Token} {i line column : ℕ}
     (q : Asked w x n o r f s) (hi : i ≤ s .pos) (u : Seen w x n (s .at) t) where
   -- `=` or `<-`, a value read by m, `;`
   module _ {o1 r1 f1 r2 r3 f2 o2 : List ℕ} {a b c y : Answer} {m : Act (Ans Node)} (tag : ℕ) (B : Reads node w x n d m o r f (fore s t) o1 r1 f1 a) (C : Abandoned r1 a i (s .reported) (s .reported) r2 b) (lr : length r2 ≡ length r) (lf : length f1 ≡ length f)
@@ -104,7 +104,7 @@ module _ {w x : List ℕ} {n d : ℕ} {o r f : List ℕ} {s : State} {t : Front}
         (λ _. place-at line column) (λ _. []) [] v) S) (adv s u (λ _. plain) f rd)))
 
 -- what the steps after a value ask for
-module _ {w x : List ℕ} {n d : ℕ} {o r f : List ℕ} {s : State} {t : Front} {i : ℕ} (q : Asked w x n o r f s)
+module _ {w x : List ℕ} {n d : ℕ} {o r f : List ℕ} {s : State} {t : Token} {i : ℕ} (q : Asked w x n o r f s)
     (hi : i ≤ s .pos) (u : Seen w x n (s .at) t) where
   module _ {o1 r1 f1 : List ℕ} {a : Answer} {m : Act (Ans Node)} (B : Reads node w x n d m o r f (fore s t) o1 r1 f1 a) where
     pub assigned-cuts : length r1 ≡ length r → Cuts r1 a i (s .reported) (s .reported)
@@ -139,7 +139,7 @@ finished-high {x} {o} {o′} {b} {y} {line} {column} {tag} F = one (b .how) (F .
     one (Refused u) m = omega (arith, ap (λ (k : Answer). k .state .pos) (m .0))
 
 -- `;`
-module _ {w x : List ℕ} {n d : ℕ} {o r f : List ℕ} {t : Front} {i line column : ℕ} {a : Answer}
+module _ {w x : List ℕ} {n d : ℕ} {o r f : List ℕ} {t : Token} {i line column : ℕ} {a : Answer}
     (q : Asked w x n o r f (a .state)) (hi : i ≤ a .state .pos) (u : Seen w x n (a .state .at) t)
     (z : a .how ≡ Done) where
   pub expression-behind : {r1 f1 o2 : List ℕ} {b y : Answer} → (t .kind ≡ 26 → ⊥) → (t .kind ≡ 52 → ⊥)

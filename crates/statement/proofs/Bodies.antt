@@ -6,7 +6,7 @@ use native.Mathlib.Omega.{arith}
 use lib.ListN.{take}
 use Rattle.definition.specs.Node.{recs-bytes}
 use Rattle.definition.specs.Fallible.{Err, Ans}
-use Rattle.definition.specs.Token.{Tok, head}
+use Rattle.definition.specs.Token.{Tok, next-token}
 use Rattle.definition.specs.Act.{Items, done, make, Body, plain, Consumed, St, Res, gives, refused, after, run, _>>=_}
 use Rattle.definition.specs.Parser as P
 use Rattle.definition.specs.Go.{go}
@@ -17,7 +17,7 @@ use Rattle.fallible.specs.declared.How.the-variants.{Done, Fatal}
 use Rattle.fallible.specs.declared.Answer.{Answer}
 use Rattle.fallible.specs.Lists.{unpack, error-at, errs}
 use Rattle.fallible.specs.Answers.{noted, Raised}
-use Rattle.steps.specs.declared.Front.{Front}
+use Rattle.steps.specs.declared.Token.{Token}
 use Rattle.steps.specs.Tokens.{rest, Seen}
 use Rattle.steps.specs.Shows.{st-of, Asked, View, Good, Bad, ShowsOf, Shows, Reads, Expects, node, token, items}
 use Rattle.steps.proofs.Tokens.{yes, no, fore, adv}
@@ -102,7 +102,7 @@ module _ {w x : List ℕ} {n d : ℕ} {o r f r1 f1 : List ℕ} {s : State} {a : 
   }
     where
       one : (rd : List Consumed)
-          → Good (token (head (rest w x n (s .at)))) (take (s .pos) o) (errs r (s .reported)) [] [] w x n o r1 f1
+          → Good (token (next-token (rest w x n (s .at)))) (take (s .pos) o) (errs r (s .reported)) [] [] w x n o r1 f1
           a (go d (P.expect 39) (st-of w x n f rd s))
           → Shows items (take (s .pos) o) (errs r (s .reported)) [] [] w x n o2 r2 f2 y
           (go d (P.parse-body >>= as-answer) (st-of w x n f rd s))
@@ -113,7 +113,7 @@ module _ {w x : List ℕ} {n d : ℕ} {o r f r1 f1 : List ℕ} {s : State} {a : 
 
 -- ---- `body_rest`
 
-module _ {w x : List ℕ} {n count : ℕ} {o r f : List ℕ} {s : State} {t : Front}
+module _ {w x : List ℕ} {n count : ℕ} {o r f : List ℕ} {s : State} {t : Token}
     (q : Asked w x n o r f s × (count ≤ s .at)) (v : Seen w x n (s .at) t) where
   pub rest-closed : {d : ℕ} → t .kind ≡ 40
       → LoopOn statements-on w x n d count o r f s o r f

@@ -10,7 +10,7 @@ use Rattle.definition.specs.Ascii.{ascii}
 use Rattle.definition.specs.Source.{Place, nowhere}
 use Rattle.definition.specs.Node.{two}
 use Rattle.definition.specs.Fallible.{Err, Fallible, Ans}
-use Rattle.definition.specs.Token.{head}
+use Rattle.definition.specs.Token.{next-token}
 use Rattle.definition.specs.Act as A
 use Rattle.definition.specs.Act.{Act, Node, peek, if_then_else_, plain, Consumed, Res, after, or-return, run, _>>?_}
 use Rattle.definition.specs.Parser as P
@@ -24,7 +24,7 @@ use Rattle.fallible.specs.declared.Answer.{Answer}
 use Rattle.fallible.specs.Lists.{unpack, error-at, errs}
 use Rattle.fallible.specs.Answers.{raised, Raised}
 use Rattle.node.specs.declared.Numbers.the-variants.{None, Two}
-use Rattle.steps.specs.declared.Front.{Front}
+use Rattle.steps.specs.declared.Token.{Token}
 use Rattle.steps.specs.Tokens.{rest, budget, Seen}
 use Rattle.steps.specs.Shows.{st-of, Asks, Asked, Moved, ShowsOf, Shows, Reads, node, items, typed, Expects, Expected, done-of, FinishedOf, Finished}
 use Rattle.steps.proofs.Tokens.{yes, no}
@@ -129,7 +129,7 @@ module _ {w x : List ℕ} {n d : ℕ} {o r f r1 f1 : List ℕ} {s : State} {a : 
               (go d m (st-of w x n f1 (g .read) (a .state)))) (kept .1) (shown (g .read))));
         }
 
-    module _ {t : Front} (u : Seen w x n (a .state .at) t) where
+    module _ {t : Token} (u : Seen w x n (a .state .at) t) where
       pub compound-array : {o1 r2 f2 : List ℕ} {y : Answer} → t .kind ≡ 43
           → Reads node w x n d (values-rule A.ArrayValues 0x30 (place-at (t .line) (t .column))) o r1 f1
           (a .state) o1 r2 f2 y
@@ -191,11 +191,11 @@ named-stops {w} {x} {n} {o} {a} {tag} {line} {column} {p} nd =
     one Fatal z = (refl, refl)
     one (Refused m) z = (refl, refl)
 
-module _ {w x : List ℕ} {n : ℕ} {o o2 : List ℕ} {a y : Answer} {tag line column p : ℕ} {t : Front}
+module _ {w x : List ℕ} {n : ℕ} {o o2 : List ℕ} {a y : Answer} {tag line column p : ℕ} {t : Token}
     (z : a .how ≡ Done) (u : Seen w x n p t) where
   -- the record has the name
-  named-so : (X : List ℕ) (start len : ℕ) → name-of (head (rest w x n p)) ≡ take len (drop start X)
-      → length (name-of (head (rest w x n p))) ≡ len → len ≤ 3 + length (head (rest w x n p) .text)
+  named-so : (X : List ℕ) (start len : ℕ) → name-of (next-token (rest w x n p)) ≡ take len (drop start X)
+      → length (name-of (next-token (rest w x n p))) ≡ len → len ≤ 3 + length (next-token (rest w x n p) .text)
       → Finished X o a
       (record { tag = tag; line = line; column = column; numbers = None; start = start; len = len }) o2 y
       → Named w x n o a tag line column p o2 y
@@ -219,7 +219,7 @@ module _ {w x : List ℕ} {n : ℕ} {o o2 : List ℕ} {a y : Answer} {tag line c
       (record { tag = tag; line = line; column = column; numbers = None; start = t .start; len = t .len }) o2 y
       → Named w x n o a tag line column p o2 y
   named-there h F =
-      let i : name-of (head (rest w x n p)) ≡ head (rest w x n p) .text = rw (yes u h) in
+      let i : name-of (next-token (rest w x n p)) ≡ next-token (rest w x n p) .text = rw (yes u h) in
       let l : length (take (t .len) (drop (t .start) x)) ≡ t .len = length-take-le (t .len) (drop (t .start) x)
       (simp length-drop (omega (arith, u .part))) in
       named-so x (t .start) (t .len) (i ∙ u .text) (ap length (i ∙ u .text) ∙ l) (omega (arith, ap length (u .text) ∙ l)) F
@@ -231,7 +231,7 @@ module _ {w x : List ℕ} {n : ℕ} {o o2 : List ℕ} {a y : Answer} {tag line c
   unfolding ascii
   named-none h F =
       named-so (60 ∷ 63 ∷ 62 ∷ []) 0 3 (rw (no u h))
-      (ap length (let i : name-of (head (rest w x n p)) ≡ 60 ∷ 63 ∷ 62 ∷ [] = rw (no u h) in i)) (omega arith) F
+      (ap length (let i : name-of (next-token (rest w x n p)) ≡ 60 ∷ 63 ∷ 62 ∷ [] = rw (no u h) in i)) (omega arith) F
 
 -- ---- `declaration`
 
@@ -242,14 +242,14 @@ declares tag p x = P.good (P.node (x .item .type) tag p [] (x .item .name)) (x .
 names : {T : List ℕ} {E : List Err} {w x : List ℕ} {n : ℕ} {o o′ r f : List ℕ} {b y : Answer}
     {tag line column at : ℕ} {q : Res (Ans P.Typed)} (d : ℕ)
     → Named w x n o b tag line column at o′ y
-    → Shows (typed (name-of (head (rest w x n at)))) T E [] [] w x n o r f b q
+    → Shows (typed (name-of (next-token (rest w x n at)))) T E [] [] w x n o r f b q
     → Shows node T E [] [] w x n o′ r f y (after q (λ z S. go d (or-return (declares tag (place-at line column)) z) S))
 unfolding go run
 names {T} {E} {w} {x} {n} {o} {o′} {r} {f} {b} {y} {tag} {line} {column} {at} {q} d N v =
     record { told = one (b .how) refl (N .is) (v .told) }
   where
     one : (h : How) → b .how ≡ h → NamedOf h w x n o b tag line column at o′ y
-        → ShowsOf h (typed (name-of (head (rest w x n at)))) T E [] [] w x n o r f b q
+        → ShowsOf h (typed (name-of (next-token (rest w x n at)))) T E [] [] w x n o r f b q
         → ShowsOf (y .how) node T E [] [] w x n o′ r f y
         (after q (λ z S. go d (or-return (declares tag (place-at line column)) z) S))
     one Done z m g =

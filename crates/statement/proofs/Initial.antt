@@ -19,7 +19,7 @@ use Rattle.fallible.specs.Lists.{errs}
 use Rattle.fallible.specs.Answers.{Abandoned}
 use Rattle.node.specs.Put.{Wrote, bare-of, bare-size}
 use Rattle.node.specs.declared.Numbers.the-variants.{None}
-use Rattle.steps.specs.declared.Front.{Front}
+use Rattle.steps.specs.declared.Token.{Token}
 use Rattle.steps.specs.Tokens.{budget, Seen}
 use Rattle.steps.specs.Shows.{st-of, Asked, ShowsOf, Shows, Reads, GoesOn, node, typed, done-of}
 use Rattle.steps.proofs.Tokens.{yes, no, fore, adv}
@@ -119,7 +119,7 @@ module _ {w x : List ℕ} {n d i j : ℕ} {o r f : List ℕ} {a : Answer} (q : G
     is = λ name T E p li lj v. stops d value-on p nd v;
   }
 
-  module _ {t : Front} (z : a .how ≡ Done) (u : Seen w x n (a .state .at) t) where
+  module _ {t : Token} (z : a .how ≡ Done) (u : Seen w x n (a .state .at) t) where
     -- a value is given, after the token, by m
     module _ {o1 r1 f1 r2 o2 : List ℕ} {b c y : Answer} {m : Act (Ans Node)} {tag : ℕ}
         (B : Reads node w x n d m o r f (fore (a .state) t) o1 r1 f1 b)

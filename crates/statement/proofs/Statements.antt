@@ -11,7 +11,7 @@ use Rattle.definition.specs.Source.{Place}
 use Rattle.definition.specs.Node.{byte, two, recs-bytes}
 use Rattle.definition.specs.Fallible.{Err, Fallible, Ans, ok, fatal}
 use Rattle.definition.specs.Kind as K
-use Rattle.definition.specs.Token.{Tok, head, _is_}
+use Rattle.definition.specs.Token.{Tok, next-token, _is_}
 use Rattle.definition.specs.Act.{Act, done, peek, next, if_then_else_, Node, Consumed, plain, St, Res, gives, refused, after, or-return, run, advance, _>>=_, _>>?_}
 use Rattle.definition.specs.Parser as P
 use Rattle.definition.specs.Go.{go}
@@ -25,7 +25,7 @@ use Rattle.fallible.specs.Lists.{unpack, error-at, errs}
 use Rattle.fallible.specs.Answers.{raised, Raised, Abandoned, Cuts}
 use Rattle.node.specs.Put.{Room}
 use Rattle.node.specs.declared.Numbers.the-variants.{None, Byte, Two}
-use Rattle.steps.specs.declared.Front.{Front}
+use Rattle.steps.specs.declared.Token.{Token}
 use Rattle.steps.specs.Tokens.{rest, budget, Seen}
 use Rattle.steps.specs.Shows.{st-of, Asked, Moved, ShowsOf, Shows, Reads, node, items, token, Expects, Expected, Finished, texted, untexted}
 use Rattle.steps.proofs.Tokens.{yes, no, fore, adv}
@@ -43,46 +43,46 @@ use Rattle.statement.specs.Post.{Starts, ReadsBody}
 
 -- the place of the token that begins a statement
 abbrev pub here : List ℕ → List ℕ → ℕ → State → Place
-here w x n s = head (rest w x n (s .at)) .place
+here w x n s = next-token (rest w x n (s .at)) .place
 
 -- ---- which statement the next token begins
 
-miss : (S : St) (k j : ℕ) → head (S .tokens) .kind ≡ k → (k ≡ j → ⊥) → head (S .tokens) is j ≡ false
+miss : (S : St) (k j : ℕ) → next-token (S .tokens) .kind ≡ k → (k ≡ j → ⊥) → next-token (S .tokens) is j ≡ false
 miss S k j h g = ne-eqb _ _ (λ e. g (sym h ∙ e))
 
-hit : (S : St) (k : ℕ) → head (S .tokens) .kind ≡ k → head (S .tokens) is k ≡ true
+hit : (S : St) (k : ℕ) → next-token (S .tokens) .kind ≡ k → next-token (S .tokens) is k ≡ true
 hit S k h = eq-eqb _ _ h
 
 module _ (d : ℕ) (S : St) where
-  pub return-step : head (S .tokens) .kind ≡ 6
-      → go d P.statement-rule S ≡ go d (P.parse-return (head (S .tokens) .place)) (advance (λ _. plain) S)
+  pub return-step : next-token (S .tokens) .kind ≡ 6
+      → go d P.statement-rule S ≡ go d (P.parse-return (next-token (S .tokens) .place)) (advance (λ _. plain) S)
   unfolding go run P.statement-rule
   return-step h = rw (run, hit S 6 h)
 
-  pub var-step : head (S .tokens) .kind ≡ 5
-      → go d P.statement-rule S ≡ go d (P.declaration 0x42 (head (S .tokens) .place)) (advance (λ _. plain) S)
+  pub var-step : next-token (S .tokens) .kind ≡ 5
+      → go d P.statement-rule S ≡ go d (P.declaration 0x42 (next-token (S .tokens) .place)) (advance (λ _. plain) S)
   unfolding go run P.statement-rule
   var-step h = rw (run, miss S 5 6 h (λ e. omega arith), hit S 5 h)
 
-  pub block-step : head (S .tokens) .kind ≡ 39
+  pub block-step : next-token (S .tokens) .kind ≡ 39
       → go d P.statement-rule S
       ≡ go d
-      (P.parse-body >>= λ i. P.good (P.node (i .recs) 0x40 (head (S .tokens) .place) (two (i .count) ∷ []) [])
+      (P.parse-body >>= λ i. P.good (P.node (i .recs) 0x40 (next-token (S .tokens) .place) (two (i .count) ∷ []) [])
       (i .errors)) S
   unfolding go run P.statement-rule
   block-step h = rw (run, miss S 39 6 h (λ e. omega arith), miss S 39 5 h (λ e. omega arith), hit S 39 h)
 
-  pub loop-step : head (S .tokens) .kind ≡ 7
+  pub loop-step : next-token (S .tokens) .kind ≡ 7
       → go d P.statement-rule S
-      ≡ go d (P.parse-statement >>? λ b. done (ok (P.wrap 0x46 (head (S .tokens) .place) [] b)))
+      ≡ go d (P.parse-statement >>? λ b. done (ok (P.wrap 0x46 (next-token (S .tokens) .place) [] b)))
       (advance (λ _. plain) S)
   unfolding go run P.statement-rule
   loop-step h = rw (run, miss S 7 6 h (λ e. omega arith), miss S 7 5 h (λ e. omega arith), miss S 7 39 h (λ e. omega arith), hit S 7 h)
 
-  pub while-step : head (S .tokens) .kind ≡ 8
+  pub while-step : next-token (S .tokens) .kind ≡ 8
       → go d P.statement-rule S
       ≡ go d (P.parse-expression >>? λ c. P.parse-statement >>? λ b. done
-      (ok (P.binary 0x47 [] (head (S .tokens) .place) c b))) (advance (λ _. plain) S)
+      (ok (P.binary 0x47 [] (next-token (S .tokens) .place) c b))) (advance (λ _. plain) S)
   unfolding go run P.statement-rule
   while-step h =
       rw (
@@ -94,9 +94,9 @@ module _ (d : ℕ) (S : St) where
         hit S 8 h,
       )
 
-  pub break-step : head (S .tokens) .kind ≡ 9
+  pub break-step : next-token (S .tokens) .kind ≡ 9
       → go d P.statement-rule S
-      ≡ go d (P.expect K.Semicolon >>? λ _. P.good (P.node [] 0x48 (head (S .tokens) .place) [] []) [])
+      ≡ go d (P.expect K.Semicolon >>? λ _. P.good (P.node [] 0x48 (next-token (S .tokens) .place) [] []) [])
       (advance (λ _. plain) S)
   unfolding go run P.statement-rule
   break-step h =
@@ -110,7 +110,7 @@ module _ (d : ℕ) (S : St) where
         hit S 9 h,
       )
 
-  pub if-step : head (S .tokens) .kind ≡ 10 → go d P.statement-rule S ≡ go d (P.parse-if (head (S .tokens) .place)) (advance (λ _. plain) S)
+  pub if-step : next-token (S .tokens) .kind ≡ 10 → go d P.statement-rule S ≡ go d (P.parse-if (next-token (S .tokens) .place)) (advance (λ _. plain) S)
   unfolding go run P.statement-rule
   if-step h =
       rw (
@@ -124,9 +124,9 @@ module _ (d : ℕ) (S : St) where
         hit S 10 h,
       )
 
-  pub assembly-step : head (S .tokens) .kind ≡ 54
+  pub assembly-step : next-token (S .tokens) .kind ≡ 54
       → go d P.statement-rule S
-      ≡ go d (P.good (P.node [] 0x4A (head (S .tokens) .place) [] (head (S .tokens) .text)) [])
+      ≡ go d (P.good (P.node [] 0x4A (next-token (S .tokens) .place) [] (next-token (S .tokens) .text)) [])
       (advance (λ _. plain) S)
   unfolding go run P.statement-rule
   assembly-step h =
@@ -234,21 +234,21 @@ pub clean : (d k : ℕ) (f : Fallible Tok → Act (Ans Node)) (g : Act (Ans Node
     → go d (P.expect k >>? λ _. g) S ≡ go d (P.expect k >>? f) S
 unfolding go run _>>=_
 clean d k f g e S =
-    chosen (head (S .tokens) is k) _ _ _
-    (ap (λ (m : Act (Ans Node)). go d m (advance (λ _. plain) S)) (sym (e (head (S .tokens)))))
+    chosen (next-token (S .tokens) is k) _ _ _
+    (ap (λ (m : Act (Ans Node)). go d m (advance (λ _. plain) S)) (sym (e (next-token (S .tokens)))))
 
 -- ---- the functions
 
-pub begins : {w x : List ℕ} {n k : ℕ} {o r f : List ℕ} {s : State} {t : Front} → Asked w x n o r f s
+pub begins : {w x : List ℕ} {n k : ℕ} {o r f : List ℕ} {s : State} {t : Token} → Asked w x n o r f s
     → Seen w x n (s .at) t → t .kind ≡ k → Starts k w x n o r f s
 begins q u h = record { asked = q; kind = u .kind ∙ h }
 
 -- at the end no token has to be passed
-ended-on : {w x : List ℕ} {n i j : ℕ} {s s′ : State} → Moved w x n i j s s′ → head (rest w x n (s .at)) .kind ≡ 0
-    → s .at + min (head (rest w x n (s .at)) .kind) 1 ≤ s′ .at
+ended-on : {w x : List ℕ} {n i j : ℕ} {s s′ : State} → Moved w x n i j s s′ → next-token (rest w x n (s .at)) .kind ≡ 0
+    → s .at + min (next-token (rest w x n (s .at)) .kind) 1 ≤ s′ .at
 ended-on m z = omega (arith, m .at, z)
 
-module _ {w x : List ℕ} {n d : ℕ} {o r f : List ℕ} {s : State} {t : Front} (u : Seen w x n (s .at) t) where
+module _ {w x : List ℕ} {n d : ℕ} {o r f : List ℕ} {s : State} {t : Token} (u : Seen w x n (s .at) t) where
   pub loop-reads : {o1 r1 f1 o2 : List ℕ} {b y : Answer} → Starts K.KwLoop w x n o r f s
       → Reads node w x n d P.parse-statement o r f (fore s t) o1 r1 f1 b
       → Finished x o1 b (untexted t 0x46 None) o2 y → Reads node w x n d P.statement-rule o r f s o2 r1 f1 y
@@ -276,7 +276,7 @@ module _ {w x : List ℕ} {n d : ℕ} {o r f : List ℕ} {s : State} {t : Front}
       → Finished x o (there s t) (texted t 0x4A None t) o2 y
       → Reads node w x n d P.statement-rule o r f s o2 r f y
   assembly-reads q F =
-      leaf-reads (q .asked .asks) u [] (head (rest w x n (s .at)) .text) F (omega (arith, q .kind, u .kind))
+      leaf-reads (q .asked .asks) u [] (next-token (rest w x n (s .at)) .text) F (omega (arith, q .kind, u .kind))
       (rw (u .place, u .text)) d (λ rd. assembly-step d (st-of w x n f rd s) (q .kind))
 
   pub break-reads : {r1 f1 o2 : List ℕ} {a y : Answer} → Starts K.KwBreak w x n o r f s
@@ -284,7 +284,7 @@ module _ {w x : List ℕ} {n d : ℕ} {o r f : List ℕ} {s : State} {t : Front}
       → Finished x o a (untexted t 0x48 None) o2 y → Reads node w x n d P.statement-rule o r f s o2 r1 f1 y
   break-reads {a = a} {y = y} q X F =
       let e : budget w x n (y .state .at) ≡ budget w x n (a .state .at) = ap (λ (k : ℕ). budget w x n k) (F .at) in
-      let k : Fallible Tok → Act (Ans Node) = wrapped (token (head (rest w x n (t .next)))) [] [] 0x48 (λ _. here w x n s) (λ _. []) [] in
+      let k : Fallible Tok → Act (Ans Node) = wrapped (token (next-token (rest w x n (t .next)))) [] [] 0x48 (λ _. here w x n s) (λ _. []) [] in
       record {
         moved =
             record {
@@ -354,7 +354,7 @@ module _ {w x : List ℕ} {n d : ℕ} {o r f : List ℕ} {s : State} {t : Front}
 
   -- ---- `return`
 
-  pub return-none : {t2 : Front} {o2 : List ℕ} {y : Answer} → Starts K.KwReturn w x n o r f s → Seen w x n (t .next) t2 → t2 .kind ≡ 50
+  pub return-none : {t2 : Token} {o2 : List ℕ} {y : Answer} → Starts K.KwReturn w x n o r f s → Seen w x n (t .next) t2 → t2 .kind ≡ 50
       → Finished x o (record { how = Done; state = fore (fore s t) t2; line = t .line; column = t .column })
       (untexted t 0x45 (Byte 0)) o2 y
       → Reads node w x n d P.statement-rule o r f s o2 r f y
@@ -380,10 +380,10 @@ module _ {w x : List ℕ} {n d : ℕ} {o r f : List ℕ} {s : State} {t : Front}
             ∙ rw (run, yes v h)
             (ap (λ (S : St). go d (P.good (P.node [] 0x45 (here w x n s) (byte 0 ∷ []) []) []) S)
             (adv (fore s t) v (λ _. plain) f (past w x n (s .at) rd))))
-            (finishes {K = token (head (rest w x n (s .at)))} {rs = []} {es = []} {q = gives (ok (record { item = head (rest w x n (s .at)); errors = [] })) (st-of w x n f (past w x n (t .next) (past w x n (s .at) rd)) (fore (fore s t) t2))} d (λ _. here w x n s) (λ _. byte 0 ∷ []) [] F (λ i _. rw (u .place))
+            (finishes {K = token (next-token (rest w x n (s .at)))} {rs = []} {es = []} {q = gives (ok (record { item = next-token (rest w x n (s .at)); errors = [] })) (st-of w x n f (past w x n (t .next) (past w x n (s .at) rd)) (fore (fore s t) t2))} d (λ _. here w x n s) (λ _. byte 0 ∷ []) [] F (λ i _. rw (u .place))
             (record {
               told = record {
-                item = head (rest w x n (s .at));
+                item = next-token (rest w x n (s .at));
                 errors = [];
                 read = past w x n (t .next) (past w x n (s .at) rd);
                 is = refl;
@@ -394,7 +394,7 @@ module _ {w x : List ℕ} {n d : ℕ} {o r f : List ℕ} {s : State} {t : Front}
             }));
       }
 
-  pub return-value : {t2 : Front} {o1 r1 f1 r2 f2 o2 : List ℕ} {b c y : Answer} → Starts K.KwReturn w x n o r f s
+  pub return-value : {t2 : Token} {o1 r1 f1 r2 f2 o2 : List ℕ} {b c y : Answer} → Starts K.KwReturn w x n o r f s
       → Seen w x n (t .next) t2 → (t2 .kind ≡ 50 → ⊥)
       → Reads node w x n d P.parse-expression o r f (fore s t) o1 r1 f1 b → length r1 ≡ length r
       → length f1 ≡ length f
@@ -486,7 +486,7 @@ module _ {w x : List ℕ} {n d : ℕ} {o r f : List ℕ} {s : State} {t : Front}
           is = λ rd. say (if-guarded rd) (stops d (else-on (here w x n s)) _ nd (B .is (past w x n (s .at) rd)));
         }
 
-    module _ {t2 : Front} (z : a .how ≡ Done) (v : Seen w x n (a .state .at) t2) where
+    module _ {t2 : Token} (z : a .how ≡ Done) (v : Seen w x n (a .state .at) t2) where
       pub if-two : {o2 : List ℕ} {y : Answer} → (t2 .kind ≡ 11 → ⊥) → Finished x o1 a (untexted t 0x49 (Byte 2)) o2 y
           → Reads node w x n d P.statement-rule o r f s o2 r1 f1 y
       unfolding go run
@@ -610,7 +610,7 @@ module _ {w x : List ℕ} {n : ℕ} {o r f : List ℕ} {s : State} (q : Asked w 
         within = omega (arith, M, B, q .asks, e, g, l);
       }
 
-  module _ {i j : ℕ} {t u : Front} {a : State} (v : Seen w x n (s .at) t) (M : Moved w x n i j (fore s t) a)
+  module _ {i j : ℕ} {t u : Token} {a : State} (v : Seen w x n (s .at) t) (M : Moved w x n i j (fore s t) a)
       (y : Seen w x n (a .at) u) where
     pub later-asked : {o′ r′ f′ : List ℕ} → length o′ ≡ length o → length r′ ≡ length r → length f′ ≡ length f
         → Asked w x n o′ r′ f′ (fore a u)

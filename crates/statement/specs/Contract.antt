@@ -6,7 +6,7 @@ use Rattle.definition.specs.Fallible.{Ans}
 use Rattle.definition.specs.Act.{Node, Act}
 use Rattle.fallible.specs.declared.State.{State}
 use Rattle.fallible.specs.declared.Answer.{Answer}
-use Rattle.steps.specs.declared.Front.{Front}
+use Rattle.steps.specs.declared.Token.{Token}
 use Rattle.statement.specs.Post as B
 
 abbrev pub Starts : ℕ → Slice → Slice → ℕ → Slice → Slice → Slice → State → Type 0
@@ -25,7 +25,7 @@ ReadsDeclared tokens text n file rep full st left r =
     B.ReadsDeclared (at-entry tokens) (at-entry text) n left (at-entry file) (at-entry rep) (at-entry full) st
     (at-exit file) (at-exit rep) (at-exit full) r
 
-abbrev pub Named : Lent → Lent → ℕ → Lent → Answer → ℕ → Front → ℕ → Answer → Type 0
+abbrev pub Named : Lent → Lent → ℕ → Lent → Answer → ℕ → Token → ℕ → Answer → Type 0
 Named tokens text n file a tag lead at r =
     B.Named (at-entry tokens) (at-entry text) n (at-entry file) a tag (lead .line) (lead .column) at (at-exit file) r
 

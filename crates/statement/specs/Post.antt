@@ -6,7 +6,7 @@ use Prim.Native.Nat.{ℕ, min, _+_, _*_, _≤_}
 use lib.ListN.{length, take}
 use Rattle.definition.specs.Node.{Rec, recs-bytes}
 use Rattle.definition.specs.Fallible.{Err, Ans}
-use Rattle.definition.specs.Token.{head}
+use Rattle.definition.specs.Token.{next-token}
 use Rattle.definition.specs.Act.{Items, Node, Act, done, loop, Body, Consumed, Res, after, or-return, _>>=_}
 use Rattle.definition.specs.Parser as P
 use Rattle.definition.specs.Go.{go}
@@ -25,7 +25,7 @@ use Rattle.statement.specs.Rules.{value-on}
 -- what begins with a token of the kind k
 pub record Starts (k : ℕ) (w x : List ℕ) (n : ℕ) (o r f : List ℕ) (s : State) : Type 0 where
   pub asked : Asked w x n o r f s
-  pub kind : head (rest w x n (s .at)) .kind ≡ k
+  pub kind : next-token (rest w x n (s .at)) .kind ≡ k
 
 -- a state whose file ends k bytes later: what some records cost that no token of their own pays for
 abbrev pub up : ℕ → State → State
@@ -56,16 +56,16 @@ pub record ValueOn (w x : List ℕ) (n d i j : ℕ) (o r f : List ℕ) (a : Answ
 
 pub record ReadsDeclared (w x : List ℕ) (n d : ℕ) (o r f : List ℕ) (s : State) (o′ r′ f′ : List ℕ) (a : Answer) : Type 0 where
   pub moved : Moved w x n (s .pos) (s .reported) s (a .state)
-  pub on : s .at + min (head (rest w x n (s .at)) .kind) 1 ≤ a .state .at
-  pub spare : a .state .pos + budget w x n (a .state .at) + 16 * done-of (a .how) + length (head (rest w x n (s .at)) .text) ≤ s .pos + budget w x n (s .at)
-  pub is : (rd : List Consumed) → Shows (typed (name-of (head (rest w x n (s .at))))) (take (s .pos) o) (errs r (s .reported)) [] [] w x n o′ r′ f′ a (go d P.parse-var-like-declaration (st-of w x n f rd s))
+  pub on : s .at + min (next-token (rest w x n (s .at)) .kind) 1 ≤ a .state .at
+  pub spare : a .state .pos + budget w x n (a .state .at) + 16 * done-of (a .how) + length (next-token (rest w x n (s .at)) .text) ≤ s .pos + budget w x n (s .at)
+  pub is : (rd : List Consumed) → Shows (typed (name-of (next-token (rest w x n (s .at))))) (take (s .pos) o) (errs r (s .reported)) [] [] w x n o′ r′ f′ a (go d P.parse-var-like-declaration (st-of w x n f rd s))
 
 -- a record with a place and a name
 abbrev pub named-of : ℕ → ℕ → ℕ → List ℕ → Rec
 named-of tag line column name = record { tag = tag; place = some (place-at line column); numbers = []; text = name }
 
 abbrev pub NamedOf : How → List ℕ → List ℕ → ℕ → List ℕ → Answer → ℕ → ℕ → ℕ → ℕ → List ℕ → Answer → Type 0
-NamedOf Done w x n o a tag line column at o′ y = (y .how ≡ Done) × (Wrote o (a .state .pos) (named-of tag line column (name-of (head (rest w x n at)))) (7 + length (name-of (head (rest w x n at)))) o′ (y .state .pos) × ((y .line ≡ line) × (y .column ≡ column)))
+NamedOf Done w x n o a tag line column at o′ y = (y .how ≡ Done) × (Wrote o (a .state .pos) (named-of tag line column (name-of (next-token (rest w x n at)))) (7 + length (name-of (next-token (rest w x n at)))) o′ (y .state .pos) × ((y .line ≡ line) × (y .column ≡ column)))
 NamedOf Fatal w x n o a tag line column at o′ y = (y ≡ a) × (o′ ≡ o)
 NamedOf (Refused m) w x n o a tag line column at o′ y = (y ≡ a) × (o′ ≡ o)
 
@@ -74,15 +74,15 @@ pub record Named (w x : List ℕ) (n : ℕ) (o : List ℕ) (a : Answer) (tag lin
   pub reported : y .state .reported ≡ a .state .reported
   pub full : y .state .full ≡ a .state .full
   pub low : a .state .pos ≤ y .state .pos
-  pub high : y .state .pos ≤ a .state .pos + 10 * done-of (a .how) + length (head (rest w x n p) .text)
+  pub high : y .state .pos ≤ a .state .pos + 10 * done-of (a .how) + length (next-token (rest w x n p) .text)
   pub is : NamedOf (a .how) w x n o a tag line column p o′ y
 
 -- ---- bodies
 
 pub record ReadsBody (w x : List ℕ) (n d : ℕ) (o r f : List ℕ) (s : State) (o′ r′ f′ : List ℕ) (a : Answer) : Type 0 where
   pub moved : Moved w x n (s .pos) (s .reported) s (a .state)
-  pub on : s .at + min (head (rest w x n (s .at)) .kind) 1 ≤ a .state .at
-  pub spare : a .state .pos + budget w x n (a .state .at) + 16 * min (head (rest w x n (s .at)) .kind) 1 ≤ s .pos + budget w x n (s .at)
+  pub on : s .at + min (next-token (rest w x n (s .at)) .kind) 1 ≤ a .state .at
+  pub spare : a .state .pos + budget w x n (a .state .at) + 16 * min (next-token (rest w x n (s .at)) .kind) 1 ≤ s .pos + budget w x n (s .at)
   pub never : a .how ≡ Fatal → ⊥
   pub is : (rd : List Consumed) → Shows items (take (s .pos) o) (errs r (s .reported)) [] [] w x n o′ r′ f′ a (go d (P.parse-body >>= as-answer) (st-of w x n f rd s))
 

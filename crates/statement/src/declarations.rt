@@ -14,12 +14,12 @@ use fallible::raise;
 use leaves::Listed;
 use node::Numbers;
 use node::write_bare;
-use steps::Front;
+use steps::Token;
 use steps::and_expect;
 use steps::expect;
-use steps::finish;
-use steps::finish_text;
-use steps::head;
+use steps::peek;
+use steps::write_node;
+use steps::write_text_node;
 ghost use Rattle.definition.specs.Parser as P;
 ghost use Rattle.node.specs.Contract.{Room};
 ghost use Rattle.leaves.specs.Leaves.{listed-of};
@@ -49,7 +49,7 @@ pub fn compound(
         return a;
     };
     let s = a.state;
-    let t = head(tokens, text, n, s.at);
+    let t = peek(tokens, text, n, s.at);
     if t.kind == kind::END {
         let error = entry(parse_error::COMPOUND_AT_END, 0, 0, 0, 0);
         return raise(n, rep, full, s, error);
@@ -78,7 +78,7 @@ fn values(
     full: &mut [usize],
     what: Listed,
     tag: u8,
-    lead: Front,
+    lead: Token,
     st: State,
     left: usize,
 ) -> Answer
@@ -86,7 +86,7 @@ fn values(
     ensures { λ r. ⌜ Parses (values-rule (listed-of what) tag (place-of lead)) tokens text n file rep full st left r ⌝ }
 {
     let a = list(tokens, text, n, file, rep, full, what, st, left);
-    finish(file, text, a, lead, tag, Numbers::Two(a.line))
+    write_node(file, text, a, lead, tag, Numbers::Two(a.line))
 }
 
 // A record with nothing but its tag after an answer, if it is there.
@@ -128,7 +128,7 @@ fn initial_value(
         return a;
     };
     let s = a.state;
-    let t = head(tokens, text, n, s.at);
+    let t = peek(tokens, text, n, s.at);
     let on = State { at: t.next, ..s };
     if t.kind == kind::EQUALS {
         let b = expression(tokens, text, n, file, rep, full, on, left);
@@ -169,7 +169,7 @@ fn named(
     file: &mut [u8],
     a: Answer,
     tag: u8,
-    lead: Front,
+    lead: Token,
     at: usize,
 ) -> Answer
     requires { ⌜ NameRoom tokens text n file a at ⌝ }
@@ -179,16 +179,16 @@ fn named(
     let How::Done = how else {
         return a;
     };
-    let t = head(tokens, text, n, at);
+    let t = peek(tokens, text, n, at);
     if t.kind == kind::IDENTIFIER {
-        return finish_text(file, text, a, lead, tag, Numbers::None, t);
+        return write_text_node(file, text, a, lead, tag, Numbers::None, t);
     }
-    let none = Front {
+    let none = Token {
         start: 0,
         len: 3,
         ..t
     };
-    finish_text(file, b"<?>", a, lead, tag, Numbers::None, none)
+    write_text_node(file, b"<?>", a, lead, tag, Numbers::None, none)
 }
 
 // A declaration after `var`: var_like_declaration `;`
@@ -200,7 +200,7 @@ pub fn declaration(
     rep: &mut [usize],
     full: &mut [usize],
     tag: u8,
-    lead: Front,
+    lead: Token,
     st: State,
     left: usize,
 ) -> Answer

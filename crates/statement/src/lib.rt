@@ -23,8 +23,8 @@ use simple::expression_statement;
 use simple::return_statement;
 use simple::var_statement;
 use steps::expect;
-use steps::finish;
-use steps::head;
+use steps::peek;
+use steps::write_node;
 ghost use Rattle.definition.specs.Kind as K;
 ghost use Rattle.definition.specs.Parser as P;
 ghost use Rattle.statement.specs.Rules.{guarded-rule};
@@ -81,7 +81,7 @@ fn body_rest(
     let mut count = 0;
     let mut st = from;
     loop {
-        let t = head(tokens, text, n, st.at);
+        let t = peek(tokens, text, n, st.at);
         if t.kind == kind::R_BRACE {
             return Answer {
                 how: How::Done,
@@ -129,9 +129,9 @@ fn block(
     requires { ⌜ Starts K.LBrace tokens text n file rep full st ⌝ }
     ensures { λ r. ⌜ Parses P.statement-rule tokens text n file rep full st left r ⌝ }
 {
-    let t = head(tokens, text, n, st.at);
+    let t = peek(tokens, text, n, st.at);
     let a = body(tokens, text, n, file, rep, full, st, left);
-    finish(file, text, a, t, tag::BLOCK, Numbers::Two(a.line))
+    write_node(file, text, a, t, tag::BLOCK, Numbers::Two(a.line))
 }
 
 // `loop` statement
@@ -148,10 +148,10 @@ fn loop_statement(
     requires { ⌜ Starts K.KwLoop tokens text n file rep full st ⌝ }
     ensures { λ r. ⌜ Parses P.statement-rule tokens text n file rep full st left r ⌝ }
 {
-    let t = head(tokens, text, n, st.at);
+    let t = peek(tokens, text, n, st.at);
     let on = State { at: t.next, ..st };
     let a = statement(tokens, text, n, file, rep, full, on, left);
-    finish(file, text, a, t, tag::LOOP, Numbers::None)
+    write_node(file, text, a, t, tag::LOOP, Numbers::None)
 }
 
 // A condition and what it guards: expression statement
@@ -192,10 +192,10 @@ fn while_statement(
     requires { ⌜ Starts K.KwWhile tokens text n file rep full st ⌝ }
     ensures { λ r. ⌜ Parses P.statement-rule tokens text n file rep full st left r ⌝ }
 {
-    let t = head(tokens, text, n, st.at);
+    let t = peek(tokens, text, n, st.at);
     let on = State { at: t.next, ..st };
     let a = guarded(tokens, text, n, file, rep, full, on, left);
-    finish(file, text, a, t, tag::WHILE, Numbers::None)
+    write_node(file, text, a, t, tag::WHILE, Numbers::None)
 }
 
 // `if` guarded [`else` statement]
@@ -212,7 +212,7 @@ fn if_statement(
     requires { ⌜ Starts K.KwIf tokens text n file rep full st ⌝ }
     ensures { λ r. ⌜ Parses P.statement-rule tokens text n file rep full st left r ⌝ }
 {
-    let t = head(tokens, text, n, st.at);
+    let t = peek(tokens, text, n, st.at);
     let on = State { at: t.next, ..st };
     let a = guarded(tokens, text, n, file, rep, full, on, left);
     let how = a.how;
@@ -220,14 +220,14 @@ fn if_statement(
         return a;
     };
     let s = a.state;
-    let u = head(tokens, text, n, s.at);
+    let u = peek(tokens, text, n, s.at);
     if u.kind != kind::KW_ELSE {
-        return finish(file, text, a, t, tag::IF, Numbers::Byte(2));
+        return write_node(file, text, a, t, tag::IF, Numbers::Byte(2));
     }
     let on = State { at: u.next, ..s };
     let b = statement(tokens, text, n, file, rep, full, on, left);
     let c = abandon(rep, b, st, s);
-    finish(file, text, c, t, tag::IF, Numbers::Byte(3))
+    write_node(file, text, c, t, tag::IF, Numbers::Byte(3))
 }
 
 // The statement that the next token begins.
@@ -244,7 +244,7 @@ fn statement_rule(
     requires { ⌜ Asked tokens text n file rep full st ⌝ }
     ensures { λ r. ⌜ Parses P.statement-rule tokens text n file rep full st left r ⌝ }
 {
-    let t = head(tokens, text, n, st.at);
+    let t = peek(tokens, text, n, st.at);
     if t.kind == kind::KW_RETURN {
         return return_statement(tokens, text, n, file, rep, full, st, left);
     }

@@ -9,12 +9,12 @@ use fallible::How;
 use fallible::State;
 use fallible::abandon;
 use node::Numbers;
-use steps::Front;
+use steps::Token;
 use steps::and_expect;
 use steps::expect;
-use steps::finish;
-use steps::finish_text;
-use steps::head;
+use steps::peek;
+use steps::write_node;
+use steps::write_text_node;
 ghost use Prim.Native.Nat.{ℕ, _≤_};
 ghost use Rattle.definition.specs.Kind as K;
 ghost use Rattle.definition.specs.Parser as P;
@@ -36,8 +36,8 @@ pub fn return_statement(
     requires { ⌜ Starts K.KwReturn tokens text n file rep full st ⌝ }
     ensures { λ r. ⌜ Parses P.statement-rule tokens text n file rep full st left r ⌝ }
 {
-    let t = head(tokens, text, n, st.at);
-    let u = head(tokens, text, n, t.next);
+    let t = peek(tokens, text, n, st.at);
+    let u = peek(tokens, text, n, t.next);
     if u.kind == kind::SEMICOLON {
         let a = Answer {
             how: How::Done,
@@ -45,12 +45,12 @@ pub fn return_statement(
             line: t.line,
             column: t.column,
         };
-        return finish(file, text, a, t, tag::RETURN, Numbers::Byte(0));
+        return write_node(file, text, a, t, tag::RETURN, Numbers::Byte(0));
     }
     let on = State { at: t.next, ..st };
     let a = expression(tokens, text, n, file, rep, full, on, left);
     let b = and_expect(tokens, text, n, rep, full, a, kind::SEMICOLON, st);
-    finish(file, text, b, t, tag::RETURN, Numbers::Byte(1))
+    write_node(file, text, b, t, tag::RETURN, Numbers::Byte(1))
 }
 
 // `var` declaration
@@ -67,7 +67,7 @@ pub fn var_statement(
     requires { ⌜ Starts K.KwVar tokens text n file rep full st ⌝ }
     ensures { λ r. ⌜ Parses P.statement-rule tokens text n file rep full st left r ⌝ }
 {
-    let t = head(tokens, text, n, st.at);
+    let t = peek(tokens, text, n, st.at);
     let on = State { at: t.next, ..st };
     let tag = tag::VARIABLE_DECLARATION;
     declaration(tokens, text, n, file, rep, full, tag, t, on, left)
@@ -86,10 +86,10 @@ pub fn break_statement(
     requires { ⌜ Starts K.KwBreak tokens text n file rep full st ⌝ }
     ensures { λ r. ⌜ ((d : ℕ) → Parses P.statement-rule tokens text n file rep full st d r) ⌝ }
 {
-    let t = head(tokens, text, n, st.at);
+    let t = peek(tokens, text, n, st.at);
     let on = State { at: t.next, ..st };
     let a = expect(tokens, text, n, rep, full, on, kind::SEMICOLON);
-    finish(file, text, a, t, tag::BREAK, Numbers::None)
+    write_node(file, text, a, t, tag::BREAK, Numbers::None)
 }
 
 // A fragment of assembly.
@@ -105,14 +105,14 @@ pub fn assembly_statement(
     requires { ⌜ Starts K.InlineAssemblyFragment tokens text n file rep full st ⌝ }
     ensures { λ r. ⌜ ((d : ℕ) → Parses P.statement-rule tokens text n file rep full st d r) ⌝ }
 {
-    let t = head(tokens, text, n, st.at);
+    let t = peek(tokens, text, n, st.at);
     let a = Answer {
         how: How::Done,
         state: State { at: t.next, ..st },
         line: t.line,
         column: t.column,
     };
-    finish_text(file, text, a, t, tag::INLINE_ASSEMBLY, Numbers::None, t)
+    write_text_node(file, text, a, t, tag::INLINE_ASSEMBLY, Numbers::None, t)
 }
 
 // Behind its target, which was written from `i` on: `=` expression `;`
@@ -123,7 +123,7 @@ fn assignment(
     file: &mut [u8],
     rep: &mut [usize],
     full: &mut [usize],
-    lead: Front,
+    lead: Token,
     i: usize,
     st: State,
     left: usize,
@@ -131,13 +131,13 @@ fn assignment(
     requires { ⌜ Starts K.Equals tokens text n file rep full st × (i ≤ st .pos) ⌝ }
     ensures { λ r. ⌜ Behind (P.after-expression (place-of lead)) tokens text n file rep full i st left r ⌝ }
 {
-    let t = head(tokens, text, n, st.at);
+    let t = peek(tokens, text, n, st.at);
     let on = State { at: t.next, ..st };
     let a = expression(tokens, text, n, file, rep, full, on, left);
     let from = State { pos: i, ..st };
     let b = abandon(rep, a, from, st);
     let c = and_expect(tokens, text, n, rep, full, b, kind::SEMICOLON, from);
-    finish(file, text, c, lead, tag::ASSIGNMENT, Numbers::None)
+    write_node(file, text, c, lead, tag::ASSIGNMENT, Numbers::None)
 }
 
 // Behind its target, which was written from `i` on: `<-` compound `;`
@@ -148,7 +148,7 @@ fn compound_assignment(
     file: &mut [u8],
     rep: &mut [usize],
     full: &mut [usize],
-    lead: Front,
+    lead: Token,
     i: usize,
     st: State,
     left: usize,
@@ -156,13 +156,13 @@ fn compound_assignment(
     requires { ⌜ Starts K.LArrow tokens text n file rep full st × (i ≤ st .pos) ⌝ }
     ensures { λ r. ⌜ Behind (P.after-expression (place-of lead)) tokens text n file rep full i st left r ⌝ }
 {
-    let t = head(tokens, text, n, st.at);
+    let t = peek(tokens, text, n, st.at);
     let on = State { at: t.next, ..st };
     let a = compound(tokens, text, n, file, rep, full, on, left);
     let from = State { pos: i, ..st };
     let b = abandon(rep, a, from, st);
     let c = and_expect(tokens, text, n, rep, full, b, kind::SEMICOLON, from);
-    finish(file, text, c, lead, tag::COMPOUND_ASSIGNMENT, Numbers::None)
+    write_node(file, text, c, lead, tag::COMPOUND_ASSIGNMENT, Numbers::None)
 }
 
 // Behind an expression with no errors, which was written from `i` on: assignment | compound_assignment | `;`
@@ -173,7 +173,7 @@ fn after_expression(
     file: &mut [u8],
     rep: &mut [usize],
     full: &mut [usize],
-    lead: Front,
+    lead: Token,
     i: usize,
     st: State,
     left: usize,
@@ -181,7 +181,7 @@ fn after_expression(
     requires { ⌜ Asked tokens text n file rep full st × (i ≤ st .pos) ⌝ }
     ensures { λ r. ⌜ Behind (P.after-expression (place-of lead)) tokens text n file rep full i st left r ⌝ }
 {
-    let t = head(tokens, text, n, st.at);
+    let t = peek(tokens, text, n, st.at);
     if t.kind == kind::EQUALS {
         return assignment(tokens, text, n, file, rep, full, lead, i, st, left);
     }
@@ -196,7 +196,7 @@ fn after_expression(
     };
     let from = State { pos: i, ..st };
     let b = and_expect(tokens, text, n, rep, full, a, kind::SEMICOLON, from);
-    finish(file, text, b, lead, tag::EXPRESSION, Numbers::None)
+    write_node(file, text, b, lead, tag::EXPRESSION, Numbers::None)
 }
 
 // expression after_expression; where the expression has errors the statement ends with it.
@@ -207,7 +207,7 @@ pub fn expression_statement(
     file: &mut [u8],
     rep: &mut [usize],
     full: &mut [usize],
-    lead: Front,
+    lead: Token,
     st: State,
     left: usize,
 ) -> Answer
@@ -221,7 +221,7 @@ pub fn expression_statement(
     };
     let s = a.state;
     if st.reported < s.reported {
-        return finish(file, text, a, lead, tag::EXPRESSION, Numbers::None);
+        return write_node(file, text, a, lead, tag::EXPRESSION, Numbers::None);
     }
     after_expression(tokens, text, n, file, rep, full, lead, st.pos, s, left)
 }

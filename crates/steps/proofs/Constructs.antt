@@ -7,7 +7,7 @@ use native.Mathlib.Decide.{decLe}
 use lib.ListN.{length}
 use lib.Seq.{length-take-le}
 use Rattle.definition.specs.Fallible.{Fallible, Ans, ok, fatal}
-use Rattle.definition.specs.Token.{head}
+use Rattle.definition.specs.Token.{next-token}
 use Rattle.definition.specs.Act.{Act, done, call, Goal, St, Res, gives, refused, after, or-return, run, _>>?_}
 use Rattle.definition.specs.Parser.{parse, rule}
 use Rattle.definition.specs.Go.{go}
@@ -23,7 +23,7 @@ use Rattle.steps.proofs.Moves.{refused-moved}
 use Rattle.steps.proofs.Answers.{Stopped, say, stops}
 
 -- a token that is there stands within the list
-pub within : (w x : List ℕ) (n i : ℕ) → i ≤ n → i + min (head (rest w x n i) .kind) 1 ≤ n
+pub within : (w x : List ℕ) (n i : ℕ) → i ≤ n → i + min (next-token (rest w x n i) .kind) 1 ≤ n
 within w x n i h = elim (decLe n i) [ yes g ↦ rw (rest-nil w x n i g) (omega arith) | no g ↦ omega arith ]
 
 -- ---- the counted calls

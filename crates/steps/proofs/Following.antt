@@ -6,7 +6,7 @@ use native.Mathlib.Omega.{arith}
 use lib.ListN.{length, take}
 use Rattle.definition.specs.Node.{Rec}
 use Rattle.definition.specs.Fallible.{Err, Fallible, Ans, ok}
-use Rattle.definition.specs.Token.{head}
+use Rattle.definition.specs.Token.{next-token}
 use Rattle.definition.specs.Act.{Act, Role, done, St, Res, after, or-return, run, _>>?_}
 use Rattle.definition.specs.Parser as P
 use Rattle.definition.specs.Go.{go}
@@ -56,7 +56,7 @@ module _ {A : Type 0} {K : View A} {w x : List ℕ} {n k i j : ℕ} {r f r′ f�
       lost c = record { errors = c .errors; read = c .read; is = step ∙ rw (c .is); tree = c .tree; rep = c .rep }
 
       one : (h : How) → v .b .how ≡ h → AbandonedOf h (v .between) (v .b) i j (a .state .reported) r′ (v .c)
-          → ShowsOf h (token (head (rest w x n (a .state .at)))) (take (a .state .pos) o)
+          → ShowsOf h (token (next-token (rest w x n (a .state .at)))) (take (a .state .pos) o)
           (errs r (a .state .reported)) [] [] w x n o (v .between) f′ (v .b) (go d (P.expect-as role k) S)
           → ShowsOf (v .c .how) K T E rs es w x n o r′ f′
           (record { how = v .c .how; state = v .c .state; line = a .line; column = a .column })
@@ -72,17 +72,17 @@ module _ {A : Type 0} {K : View A} {w x : List ℕ} {n k i j : ℕ} {r f r′ f�
             holds = g .holds;
           })
       one Fatal h m t =
-          let b : Shows (token (head (rest w x n (a .state .at)))) T E (rs ++ K .recs (g .item)) (es ++ g .errors) w x n o r′ f′ (v .c) (go d (P.expect-as role k) S) =
+          let b : Shows (token (next-token (rest w x n (a .state .at)))) T E (rs ++ K .recs (g .item)) (es ++ g .errors) w x n o r′ f′ (v .c) (go d (P.expect-as role k) S) =
           abandons {T = T} {E = E} (g .tree) (g .rep) li lj (errs-length r (a .state .reported) (omega arith))
           (v .abandoned) (omega (arith, p .pos, v .expects .pos))
           (omega (arith, p .reported, v .expects .moved .reported)) (record {
             told = subst
-                (λ (h : How). ShowsOf h (token (head (rest w x n (a .state .at)))) (take (a .state .pos) o)
+                (λ (h : How). ShowsOf h (token (next-token (rest w x n (a .state .at)))) (take (a .state .pos) o)
                 (errs r (a .state .reported)) [] [] w x n o (v .between) f′ (v .b) (go d (P.expect-as role k) S))
                 (sym h) t;
           }) in
           let c : Bad T E w x n o r′ f′ (v .c) (go d (P.expect-as role k) S) = subst
-          (λ (h : How). ShowsOf h (token (head (rest w x n (a .state .at)))) T E (rs ++ K .recs (g .item))
+          (λ (h : How). ShowsOf h (token (next-token (rest w x n (a .state .at)))) T E (rs ++ K .recs (g .item))
           (es ++ g .errors) w x n o r′ f′ (v .c) (go d (P.expect-as role k) S)) (m .how) (b .told) in
           subst (λ (h : How). ShowsOf h K T E rs es w x n o r′ f′
           (record { how = v .c .how; state = v .c .state; line = a .line; column = a .column })

@@ -12,7 +12,7 @@ use Rattle.fallible.specs.declared.State.{State}
 use Rattle.fallible.specs.declared.How.{How}
 use Rattle.fallible.specs.declared.Answer.{Answer}
 use Rattle.fallible.specs.Answers.{refused-at, one-more, making, Abandoned}
-use Rattle.steps.specs.declared.Front.{Front}
+use Rattle.steps.specs.declared.Token.{Token}
 use Rattle.steps.specs.Tokens.{spend, budget, Seen}
 use Rattle.steps.specs.Shows.{Asks, Asked, Moved}
 use Rattle.steps.proofs.Tokens.{rest-nil, fore}
@@ -70,7 +70,7 @@ module _ {w x : List ℕ} {n : ℕ} {r f : List ℕ} {s : State} (q : Asks w x n
           }
       go false g e = refused-moved 12
 
-  module _ {t : Front} (v : Seen w x n (s .at) t) where
+  module _ {t : Token} (v : Seen w x n (s .at) t) where
     pub asks-fore : Asks w x n r f (fore s t)
     asks-fore = record { held = q .held; at = v .end; reported = q .reported; few = q .few; reps = q .reps; fulls = q .fulls }
 
@@ -121,7 +121,7 @@ abandoned-moved {w} {x} {n} m v =
 
 module _ {w x : List ℕ} {n : ℕ} {o r f : List ℕ} {s : State} (q : Asked w x n o r f s) where
   -- after a token
-  pub asked-seen : {t : Front} → Seen w x n (s .at) t → Asked w x n o r f (fore s t)
+  pub asked-seen : {t : Token} → Seen w x n (s .at) t → Asked w x n o r f (fore s t)
   asked-seen v = record { asks = asks-fore (q .asks) v; room = omega arith }
 
   -- at a later state, in slices as long

@@ -12,7 +12,7 @@ use lib.ListN.{take}
 use Rattle.definition.specs.Choice.{pick}
 use Rattle.definition.specs.Node.{recs-bytes}
 use Rattle.definition.specs.Fallible.{Ans}
-use Rattle.definition.specs.Token.{Tok, head}
+use Rattle.definition.specs.Token.{Tok, next-token}
 use Rattle.definition.specs.Act.{Act, Role, plain, Consumed, now-read, run}
 use Rattle.definition.specs.Parser as P
 use Rattle.definition.specs.Go.{go}
@@ -25,7 +25,7 @@ use Rattle.fallible.specs.Answers.{refused-at, one-more, raised, Raised, Abando
 use Rattle.node.specs.Put.{Wrote, rec-of, size-of}
 use Rattle.node.specs.declared.Record.{Record}
 use Rattle.fallible.proofs.How.{the-type}
-use Rattle.steps.specs.declared.Front.{Front}
+use Rattle.steps.specs.declared.Token.{Token}
 use Rattle.steps.specs.Tokens.{rest, budget, Seen}
 use Rattle.steps.specs.Shows.{st-of, Asks, Moved, done-of, token, Expects, Follows, ExpectedOf, Expected, FinishedOf, Finished}
 use Rattle.steps.proofs.Tokens.{yes, no, fore, adv}
@@ -48,12 +48,12 @@ raised-pos n s = go (ltb (s .full) 255)
     go true = refl
     go false = refl
 
-module _ {w x : List ℕ} {n : ℕ} {r f : List ℕ} {s : State} {t : Front} (q : Asks w x n r f s) (v : Seen w x n (s .at) t) where
+module _ {w x : List ℕ} {n : ℕ} {r f : List ℕ} {s : State} {t : Token} (q : Asks w x n r f s) (v : Seen w x n (s .at) t) where
   -- the token is there
   there : {m : Role → Act (Ans Tok)} {k : ℕ} (of : Role → Role) → 0 < k → t .kind ≡ k
       → ((role : Role) (d : ℕ) (rd : List Consumed)
       → go d (m role) (st-of w x n f rd s)
-      ≡ go d (P.good (head (rest w x n (s .at))) [])
+      ≡ go d (P.good (next-token (rest w x n (s .at))) [])
       (st-of w x n f (rd ++ now-read (λ _. of role) (rest w x n (s .at))) (fore s t)))
       → Expects w x n m r f s r f (record { how = Done; state = fore s t; line = t .line; column = t .column })
   unfolding go run recs-bytes
@@ -66,7 +66,7 @@ module _ {w x : List ℕ} {n : ℕ} {r f : List ℕ} {s : State} {t : Front} (q 
     is =
         λ role d rd o. say (h role d rd) (record {
           told = record {
-            item = head (rest w x n (s .at));
+            item = next-token (rest w x n (s .at));
             errors = [];
             read = rd ++ now-read (λ _. of role) (rest w x n (s .at));
             is = refl;
@@ -99,7 +99,7 @@ module _ {w x : List ℕ} {n : ℕ} {r f : List ℕ} {s : State} {t : Front} (q 
         kept = λ z. absurd (omega (arith, nd, ap done-of z));
         is =
             λ role d rd o. say (h role d rd)
-            (raise-shows (token (head (rest w x n (s .at)))) (asks-fore q v) g d
+            (raise-shows (token (next-token (rest w x n (s .at)))) (asks-fore q v) g d
             (rd ++ now-read (λ _. of role) (rest w x n (s .at))) o);
       }
 

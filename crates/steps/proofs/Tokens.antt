@@ -7,10 +7,10 @@ use native.Mathlib.Omega.{arith}
 use lib.ListN.{length, take, drop, getD, length-drop}
 use lib.Seq.{length-take-le}
 use borrow.Author.Tests.{eq-eqb, ne-eqb}
-use Rattle.definition.specs.Token.{Tok, head, _is_}
+use Rattle.definition.specs.Token.{Tok, next-token, _is_}
 use Rattle.definition.specs.Act.{Role, Consumed, advance, now-read}
 use Rattle.fallible.specs.declared.State.{State}
-use Rattle.steps.specs.declared.Front.{Front}
+use Rattle.steps.specs.declared.Token.{Token}
 use Rattle.steps.specs.Tokens.{tok-at, from, rest, spend, Held, Seen}
 use Rattle.steps.specs.Shows.{st-of}
 
@@ -88,22 +88,22 @@ seen-end {w} {x} {n} {at} g h =
     }
 
 -- a token that is there is of some kind
-pub alive : {w x : List ℕ} {n at : ℕ} → Held w x n → at < n → 0 < head (rest w x n at) .kind
+pub alive : {w x : List ℕ} {n at : ℕ} → Held w x n → at < n → 0 < next-token (rest w x n at) .kind
 alive {w} {x} {n} {at} q h = rw (rest-cons w x n at h) (q .each at h .real)
 
 -- a test of a token's kind
-pub yes : {w x : List ℕ} {n at k : ℕ} {t : Front} → Seen w x n at t → t .kind ≡ k → head (rest w x n at) is k ≡ true
+pub yes : {w x : List ℕ} {n at k : ℕ} {t : Token} → Seen w x n at t → t .kind ≡ k → next-token (rest w x n at) is k ≡ true
 yes v e = eq-eqb _ _ (v .kind ∙ e)
 
-pub no : {w x : List ℕ} {n at k : ℕ} {t : Front} → Seen w x n at t → (t .kind ≡ k → ⊥) → head (rest w x n at) is k ≡ false
+pub no : {w x : List ℕ} {n at k : ℕ} {t : Token} → Seen w x n at t → (t .kind ≡ k → ⊥) → next-token (rest w x n at) is k ≡ false
 no v e = ne-eqb _ _ (λ z. e (sym (v .kind) ∙ z))
 
 -- the state after a token
-abbrev pub fore : State → Front → State
+abbrev pub fore : State → Token → State
 fore s t = record { at = t .next; pos = s .pos; reported = s .reported; full = s .full }
 
 -- a token is read
-pub adv : {w x : List ℕ} {n : ℕ} {t : Front} (s : State) → Seen w x n (s .at) t
+pub adv : {w x : List ℕ} {n : ℕ} {t : Token} (s : State) → Seen w x n (s .at) t
     → (role : Tok → Role) (f : List ℕ) (rd : List Consumed)
     → advance role (st-of w x n f rd s) ≡ st-of w x n f (rd ++ now-read role (rest w x n (s .at))) (fore s t)
 adv s v role f rd = rw (v .tail)

@@ -5,7 +5,7 @@ use Prim.Native.Nat.{ℕ, min, _+_, _*_, _≤_}
 use lib.ListN.{length, take}
 use Rattle.definition.specs.Node.{Rec, recs-bytes}
 use Rattle.definition.specs.Fallible.{Err, Fallible, Ans, ok, fatal}
-use Rattle.definition.specs.Token.{Tok, head}
+use Rattle.definition.specs.Token.{Tok, next-token}
 use Rattle.definition.specs.Act.{Act, Consumed, Items, Node, Role, St, Res, gives, refused, after, or-return}
 use Rattle.definition.specs.Parser as P
 use Rattle.definition.specs.Go.{go}
@@ -18,7 +18,7 @@ use Rattle.fallible.specs.declared.How.the-variants.{Done, Fatal, Refused}
 use Rattle.fallible.specs.declared.Answer.{Answer}
 use Rattle.fallible.specs.Lists.{errs}
 use Rattle.fallible.specs.Answers.{Abandoned}
-use Rattle.steps.specs.declared.Front.{Front}
+use Rattle.steps.specs.declared.Token.{Token}
 use Rattle.steps.specs.Tokens.{rest, budget, Held}
 
 -- ---- states
@@ -113,7 +113,7 @@ items = record { recs = λ y. y .recs; fine = λ l c y. y .count ≡ l }
 -- a function that reads: what it shows of the act m, where d more calls may be opened
 pub record Reads {A : Type 0} (K : View A) (w x : List ℕ) (n d : ℕ) (m : Act (Ans A)) (o r f : List ℕ) (s : State) (o′ r′ f′ : List ℕ) (a : Answer) : Type 0 where
   pub moved : Moved w x n (s .pos) (s .reported) s (a .state)
-  pub on : s .at + min (head (rest w x n (s .at)) .kind) 1 ≤ a .state .at
+  pub on : s .at + min (next-token (rest w x n (s .at)) .kind) 1 ≤ a .state .at
   pub is : (rd : List Consumed) → Shows K (take (s .pos) o) (errs r (s .reported)) [] [] w x n o′ r′ f′ a (go d m (st-of w x n f rd s))
 
 -- a function from an answer a to an answer y, in a construct that began at i and j: what it shows of what follows
@@ -132,10 +132,10 @@ pub record GoesOn (w x : List ℕ) (n : ℕ) (o r f : List ℕ) (a : Answer) (i 
 pub record Expects (w x : List ℕ) (n : ℕ) (m : Role → Act (Ans Tok)) (r f : List ℕ) (s : State) (r′ f′ : List ℕ) (a : Answer) : Type 0 where
   pub moved : Moved w x n (s .pos) (s .reported) s (a .state)
   pub pos : a .state .pos ≡ s .pos
-  pub on : s .at + min (head (rest w x n (s .at)) .kind) 1 ≤ a .state .at
+  pub on : s .at + min (next-token (rest w x n (s .at)) .kind) 1 ≤ a .state .at
   pub pays : budget w x n (a .state .at) + 16 * done-of (a .how) ≤ budget w x n (s .at)
   pub kept : a .how ≡ Done → (a .state .reported ≡ s .reported) × (errs r′ (a .state .reported) ≡ errs r (s .reported))
-  pub is : (role : Role) (d : ℕ) (rd : List Consumed) (o : List ℕ) → Shows (token (head (rest w x n (s .at)))) (take (s .pos) o) (errs r (s .reported)) [] [] w x n o r′ f′ a (go d (m role) (st-of w x n f rd s))
+  pub is : (role : Role) (d : ℕ) (rd : List Consumed) (o : List ℕ) → Shows (token (next-token (rest w x n (s .at)))) (take (s .pos) o) (errs r (s .reported)) [] [] w x n o r′ f′ a (go d (m role) (st-of w x n f rd s))
 
 -- what a function asks of an answer, of a construct that began at i and j
 pub record Follows (w x : List ℕ) (n : ℕ) (r f : List ℕ) (a : Answer) (i j : ℕ) : Type 0 where
@@ -166,10 +166,10 @@ pub record Expected (w x : List ℕ) (n k i j : ℕ) (r f : List ℕ) (a : Answe
 -- ---- a record after an answer
 
 -- at the place of a token, with the text of one, or with none
-abbrev pub texted : Front → ℕ → Numbers → Front → Record
+abbrev pub texted : Token → ℕ → Numbers → Token → Record
 texted t tag ns name = record { tag = tag; line = t .line; column = t .column; numbers = ns; start = name .start; len = name .len }
 
-abbrev pub untexted : Front → ℕ → Numbers → Record
+abbrev pub untexted : Token → ℕ → Numbers → Record
 untexted t tag ns = record { tag = tag; line = t .line; column = t .column; numbers = ns; start = 0; len = 0 }
 
 abbrev pub FinishedOf : How → List ℕ → List ℕ → Answer → Record → List ℕ → Answer → Type 0

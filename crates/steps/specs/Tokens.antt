@@ -3,10 +3,10 @@ use mathlib.Core.Path.{_≡_}
 use mathlib.Core.List.{List, [], _∷_}
 use Prim.Native.Nat.{ℕ, zero, suc, min, _+_, _*_, _-_, _<_, _≤_}
 use lib.ListN.{length, take, drop, getD}
-use Rattle.definition.specs.Token.{Tok, head, tail}
+use Rattle.definition.specs.Token.{Tok, next-token, tail}
 unfoldable pub use Rattle.definition.specs.Cost.{spend}
 use Rattle.definition.specs.Records.{words-at, token-of}
-use Rattle.steps.specs.declared.Front.{Front}
+use Rattle.steps.specs.declared.Token.{Token}
 
 -- the token whose record is the i-th
 abbrev pub tok-at : List ℕ → List ℕ → ℕ → Tok
@@ -40,11 +40,11 @@ pub record Held (w x : List ℕ) (n : ℕ) : Type 0 where
   pub each : (i : ℕ) → i < n → Sound w x i
 
 -- what `head` shows
-pub record Seen (w x : List ℕ) (n at : ℕ) (t : Front) : Type 0 where
-  pub kind : head (rest w x n at) .kind ≡ t .kind
-  pub place : head (rest w x n at) .place ≡ record { line = t .line; column = t .column }
-  pub text : head (rest w x n at) .text ≡ take (t .len) (drop (t .start) x)
-  pub base : head (rest w x n at) .base ≡ t .base
+pub record Seen (w x : List ℕ) (n at : ℕ) (t : Token) : Type 0 where
+  pub kind : next-token (rest w x n at) .kind ≡ t .kind
+  pub place : next-token (rest w x n at) .place ≡ record { line = t .line; column = t .column }
+  pub text : next-token (rest w x n at) .text ≡ take (t .len) (drop (t .start) x)
+  pub base : next-token (rest w x n at) .base ≡ t .base
   pub tail : tail (rest w x n at) ≡ rest w x n (t .next)
   pub pays : budget w x n (t .next) + 16 * min (t .kind) 1 + t .len ≡ budget w x n at
   pub on : at + min (t .kind) 1 ≤ t .next

@@ -19,7 +19,7 @@ ghost use Rattle.steps.specs.Shows.{texted, untexted};
 ghost use Rattle.steps.specs.Contract.{Asks, Follows, Expects, Expected, Finishes};
 
 // A token as its record has it, and the place after it. At the end all is 0.
-pub struct Front {
+pub struct Token {
     pub kind: u32,
     pub line: usize,
     pub column: usize,
@@ -36,13 +36,13 @@ fn wide(x: u32) -> usize
 }
 
 // The token at a place.
-pub fn head(tokens: &[u32], text: &[u8], n: usize, at: usize) -> Front
+pub fn peek(tokens: &[u32], text: &[u8], n: usize, at: usize) -> Token
     requires { ⌜ Held (now tokens) (now text) n × (at ≤ n) ⌝ }
     ensures { λ r. ⌜ Seen (now (tokens .entry)) (now (text .entry)) n at r ⌝ }
 {
     if at < n {
         let i = 8 * at;
-        Front {
+        Token {
             kind: tokens[i],
             line: wide(tokens[i + 1]),
             column: wide(tokens[i + 2]),
@@ -52,7 +52,7 @@ pub fn head(tokens: &[u32], text: &[u8], n: usize, at: usize) -> Front
             next: at + 1,
         }
     } else {
-        Front {
+        Token {
             kind: kind::END,
             line: 0,
             column: 0,
@@ -77,7 +77,7 @@ pub fn expect(
     requires { ⌜ Asks tokens text n rep full st × ((0 < wanted) × (wanted < 256)) ⌝ }
     ensures { λ r. ⌜ Expects (λ role. P.expect-as role wanted) tokens text n rep full st r ⌝ }
 {
-    let t = head(tokens, text, n, st.at);
+    let t = peek(tokens, text, n, st.at);
     let on = State { at: t.next, ..st };
     if t.kind == wanted {
         return Answer {
@@ -107,7 +107,7 @@ pub fn expect_identifier(
     requires { ⌜ Asks tokens text n rep full st ⌝ }
     ensures { λ r. ⌜ Expects (λ role. P.expect-identifier) tokens text n rep full st r ⌝ }
 {
-    let t = head(tokens, text, n, st.at);
+    let t = peek(tokens, text, n, st.at);
     let on = State { at: t.next, ..st };
     if t.kind == kind::IDENTIFIER {
         return Answer {
@@ -157,14 +157,14 @@ pub fn and_expect(
 }
 
 // A record after what an answer has, if it is there: at the place of `t`, with the text of `name`.
-pub fn finish_text(
+pub fn write_text_node(
     file: &mut [u8],
     text: &[u8],
     a: Answer,
-    t: Front,
+    t: Token,
     tag: u8,
     numbers: Numbers,
-    name: Front,
+    name: Token,
 ) -> Answer
     requires { ⌜ Room file text (a .state .pos) (16 + name .len) (name .start) (name .len) ⌝ }
     ensures { λ r. ⌜ Finishes (texted t tag numbers name) file text a r ⌝ }
@@ -192,21 +192,21 @@ pub fn finish_text(
 }
 
 // The same with no text.
-pub fn finish(
+pub fn write_node(
     file: &mut [u8],
     text: &[u8],
     a: Answer,
-    t: Front,
+    t: Token,
     tag: u8,
     numbers: Numbers,
 ) -> Answer
     requires { ⌜ Room file text (a .state .pos) 16 0 0 ⌝ }
     ensures { λ r. ⌜ Finishes (untexted t tag numbers) file text a r ⌝ }
 {
-    let none = Front {
+    let none = Token {
         start: 0,
         len: 0,
         ..t
     };
-    finish_text(file, text, a, t, tag, numbers, none)
+    write_text_node(file, text, a, t, tag, numbers, none)
 }

@@ -11,15 +11,15 @@ returns c =
     let start = c .before .before .before .before in
     bare-stops (start .pre) (c .match .keys2)
 
-head-requires : tie.Need-head-requires
-head-requires c κs = search needs
+peek-requires : tie.Need-peek-requires
+peek-requires c κs = search needs
 
 write-bare-requires : tie.Need-write-bare-requires
 write-bare-requires c κs =
-    let at-head = c .before .before .before in
-    let at-enum-told = at-head .before .before in
+    let at-peek = c .before .before .before in
+    let at-enum-told = at-peek .before .before in
     let start = at-enum-told .before .before .before .before .before in
-    bare-room (start .pre) (at-enum-told .enum-told .given .1) (at-head .head .ensures)
+    bare-room (start .pre) (at-enum-told .enum-told .given .1) (at-peek .peek .ensures)
 
 same-length : tie.Need-same-length
 same-length c = search needs
@@ -28,10 +28,10 @@ returns-2 : tie.Need-returns-2
 returns-2 c =
     let at-write-bare = c .before .before in
     let at-if1 = at-write-bare .before .before in
-    let at-head = at-if1 .before .before in
-    let at-enum-told = at-head .before .before in
+    let at-peek = at-if1 .before .before in
+    let at-enum-told = at-peek .before .before in
     let start = at-enum-told .before .before .before .before .before in
-    bare-name (start .pre) (at-enum-told .enum-told .given .1) (at-head .head .ensures) (at-if1 .if1 .taken)
+    bare-name (start .pre) (at-enum-told .enum-told .given .1) (at-peek .peek .ensures) (at-if1 .if1 .taken)
     (at-write-bare .write-bare .ensures)
 
 slice-aggregate-write-bare : tie.Need-slice-aggregate-write-bare
@@ -50,10 +50,10 @@ returns-3 : tie.Need-returns-3
 returns-3 c =
     let at-write-bare2 = c .before .before in
     let at-if1 = at-write-bare2 .before .before .before in
-    let at-head = at-if1 .before .before in
-    let at-enum-told = at-head .before .before in
+    let at-peek = at-if1 .before .before in
+    let at-enum-told = at-peek .before .before in
     let start = at-enum-told .before .before .before .before .before in
-    bare-unknown (start .pre) (at-enum-told .enum-told .given .1) (at-head .head .ensures)
+    bare-unknown (start .pre) (at-enum-told .enum-told .given .1) (at-peek .peek .ensures)
     (at-if1 .if1 .left) (at-write-bare2 .write-bare2 .ensures)
 
 pub bare-name-spec : {M : Type 1} → statement M
@@ -62,7 +62,7 @@ bare-name-spec =
     (tie.spec
     enum-told
     returns
-    head-requires
+    peek-requires
     write-bare-requires
     same-length
     returns-2

@@ -20,8 +20,8 @@ loop-holds c =
     let start = c .before .before .before .before .before in
     ((start .pre, omega arith), at-start)
 
-head-requires : tie.Need-head-requires Inv-loop μ-loop
-head-requires c κs = (c .loop .inv .0 .0 .asks .held, c .loop .inv .0 .0 .asks .at)
+peek-requires : tie.Need-peek-requires Inv-loop μ-loop
+peek-requires c κs = (c .loop .inv .0 .0 .asks .held, c .loop .inv .0 .0 .asks .at)
 
 same-length : tie.Need-same-length Inv-loop μ-loop
 same-length c =
@@ -40,10 +40,10 @@ same-length-3 c =
 
 returns : tie.Need-returns Inv-loop μ-loop
 returns c =
-    let at-head = c .before .before in
-    let at-loop = at-head .before in
+    let at-peek = c .before .before in
+    let at-loop = at-peek .before in
     module-reads
-    (at-loop .loop .inv .1 .rest (module-end (at-loop .loop .inv .0) (at-head .head .ensures) (c .if1 .taken)))
+    (at-loop .loop .inv .1 .rest (module-end (at-loop .loop .inv .0) (at-peek .peek .ensures) (c .if1 .taken)))
 
 top-level-item-requires : tie.Need-top-level-item-requires Inv-loop μ-loop
 top-level-item-requires c κs =
@@ -75,11 +75,11 @@ returns-2 : tie.Need-returns-2 Inv-loop μ-loop
 returns-2 c =
     let at-top-level-item = c .before .before .before .before .before .before .before .before .before in
     let at-if1 = at-top-level-item .before .before .before .before in
-    let at-head = at-if1 .before .before in
-    let at-loop = at-head .before in
+    let at-peek = at-if1 .before .before in
+    let at-loop = at-peek .before in
     module-reads
     (at-loop .loop .inv .1 .rest
-    (module-refused (at-loop .loop .inv .0) (at-head .head .ensures) (at-if1 .if1 .left)
+    (module-refused (at-loop .loop .inv .0) (at-peek .peek .ensures) (at-if1 .if1 .left)
     (at-top-level-item .top-level-item .ensures) (c .before .match .keys1)))
 
 counted-requires : tie.Need-counted-requires Inv-loop μ-loop
@@ -96,12 +96,12 @@ loop-less : tie.Need-loop-less Inv-loop μ-loop
 loop-less c =
     let at-top-level-item = c .before .before .before .before .before .before .before .before .before in
     let at-if1 = at-top-level-item .before .before .before .before in
-    let at-head = at-if1 .before .before in
-    let at-loop = at-head .before in
+    let at-peek = at-if1 .before .before in
+    let at-loop = at-peek .before in
     omega (
       arith,
       at-loop .loop .inv .0 .0 .asks .at,
-      at-head .head .ensures .kind,
+      at-peek .peek .ensures .kind,
       at-if1 .if1 .left,
       at-top-level-item .top-level-item .ensures .on,
       at-top-level-item .top-level-item .ensures .moved,
@@ -111,9 +111,9 @@ loop-again : tie.Need-loop-again Inv-loop μ-loop
 loop-again c =
     let at-top-level-item = c .before .before .before .before .before .before .before .before .before in
     let at-if1 = at-top-level-item .before .before .before .before in
-    let at-head = at-if1 .before .before in
-    let at-loop = at-head .before in (
-      loop-asked (at-loop .loop .inv .0) (at-head .head .ensures) (at-if1 .if1 .left)
+    let at-peek = at-if1 .before .before in
+    let at-loop = at-peek .before in (
+      loop-asked (at-loop .loop .inv .0) (at-peek .peek .ensures) (at-if1 .if1 .left)
           (at-top-level-item .top-level-item .ensures) (c .counted .ensures)
           (omega (arith, at-top-level-item .top-level-item .kept))
           (omega (arith, at-top-level-item .top-level-item .kept))
@@ -122,7 +122,7 @@ loop-again c =
           (omega (arith, at-top-level-item .top-level-item .kept))
           (omega (arith, at-top-level-item .top-level-item .kept))
           (at-top-level-item .top-level-item .ensures .moved .at)
-          (λ _ _ _ _ g. module-next (at-loop .loop .inv .0) (at-head .head .ensures) (at-if1 .if1 .left)
+          (λ _ _ _ _ g. module-next (at-loop .loop .inv .0) (at-peek .peek .ensures) (at-if1 .if1 .left)
           (at-top-level-item .top-level-item .ensures) (c .before .match .keys2) (c .counted .ensures) g),
     )
 
@@ -133,7 +133,7 @@ module-spec =
     Inv-loop
     μ-loop
     loop-holds
-    head-requires
+    peek-requires
     same-length
     same-length-2
     same-length-3

@@ -5,8 +5,8 @@ use native.Mathlib.Omega.{arith}
 use Rattle.items.proofs.top_level_item.Statement.{statement}
 use Rattle.items.proofs.top_level_item.Tie as tie
 
-head-requires : tie.Need-head-requires
-head-requires c κs =
+peek-requires : tie.Need-peek-requires
+peek-requires c κs =
     let start = c .before .before .before .before .before in
     (start .pre .asks .held, (start .pre) .asks .at)
 
@@ -34,8 +34,8 @@ returns : tie.Need-returns
 returns c =
     let at-function-definition = c .before .before .before .before .before .before in
     let at-if1 = at-function-definition .before .before .before .before in
-    let at-head = at-if1 .before .before .before in
-    item-function (at-head .head .ensures) (at-if1 .if1 .taken)
+    let at-peek = at-if1 .before .before .before in
+    item-function (at-peek .peek .ensures) (at-if1 .if1 .taken)
     (at-function-definition .function-definition .ensures)
 
 type-alias-requires : tie.Need-type-alias-requires
@@ -63,8 +63,8 @@ returns-2 c =
     let at-type-alias = c .before .before .before .before .before .before in
     let at-if2 = at-type-alias .before .before .before .before in
     let at-if1 = at-if2 .before .before .before .before in
-    let at-head = at-if1 .before .before .before in
-    item-alias (at-head .head .ensures) (at-if1 .if1 .left) (at-if2 .if2 .taken)
+    let at-peek = at-if1 .before .before .before in
+    item-alias (at-peek .peek .ensures) (at-if1 .if1 .left) (at-if2 .if2 .taken)
     (at-type-alias .type-alias .ensures)
 
 use-path-requires : tie.Need-use-path-requires
@@ -93,8 +93,8 @@ returns-3 c =
     let at-if3 = at-use-path .before .before .before .before in
     let at-if2 = at-if3 .before .before in
     let at-if1 = at-if2 .before .before .before .before in
-    let at-head = at-if1 .before .before .before in
-    item-use (at-head .head .ensures) (at-if1 .if1 .left) (at-if2 .if2 .left) (at-if3 .if3 .taken)
+    let at-peek = at-if1 .before .before .before in
+    item-use (at-peek .peek .ensures) (at-if1 .if1 .left) (at-if2 .if2 .left) (at-if3 .if3 .taken)
     (at-use-path .use-path .ensures _)
 
 top-level-var-declaration-requires : tie.Need-top-level-var-declaration-requires
@@ -124,44 +124,44 @@ returns-4 c =
     let at-if3 = at-if4 .before .before in
     let at-if2 = at-if3 .before .before in
     let at-if1 = at-if2 .before .before .before .before in
-    let at-head = at-if1 .before .before .before in
-    item-variable (at-head .head .ensures) (at-if1 .if1 .left) (at-if2 .if2 .left) (at-if3 .if3 .left)
+    let at-peek = at-if1 .before .before .before in
+    item-variable (at-peek .peek .ensures) (at-if1 .if1 .left) (at-if2 .if2 .left) (at-if3 .if3 .left)
     (at-if4 .if4 .taken) (at-top-level-var-declaration .top-level-var-declaration .ensures)
 
-finish-text-requires : tie.Need-finish-text-requires
-finish-text-requires c κs =
-    let at-head = c .before .before .before .before .before .before .before .before .before .before .before .before .before .before in
-    let start = at-head .before .before .before .before .before .before in
-    record { room = omega (arith, (start .pre) .room, at-head .head .ensures .pays); part = at-head .head .ensures .part }
+write-text-node-requires : tie.Need-write-text-node-requires
+write-text-node-requires c κs =
+    let at-peek = c .before .before .before .before .before .before .before .before .before .before .before .before .before .before in
+    let start = at-peek .before .before .before .before .before .before in
+    record { room = omega (arith, (start .pre) .room, at-peek .peek .ensures .pays); part = at-peek .peek .ensures .part }
 
 same-length-13 : tie.Need-same-length-13
 same-length-13 c =
-    let at-finish-text = c .before .before in
-    omega (arith, at-finish-text .finish-text .kept)
+    let at-write-text-node = c .before .before in
+    omega (arith, at-write-text-node .write-text-node .kept)
 
 returns-5 : tie.Need-returns-5
 returns-5 c =
-    let at-finish-text = c .before .before in
-    let at-if5 = at-finish-text .before .before in
+    let at-write-text-node = c .before .before in
+    let at-if5 = at-write-text-node .before .before in
     let at-if4 = at-if5 .before .before in
     let at-if3 = at-if4 .before .before in
     let at-if2 = at-if3 .before .before in
     let at-if1 = at-if2 .before .before .before .before in
-    let at-head = at-if1 .before .before .before in
-    let start = at-head .before .before .before .before .before .before in
-    item-assembly (at-head .head .ensures) (at-if1 .if1 .left) (at-if2 .if2 .left) (at-if3 .if3 .left)
-    (at-if4 .if4 .left) (start .pre) (at-if5 .if5 .taken) (at-finish-text .finish-text .ensures)
+    let at-peek = at-if1 .before .before .before in
+    let start = at-peek .before .before .before .before .before .before in
+    item-assembly (at-peek .peek .ensures) (at-if1 .if1 .left) (at-if2 .if2 .left) (at-if3 .if3 .left)
+    (at-if4 .if4 .left) (start .pre) (at-if5 .if5 .taken) (at-write-text-node .write-text-node .ensures)
 
 entry-requires : tie.Need-entry-requires
 entry-requires c κs =
-    let at-head = c .before .before .before .before .before .before .before .before .before .before .before .before .before in
-    omega (arith, at-head .head .ensures)
+    let at-peek = c .before .before .before .before .before .before .before .before .before .before .before .before .before in
+    omega (arith, at-peek .peek .ensures)
 
 raise-requires : tie.Need-raise-requires
 raise-requires c κs =
-    let at-head = c .before .before .before .before .before .before .before .before .before .before .before .before .before .before .before .before in
-    let start = at-head .before .before .before .before .before .before in
-    raise-asked (asked-seen (start .pre) (at-head .head .ensures))
+    let at-peek = c .before .before .before .before .before .before .before .before .before .before .before .before .before .before .before .before in
+    let start = at-peek .before .before .before .before .before .before in
+    raise-asked (asked-seen (start .pre) (at-peek .peek .ensures))
 
 same-length-14 : tie.Need-same-length-14
 same-length-14 c =
@@ -182,9 +182,9 @@ returns-6 c =
     let at-if3 = at-if4 .before .before in
     let at-if2 = at-if3 .before .before in
     let at-if1 = at-if2 .before .before .before .before in
-    let at-head = at-if1 .before .before .before in
-    let start = at-head .before .before .before .before .before .before in
-    item-other (at-head .head .ensures) (at-if1 .if1 .left) (at-if2 .if2 .left) (at-if3 .if3 .left)
+    let at-peek = at-if1 .before .before .before in
+    let start = at-peek .before .before .before .before .before .before in
+    item-other (at-peek .peek .ensures) (at-if1 .if1 .left) (at-if2 .if2 .left) (at-if3 .if3 .left)
     (at-if4 .if4 .left) (start .pre) (at-if5 .if5 .left) (at-entry .entry .ensures)
     (at-raise .raise .ensures)
 
@@ -192,7 +192,7 @@ pub top-level-item-spec : {M : Type 1} → statement M
 top-level-item-spec =
     tie.close
     (tie.spec
-    head-requires
+    peek-requires
     function-definition-requires
     same-length
     same-length-2
@@ -213,7 +213,7 @@ top-level-item-spec =
     same-length-11
     same-length-12
     returns-4
-    finish-text-requires
+    write-text-node-requires
     same-length-13
     returns-5
     entry-requires

@@ -3,29 +3,29 @@ use borrow.Author.Needs.{needs}
 use Rattle.leaves.proofs.comma.Statement.{statement}
 use Rattle.leaves.proofs.comma.Tie as tie
 
-head-requires : tie.Need-head-requires
-head-requires c κs = search needs
+peek-requires : tie.Need-peek-requires
+peek-requires c κs = search needs
 
 returns : tie.Need-returns
 returns c =
-    let at-head = c .before .before in
-    let start = at-head .before .before .before .before .before in
-    comma-there (start .pre) (at-head .head .ensures) (c .if1 .taken)
+    let at-peek = c .before .before in
+    let start = at-peek .before .before .before .before .before in
+    comma-there (start .pre) (at-peek .peek .ensures) (c .if1 .taken)
 
 returns-2 : tie.Need-returns-2
 returns-2 c =
     let at-if1 = c .before .before in
-    let at-head = at-if1 .before .before in
-    let start = at-head .before .before .before .before .before in
-    comma-close (start .pre) (at-head .head .ensures) (at-if1 .if1 .left) (c .if2 .taken)
+    let at-peek = at-if1 .before .before in
+    let start = at-peek .before .before .before .before .before in
+    comma-close (start .pre) (at-peek .peek .ensures) (at-if1 .if1 .left) (c .if2 .taken)
 
 returns-3 : tie.Need-returns-3
 returns-3 c =
     let at-if2 = c .before .before in
     let at-if1 = at-if2 .before .before in
-    let at-head = at-if1 .before .before in
-    let start = at-head .before .before .before .before .before in
-    comma-end (start .pre) (at-head .head .ensures) (at-if1 .if1 .left) (at-if2 .if2 .left) (c .if3 .taken)
+    let at-peek = at-if1 .before .before in
+    let start = at-peek .before .before .before .before .before in
+    comma-end (start .pre) (at-peek .peek .ensures) (at-if1 .if1 .left) (at-if2 .if2 .left) (c .if3 .taken)
 
 entry-requires : tie.Need-entry-requires
 entry-requires c κs = search needs
@@ -46,16 +46,16 @@ returns-4 c =
     let at-if3 = at-entry .before in
     let at-if2 = at-if3 .before .before in
     let at-if1 = at-if2 .before .before in
-    let at-head = at-if1 .before .before in
-    let start = at-head .before .before .before .before .before in
-    comma-other (start .pre) (at-head .head .ensures) (at-if1 .if1 .left) (at-if2 .if2 .left)
+    let at-peek = at-if1 .before .before in
+    let start = at-peek .before .before .before .before .before in
+    comma-other (start .pre) (at-peek .peek .ensures) (at-if1 .if1 .left) (at-if2 .if2 .left)
     (at-if3 .if3 .left) (at-entry .entry .ensures) (at-note .note .ensures)
 
 pub comma-spec : {M : Type 1} → statement M
 comma-spec =
     tie.close
     (tie.spec
-    head-requires
+    peek-requires
     returns
     returns-2
     returns-3

@@ -4,8 +4,8 @@ use borrow.Author.Needs.{needs}
 use Rattle.leaves.proofs.literal.Statement.{statement}
 use Rattle.leaves.proofs.literal.Tie as tie
 
-head-requires : tie.Need-head-requires
-head-requires c κs = search needs
+peek-requires : tie.Need-peek-requires
+peek-requires c κs = search needs
 
 cast-base : tie.Need-cast-base
 cast-base c = search needs
@@ -20,9 +20,9 @@ returns : tie.Need-returns
 returns c =
     let at-leaf = c .before .before in
     let at-if1 = at-leaf .before .before .before in
-    let at-head = at-if1 .before .before in
-    let start = at-head .before .before .before .before .before .before in
-    integer-reads (start .pre) (at-head .head .ensures) (at-if1 .if1 .taken) (at-leaf .leaf .ensures)
+    let at-peek = at-if1 .before .before in
+    let start = at-peek .before .before .before .before .before .before in
+    integer-reads (start .pre) (at-peek .peek .ensures) (at-if1 .if1 .taken) (at-leaf .leaf .ensures)
 
 name-requires : tie.Need-name-requires
 name-requires c κs = search needs
@@ -35,9 +35,9 @@ returns-2 c =
     let at-name = c .before .before in
     let at-if2 = at-name .before .before in
     let at-if1 = at-if2 .before .before in
-    let at-head = at-if1 .before .before in
-    let start = at-head .before .before .before .before .before .before in
-    name-reads (start .pre) (at-head .head .ensures) (at-if1 .if1 .left) (at-if2 .if2 .taken)
+    let at-peek = at-if1 .before .before in
+    let start = at-peek .before .before .before .before .before .before in
+    name-reads (start .pre) (at-peek .peek .ensures) (at-if1 .if1 .left) (at-if2 .if2 .taken)
     (at-name .name .ensures)
 
 leaf-requires-2 : tie.Need-leaf-requires-2
@@ -52,9 +52,9 @@ returns-3 c =
     let at-if3 = at-leaf2 .before .before in
     let at-if2 = at-if3 .before .before in
     let at-if1 = at-if2 .before .before in
-    let at-head = at-if1 .before .before in
-    let start = at-head .before .before .before .before .before .before in
-    string-reads (start .pre) (at-head .head .ensures) (at-if1 .if1 .left) (at-if2 .if2 .left)
+    let at-peek = at-if1 .before .before in
+    let start = at-peek .before .before .before .before .before .before in
+    string-reads (start .pre) (at-peek .peek .ensures) (at-if1 .if1 .left) (at-if2 .if2 .left)
     (at-if3 .if3 .taken) (at-leaf2 .leaf2 .ensures)
 
 leaf-requires-3 : tie.Need-leaf-requires-3
@@ -72,9 +72,9 @@ returns-4 c =
     let at-if3 = at-if4 .before .before in
     let at-if2 = at-if3 .before .before in
     let at-if1 = at-if2 .before .before in
-    let at-head = at-if1 .before .before in
-    let start = at-head .before .before .before .before .before .before in
-    true-reads (start .pre) (at-head .head .ensures) (at-if1 .if1 .left) (at-if2 .if2 .left)
+    let at-peek = at-if1 .before .before in
+    let start = at-peek .before .before .before .before .before .before in
+    true-reads (start .pre) (at-peek .peek .ensures) (at-if1 .if1 .left) (at-if2 .if2 .left)
     (at-if3 .if3 .left) (at-if4 .if4 .taken) (at-leaf3 .leaf3 .ensures)
 
 leaf-requires-4 : tie.Need-leaf-requires-4
@@ -93,9 +93,9 @@ returns-5 c =
     let at-if3 = at-if4 .before .before in
     let at-if2 = at-if3 .before .before in
     let at-if1 = at-if2 .before .before in
-    let at-head = at-if1 .before .before in
-    let start = at-head .before .before .before .before .before .before in
-    false-reads (start .pre) (at-head .head .ensures) (at-if1 .if1 .left) (at-if2 .if2 .left)
+    let at-peek = at-if1 .before .before in
+    let start = at-peek .before .before .before .before .before .before in
+    false-reads (start .pre) (at-peek .peek .ensures) (at-if1 .if1 .left) (at-if2 .if2 .left)
     (at-if3 .if3 .left) (at-if4 .if4 .left) (at-if5 .if5 .taken) (at-leaf4 .leaf4 .ensures)
 
 entry-requires : tie.Need-entry-requires
@@ -122,9 +122,9 @@ returns-6 c =
     let at-if3 = at-if4 .before .before in
     let at-if2 = at-if3 .before .before in
     let at-if1 = at-if2 .before .before in
-    let at-head = at-if1 .before .before in
-    let start = at-head .before .before .before .before .before .before in
-    end-reads (start .pre) (at-head .head .ensures) (at-if1 .if1 .left) (at-if2 .if2 .left)
+    let at-peek = at-if1 .before .before in
+    let start = at-peek .before .before .before .before .before .before in
+    end-reads (start .pre) (at-peek .peek .ensures) (at-if1 .if1 .left) (at-if2 .if2 .left)
     (at-if3 .if3 .left) (at-if4 .if4 .left) (at-if5 .if5 .left) (at-raise .raise .ensures)
     (at-if6 .if6 .taken) (at-entry .entry .ensures)
 
@@ -152,9 +152,9 @@ returns-7 c =
     let at-if3 = at-if4 .before .before in
     let at-if2 = at-if3 .before .before in
     let at-if1 = at-if2 .before .before in
-    let at-head = at-if1 .before .before in
-    let start = at-head .before .before .before .before .before .before in
-    other-reads (start .pre) (at-head .head .ensures) (at-if1 .if1 .left) (at-if2 .if2 .left)
+    let at-peek = at-if1 .before .before in
+    let start = at-peek .before .before .before .before .before .before in
+    other-reads (start .pre) (at-peek .peek .ensures) (at-if1 .if1 .left) (at-if2 .if2 .left)
     (at-if3 .if3 .left) (at-if4 .if4 .left) (at-if5 .if5 .left) (at-raise2 .raise2 .ensures)
     (at-if6 .if6 .left) (at-entry2 .entry2 .ensures)
 
@@ -162,7 +162,7 @@ pub literal-spec : {M : Type 1} → statement M
 literal-spec =
     tie.close
     (tie.spec
-    head-requires
+    peek-requires
     cast-base
     leaf-requires
     same-length

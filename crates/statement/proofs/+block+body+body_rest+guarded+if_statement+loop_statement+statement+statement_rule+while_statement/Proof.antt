@@ -53,8 +53,8 @@ pub +block+body+body-rest+guarded+if-statement+loop-statement+statement+statemen
     μ-statement
     μ-statement-rule
     μ-while-statement
-    (λ t. block-lts.spec (N-block.given t) (block-at t) block.Post (N-block.head-requires t)
-    (N-block.body-requires t) (N-block.finish-requires t) (N-block.same-length t) (N-block.same-length-2 t)
+    (λ t. block-lts.spec (N-block.given t) (block-at t) block.Post (N-block.peek-requires t)
+    (N-block.body-requires t) (N-block.write-node-requires t) (N-block.same-length t) (N-block.same-length-2 t)
     (N-block.same-length-3 t) (N-block.returns t))
     (λ t. body-lts.spec (N-body.given t) (body-at t) body.Post (N-body.expect-requires t)
     (N-body.enum-told t) (N-body.body-rest-requires t) (N-body.enum-told-2 t) (N-body.enum-told-3 t)
@@ -62,7 +62,7 @@ pub +block+body+body-rest+guarded+if-statement+loop-statement+statement+statemen
     (N-body.same-length-4 t) (N-body.same-length-5 t) (N-body.returns-2 t) (N-body.same-length-6 t)
     (N-body.same-length-7 t) (N-body.returns-3 t))
     (λ t. body-rest-lts.spec (N-body-rest.given t) (body-rest-at t) body-rest.Post N-body-rest.Inv-loop
-    N-body-rest.μ-loop (N-body-rest.loop-holds t) (N-body-rest.head-requires t) (N-body-rest.same-length t)
+    N-body-rest.μ-loop (N-body-rest.loop-holds t) (N-body-rest.peek-requires t) (N-body-rest.same-length t)
     (N-body-rest.same-length-2 t) (N-body-rest.same-length-3 t) (N-body-rest.returns t)
     (N-body-rest.entry-requires t) (N-body-rest.note-requires t) (N-body-rest.same-length-4 t)
     (N-body-rest.same-length-5 t) (N-body-rest.same-length-6 t) (N-body-rest.returns-2 t)
@@ -75,23 +75,23 @@ pub +block+body+body-rest+guarded+if-statement+loop-statement+statement+statemen
     (N-guarded.abandon-requires t) (N-guarded.same-length-4 t) (N-guarded.same-length-5 t)
     (N-guarded.same-length-6 t) (N-guarded.returns-2 t))
     (λ t. if-statement-lts.spec (N-if-statement.given t) (if-statement-at t) if-statement.Post
-    (N-if-statement.head-requires t) (N-if-statement.guarded-requires t) (N-if-statement.enum-told t)
+    (N-if-statement.peek-requires t) (N-if-statement.guarded-requires t) (N-if-statement.enum-told t)
     (N-if-statement.same-length t) (N-if-statement.same-length-2 t) (N-if-statement.same-length-3 t)
-    (N-if-statement.returns t) (N-if-statement.head-requires-2 t) (N-if-statement.finish-requires t)
+    (N-if-statement.returns t) (N-if-statement.peek-requires-2 t) (N-if-statement.write-node-requires t)
     (N-if-statement.same-length-4 t) (N-if-statement.same-length-5 t) (N-if-statement.same-length-6 t)
     (N-if-statement.returns-2 t) (N-if-statement.statement-requires t) (N-if-statement.abandon-requires t)
-    (N-if-statement.finish-requires-2 t) (N-if-statement.same-length-7 t) (N-if-statement.same-length-8 t)
+    (N-if-statement.write-node-requires-2 t) (N-if-statement.same-length-7 t) (N-if-statement.same-length-8 t)
     (N-if-statement.same-length-9 t) (N-if-statement.returns-3 t))
     (λ t. loop-statement-lts.spec (N-loop-statement.given t) (loop-statement-at t) loop-statement.Post
-    (N-loop-statement.head-requires t) (N-loop-statement.statement-requires t)
-    (N-loop-statement.finish-requires t) (N-loop-statement.same-length t) (N-loop-statement.same-length-2 t)
+    (N-loop-statement.peek-requires t) (N-loop-statement.statement-requires t)
+    (N-loop-statement.write-node-requires t) (N-loop-statement.same-length t) (N-loop-statement.same-length-2 t)
     (N-loop-statement.same-length-3 t) (N-loop-statement.returns t))
     (λ t. statement-lts.spec (N-statement.given t) (statement-at t) statement′.Post
     (N-statement.refuse-requires t) (N-statement.returns t) (N-statement.sub-statement-rule t)
     (N-statement.statement-rule-requires t) (N-statement.same-length t) (N-statement.same-length-2 t)
     (N-statement.same-length-3 t) (N-statement.returns-2 t))
     (λ t. statement-rule-lts.spec (N-statement-rule.given t) (statement-rule-at t) statement-rule.Post
-    (N-statement-rule.head-requires t) (N-statement-rule.return-statement-requires t)
+    (N-statement-rule.peek-requires t) (N-statement-rule.return-statement-requires t)
     (N-statement-rule.same-length t) (N-statement-rule.same-length-2 t) (N-statement-rule.same-length-3 t)
     (N-statement-rule.returns t) (N-statement-rule.var-statement-requires t)
     (N-statement-rule.same-length-4 t) (N-statement-rule.same-length-5 t) (N-statement-rule.same-length-6 t)
@@ -112,6 +112,6 @@ pub +block+body+body-rest+guarded+if-statement+loop-statement+statement+statemen
     (N-statement-rule.expression-statement-requires t) (N-statement-rule.same-length-27 t)
     (N-statement-rule.same-length-28 t) (N-statement-rule.same-length-29 t) (N-statement-rule.returns-10 t))
     (λ t. while-statement-lts.spec (N-while-statement.given t) (while-statement-at t) while-statement.Post
-    (N-while-statement.head-requires t) (N-while-statement.guarded-requires t)
-    (N-while-statement.finish-requires t) (N-while-statement.same-length t)
+    (N-while-statement.peek-requires t) (N-while-statement.guarded-requires t)
+    (N-while-statement.write-node-requires t) (N-while-statement.same-length t)
     (N-while-statement.same-length-2 t) (N-while-statement.same-length-3 t) (N-while-statement.returns t))

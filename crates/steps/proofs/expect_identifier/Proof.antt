@@ -3,14 +3,14 @@ use borrow.Author.Needs.{needs}
 use Rattle.steps.proofs.expect_identifier.Statement.{statement}
 use Rattle.steps.proofs.expect_identifier.Tie as tie
 
-head-requires : tie.Need-head-requires
-head-requires c κs = search needs
+peek-requires : tie.Need-peek-requires
+peek-requires c κs = search needs
 
 returns : tie.Need-returns
 returns c =
-    let at-head = c .before .before in
-    let start = at-head .before .before .before .before .before in
-    identifier-there (start .pre) (at-head .head .ensures) (c .if1 .taken)
+    let at-peek = c .before .before in
+    let start = at-peek .before .before .before .before .before in
+    identifier-there (start .pre) (at-peek .peek .ensures) (c .if1 .taken)
 
 entry-requires : tie.Need-entry-requires
 entry-requires c κs = search needs
@@ -30,9 +30,9 @@ returns-2 c =
     let at-entry = at-raise .before .before .before in
     let at-if2 = at-entry .before in
     let at-if1 = at-if2 .before .before in
-    let at-head = at-if1 .before .before in
-    let start = at-head .before .before .before .before .before in
-    identifier-end (start .pre) (at-head .head .ensures) (at-if1 .if1 .left) (at-raise .raise .ensures)
+    let at-peek = at-if1 .before .before in
+    let start = at-peek .before .before .before .before .before in
+    identifier-end (start .pre) (at-peek .peek .ensures) (at-if1 .if1 .left) (at-raise .raise .ensures)
     (at-if2 .if2 .taken) (at-entry .entry .ensures)
 
 entry-requires-2 : tie.Need-entry-requires-2
@@ -53,16 +53,16 @@ returns-3 c =
     let at-entry2 = at-raise2 .before .before .before in
     let at-if2 = at-entry2 .before in
     let at-if1 = at-if2 .before .before in
-    let at-head = at-if1 .before .before in
-    let start = at-head .before .before .before .before .before in
-    identifier-other (start .pre) (at-head .head .ensures) (at-if1 .if1 .left) (at-raise2 .raise2 .ensures)
+    let at-peek = at-if1 .before .before in
+    let start = at-peek .before .before .before .before .before in
+    identifier-other (start .pre) (at-peek .peek .ensures) (at-if1 .if1 .left) (at-raise2 .raise2 .ensures)
     (at-if2 .if2 .left) (at-entry2 .entry2 .ensures)
 
 pub expect-identifier-spec : {M : Type 1} → statement M
 expect-identifier-spec =
     tie.close
     (tie.spec
-    head-requires
+    peek-requires
     returns
     entry-requires
     raise-requires

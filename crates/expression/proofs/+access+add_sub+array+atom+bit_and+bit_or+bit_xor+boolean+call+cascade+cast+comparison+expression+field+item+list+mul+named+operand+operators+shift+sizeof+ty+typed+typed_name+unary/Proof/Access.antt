@@ -18,9 +18,9 @@ use Rattle.fallible.proofs.entry.Reads as entry-reads
 use Rattle.fallible.proofs.note.Reads as note-reads
 use Rattle.fallible.proofs.refuse.Reads as refuse-reads
 use Rattle.steps.proofs.and_expect.Reads as and-expect-reads
-use Rattle.steps.proofs.finish.Reads as finish-reads
-use Rattle.steps.proofs.finish_text.Reads as finish-text-reads
-use Rattle.steps.proofs.head.Reads as head-reads
+use Rattle.steps.proofs.write_node.Reads as write-node-reads
+use Rattle.steps.proofs.write_text_node.Reads as write-text-node-reads
+use Rattle.steps.proofs.peek.Reads as peek-reads
 use Rattle.expression.proofs.+access+add_sub+array+atom+bit_and+bit_or+bit_xor+boolean+call+cascade+cast+comparison+expression+field+item+list+mul+named+operand+operators+shift+sizeof+ty+typed+typed_name+unary.Proof.Falls.{access-at, atom-below, expression-below}
 
 abbrev pub Inv-loop : lts.InvT-loop
@@ -34,18 +34,18 @@ module _ (t : ℕ) where
   given = (
     atom-below t,
     atom.Post,
-    head-reads.Asked,
-    head-reads.Learnt,
+    peek-reads.Asked,
+    peek-reads.Learnt,
     refuse-reads.Asked,
     refuse-reads.Learnt,
     entry-reads.Asked,
     entry-reads.Learnt,
     note-reads.Asked,
     note-reads.Learnt,
-    finish-text-reads.Asked,
-    finish-text-reads.Learnt,
-    finish-reads.Asked,
-    finish-reads.Learnt,
+    write-text-node-reads.Asked,
+    write-text-node-reads.Learnt,
+    write-node-reads.Asked,
+    write-node-reads.Learnt,
     expression-below t,
     expression.Post,
     abandon-reads.Asked,
@@ -94,16 +94,16 @@ module _ (t : ℕ) where
       then-asked suffixes-on (start .pre .1) (at-atom .atom .ensures)
       (c .before .loop .inv .1 .rest (goes-stops (c .before .loop .inv .0) (c .match .keys2)))
 
-  pub head-requires : lts.Need-head-requires given (access-at t) access.Post Inv-loop μ-loop
-  head-requires c κs =
+  pub peek-requires : lts.Need-peek-requires given (access-at t) access.Post Inv-loop μ-loop
+  peek-requires c κs =
       let at-loop = c .before .before .before in
       (at-loop .loop .inv .0 .asked .asks .held, at-loop .loop .inv .0 .asked .asks .at)
 
-  pub head-requires-2 : lts.Need-head-requires-2 given (access-at t) access.Post Inv-loop μ-loop
-  head-requires-2 c κs =
-      let at-head = c .before .before in
-      let at-loop = at-head .before .before .before .before in
-      (at-loop .loop .inv .0 .asked .asks .held, omega (arith, at-head .head .ensures .end))
+  pub peek-requires-2 : lts.Need-peek-requires-2 given (access-at t) access.Post Inv-loop μ-loop
+  peek-requires-2 c κs =
+      let at-peek = c .before .before in
+      let at-loop = at-peek .before .before .before .before in
+      (at-loop .loop .inv .0 .asked .asks .held, omega (arith, at-peek .peek .ensures .end))
 
   pub refuse-requires : lts.Need-refuse-requires given (access-at t) access.Post Inv-loop μ-loop
   refuse-requires c κs = search needs
@@ -129,22 +129,22 @@ module _ (t : ℕ) where
   pub returns-2 : lts.Need-returns-2 given (access-at t) access.Post Inv-loop μ-loop
   unfolding P.parse-field-access-or-index
   returns-2 c =
-      let at-head2 = c .before .before .before in
-      let at-if1 = at-head2 .before in
-      let at-head = at-if1 .before .before in
-      let at-enum-told = at-head .before .before in
+      let at-peek2 = c .before .before .before in
+      let at-if1 = at-peek2 .before in
+      let at-peek = at-if1 .before .before in
+      let at-enum-told = at-peek .before .before in
       let at-loop = at-enum-told .before .before in
       let at-atom = at-loop .before .before .before .before .before .before .before in
       let start = at-atom .before .before .before .before .before .before .before .before .before in
       then-asked suffixes-on (start .pre .1) (at-atom .atom .ensures)
       (at-loop .loop .inv .1 .rest
-      (dot-end (at-loop .loop .inv .0) (at-enum-told .enum-told .given .1) (at-head .head .ensures)
-      (at-if1 .if1 .taken) (at-head2 .head2 .ensures) (c .before .if2 .taken) (c .refuse .ensures)))
+      (dot-end (at-loop .loop .inv .0) (at-enum-told .enum-told .given .1) (at-peek .peek .ensures)
+      (at-if1 .if1 .taken) (at-peek2 .peek2 .ensures) (c .before .if2 .taken) (c .refuse .ensures)))
 
   pub entry-requires : lts.Need-entry-requires given (access-at t) access.Post Inv-loop μ-loop
   entry-requires c κs =
-      let at-head2 = c .before .before .before .before in
-      omega (arith, at-head2 .head2 .ensures)
+      let at-peek2 = c .before .before .before .before in
+      omega (arith, at-peek2 .peek2 .ensures)
 
   pub note-requires : lts.Need-note-requires given (access-at t) access.Post Inv-loop μ-loop
   note-requires c κs =
@@ -178,105 +178,105 @@ module _ (t : ℕ) where
       let at-entry = at-note .before .before .before in
       let at-if3 = at-entry .before in
       let at-if2 = at-if3 .before .before in
-      let at-head2 = at-if2 .before .before in
-      let at-if1 = at-head2 .before in
-      let at-head = at-if1 .before .before in
-      let at-enum-told = at-head .before .before in
+      let at-peek2 = at-if2 .before .before in
+      let at-if1 = at-peek2 .before in
+      let at-peek = at-if1 .before .before in
+      let at-enum-told = at-peek .before .before in
       let at-loop = at-enum-told .before .before in
       let at-atom = at-loop .before .before .before .before .before .before .before in
       let start = at-atom .before .before .before .before .before .before .before .before .before in
       then-asked suffixes-on (start .pre .1) (at-atom .atom .ensures)
       (at-loop .loop .inv .1 .rest
-      (dot-other (at-loop .loop .inv .0) (at-enum-told .enum-told .given .1) (at-head .head .ensures)
-      (at-if1 .if1 .taken) (at-head2 .head2 .ensures) (at-if2 .if2 .left) (at-if3 .if3 .taken)
+      (dot-other (at-loop .loop .inv .0) (at-enum-told .enum-told .given .1) (at-peek .peek .ensures)
+      (at-if1 .if1 .taken) (at-peek2 .peek2 .ensures) (at-if2 .if2 .left) (at-if3 .if3 .taken)
       (at-entry .entry .ensures) (at-note .note .ensures)))
 
-  pub finish-text-requires : lts.Need-finish-text-requires given (access-at t) access.Post Inv-loop μ-loop
-  finish-text-requires c κs =
-      let at-head2 = c .before .before .before .before .before in
-      let at-head = at-head2 .before .before .before in
-      let at-loop = at-head .before .before .before .before in
+  pub write-text-node-requires : lts.Need-write-text-node-requires given (access-at t) access.Post Inv-loop μ-loop
+  write-text-node-requires c κs =
+      let at-peek2 = c .before .before .before .before .before in
+      let at-peek = at-peek2 .before .before .before in
+      let at-loop = at-peek .before .before .before .before in
       record {
         room = omega (
           arith,
           at-loop .loop .inv .0 .asked .room,
-          at-head .head .ensures .pays,
-          at-head2 .head2 .ensures .pays,
+          at-peek .peek .ensures .pays,
+          at-peek2 .peek2 .ensures .pays,
         );
-        part = at-head2 .head2 .ensures .part;
+        part = at-peek2 .peek2 .ensures .part;
       }
 
   pub loop-less : lts.Need-loop-less given (access-at t) access.Post Inv-loop μ-loop
   loop-less c =
-      let at-finish-text = c .before .before in
-      let at-head2 = at-finish-text .before .before .before .before .before .before in
-      let at-if1 = at-head2 .before in
-      let at-head = at-if1 .before .before in
-      let at-loop = at-head .before .before .before .before in
+      let at-write-text-node = c .before .before in
+      let at-peek2 = at-write-text-node .before .before .before .before .before .before in
+      let at-if1 = at-peek2 .before in
+      let at-peek = at-if1 .before .before in
+      let at-loop = at-peek .before .before .before .before in
       omega (
         arith,
         at-loop .loop .inv .0 .asked .asks .at,
-        at-head .head .ensures,
+        at-peek .peek .ensures,
         at-if1 .if1 .taken,
-        at-head2 .head2 .ensures,
-        at-finish-text .finish-text .ensures .at,
+        at-peek2 .peek2 .ensures,
+        at-write-text-node .write-text-node .ensures .at,
       )
 
   pub loop-again : lts.Need-loop-again given (access-at t) access.Post Inv-loop μ-loop
   loop-again c =
-      let at-finish-text = c .before .before in
-      let at-if3 = at-finish-text .before .before in
+      let at-write-text-node = c .before .before in
+      let at-if3 = at-write-text-node .before .before in
       let at-if2 = at-if3 .before .before in
-      let at-head2 = at-if2 .before .before in
-      let at-if1 = at-head2 .before in
-      let at-head = at-if1 .before .before in
-      let at-enum-told = at-head .before .before in
+      let at-peek2 = at-if2 .before .before in
+      let at-if1 = at-peek2 .before in
+      let at-peek = at-if1 .before .before in
+      let at-enum-told = at-peek .before .before in
       let at-loop = at-enum-told .before .before in (
         turn-on (at-loop .loop .inv .0)
-            (dot-moved (at-loop .loop .inv .0) (at-head .head .ensures) (at-head2 .head2 .ensures)
-            (at-if3 .if3 .left) (at-finish-text .finish-text .ensures))
-            (omega (arith, at-finish-text .finish-text .kept)) refl refl,
-        one-turn (at-loop .loop .inv .1) (omega (arith, at-finish-text .finish-text .kept)) refl refl
-            (omega (arith, at-head .head .ensures .up, at-head2 .head2 .ensures .up, at-finish-text .finish-text .ensures .at))
+            (dot-moved (at-loop .loop .inv .0) (at-peek .peek .ensures) (at-peek2 .peek2 .ensures)
+            (at-if3 .if3 .left) (at-write-text-node .write-text-node .ensures))
+            (omega (arith, at-write-text-node .write-text-node .kept)) refl refl,
+        one-turn (at-loop .loop .inv .1) (omega (arith, at-write-text-node .write-text-node .kept)) refl refl
+            (omega (arith, at-peek .peek .ensures .up, at-peek2 .peek2 .ensures .up, at-write-text-node .write-text-node .ensures .at))
             (λ _ _ _ _ g. dot-name (at-loop .loop .inv .0) (at-enum-told .enum-told .given .1)
-            (at-head .head .ensures) (at-if1 .if1 .taken) (at-head2 .head2 .ensures) (at-if2 .if2 .left)
-            (at-if3 .if3 .left) (at-finish-text .finish-text .ensures) g),
+            (at-peek .peek .ensures) (at-if1 .if1 .taken) (at-peek2 .peek2 .ensures) (at-if2 .if2 .left)
+            (at-if3 .if3 .left) (at-write-text-node .write-text-node .ensures) g),
       )
 
-  pub finish-requires : lts.Need-finish-requires given (access-at t) access.Post Inv-loop μ-loop
-  finish-requires c κs =
+  pub write-node-requires : lts.Need-write-node-requires given (access-at t) access.Post Inv-loop μ-loop
+  write-node-requires c κs =
       let at-loop = c .before .before .before .before .before .before .before .before .before in
       record { room = omega (arith, at-loop .loop .inv .0 .asked .room); part = omega arith }
 
   pub loop-less-2 : lts.Need-loop-less-2 given (access-at t) access.Post Inv-loop μ-loop
   loop-less-2 c =
-      let at-finish = c .before .before in
-      let at-if4 = at-finish .before .before in
-      let at-head = at-if4 .before .before .before .before in
-      let at-loop = at-head .before .before .before .before in
+      let at-write-node = c .before .before in
+      let at-if4 = at-write-node .before .before in
+      let at-peek = at-if4 .before .before .before .before in
+      let at-loop = at-peek .before .before .before .before in
       omega (
         arith,
         at-loop .loop .inv .0 .asked .asks .at,
-        at-head .head .ensures,
+        at-peek .peek .ensures,
         at-if4 .if4 .taken,
-        at-finish .finish .ensures .at,
+        at-write-node .write-node .ensures .at,
       )
 
   pub loop-again-2 : lts.Need-loop-again-2 given (access-at t) access.Post Inv-loop μ-loop
   loop-again-2 c =
-      let at-finish = c .before .before in
-      let at-if4 = at-finish .before .before in
+      let at-write-node = c .before .before in
+      let at-if4 = at-write-node .before .before in
       let at-if1 = at-if4 .before .before in
-      let at-head = at-if1 .before .before in
-      let at-enum-told = at-head .before .before in
+      let at-peek = at-if1 .before .before in
+      let at-enum-told = at-peek .before .before in
       let at-loop = at-enum-told .before .before in (
         turn-on (at-loop .loop .inv .0)
-            (star-moved (at-loop .loop .inv .0) (at-head .head .ensures) (at-if4 .if4 .taken) (at-finish .finish .ensures))
-            (omega (arith, at-finish .finish .kept)) refl refl,
-        one-turn (at-loop .loop .inv .1) (omega (arith, at-finish .finish .kept)) refl refl
-            (omega (arith, at-head .head .ensures .up, at-finish .finish .ensures .at))
+            (star-moved (at-loop .loop .inv .0) (at-peek .peek .ensures) (at-if4 .if4 .taken) (at-write-node .write-node .ensures))
+            (omega (arith, at-write-node .write-node .kept)) refl refl,
+        one-turn (at-loop .loop .inv .1) (omega (arith, at-write-node .write-node .kept)) refl refl
+            (omega (arith, at-peek .peek .ensures .up, at-write-node .write-node .ensures .at))
             (λ _ _ _ _ g. suffix-star (at-loop .loop .inv .0) (at-enum-told .enum-told .given .1)
-            (at-head .head .ensures) (at-if1 .if1 .left) (at-if4 .if4 .taken) (at-finish .finish .ensures) g),
+            (at-peek .peek .ensures) (at-if1 .if1 .left) (at-if4 .if4 .taken) (at-write-node .write-node .ensures) g),
       )
 
   pub same-length-10 : lts.Need-same-length-10 given (access-at t) access.Post Inv-loop μ-loop
@@ -302,21 +302,21 @@ module _ (t : ℕ) where
   returns-4 c =
       let at-if4 = c .before .before in
       let at-if1 = at-if4 .before .before in
-      let at-head = at-if1 .before .before in
-      let at-enum-told = at-head .before .before in
+      let at-peek = at-if1 .before .before in
+      let at-enum-told = at-peek .before .before in
       let at-loop = at-enum-told .before .before in
       let at-atom = at-loop .before .before .before .before .before .before .before in
       let start = at-atom .before .before .before .before .before .before .before .before .before in
       then-asked suffixes-on (start .pre .1) (at-atom .atom .ensures)
       (at-loop .loop .inv .1 .rest
-      (suffix-none (at-loop .loop .inv .0) (at-enum-told .enum-told .given .1) (at-head .head .ensures)
+      (suffix-none (at-loop .loop .inv .0) (at-enum-told .enum-told .given .1) (at-peek .peek .ensures)
       (at-if1 .if1 .left) (at-if4 .if4 .left) (c .if5 .taken)))
 
   pub expression-requires : lts.Need-expression-requires given (access-at t) access.Post Inv-loop μ-loop
   expression-requires c κs =
       let at-if5 = c .before .before .before in
-      let at-head = at-if5 .before .before .before .before .before .before in
-      let at-loop = at-head .before .before .before .before in
+      let at-peek = at-if5 .before .before .before .before .before .before in
+      let at-loop = at-peek .before .before .before .before in
       let at-atom = at-loop .before .before .before .before .before .before .before in
       let start = at-atom .before .before .before .before .before .before .before .before .before in (
         omega (
@@ -325,46 +325,46 @@ module _ (t : ℕ) where
           at-atom .atom .ensures .moved .at,
           at-loop .loop .inv .1 .on,
           at-loop .loop .inv .0 .asked .asks .at,
-          at-head .head .ensures,
+          at-peek .peek .ensures,
           at-if5 .if5 .left,
         ),
-        asked-seen (at-loop .loop .inv .0 .asked) (at-head .head .ensures),
+        asked-seen (at-loop .loop .inv .0 .asked) (at-peek .peek .ensures),
       )
 
   pub abandon-requires : lts.Need-abandon-requires given (access-at t) access.Post Inv-loop μ-loop
   abandon-requires c κs =
       let at-expression = c .before .before .before .before .before .before .before in
-      let at-head = at-expression .before .before .before .before .before .before .before .before .before .before in
-      let at-loop = at-head .before .before .before .before in
-      join-cuts (at-loop .loop .inv .0) (at-head .head .ensures) (at-expression .expression .ensures)
+      let at-peek = at-expression .before .before .before .before .before .before .before .before .before .before in
+      let at-loop = at-peek .before .before .before .before in
+      join-cuts (at-loop .loop .inv .0) (at-peek .peek .ensures) (at-expression .expression .ensures)
       (omega (arith, at-expression .expression .kept))
 
   pub and-expect-requires : lts.Need-and-expect-requires given (access-at t) access.Post Inv-loop μ-loop
   and-expect-requires c κs =
       let at-abandon = c .before .before .before .before in
       let at-expression = at-abandon .before .before .before .before .before .before .before .before in
-      let at-head = at-expression .before .before .before .before .before .before .before .before .before .before in
-      let at-enum-told = at-head .before .before in
+      let at-peek = at-expression .before .before .before .before .before .before .before .before .before .before in
+      let at-enum-told = at-peek .before .before in
       let at-loop = at-enum-told .before .before in (
-        index-asks (at-loop .loop .inv .0) (at-enum-told .enum-told .given .1) (at-head .head .ensures)
+        index-asks (at-loop .loop .inv .0) (at-enum-told .enum-told .given .1) (at-peek .peek .ensures)
             (at-expression .expression .ensures) (at-abandon .abandon .ensures)
             (omega (arith, at-abandon .abandon .kept, at-expression .expression .kept))
             (omega (arith, at-expression .expression .kept)),
         (omega arith, omega arith),
       )
 
-  pub finish-requires-2 : lts.Need-finish-requires-2 given (access-at t) access.Post Inv-loop μ-loop
-  finish-requires-2 c κs =
+  pub write-node-requires-2 : lts.Need-write-node-requires-2 given (access-at t) access.Post Inv-loop μ-loop
+  write-node-requires-2 c κs =
       let at-and-expect = c .before .before .before .before .before in
       let at-abandon = at-and-expect .before .before .before .before .before in
       let at-expression = at-abandon .before .before .before .before .before .before .before .before in
-      let at-head = at-expression .before .before .before .before .before .before .before .before .before .before in
-      let at-loop = at-head .before .before .before .before in
+      let at-peek = at-expression .before .before .before .before .before .before .before .before .before .before in
+      let at-loop = at-peek .before .before .before .before in
       record {
         room = omega (
           arith,
           at-loop .loop .inv .0 .asked .room,
-          at-head .head .ensures .pays,
+          at-peek .peek .ensures .pays,
           at-expression .expression .ensures .moved .room,
           at-abandon .abandon .ensures .high,
           at-and-expect .and-expect .ensures .high,
@@ -375,61 +375,61 @@ module _ (t : ℕ) where
 
   pub loop-less-3 : lts.Need-loop-less-3 given (access-at t) access.Post Inv-loop μ-loop
   loop-less-3 c =
-      let at-finish2 = c .before .before in
-      let at-and-expect = at-finish2 .before .before .before .before .before .before in
+      let at-write-node2 = c .before .before in
+      let at-and-expect = at-write-node2 .before .before .before .before .before .before in
       let at-abandon = at-and-expect .before .before .before .before .before in
       let at-expression = at-abandon .before .before .before .before .before .before .before .before in
       let at-if5 = at-expression .before .before .before .before in
-      let at-head = at-if5 .before .before .before .before .before .before in
-      let at-loop = at-head .before .before .before .before in
+      let at-peek = at-if5 .before .before .before .before .before .before in
+      let at-loop = at-peek .before .before .before .before in
       omega (
         arith,
         at-loop .loop .inv .0 .asked .asks .at,
-        at-head .head .ensures,
+        at-peek .peek .ensures,
         at-if5 .if5 .left,
         at-expression .expression .ensures .moved,
         at-abandon .abandon .ensures .at,
         at-and-expect .and-expect .ensures .moved,
-        at-finish2 .finish2 .ensures .at,
+        at-write-node2 .write-node2 .ensures .at,
       )
 
   pub loop-again-3 : lts.Need-loop-again-3 given (access-at t) access.Post Inv-loop μ-loop
   loop-again-3 c =
-      let at-finish2 = c .before .before in
-      let at-and-expect = at-finish2 .before .before .before .before .before .before in
+      let at-write-node2 = c .before .before in
+      let at-and-expect = at-write-node2 .before .before .before .before .before .before in
       let at-abandon = at-and-expect .before .before .before .before .before in
       let at-expression = at-abandon .before .before .before .before .before .before .before .before in
       let at-if5 = at-expression .before .before .before .before in
       let at-if4 = at-if5 .before .before in
       let at-if1 = at-if4 .before .before in
-      let at-head = at-if1 .before .before in
-      let at-enum-told = at-head .before .before in
+      let at-peek = at-if1 .before .before in
+      let at-enum-told = at-peek .before .before in
       let at-loop = at-enum-told .before .before in (
         turn-on (at-loop .loop .inv .0)
-            (index-moved (at-loop .loop .inv .0) (at-enum-told .enum-told .given .1) (at-head .head .ensures)
+            (index-moved (at-loop .loop .inv .0) (at-enum-told .enum-told .given .1) (at-peek .peek .ensures)
             (at-if5 .if5 .left) (at-expression .expression .ensures) (at-abandon .abandon .ensures)
             (omega (arith, at-abandon .abandon .kept, at-expression .expression .kept))
             (omega (arith, at-expression .expression .kept)) (at-and-expect .and-expect .ensures)
-            (at-finish2 .finish2 .ensures))
-            (omega (arith, at-finish2 .finish2 .kept, at-expression .expression .kept))
+            (at-write-node2 .write-node2 .ensures))
+            (omega (arith, at-write-node2 .write-node2 .kept, at-expression .expression .kept))
             (omega (arith, at-and-expect .and-expect .kept, at-abandon .abandon .kept, at-expression .expression .kept))
             (omega (arith, at-and-expect .and-expect .kept, at-expression .expression .kept)),
         one-turn (at-loop .loop .inv .1)
-            (omega (arith, at-finish2 .finish2 .kept, at-expression .expression .kept))
+            (omega (arith, at-write-node2 .write-node2 .kept, at-expression .expression .kept))
             (omega (arith, at-and-expect .and-expect .kept, at-abandon .abandon .kept, at-expression .expression .kept))
             (omega (arith, at-and-expect .and-expect .kept, at-expression .expression .kept))
             (omega (
               arith,
-              at-head .head .ensures .up,
+              at-peek .peek .ensures .up,
               at-expression .expression .ensures .moved,
               at-abandon .abandon .ensures .at,
               at-and-expect .and-expect .ensures .moved,
-              at-finish2 .finish2 .ensures .at,
+              at-write-node2 .write-node2 .ensures .at,
             ))
             (λ _ _ _ _ g. suffix-index (at-loop .loop .inv .0) (at-enum-told .enum-told .given .1)
-            (at-head .head .ensures) (at-if5 .if5 .left) (at-expression .expression .ensures)
+            (at-peek .peek .ensures) (at-if5 .if5 .left) (at-expression .expression .ensures)
             (at-abandon .abandon .ensures)
             (omega (arith, at-abandon .abandon .kept, at-expression .expression .kept))
             (omega (arith, at-expression .expression .kept)) (at-and-expect .and-expect .ensures)
-            (at-finish2 .finish2 .ensures) (at-if1 .if1 .left) (at-if4 .if4 .left) g),
+            (at-write-node2 .write-node2 .ensures) (at-if1 .if1 .left) (at-if4 .if4 .left) g),
       )

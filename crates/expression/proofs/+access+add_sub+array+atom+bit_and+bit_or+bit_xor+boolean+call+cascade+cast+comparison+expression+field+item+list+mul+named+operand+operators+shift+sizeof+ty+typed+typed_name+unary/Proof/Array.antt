@@ -11,15 +11,15 @@ use Rattle.fallible.proofs.entry.Reads as entry-reads
 use Rattle.fallible.proofs.raise.Reads as raise-reads
 use Rattle.leaves.proofs.array_size.Reads as array-size-reads
 use Rattle.steps.proofs.expect.Reads as expect-reads
-use Rattle.steps.proofs.finish.Reads as finish-reads
-use Rattle.steps.proofs.head.Reads as head-reads
+use Rattle.steps.proofs.write_node.Reads as write-node-reads
+use Rattle.steps.proofs.peek.Reads as peek-reads
 use Rattle.expression.proofs.+access+add_sub+array+atom+bit_and+bit_or+bit_xor+boolean+call+cascade+cast+comparison+expression+field+item+list+mul+named+operand+operators+shift+sizeof+ty+typed+typed_name+unary.Proof.Falls.{array-at, ty-below}
 
 module _ (t : ℕ) where
   abbrev pub given : lts.Claims
   given = (
-    head-reads.Asked,
-    head-reads.Learnt,
+    peek-reads.Asked,
+    peek-reads.Learnt,
     entry-reads.Asked,
     entry-reads.Learnt,
     raise-reads.Asked,
@@ -30,12 +30,12 @@ module _ (t : ℕ) where
     expect-reads.Learnt,
     ty-below t,
     ty.Post,
-    finish-reads.Asked,
-    finish-reads.Learnt,
+    write-node-reads.Asked,
+    write-node-reads.Learnt,
   )
 
-  pub head-requires : lts.Need-head-requires given (array-at t) array.Post
-  head-requires c κs =
+  pub peek-requires : lts.Need-peek-requires given (array-at t) array.Post
+  peek-requires c κs =
       let start = c .before .before .before .before .before in
       (start .pre .1 .0 .asks .held, start .pre .1 .0 .asks .at)
 
@@ -46,9 +46,9 @@ module _ (t : ℕ) where
 
   pub raise-requires : lts.Need-raise-requires given (array-at t) array.Post
   raise-requires c κs =
-      let at-head = c .before .before .before .before .before in
-      let start = at-head .before .before .before .before .before .before in
-      raise-asked (asked-seen (start .pre .1 .0) (at-head .head .ensures))
+      let at-peek = c .before .before .before .before .before in
+      let start = at-peek .before .before .before .before .before .before in
+      raise-asked (asked-seen (start .pre .1 .0) (at-peek .peek .ensures))
 
   pub same-length : lts.Need-same-length given (array-at t) array.Post
   same-length c =
@@ -65,16 +65,16 @@ module _ (t : ℕ) where
       let at-raise = c .before .before .before .before in
       let at-entry = at-raise .before .before .before in
       let at-if1 = at-entry .before in
-      let at-head = at-if1 .before .before in
-      let start = at-head .before .before .before .before .before .before in
+      let at-peek = at-if1 .before .before in
+      let start = at-peek .before .before .before .before .before .before in
       array-no-integer (start .args .lead .line) (start .args .lead .column) (start .pre .1)
-      (at-head .head .ensures) (at-if1 .if1 .taken) (at-entry .entry .ensures) (at-raise .raise .ensures)
+      (at-peek .peek .ensures) (at-if1 .if1 .taken) (at-entry .entry .ensures) (at-raise .raise .ensures)
 
   pub array-size-requires : lts.Need-array-size-requires given (array-at t) array.Post
   array-size-requires c κs =
-      let at-head = c .before .before in
-      let start = at-head .before .before .before .before .before .before in
-      size-asked (start .pre .1 .0) (at-head .head .ensures) (c .if1 .left)
+      let at-peek = c .before .before in
+      let start = at-peek .before .before .before .before .before .before in
+      size-asked (start .pre .1 .0) (at-peek .peek .ensures) (c .if1 .left)
 
   pub entry-requires-2 : lts.Need-entry-requires-2 given (array-at t) array.Post
   entry-requires-2 c κs =
@@ -83,9 +83,9 @@ module _ (t : ℕ) where
 
   pub raise-requires-2 : lts.Need-raise-requires-2 given (array-at t) array.Post
   raise-requires-2 c κs =
-      let at-head = c .before .before .before .before .before .before .before .before in
-      let start = at-head .before .before .before .before .before .before in
-      raise-asked (asked-seen (start .pre .1 .0) (at-head .head .ensures))
+      let at-peek = c .before .before .before .before .before .before .before .before in
+      let start = at-peek .before .before .before .before .before .before in
+      raise-asked (asked-seen (start .pre .1 .0) (at-peek .peek .ensures))
 
   pub same-length-3 : lts.Need-same-length-3 given (array-at t) array.Post
   same-length-3 c =
@@ -104,17 +104,17 @@ module _ (t : ℕ) where
       let at-if2 = at-entry2 .before in
       let at-array-size = at-if2 .before .before in
       let at-if1 = at-array-size .before in
-      let at-head = at-if1 .before .before in
-      let start = at-head .before .before .before .before .before .before in
+      let at-peek = at-if1 .before .before in
+      let start = at-peek .before .before .before .before .before .before in
       array-no-size (start .args .lead .line) (start .args .lead .column) (start .pre .1)
-      (at-head .head .ensures) (at-if1 .if1 .left) (at-array-size .array-size .ensures) (at-if2 .if2 .taken)
+      (at-peek .peek .ensures) (at-if1 .if1 .left) (at-array-size .array-size .ensures) (at-if2 .if2 .taken)
       (at-entry2 .entry2 .ensures) (at-raise2 .raise2 .ensures)
 
   pub expect-requires : lts.Need-expect-requires given (array-at t) array.Post
   expect-requires c κs =
-      let at-head = c .before .before .before .before .before .before .before in
-      let start = at-head .before .before .before .before .before .before in
-      (asks-fore (start .pre .1 .0 .asks) (at-head .head .ensures), (omega arith, omega arith))
+      let at-peek = c .before .before .before .before .before .before .before in
+      let start = at-peek .before .before .before .before .before .before in
+      (asks-fore (start .pre .1 .0 .asks) (at-peek .peek .ensures), (omega arith, omega arith))
 
   pub enum-told : lts.Need-enum-told given (array-at t) array.Post
   enum-told c = search needs
@@ -135,37 +135,37 @@ module _ (t : ℕ) where
       let at-if2 = at-expect .before .before .before in
       let at-array-size = at-if2 .before .before in
       let at-if1 = at-array-size .before in
-      let at-head = at-if1 .before .before in
-      let start = at-head .before .before .before .before .before .before in
+      let at-peek = at-if1 .before .before in
+      let start = at-peek .before .before .before .before .before .before in
       array-open (start .args .lead .line) (start .args .lead .column) (start .pre .1)
-      (at-head .head .ensures) (at-if1 .if1 .left) (at-array-size .array-size .ensures) (at-if2 .if2 .left)
+      (at-peek .peek .ensures) (at-if1 .if1 .left) (at-array-size .array-size .ensures) (at-if2 .if2 .left)
       (at-expect .expect .ensures) (c .match .keys2)
 
   pub ty-requires : lts.Need-ty-requires given (array-at t) array.Post
   ty-requires c κs =
       let at-expect = c .before .before .before .before .before .before .before .before .before .before in
-      let at-head = at-expect .before .before .before .before .before .before .before .before in
-      let start = at-head .before .before .before .before .before .before in (
-        omega (arith, start .pre .0, at-head .head .ensures, at-expect .expect .ensures .moved),
-        bracket-asked (start .pre .1 .0) (at-head .head .ensures) (at-expect .expect .ensures)
+      let at-peek = at-expect .before .before .before .before .before .before .before .before in
+      let start = at-peek .before .before .before .before .before .before in (
+        omega (arith, start .pre .0, at-peek .peek .ensures, at-expect .expect .ensures .moved),
+        bracket-asked (start .pre .1 .0) (at-peek .peek .ensures) (at-expect .expect .ensures)
             (omega (arith, at-expect .expect .kept)) (omega (arith, at-expect .expect .kept)),
       )
 
-  pub finish-requires : lts.Need-finish-requires given (array-at t) array.Post
-  finish-requires c κs =
+  pub write-node-requires : lts.Need-write-node-requires given (array-at t) array.Post
+  write-node-requires c κs =
       let at-ty = c .before .before .before .before .before .before .before in
       let at-expect = at-ty .before .before .before .before .before .before .before .before .before .before .before in
-      let at-head = at-expect .before .before .before .before .before .before .before .before in
-      let start = at-head .before .before .before .before .before .before in
-      array-room (start .pre .1 .0) (at-head .head .ensures) (at-expect .expect .ensures)
+      let at-peek = at-expect .before .before .before .before .before .before .before .before in
+      let start = at-peek .before .before .before .before .before .before in
+      array-room (start .pre .1 .0) (at-peek .peek .ensures) (at-expect .expect .ensures)
       (at-ty .ty .ensures) (omega (arith, at-ty .ty .kept))
 
   pub same-length-7 : lts.Need-same-length-7 given (array-at t) array.Post
   same-length-7 c =
-      let at-finish = c .before .before in
-      let at-ty = at-finish .before .before .before .before .before .before .before .before in
+      let at-write-node = c .before .before in
+      let at-ty = at-write-node .before .before .before .before .before .before .before .before in
       let at-expect = at-ty .before .before .before .before .before .before .before .before .before .before .before in
-      omega (arith, at-finish .finish .kept, at-ty .ty .kept, at-expect .expect .kept)
+      omega (arith, at-write-node .write-node .kept, at-ty .ty .kept, at-expect .expect .kept)
 
   pub same-length-8 : lts.Need-same-length-8 given (array-at t) array.Post
   same-length-8 c =
@@ -181,16 +181,16 @@ module _ (t : ℕ) where
 
   pub returns-4 : lts.Need-returns-4 given (array-at t) array.Post
   returns-4 c =
-      let at-finish = c .before .before in
-      let at-ty = at-finish .before .before .before .before .before .before .before .before in
+      let at-write-node = c .before .before in
+      let at-ty = at-write-node .before .before .before .before .before .before .before .before in
       let at-enum-told = at-ty .before .before .before .before .before in
       let at-expect = at-enum-told .before .before .before .before .before .before in
       let at-if2 = at-expect .before .before .before in
       let at-array-size = at-if2 .before .before in
       let at-if1 = at-array-size .before in
-      let at-head = at-if1 .before .before in
-      let start = at-head .before .before .before .before .before .before in
+      let at-peek = at-if1 .before .before in
+      let start = at-peek .before .before .before .before .before .before in
       array-done (start .args .lead .line) (start .args .lead .column) (start .pre .1)
-      (at-head .head .ensures) (at-if1 .if1 .left) (at-array-size .array-size .ensures) (at-if2 .if2 .left)
+      (at-peek .peek .ensures) (at-if1 .if1 .left) (at-array-size .array-size .ensures) (at-if2 .if2 .left)
       (at-expect .expect .ensures) (at-enum-told .enum-told .given .1) (at-ty .ty .ensures)
-      (at-finish .finish .ensures)
+      (at-write-node .write-node .ensures)

@@ -10,14 +10,14 @@ use Rattle.expression.proofs.atom.Reads as atom
 use Rattle.expression.proofs.expression.Reads as expression
 use Rattle.leaves.proofs.close.Reads as close-reads
 use Rattle.leaves.proofs.literal.Reads as literal-reads
-use Rattle.steps.proofs.head.Reads as head-reads
+use Rattle.steps.proofs.peek.Reads as peek-reads
 use Rattle.expression.proofs.+access+add_sub+array+atom+bit_and+bit_or+bit_xor+boolean+call+cascade+cast+comparison+expression+field+item+list+mul+named+operand+operators+shift+sizeof+ty+typed+typed_name+unary.Proof.Falls.{atom-at, expression-below}
 
 module _ (t : ℕ) where
   abbrev pub given : lts.Claims
   given = (
-    head-reads.Asked,
-    head-reads.Learnt,
+    peek-reads.Asked,
+    peek-reads.Learnt,
     literal-reads.Asked,
     literal-reads.Learnt,
     expression-below t,
@@ -26,17 +26,17 @@ module _ (t : ℕ) where
     close-reads.Learnt,
   )
 
-  pub head-requires : lts.Need-head-requires given (atom-at t) atom.Post
-  head-requires c κs =
+  pub peek-requires : lts.Need-peek-requires given (atom-at t) atom.Post
+  peek-requires c κs =
       let start = c .before .before .before .before .before in
       (start .pre .1 .asks .held, start .pre .1 .asks .at)
 
   pub literal-requires : lts.Need-literal-requires given (atom-at t) atom.Post
   literal-requires c κs =
       let at-if1 = c .before .before .before in
-      let at-head = at-if1 .before .before in
-      let start = at-head .before .before .before .before .before .before in
-      record { asked = start .pre .1; bare = λ e. at-if1 .if1 .taken (sym (at-head .head .ensures .kind) ∙ e) }
+      let at-peek = at-if1 .before .before in
+      let start = at-peek .before .before .before .before .before .before in
+      record { asked = start .pre .1; bare = λ e. at-if1 .if1 .taken (sym (at-peek .peek .ensures .kind) ∙ e) }
 
   pub same-length : lts.Need-same-length given (atom-at t) atom.Post
   same-length c =
@@ -61,19 +61,19 @@ module _ (t : ℕ) where
   pub expression-requires : lts.Need-expression-requires given (atom-at t) atom.Post
   expression-requires c κs =
       let at-if1 = c .before .before .before in
-      let at-head = at-if1 .before .before in
-      let start = at-head .before .before .before .before .before .before in (
-        omega (arith, start .pre .0, start .pre .1 .asks .at, at-head .head .ensures, at-if1 .if1 .left),
-        asked-seen (start .pre .1) (at-head .head .ensures),
+      let at-peek = at-if1 .before .before in
+      let start = at-peek .before .before .before .before .before .before in (
+        omega (arith, start .pre .0, start .pre .1 .asks .at, at-peek .peek .ensures, at-if1 .if1 .left),
+        asked-seen (start .pre .1) (at-peek .peek .ensures),
       )
 
   pub close-requires : lts.Need-close-requires given (atom-at t) atom.Post
   close-requires c κs =
       let at-expression = c .before .before .before .before .before .before .before .before in
-      let at-head = at-expression .before .before .before .before .before .before in
-      let start = at-head .before .before .before .before .before .before in
+      let at-peek = at-expression .before .before .before .before .before .before in
+      let start = at-peek .before .before .before .before .before .before in
       asks-moved (start .pre .1 .asks)
-      (moved-trans (fore-moved (start .pre .1 .asks) (at-head .head .ensures)) (at-expression .expression .ensures .moved))
+      (moved-trans (fore-moved (start .pre .1 .asks) (at-peek .peek .ensures)) (at-expression .expression .ensures .moved))
       (omega (arith, at-expression .expression .kept)) (omega (arith, at-expression .expression .kept))
 
   pub same-length-4 : lts.Need-same-length-4 given (atom-at t) atom.Post
@@ -99,7 +99,7 @@ module _ (t : ℕ) where
       let at-close = c .before .before .before .before in
       let at-expression = at-close .before .before .before .before .before .before .before .before .before in
       let at-if1 = at-expression .before .before .before .before in
-      let at-head = at-if1 .before .before in
-      let start = at-head .before .before .before .before .before .before in
-      atom-group (start .pre .1) (at-head .head .ensures) (at-if1 .if1 .left)
+      let at-peek = at-if1 .before .before in
+      let start = at-peek .before .before .before .before .before .before in
+      atom-group (start .pre .1) (at-peek .peek .ensures) (at-if1 .if1 .left)
       (at-expression .expression .ensures) (at-close .close .ensures)

@@ -13,7 +13,7 @@ use Rattle.expression.proofs.cast.Reads as cast
 use Rattle.expression.proofs.operators.Reads as operators
 use Rattle.leaves.proofs.arithmetic.Reads as arithmetic-reads
 use Rattle.leaves.proofs.level_at.Reads as level-at-reads
-use Rattle.steps.proofs.head.Reads as head-reads
+use Rattle.steps.proofs.peek.Reads as peek-reads
 use Rattle.expression.proofs.+access+add_sub+array+atom+bit_and+bit_or+bit_xor+boolean+call+cascade+cast+comparison+expression+field+item+list+mul+named+operand+operators+shift+sizeof+ty+typed+typed_name+unary.Proof.Falls.{bit-or-at, cast-below, operators-below}
 
 abbrev pub Inv-loop : lts.InvT-loop
@@ -27,8 +27,8 @@ module _ (t : ℕ) where
   given = (
     cast-below t,
     cast.Post,
-    head-reads.Asked,
-    head-reads.Learnt,
+    peek-reads.Asked,
+    peek-reads.Learnt,
     arithmetic-reads.Asked,
     arithmetic-reads.Learnt,
     level-at-reads.Asked,
@@ -83,8 +83,8 @@ module _ (t : ℕ) where
       (λ l. goes-stops (goes-on (start .pre .1) (at-cast .cast .ensures) (omega (arith, at-cast .cast .kept))
       (omega (arith, at-cast .cast .kept)) (omega (arith, at-cast .cast .kept))) (c .match .keys2))
 
-  pub head-requires : lts.Need-head-requires given (bit-or-at t) bit-or.Post Inv-loop μ-loop
-  head-requires c κs =
+  pub peek-requires : lts.Need-peek-requires given (bit-or-at t) bit-or.Post Inv-loop μ-loop
+  peek-requires c κs =
       let at-cast = c .before .before .before .before .before .before .before .before .before in
       let start = at-cast .before .before .before .before .before .before .before .before .before in
       (start .pre .1 .asks .held, at-cast .cast .ensures .moved .end)
@@ -94,14 +94,14 @@ module _ (t : ℕ) where
 
   pub returns-2 : lts.Need-returns-2 given (bit-or-at t) bit-or.Post Inv-loop μ-loop
   returns-2 c =
-      let at-head = c .before .before in
-      let at-enum-told = at-head .before .before in
+      let at-peek = c .before .before in
+      let at-enum-told = at-peek .before .before in
       let at-cast = at-enum-told .before .before .before .before .before .before .before .before in
       let start = at-cast .before .before .before .before .before .before .before .before .before in
       levels-pass (start .pre .1) (at-cast .cast .ensures)
       (λ l. operators-none (goes-on (start .pre .1) (at-cast .cast .ensures) (omega (arith, at-cast .cast .kept))
       (omega (arith, at-cast .cast .kept)) (omega (arith, at-cast .cast .kept)))
-      (at-enum-told .enum-told .given .1) (at-head .head .ensures) l
+      (at-enum-told .enum-told .given .1) (at-peek .peek .ensures) l
       (no-operator _ (sym (c .before .arithmetic .ensures) ∙ not-true _ (c .if1 .taken)) l) refl)
 
   pub loop-holds : lts.Need-loop-holds given (bit-or-at t) bit-or.Post Inv-loop μ-loop

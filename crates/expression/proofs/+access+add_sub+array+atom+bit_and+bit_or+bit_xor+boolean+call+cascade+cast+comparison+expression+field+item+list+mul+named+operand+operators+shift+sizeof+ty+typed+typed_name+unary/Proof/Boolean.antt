@@ -11,8 +11,8 @@ use Rattle.expression.proofs.+access+add_sub+array+atom+bit_and+bit_or+
 use Rattle.expression.proofs.boolean.Reads as boolean
 use Rattle.expression.proofs.comparison.Reads as comparison
 use Rattle.fallible.proofs.abandon.Reads as abandon-reads
-use Rattle.steps.proofs.finish.Reads as finish-reads
-use Rattle.steps.proofs.head.Reads as head-reads
+use Rattle.steps.proofs.write_node.Reads as write-node-reads
+use Rattle.steps.proofs.peek.Reads as peek-reads
 use Rattle.expression.proofs.+access+add_sub+array+atom+bit_and+bit_or+bit_xor+boolean+call+cascade+cast+comparison+expression+field+item+list+mul+named+operand+operators+shift+sizeof+ty+typed+typed_name+unary.Proof.Falls.{boolean-at, comparison-below}
 
 module _ (t : ℕ) where
@@ -20,12 +20,12 @@ module _ (t : ℕ) where
   given = (
     comparison-below t,
     comparison.Post,
-    head-reads.Asked,
-    head-reads.Learnt,
+    peek-reads.Asked,
+    peek-reads.Learnt,
     abandon-reads.Asked,
     abandon-reads.Learnt,
-    finish-reads.Asked,
-    finish-reads.Learnt,
+    write-node-reads.Asked,
+    write-node-reads.Learnt,
   )
 
   pub comparison-requires : lts.Need-comparison-requires given (boolean-at t) boolean.Post
@@ -57,8 +57,8 @@ module _ (t : ℕ) where
       let at-comparison = c .before .before .before .before .before .before .before in
       then-stops and-on (at-comparison .comparison .ensures) (c .match .keys2)
 
-  pub head-requires : lts.Need-head-requires given (boolean-at t) boolean.Post
-  head-requires c κs =
+  pub peek-requires : lts.Need-peek-requires given (boolean-at t) boolean.Post
+  peek-requires c κs =
       let at-comparison = c .before .before .before .before .before .before .before .before .before in
       let start = at-comparison .before .before .before .before .before .before .before .before .before in
       (start .pre .1 .asks .held, omega (arith, at-comparison .comparison .ensures .moved .end))
@@ -81,73 +81,73 @@ module _ (t : ℕ) where
   pub returns-2 : lts.Need-returns-2 given (boolean-at t) boolean.Post
   unfolding P.expression-rule
   returns-2 c =
-      let at-head = c .before .before in
-      let at-enum-told = at-head .before .before in
+      let at-peek = c .before .before in
+      let at-enum-told = at-peek .before .before in
       let at-comparison = at-enum-told .before .before .before .before .before .before .before .before in
       let start = at-comparison .before .before .before .before .before .before .before .before .before in
       then-asked and-on (start .pre .1) (at-comparison .comparison .ensures)
       (and-none (goes-on (start .pre .1) (at-comparison .comparison .ensures)
       (omega (arith, at-comparison .comparison .kept)) (omega (arith, at-comparison .comparison .kept))
       (omega (arith, at-comparison .comparison .kept))) (at-enum-told .enum-told .given .1)
-      (at-head .head .ensures) (c .if1 .taken))
+      (at-peek .peek .ensures) (c .if1 .taken))
 
   pub comparison-requires-2 : lts.Need-comparison-requires-2 given (boolean-at t) boolean.Post
   comparison-requires-2 c κs =
       let at-if1 = c .before .before .before in
-      let at-head = at-if1 .before .before in
-      let at-comparison = at-head .before .before .before .before .before .before .before .before .before .before in
+      let at-peek = at-if1 .before .before in
+      let at-comparison = at-peek .before .before .before .before .before .before .before .before .before .before in
       let start = at-comparison .before .before .before .before .before .before .before .before .before in (
         omega (
           arith,
           start .pre .0,
           start .pre .1 .asks .at,
           at-comparison .comparison .ensures .moved .at,
-          at-head .head .ensures,
+          at-peek .peek .ensures,
           at-if1 .if1 .left,
         ),
         asked-seen
             (asked-moved (start .pre .1) (at-comparison .comparison .ensures .moved)
             (omega (arith, at-comparison .comparison .kept)) (omega (arith, at-comparison .comparison .kept))
             (omega (arith, at-comparison .comparison .kept)))
-            (at-head .head .ensures),
+            (at-peek .peek .ensures),
       )
 
   pub abandon-requires : lts.Need-abandon-requires given (boolean-at t) boolean.Post
   abandon-requires c κs =
       let at-comparison2 = c .before .before .before .before .before .before .before in
-      let at-head = at-comparison2 .before .before .before .before .before .before in
-      let at-comparison = at-head .before .before .before .before .before .before .before .before .before .before in
+      let at-peek = at-comparison2 .before .before .before .before .before .before in
+      let at-comparison = at-peek .before .before .before .before .before .before .before .before .before .before in
       let start = at-comparison .before .before .before .before .before .before .before .before .before in
       join-cuts
       (goes-on (start .pre .1) (at-comparison .comparison .ensures)
       (omega (arith, at-comparison .comparison .kept)) (omega (arith, at-comparison .comparison .kept))
       (omega (arith, at-comparison .comparison .kept)))
-      (at-head .head .ensures) (at-comparison2 .comparison2 .ensures)
+      (at-peek .peek .ensures) (at-comparison2 .comparison2 .ensures)
       (omega (arith, at-comparison2 .comparison2 .kept))
 
-  pub finish-requires : lts.Need-finish-requires given (boolean-at t) boolean.Post
-  finish-requires c κs =
+  pub write-node-requires : lts.Need-write-node-requires given (boolean-at t) boolean.Post
+  write-node-requires c κs =
       let at-abandon = c .before .before .before in
       let at-comparison2 = at-abandon .before .before .before .before .before .before .before .before in
-      let at-head = at-comparison2 .before .before .before .before .before .before in
-      let at-comparison = at-head .before .before .before .before .before .before .before .before .before .before in
+      let at-peek = at-comparison2 .before .before .before .before .before .before in
+      let at-comparison = at-peek .before .before .before .before .before .before .before .before .before .before in
       let start = at-comparison .before .before .before .before .before .before .before .before .before in
       join-room
       (goes-on (start .pre .1) (at-comparison .comparison .ensures)
       (omega (arith, at-comparison .comparison .kept)) (omega (arith, at-comparison .comparison .kept))
       (omega (arith, at-comparison .comparison .kept)))
-      (at-head .head .ensures) (at-comparison2 .comparison2 .ensures) (at-abandon .abandon .ensures)
+      (at-peek .peek .ensures) (at-comparison2 .comparison2 .ensures) (at-abandon .abandon .ensures)
       (omega (arith, at-comparison2 .comparison2 .kept))
 
   pub same-length-7 : lts.Need-same-length-7 given (boolean-at t) boolean.Post
   same-length-7 c =
-      let at-finish = c .before .before in
-      let at-abandon = at-finish .before .before .before .before in
+      let at-write-node = c .before .before in
+      let at-abandon = at-write-node .before .before .before .before in
       let at-comparison2 = at-abandon .before .before .before .before .before .before .before .before in
       let at-comparison = at-comparison2 .before .before .before .before .before .before .before .before .before .before .before .before .before .before .before .before in
       omega (
         arith,
-        at-finish .finish .kept,
+        at-write-node .write-node .kept,
         at-abandon .abandon .kept,
         at-comparison2 .comparison2 .kept,
         at-comparison .comparison .kept,
@@ -155,13 +155,13 @@ module _ (t : ℕ) where
 
   pub same-length-8 : lts.Need-same-length-8 given (boolean-at t) boolean.Post
   same-length-8 c =
-      let at-finish = c .before .before in
-      let at-abandon = at-finish .before .before .before .before in
+      let at-write-node = c .before .before in
+      let at-abandon = at-write-node .before .before .before .before in
       let at-comparison2 = at-abandon .before .before .before .before .before .before .before .before in
       let at-comparison = at-comparison2 .before .before .before .before .before .before .before .before .before .before .before .before .before .before .before .before in
       omega (
         arith,
-        at-finish .finish .kept,
+        at-write-node .write-node .kept,
         at-abandon .abandon .kept,
         at-comparison2 .comparison2 .kept,
         at-comparison .comparison .kept,
@@ -169,13 +169,13 @@ module _ (t : ℕ) where
 
   pub same-length-9 : lts.Need-same-length-9 given (boolean-at t) boolean.Post
   same-length-9 c =
-      let at-finish = c .before .before in
-      let at-abandon = at-finish .before .before .before .before in
+      let at-write-node = c .before .before in
+      let at-abandon = at-write-node .before .before .before .before in
       let at-comparison2 = at-abandon .before .before .before .before .before .before .before .before in
       let at-comparison = at-comparison2 .before .before .before .before .before .before .before .before .before .before .before .before .before .before .before .before in
       omega (
         arith,
-        at-finish .finish .kept,
+        at-write-node .write-node .kept,
         at-abandon .abandon .kept,
         at-comparison2 .comparison2 .kept,
         at-comparison .comparison .kept,
@@ -184,17 +184,17 @@ module _ (t : ℕ) where
   pub returns-3 : lts.Need-returns-3 given (boolean-at t) boolean.Post
   unfolding P.expression-rule
   returns-3 c =
-      let at-finish = c .before .before in
-      let at-abandon = at-finish .before .before .before .before in
+      let at-write-node = c .before .before in
+      let at-abandon = at-write-node .before .before .before .before in
       let at-comparison2 = at-abandon .before .before .before .before .before .before .before .before in
       let at-if1 = at-comparison2 .before .before .before .before in
-      let at-head = at-if1 .before .before in
-      let at-enum-told = at-head .before .before in
+      let at-peek = at-if1 .before .before in
+      let at-enum-told = at-peek .before .before in
       let at-comparison = at-enum-told .before .before .before .before .before .before .before .before in
       let start = at-comparison .before .before .before .before .before .before .before .before .before in
       then-asked and-on (start .pre .1) (at-comparison .comparison .ensures)
       (and-found (goes-on (start .pre .1) (at-comparison .comparison .ensures)
       (omega (arith, at-comparison .comparison .kept)) (omega (arith, at-comparison .comparison .kept))
       (omega (arith, at-comparison .comparison .kept))) (at-enum-told .enum-told .given .1)
-      (at-head .head .ensures) (at-if1 .if1 .left) (at-comparison2 .comparison2 .ensures)
-      (at-abandon .abandon .ensures) (at-finish .finish .ensures))
+      (at-peek .peek .ensures) (at-if1 .if1 .left) (at-comparison2 .comparison2 .ensures)
+      (at-abandon .abandon .ensures) (at-write-node .write-node .ensures))

@@ -13,8 +13,8 @@ use Rattle.expression.proofs.cast.Reads as cast
 use Rattle.expression.proofs.ty.Reads as ty
 use Rattle.expression.proofs.operand.Reads as operand
 use Rattle.fallible.proofs.abandon.Reads as abandon-reads
-use Rattle.steps.proofs.finish.Reads as finish-reads
-use Rattle.steps.proofs.head.Reads as head-reads
+use Rattle.steps.proofs.write_node.Reads as write-node-reads
+use Rattle.steps.proofs.peek.Reads as peek-reads
 use Rattle.expression.proofs.+access+add_sub+array+atom+bit_and+bit_or+bit_xor+boolean+call+cascade+cast+comparison+expression+field+item+list+mul+named+operand+operators+shift+sizeof+ty+typed+typed_name+unary.Proof.Falls.{cast-at, ty-below, operand-below}
 
 abbrev pub Inv-loop : lts.InvT-loop
@@ -28,14 +28,14 @@ module _ (t : ℕ) where
   given = (
     operand-below t,
     operand.Post,
-    head-reads.Asked,
-    head-reads.Learnt,
+    peek-reads.Asked,
+    peek-reads.Learnt,
     ty-below t,
     ty.Post,
     abandon-reads.Asked,
     abandon-reads.Learnt,
-    finish-reads.Asked,
-    finish-reads.Learnt,
+    write-node-reads.Asked,
+    write-node-reads.Learnt,
   )
 
   pub operand-requires : lts.Need-operand-requires given (cast-at t) cast.Post Inv-loop μ-loop
@@ -78,8 +78,8 @@ module _ (t : ℕ) where
       then-asked casts-on (start .pre .1) (at-operand .operand .ensures)
       (c .before .loop .inv .1 .rest (goes-stops (c .before .loop .inv .0) (c .match .keys2)))
 
-  pub head-requires : lts.Need-head-requires given (cast-at t) cast.Post Inv-loop μ-loop
-  head-requires c κs =
+  pub peek-requires : lts.Need-peek-requires given (cast-at t) cast.Post Inv-loop μ-loop
+  peek-requires c κs =
       let at-loop = c .before .before .before in
       (at-loop .loop .inv .0 .asked .asks .held, at-loop .loop .inv .0 .asked .asks .at)
 
@@ -104,21 +104,21 @@ module _ (t : ℕ) where
   pub returns-2 : lts.Need-returns-2 given (cast-at t) cast.Post Inv-loop μ-loop
   unfolding P.parse-cast
   returns-2 c =
-      let at-head = c .before .before in
-      let at-enum-told = at-head .before .before in
+      let at-peek = c .before .before in
+      let at-enum-told = at-peek .before .before in
       let at-loop = at-enum-told .before .before in
       let at-operand = at-loop .before .before .before .before .before .before .before in
       let start = at-operand .before .before .before .before .before .before .before .before .before in
       then-asked casts-on (start .pre .1) (at-operand .operand .ensures)
       (at-loop .loop .inv .1 .rest
-      (casts-none (at-loop .loop .inv .0) (at-enum-told .enum-told .given .1) (at-head .head .ensures)
+      (casts-none (at-loop .loop .inv .0) (at-enum-told .enum-told .given .1) (at-peek .peek .ensures)
       (c .if1 .taken)))
 
   pub ty-requires : lts.Need-ty-requires given (cast-at t) cast.Post Inv-loop μ-loop
   ty-requires c κs =
       let at-if1 = c .before .before .before in
-      let at-head = at-if1 .before .before in
-      let at-loop = at-head .before .before .before .before in
+      let at-peek = at-if1 .before .before in
+      let at-loop = at-peek .before .before .before .before in
       let at-operand = at-loop .before .before .before .before .before .before .before in
       let start = at-operand .before .before .before .before .before .before .before .before .before in (
         omega (
@@ -127,70 +127,70 @@ module _ (t : ℕ) where
           at-operand .operand .ensures .moved .at,
           at-loop .loop .inv .1 .on,
           at-loop .loop .inv .0 .asked .asks .at,
-          at-head .head .ensures,
+          at-peek .peek .ensures,
           at-if1 .if1 .left,
         ),
-        asked-seen (at-loop .loop .inv .0 .asked) (at-head .head .ensures),
+        asked-seen (at-loop .loop .inv .0 .asked) (at-peek .peek .ensures),
       )
 
   pub abandon-requires : lts.Need-abandon-requires given (cast-at t) cast.Post Inv-loop μ-loop
   abandon-requires c κs =
       let at-ty = c .before .before .before .before .before .before .before in
-      let at-head = at-ty .before .before .before .before .before .before in
-      let at-loop = at-head .before .before .before .before in
-      join-cuts (at-loop .loop .inv .0) (at-head .head .ensures) (at-ty .ty .ensures)
+      let at-peek = at-ty .before .before .before .before .before .before in
+      let at-loop = at-peek .before .before .before .before in
+      join-cuts (at-loop .loop .inv .0) (at-peek .peek .ensures) (at-ty .ty .ensures)
       (omega (arith, at-ty .ty .kept))
 
-  pub finish-requires : lts.Need-finish-requires given (cast-at t) cast.Post Inv-loop μ-loop
-  finish-requires c κs =
+  pub write-node-requires : lts.Need-write-node-requires given (cast-at t) cast.Post Inv-loop μ-loop
+  write-node-requires c κs =
       let at-abandon = c .before .before .before in
       let at-ty = at-abandon .before .before .before .before .before .before .before .before in
-      let at-head = at-ty .before .before .before .before .before .before in
-      let at-loop = at-head .before .before .before .before in
-      join-room (at-loop .loop .inv .0) (at-head .head .ensures) (at-ty .ty .ensures)
+      let at-peek = at-ty .before .before .before .before .before .before in
+      let at-loop = at-peek .before .before .before .before in
+      join-room (at-loop .loop .inv .0) (at-peek .peek .ensures) (at-ty .ty .ensures)
       (at-abandon .abandon .ensures) (omega (arith, at-ty .ty .kept))
 
   pub loop-less : lts.Need-loop-less given (cast-at t) cast.Post Inv-loop μ-loop
   loop-less c =
-      let at-finish = c .before .before in
-      let at-abandon = at-finish .before .before .before .before in
+      let at-write-node = c .before .before in
+      let at-abandon = at-write-node .before .before .before .before in
       let at-ty = at-abandon .before .before .before .before .before .before .before .before in
       let at-if1 = at-ty .before .before .before .before in
-      let at-head = at-if1 .before .before in
-      let at-loop = at-head .before .before .before .before in
+      let at-peek = at-if1 .before .before in
+      let at-loop = at-peek .before .before .before .before in
       omega (
         arith,
         at-loop .loop .inv .0 .asked .asks .at,
-        at-head .head .ensures,
+        at-peek .peek .ensures,
         at-if1 .if1 .left,
         at-ty .ty .ensures .moved,
         at-abandon .abandon .ensures .at,
-        at-finish .finish .ensures .at,
+        at-write-node .write-node .ensures .at,
       )
 
   pub loop-again : lts.Need-loop-again given (cast-at t) cast.Post Inv-loop μ-loop
   loop-again c =
-      let at-finish = c .before .before in
-      let at-abandon = at-finish .before .before .before .before in
+      let at-write-node = c .before .before in
+      let at-abandon = at-write-node .before .before .before .before in
       let at-ty = at-abandon .before .before .before .before .before .before .before .before in
       let at-if1 = at-ty .before .before .before .before in
-      let at-head = at-if1 .before .before in
-      let at-enum-told = at-head .before .before in
+      let at-peek = at-if1 .before .before in
+      let at-enum-told = at-peek .before .before in
       let at-loop = at-enum-told .before .before in (
-        joined-on (at-loop .loop .inv .0) (at-head .head .ensures) (at-ty .ty .ensures)
-            (at-abandon .abandon .ensures) (at-finish .finish .ensures) (omega (arith, at-if1 .if1 .left))
-            (omega (arith, at-finish .finish .kept, at-ty .ty .kept))
+        joined-on (at-loop .loop .inv .0) (at-peek .peek .ensures) (at-ty .ty .ensures)
+            (at-abandon .abandon .ensures) (at-write-node .write-node .ensures) (omega (arith, at-if1 .if1 .left))
+            (omega (arith, at-write-node .write-node .kept, at-ty .ty .kept))
             (omega (arith, at-abandon .abandon .kept, at-ty .ty .kept)) (omega (arith, at-ty .ty .kept)),
-        one-turn (at-loop .loop .inv .1) (omega (arith, at-finish .finish .kept, at-ty .ty .kept))
+        one-turn (at-loop .loop .inv .1) (omega (arith, at-write-node .write-node .kept, at-ty .ty .kept))
             (omega (arith, at-abandon .abandon .kept, at-ty .ty .kept)) (omega (arith, at-ty .ty .kept))
             (omega (
               arith,
-              at-head .head .ensures .up,
+              at-peek .peek .ensures .up,
               at-ty .ty .ensures .moved,
               at-abandon .abandon .ensures .at,
-              at-finish .finish .ensures .at,
+              at-write-node .write-node .ensures .at,
             ))
             (λ _ _ _ _ g. casts-more (at-loop .loop .inv .0) (at-enum-told .enum-told .given .1)
-            (at-head .head .ensures) (at-if1 .if1 .left) (at-ty .ty .ensures) (at-abandon .abandon .ensures)
-            (at-finish .finish .ensures) g),
+            (at-peek .peek .ensures) (at-if1 .if1 .left) (at-ty .ty .ensures) (at-abandon .abandon .ensures)
+            (at-write-node .write-node .ensures) g),
       )

@@ -12,8 +12,8 @@ use Rattle.expression.proofs.bit_or.Reads as bit-or
 use Rattle.expression.proofs.comparison.Reads as comparison
 use Rattle.fallible.proofs.abandon.Reads as abandon-reads
 use Rattle.leaves.proofs.comparison_operator.Reads as comparison-operator-reads
-use Rattle.steps.proofs.finish.Reads as finish-reads
-use Rattle.steps.proofs.head.Reads as head-reads
+use Rattle.steps.proofs.write_node.Reads as write-node-reads
+use Rattle.steps.proofs.peek.Reads as peek-reads
 use Rattle.expression.proofs.+access+add_sub+array+atom+bit_and+bit_or+bit_xor+boolean+call+cascade+cast+comparison+expression+field+item+list+mul+named+operand+operators+shift+sizeof+ty+typed+typed_name+unary.Proof.Falls.{bit-or-below, comparison-at}
 
 module _ (t : ℕ) where
@@ -21,14 +21,14 @@ module _ (t : ℕ) where
   given = (
     bit-or-below t,
     bit-or.Post,
-    head-reads.Asked,
-    head-reads.Learnt,
+    peek-reads.Asked,
+    peek-reads.Learnt,
     comparison-operator-reads.Asked,
     comparison-operator-reads.Learnt,
     abandon-reads.Asked,
     abandon-reads.Learnt,
-    finish-reads.Asked,
-    finish-reads.Learnt,
+    write-node-reads.Asked,
+    write-node-reads.Learnt,
   )
 
   pub bit-or-requires : lts.Need-bit-or-requires given (comparison-at t) comparison.Post
@@ -60,8 +60,8 @@ module _ (t : ℕ) where
       let at-bit-or = c .before .before .before .before .before .before .before in
       then-stops compare-on (at-bit-or .bit-or .ensures) (c .match .keys2)
 
-  pub head-requires : lts.Need-head-requires given (comparison-at t) comparison.Post
-  head-requires c κs =
+  pub peek-requires : lts.Need-peek-requires given (comparison-at t) comparison.Post
+  peek-requires c κs =
       let at-bit-or = c .before .before .before .before .before .before .before .before .before in
       let start = at-bit-or .before .before .before .before .before .before .before .before .before in
       (start .pre .1 .asks .held, omega (arith, at-bit-or .bit-or .ensures .moved .end))
@@ -87,30 +87,30 @@ module _ (t : ℕ) where
   pub returns-2 : lts.Need-returns-2 given (comparison-at t) comparison.Post
   unfolding P.parse-comparison
   returns-2 c =
-      let at-head = c .before .before in
-      let at-enum-told = at-head .before .before in
+      let at-peek = c .before .before in
+      let at-enum-told = at-peek .before .before in
       let at-bit-or = at-enum-told .before .before .before .before .before .before .before .before in
       let start = at-bit-or .before .before .before .before .before .before .before .before .before in
       then-asked compare-on (start .pre .1) (at-bit-or .bit-or .ensures)
       (compare-none
       (goes-on (start .pre .1) (at-bit-or .bit-or .ensures) (omega (arith, at-bit-or .bit-or .kept))
       (omega (arith, at-bit-or .bit-or .kept)) (omega (arith, at-bit-or .bit-or .kept)))
-      (at-enum-told .enum-told .given .1) (at-head .head .ensures) (c .before .comparison-operator .ensures)
+      (at-enum-told .enum-told .given .1) (at-peek .peek .ensures) (c .before .comparison-operator .ensures)
       (c .if1 .taken))
 
   pub bit-or-requires-2 : lts.Need-bit-or-requires-2 given (comparison-at t) comparison.Post
   bit-or-requires-2 c κs =
       let at-if1 = c .before .before .before in
       let at-comparison-operator = at-if1 .before in
-      let at-head = at-comparison-operator .before in
-      let at-bit-or = at-head .before .before .before .before .before .before .before .before .before .before in
+      let at-peek = at-comparison-operator .before in
+      let at-bit-or = at-peek .before .before .before .before .before .before .before .before .before .before in
       let start = at-bit-or .before .before .before .before .before .before .before .before .before in (
         omega (
           arith,
           start .pre .0,
           start .pre .1 .asks .at,
           at-bit-or .bit-or .ensures .moved .at,
-          at-head .head .ensures,
+          at-peek .peek .ensures,
           at-comparison-operator .comparison-operator .ensures,
           at-if1 .if1 .left,
         ),
@@ -118,45 +118,45 @@ module _ (t : ℕ) where
             (asked-moved (start .pre .1) (at-bit-or .bit-or .ensures .moved)
             (omega (arith, at-bit-or .bit-or .kept)) (omega (arith, at-bit-or .bit-or .kept))
             (omega (arith, at-bit-or .bit-or .kept)))
-            (at-head .head .ensures),
+            (at-peek .peek .ensures),
       )
 
   pub abandon-requires : lts.Need-abandon-requires given (comparison-at t) comparison.Post
   abandon-requires c κs =
       let at-bit-or2 = c .before .before .before .before .before .before .before in
-      let at-head = at-bit-or2 .before .before .before .before .before .before in
-      let at-bit-or = at-head .before .before .before .before .before .before .before .before .before .before in
+      let at-peek = at-bit-or2 .before .before .before .before .before .before in
+      let at-bit-or = at-peek .before .before .before .before .before .before .before .before .before .before in
       let start = at-bit-or .before .before .before .before .before .before .before .before .before in
       join-cuts
       (goes-on (start .pre .1) (at-bit-or .bit-or .ensures) (omega (arith, at-bit-or .bit-or .kept))
       (omega (arith, at-bit-or .bit-or .kept)) (omega (arith, at-bit-or .bit-or .kept)))
-      (at-head .head .ensures) (at-bit-or2 .bit-or2 .ensures) (omega (arith, at-bit-or2 .bit-or2 .kept))
+      (at-peek .peek .ensures) (at-bit-or2 .bit-or2 .ensures) (omega (arith, at-bit-or2 .bit-or2 .kept))
 
   pub sub-t36 : lts.Need-sub-t36 given (comparison-at t) comparison.Post
   sub-t36 c = omega arith
 
-  pub finish-requires : lts.Need-finish-requires given (comparison-at t) comparison.Post
-  finish-requires c κs =
+  pub write-node-requires : lts.Need-write-node-requires given (comparison-at t) comparison.Post
+  write-node-requires c κs =
       let at-abandon = c .before .before .before in
       let at-bit-or2 = at-abandon .before .before .before .before .before .before .before .before in
-      let at-head = at-bit-or2 .before .before .before .before .before .before in
-      let at-bit-or = at-head .before .before .before .before .before .before .before .before .before .before in
+      let at-peek = at-bit-or2 .before .before .before .before .before .before in
+      let at-bit-or = at-peek .before .before .before .before .before .before .before .before .before .before in
       let start = at-bit-or .before .before .before .before .before .before .before .before .before in
       join-room
       (goes-on (start .pre .1) (at-bit-or .bit-or .ensures) (omega (arith, at-bit-or .bit-or .kept))
       (omega (arith, at-bit-or .bit-or .kept)) (omega (arith, at-bit-or .bit-or .kept)))
-      (at-head .head .ensures) (at-bit-or2 .bit-or2 .ensures) (at-abandon .abandon .ensures)
+      (at-peek .peek .ensures) (at-bit-or2 .bit-or2 .ensures) (at-abandon .abandon .ensures)
       (omega (arith, at-bit-or2 .bit-or2 .kept))
 
   pub same-length-7 : lts.Need-same-length-7 given (comparison-at t) comparison.Post
   same-length-7 c =
-      let at-finish = c .before .before in
-      let at-abandon = at-finish .before .before .before .before in
+      let at-write-node = c .before .before in
+      let at-abandon = at-write-node .before .before .before .before in
       let at-bit-or2 = at-abandon .before .before .before .before .before .before .before .before in
       let at-bit-or = at-bit-or2 .before .before .before .before .before .before .before .before .before .before .before .before .before .before .before .before in
       omega (
         arith,
-        at-finish .finish .kept,
+        at-write-node .write-node .kept,
         at-abandon .abandon .kept,
         at-bit-or2 .bit-or2 .kept,
         at-bit-or .bit-or .kept,
@@ -164,13 +164,13 @@ module _ (t : ℕ) where
 
   pub same-length-8 : lts.Need-same-length-8 given (comparison-at t) comparison.Post
   same-length-8 c =
-      let at-finish = c .before .before in
-      let at-abandon = at-finish .before .before .before .before in
+      let at-write-node = c .before .before in
+      let at-abandon = at-write-node .before .before .before .before in
       let at-bit-or2 = at-abandon .before .before .before .before .before .before .before .before in
       let at-bit-or = at-bit-or2 .before .before .before .before .before .before .before .before .before .before .before .before .before .before .before .before in
       omega (
         arith,
-        at-finish .finish .kept,
+        at-write-node .write-node .kept,
         at-abandon .abandon .kept,
         at-bit-or2 .bit-or2 .kept,
         at-bit-or .bit-or .kept,
@@ -178,13 +178,13 @@ module _ (t : ℕ) where
 
   pub same-length-9 : lts.Need-same-length-9 given (comparison-at t) comparison.Post
   same-length-9 c =
-      let at-finish = c .before .before in
-      let at-abandon = at-finish .before .before .before .before in
+      let at-write-node = c .before .before in
+      let at-abandon = at-write-node .before .before .before .before in
       let at-bit-or2 = at-abandon .before .before .before .before .before .before .before .before in
       let at-bit-or = at-bit-or2 .before .before .before .before .before .before .before .before .before .before .before .before .before .before .before .before in
       omega (
         arith,
-        at-finish .finish .kept,
+        at-write-node .write-node .kept,
         at-abandon .abandon .kept,
         at-bit-or2 .bit-or2 .kept,
         at-bit-or .bit-or .kept,
@@ -193,19 +193,19 @@ module _ (t : ℕ) where
   pub returns-3 : lts.Need-returns-3 given (comparison-at t) comparison.Post
   unfolding P.parse-comparison
   returns-3 c =
-      let at-finish = c .before .before in
-      let at-abandon = at-finish .before .before .before .before in
+      let at-write-node = c .before .before in
+      let at-abandon = at-write-node .before .before .before .before in
       let at-bit-or2 = at-abandon .before .before .before .before .before .before .before .before in
       let at-if1 = at-bit-or2 .before .before .before .before in
       let at-comparison-operator = at-if1 .before in
-      let at-head = at-comparison-operator .before in
-      let at-enum-told = at-head .before .before in
+      let at-peek = at-comparison-operator .before in
+      let at-enum-told = at-peek .before .before in
       let at-bit-or = at-enum-told .before .before .before .before .before .before .before .before in
       let start = at-bit-or .before .before .before .before .before .before .before .before .before in
       then-asked compare-on (start .pre .1) (at-bit-or .bit-or .ensures)
       (compare-found
       (goes-on (start .pre .1) (at-bit-or .bit-or .ensures) (omega (arith, at-bit-or .bit-or .kept))
       (omega (arith, at-bit-or .bit-or .kept)) (omega (arith, at-bit-or .bit-or .kept)))
-      (at-enum-told .enum-told .given .1) (at-head .head .ensures)
+      (at-enum-told .enum-told .given .1) (at-peek .peek .ensures)
       (at-comparison-operator .comparison-operator .ensures) (at-if1 .if1 .left) (at-bit-or2 .bit-or2 .ensures)
-      (at-abandon .abandon .ensures) (at-finish .finish .ensures))
+      (at-abandon .abandon .ensures) (at-write-node .write-node .ensures))

@@ -8,27 +8,27 @@ use Rattle.expression.proofs.expression.Reads as expression
 use Rattle.expression.proofs.field.Reads as field
 use Rattle.steps.proofs.and_expect.Reads as and-expect-reads
 use Rattle.steps.proofs.expect_identifier.Reads as expect-identifier-reads
-use Rattle.steps.proofs.finish_text.Reads as finish-text-reads
-use Rattle.steps.proofs.head.Reads as head-reads
+use Rattle.steps.proofs.write_text_node.Reads as write-text-node-reads
+use Rattle.steps.proofs.peek.Reads as peek-reads
 use Rattle.expression.proofs.+access+add_sub+array+atom+bit_and+bit_or+bit_xor+boolean+call+cascade+cast+comparison+expression+field+item+list+mul+named+operand+operators+shift+sizeof+ty+typed+typed_name+unary.Proof.Falls.{expression-below, field-at}
 
 module _ (t : ℕ) where
   abbrev pub given : lts.Claims
   given = (
-    head-reads.Asked,
-    head-reads.Learnt,
+    peek-reads.Asked,
+    peek-reads.Learnt,
     expect-identifier-reads.Asked,
     expect-identifier-reads.Learnt,
     and-expect-reads.Asked,
     and-expect-reads.Learnt,
     expression-below t,
     expression.Post,
-    finish-text-reads.Asked,
-    finish-text-reads.Learnt,
+    write-text-node-reads.Asked,
+    write-text-node-reads.Learnt,
   )
 
-  pub head-requires : lts.Need-head-requires given (field-at t) field.Post
-  head-requires c κs =
+  pub peek-requires : lts.Need-peek-requires given (field-at t) field.Post
+  peek-requires c κs =
       let start = c .before .before .before .before .before in
       (start .pre .1 .asks .held, start .pre .1 .asks .at)
 
@@ -40,9 +40,9 @@ module _ (t : ℕ) where
   pub and-expect-requires : lts.Need-and-expect-requires given (field-at t) field.Post
   and-expect-requires c κs =
       let at-expect-identifier = c .before .before .before .before .before .before in
-      let at-head = at-expect-identifier .before .before .before in
-      let start = at-head .before .before .before .before .before .before in (
-        field-follows (start .pre .1) (at-head .head .ensures)
+      let at-peek = at-expect-identifier .before .before .before in
+      let start = at-peek .before .before .before .before .before .before in (
+        field-follows (start .pre .1) (at-peek .peek .ensures)
             (at-expect-identifier .expect-identifier .ensures)
             (omega (arith, at-expect-identifier .expect-identifier .kept))
             (omega (arith, at-expect-identifier .expect-identifier .kept)),
@@ -68,9 +68,9 @@ module _ (t : ℕ) where
   returns c =
       let at-and-expect = c .before .before .before .before .before in
       let at-expect-identifier = at-and-expect .before .before .before .before .before .before .before in
-      let at-head = at-expect-identifier .before .before .before in
-      let start = at-head .before .before .before .before .before .before in
-      field-stops (start .pre .1) (at-head .head .ensures)
+      let at-peek = at-expect-identifier .before .before .before in
+      let start = at-peek .before .before .before .before .before .before in
+      field-stops (start .pre .1) (at-peek .peek .ensures)
       (at-expect-identifier .expect-identifier .ensures) (at-and-expect .and-expect .ensures)
       (omega (arith, at-expect-identifier .expect-identifier .kept))
       (omega (arith, at-expect-identifier .expect-identifier .kept)) (c .match .keys2)
@@ -79,41 +79,41 @@ module _ (t : ℕ) where
   expression-requires c κs =
       let at-and-expect = c .before .before .before .before .before .before .before .before .before .before in
       let at-expect-identifier = at-and-expect .before .before .before .before .before .before .before in
-      let at-head = at-expect-identifier .before .before .before in
-      let start = at-head .before .before .before .before .before .before in (
+      let at-peek = at-expect-identifier .before .before .before in
+      let start = at-peek .before .before .before .before .before .before in (
         omega (
           arith,
           start .pre .0,
           at-expect-identifier .expect-identifier .ensures .moved,
           at-and-expect .and-expect .ensures .moved,
         ),
-        field-asked (start .pre .1) (at-head .head .ensures)
+        field-asked (start .pre .1) (at-peek .peek .ensures)
             (at-expect-identifier .expect-identifier .ensures) (at-and-expect .and-expect .ensures)
             (omega (arith, at-expect-identifier .expect-identifier .kept, at-and-expect .and-expect .kept))
             (omega (arith, at-expect-identifier .expect-identifier .kept, at-and-expect .and-expect .kept)),
       )
 
-  pub finish-text-requires : lts.Need-finish-text-requires given (field-at t) field.Post
-  finish-text-requires c κs =
+  pub write-text-node-requires : lts.Need-write-text-node-requires given (field-at t) field.Post
+  write-text-node-requires c κs =
       let at-expression = c .before .before .before .before .before .before .before in
       let at-enum-told = at-expression .before .before .before .before .before in
       let at-and-expect = at-enum-told .before .before .before .before .before .before in
       let at-expect-identifier = at-and-expect .before .before .before .before .before .before .before in
-      let at-head = at-expect-identifier .before .before .before in
-      let start = at-head .before .before .before .before .before .before in
-      field-room (start .pre .1) (at-head .head .ensures) (at-expect-identifier .expect-identifier .ensures)
+      let at-peek = at-expect-identifier .before .before .before in
+      let start = at-peek .before .before .before .before .before .before in
+      field-room (start .pre .1) (at-peek .peek .ensures) (at-expect-identifier .expect-identifier .ensures)
       (at-and-expect .and-expect .ensures) (at-enum-told .enum-told .given .1)
       (at-expression .expression .ensures) (omega (arith, at-expression .expression .kept))
 
   pub same-length-3 : lts.Need-same-length-3 given (field-at t) field.Post
   same-length-3 c =
-      let at-finish-text = c .before .before in
-      let at-expression = at-finish-text .before .before .before .before .before .before .before .before in
+      let at-write-text-node = c .before .before in
+      let at-expression = at-write-text-node .before .before .before .before .before .before .before .before in
       let at-and-expect = at-expression .before .before .before .before .before .before .before .before .before .before .before in
       let at-expect-identifier = at-and-expect .before .before .before .before .before .before .before in
       omega (
         arith,
-        at-finish-text .finish-text .kept,
+        at-write-text-node .write-text-node .kept,
         at-expression .expression .kept,
         at-and-expect .and-expect .kept,
         at-expect-identifier .expect-identifier .kept,
@@ -145,13 +145,13 @@ module _ (t : ℕ) where
 
   pub returns-2 : lts.Need-returns-2 given (field-at t) field.Post
   returns-2 c =
-      let at-finish-text = c .before .before in
-      let at-expression = at-finish-text .before .before .before .before .before .before .before .before in
+      let at-write-text-node = c .before .before in
+      let at-expression = at-write-text-node .before .before .before .before .before .before .before .before in
       let at-enum-told = at-expression .before .before .before .before .before in
       let at-and-expect = at-enum-told .before .before .before .before .before .before in
       let at-expect-identifier = at-and-expect .before .before .before .before .before .before .before in
-      let at-head = at-expect-identifier .before .before .before in
-      let start = at-head .before .before .before .before .before .before in
-      field-done (start .pre .1) (at-head .head .ensures) (at-expect-identifier .expect-identifier .ensures)
+      let at-peek = at-expect-identifier .before .before .before in
+      let start = at-peek .before .before .before .before .before .before in
+      field-done (start .pre .1) (at-peek .peek .ensures) (at-expect-identifier .expect-identifier .ensures)
       (at-and-expect .and-expect .ensures) (at-enum-told .enum-told .given .1)
-      (at-expression .expression .ensures) (at-finish-text .finish-text .ensures)
+      (at-expression .expression .ensures) (at-write-text-node .write-text-node .ensures)

@@ -19,7 +19,7 @@ use Rattle.leaves.proofs.comma.Reads as comma-reads
 use Rattle.leaves.proofs.counted.Reads as counted-reads
 use Rattle.leaves.proofs.opener.Reads as opener-reads
 use Rattle.steps.proofs.expect.Reads as expect-reads
-use Rattle.steps.proofs.head.Reads as head-reads
+use Rattle.steps.proofs.peek.Reads as peek-reads
 use Rattle.expression.proofs.+access+add_sub+array+atom+bit_and+bit_or+bit_xor+boolean+call+cascade+cast+comparison+expression+field+item+list+mul+named+operand+operators+shift+sizeof+ty+typed+typed_name+unary.Proof.Falls.{item-below, list-at}
 
 abbrev pub Inv-loop : lts.InvT-loop
@@ -38,8 +38,8 @@ module _ (t : ℕ) where
     expect-reads.Learnt,
     closer-reads.Asked,
     closer-reads.Learnt,
-    head-reads.Asked,
-    head-reads.Learnt,
+    peek-reads.Asked,
+    peek-reads.Learnt,
     entry-reads.Asked,
     entry-reads.Learnt,
     note-reads.Asked,
@@ -97,8 +97,8 @@ module _ (t : ℕ) where
         at-start,
       )
 
-  pub head-requires : lts.Need-head-requires given (list-at t) list.Post Inv-loop μ-loop
-  head-requires c κs = (c .loop .inv .0 .0 .asks .held, c .loop .inv .0 .0 .asks .at)
+  pub peek-requires : lts.Need-peek-requires given (list-at t) list.Post Inv-loop μ-loop
+  peek-requires c κs = (c .loop .inv .0 .0 .asks .held, c .loop .inv .0 .0 .asks .at)
 
   pub entry-requires : lts.Need-entry-requires given (list-at t) list.Post Inv-loop μ-loop
   entry-requires c κs = omega arith
@@ -133,8 +133,8 @@ module _ (t : ℕ) where
       let at-note = c .before .before .before .before .before in
       let at-entry = at-note .before .before .before in
       let at-if1 = at-entry .before in
-      let at-head = at-if1 .before .before in
-      let at-loop = at-head .before in
+      let at-peek = at-if1 .before .before in
+      let at-loop = at-peek .before in
       let at-match = at-loop .before .before .before in
       let at-expect = at-match .before .before .before .before .before in
       let at-opener = at-expect .before .before .before in
@@ -142,7 +142,7 @@ module _ (t : ℕ) where
       list-on _ (start .pre .1) (at-opener .opener .ensures) (at-expect .expect .ensures)
       (at-match .match .keys2)
       (at-loop .loop .inv .1 .rest
-      (rest-end _ (at-loop .loop .inv .0) (at-head .head .ensures) (at-if1 .if1 .taken)
+      (rest-end _ (at-loop .loop .inv .0) (at-peek .peek .ensures) (at-if1 .if1 .taken)
       (at-entry .entry .ensures) (at-note .note .ensures)))
 
   pub same-length-6 : lts.Need-same-length-6 given (list-at t) list.Post Inv-loop μ-loop
@@ -166,8 +166,8 @@ module _ (t : ℕ) where
   pub returns-3 : lts.Need-returns-3 given (list-at t) list.Post Inv-loop μ-loop
   returns-3 c =
       let at-if1 = c .before .before in
-      let at-head = at-if1 .before .before in
-      let at-loop = at-head .before in
+      let at-peek = at-if1 .before .before in
+      let at-loop = at-peek .before in
       let at-closer = at-loop .before .before in
       let at-match = at-closer .before in
       let at-expect = at-match .before .before .before .before .before in
@@ -176,7 +176,7 @@ module _ (t : ℕ) where
       list-on _ (start .pre .1) (at-opener .opener .ensures) (at-expect .expect .ensures)
       (at-match .match .keys2)
       (at-loop .loop .inv .1 .rest
-      (rest-closed _ (at-loop .loop .inv .0) (at-head .head .ensures) (at-if1 .if1 .left)
+      (rest-closed _ (at-loop .loop .inv .0) (at-peek .peek .ensures) (at-if1 .if1 .left)
       (at-closer .closer .ensures) (c .if2 .taken)))
 
   pub item-requires : lts.Need-item-requires given (list-at t) list.Post Inv-loop μ-loop
@@ -217,8 +217,8 @@ module _ (t : ℕ) where
       let at-item = c .before .before .before .before .before .before .before .before .before in
       let at-if2 = at-item .before .before .before .before in
       let at-if1 = at-if2 .before .before in
-      let at-head = at-if1 .before .before in
-      let at-loop = at-head .before in
+      let at-peek = at-if1 .before .before in
+      let at-loop = at-peek .before in
       let at-closer = at-loop .before .before in
       let at-match = at-closer .before in
       let at-expect = at-match .before .before .before .before .before in
@@ -227,16 +227,16 @@ module _ (t : ℕ) where
       list-on _ (start .pre .1) (at-opener .opener .ensures) (at-expect .expect .ensures)
       (at-match .match .keys2)
       (at-loop .loop .inv .1 .rest
-      (rest-item _ (at-loop .loop .inv .0) (at-head .head .ensures) (at-if1 .if1 .left)
+      (rest-item _ (at-loop .loop .inv .0) (at-peek .peek .ensures) (at-if1 .if1 .left)
       (at-closer .closer .ensures) (at-if2 .if2 .left) (at-item .item .ensures) (c .before .match2 .keys1)))
 
   pub comma-requires : lts.Need-comma-requires given (list-at t) list.Post Inv-loop μ-loop
   comma-requires c κs =
       let at-item = c .before .before .before .before .before .before .before .before .before .before in
       let at-if1 = at-item .before .before .before .before .before .before in
-      let at-head = at-if1 .before .before in
-      let at-loop = at-head .before in
-      comma-asks (at-loop .loop .inv .0) (at-head .head .ensures) (at-if1 .if1 .left)
+      let at-peek = at-if1 .before .before in
+      let at-loop = at-peek .before in
+      comma-asks (at-loop .loop .inv .0) (at-peek .peek .ensures) (at-if1 .if1 .left)
       (at-item .item .ensures) (omega (arith, at-item .item .kept)) (omega (arith, at-item .item .kept))
 
   pub enum-told-3 : lts.Need-enum-told-3 given (list-at t) list.Post Inv-loop μ-loop
@@ -284,8 +284,8 @@ module _ (t : ℕ) where
       let at-item = at-match2 .before .before .before .before .before .before .before .before in
       let at-if2 = at-item .before .before .before .before in
       let at-if1 = at-if2 .before .before in
-      let at-head = at-if1 .before .before in
-      let at-loop = at-head .before in
+      let at-peek = at-if1 .before .before in
+      let at-loop = at-peek .before in
       let at-closer = at-loop .before .before in
       let at-match = at-closer .before in
       let at-expect = at-match .before .before .before .before .before in
@@ -294,7 +294,7 @@ module _ (t : ℕ) where
       list-on _ (start .pre .1) (at-opener .opener .ensures) (at-expect .expect .ensures)
       (at-match .match .keys2)
       (at-loop .loop .inv .1 .rest
-      (rest-comma _ (at-loop .loop .inv .0) (at-head .head .ensures) (at-if1 .if1 .left)
+      (rest-comma _ (at-loop .loop .inv .0) (at-peek .peek .ensures) (at-if1 .if1 .left)
       (at-closer .closer .ensures) (at-if2 .if2 .left) (at-item .item .ensures) (at-match2 .match2 .keys2)
       (at-comma .comma .ensures) (c .match3 .keys2)))
 
@@ -313,12 +313,12 @@ module _ (t : ℕ) where
       let at-comma = c .before .before .before .before .before .before .before .before in
       let at-item = at-comma .before .before .before .before .before .before .before .before .before .before .before in
       let at-if1 = at-item .before .before .before .before .before .before in
-      let at-head = at-if1 .before .before in
-      let at-loop = at-head .before in
+      let at-peek = at-if1 .before .before in
+      let at-loop = at-peek .before in
       omega (
         arith,
         at-loop .loop .inv .0 .0 .asks .at,
-        at-head .head .ensures .kind,
+        at-peek .peek .ensures .kind,
         at-if1 .if1 .left,
         at-item .item .ensures .on,
         at-item .item .ensures .moved,
@@ -333,10 +333,10 @@ module _ (t : ℕ) where
       let at-item = at-match2 .before .before .before .before .before .before .before .before in
       let at-if2 = at-item .before .before .before .before in
       let at-if1 = at-if2 .before .before in
-      let at-head = at-if1 .before .before in
-      let at-loop = at-head .before in
+      let at-peek = at-if1 .before .before in
+      let at-loop = at-peek .before in
       let at-closer = at-loop .before .before in (
-        rest-asked (at-loop .loop .inv .0) (at-head .head .ensures) (at-if1 .if1 .left)
+        rest-asked (at-loop .loop .inv .0) (at-peek .peek .ensures) (at-if1 .if1 .left)
             (at-item .item .ensures) (at-comma .comma .ensures) (c .before .counted .ensures)
             (omega (arith, at-item .item .kept)) (omega (arith, at-comma .comma .kept, at-item .item .kept))
             (omega (arith, at-comma .comma .kept, at-item .item .kept)),
@@ -344,7 +344,7 @@ module _ (t : ℕ) where
             (omega (arith, at-comma .comma .kept, at-item .item .kept))
             (omega (arith, at-comma .comma .kept, at-item .item .kept))
             (omega (arith, at-item .item .ensures .moved, at-comma .comma .ensures .moved))
-            (λ _ _ _ _ g. rest-next _ (at-loop .loop .inv .0) (at-head .head .ensures) (at-if1 .if1 .left)
+            (λ _ _ _ _ g. rest-next _ (at-loop .loop .inv .0) (at-peek .peek .ensures) (at-if1 .if1 .left)
             (at-closer .closer .ensures) (at-if2 .if2 .left) (at-item .item .ensures) (at-match2 .match2 .keys2)
             (at-comma .comma .ensures) (at-enum-told3 .enum-told3 .given .1) (c .before .counted .ensures) g),
       )

@@ -8,14 +8,14 @@ use Rattle.expression.proofs.operand.Reads as operand
 use Rattle.expression.proofs.unary.Reads as unary
 use Rattle.leaves.proofs.name.Reads as name-reads
 use Rattle.leaves.proofs.name_alone.Reads as name-alone-reads
-use Rattle.steps.proofs.head.Reads as head-reads
+use Rattle.steps.proofs.peek.Reads as peek-reads
 use Rattle.expression.proofs.+access+add_sub+array+atom+bit_and+bit_or+bit_xor+boolean+call+cascade+cast+comparison+expression+field+item+list+mul+named+operand+operators+shift+sizeof+ty+typed+typed_name+unary.Proof.Falls.{operand-at, unary-below}
 
 module _ (t : ℕ) where
   abbrev pub given : lts.Claims
   given = (
-    head-reads.Asked,
-    head-reads.Learnt,
+    peek-reads.Asked,
+    peek-reads.Learnt,
     name-alone-reads.Asked,
     name-alone-reads.Learnt,
     unary-below t,
@@ -24,15 +24,15 @@ module _ (t : ℕ) where
     name-reads.Learnt,
   )
 
-  pub head-requires : lts.Need-head-requires given (operand-at t) operand.Post
-  head-requires c κs =
+  pub peek-requires : lts.Need-peek-requires given (operand-at t) operand.Post
+  peek-requires c κs =
       let start = c .before .before .before .before .before in
       (start .pre .1 .asks .held, start .pre .1 .asks .at)
 
-  pub head-requires-2 : lts.Need-head-requires-2 given (operand-at t) operand.Post
-  head-requires-2 c κs =
+  pub peek-requires-2 : lts.Need-peek-requires-2 given (operand-at t) operand.Post
+  peek-requires-2 c κs =
       let start = c .before .before .before .before .before .before in
-      (start .pre .1 .asks .held, omega (arith, c .head .ensures .end))
+      (start .pre .1 .asks .held, omega (arith, c .peek .ensures .end))
 
   pub name-alone-requires : lts.Need-name-alone-requires given (operand-at t) operand.Post
   name-alone-requires c κs = search needs
@@ -64,9 +64,9 @@ module _ (t : ℕ) where
 
   pub name-requires : lts.Need-name-requires given (operand-at t) operand.Post
   name-requires c κs =
-      let at-head = c .before .before .before .before in
-      let start = at-head .before .before .before .before .before .before in
-      record { room = omega (arith, start .pre .1 .room, at-head .head .ensures .pays); part = at-head .head .ensures .part }
+      let at-peek = c .before .before .before .before in
+      let start = at-peek .before .before .before .before .before .before in
+      record { room = omega (arith, start .pre .1 .room, at-peek .peek .ensures .pays); part = at-peek .peek .ensures .part }
 
   pub same-length-4 : lts.Need-same-length-4 given (operand-at t) operand.Post
   same-length-4 c =
@@ -78,9 +78,9 @@ module _ (t : ℕ) where
       let at-name = c .before .before in
       let at-if1 = at-name .before .before in
       let at-name-alone = at-if1 .before in
-      let at-head2 = at-name-alone .before in
-      let at-head = at-head2 .before in
-      let start = at-head .before .before .before .before .before .before in
-      name-operand (start .pre .1) (at-head .head .ensures) (at-head2 .head2 .ensures)
+      let at-peek2 = at-name-alone .before in
+      let at-peek = at-peek2 .before in
+      let start = at-peek .before .before .before .before .before .before in
+      name-operand (start .pre .1) (at-peek .peek .ensures) (at-peek2 .peek2 .ensures)
       (at-name-alone .name-alone .ensures) (at-if1 .if1 .left) (at-name .name .ensures)
       (omega (arith, at-name .name .kept))

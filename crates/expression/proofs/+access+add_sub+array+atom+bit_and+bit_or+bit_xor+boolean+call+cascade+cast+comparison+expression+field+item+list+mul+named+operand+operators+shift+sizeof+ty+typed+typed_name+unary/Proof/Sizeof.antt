@@ -13,15 +13,15 @@ use Rattle.expression.proofs.sizeof.Reads as sizeof
 use Rattle.expression.proofs.ty.Reads as ty
 use Rattle.steps.proofs.and_expect.Reads as and-expect-reads
 use Rattle.steps.proofs.expect.Reads as expect-reads
-use Rattle.steps.proofs.finish.Reads as finish-reads
-use Rattle.steps.proofs.head.Reads as head-reads
+use Rattle.steps.proofs.write_node.Reads as write-node-reads
+use Rattle.steps.proofs.peek.Reads as peek-reads
 use Rattle.expression.proofs.+access+add_sub+array+atom+bit_and+bit_or+bit_xor+boolean+call+cascade+cast+comparison+expression+field+item+list+mul+named+operand+operators+shift+sizeof+ty+typed+typed_name+unary.Proof.Falls.{access-below, sizeof-at, ty-below}
 
 module _ (t : ℕ) where
   abbrev pub given : lts.Claims
   given = (
-    head-reads.Asked,
-    head-reads.Learnt,
+    peek-reads.Asked,
+    peek-reads.Learnt,
     access-below t,
     access.Post,
     expect-reads.Asked,
@@ -30,12 +30,12 @@ module _ (t : ℕ) where
     ty.Post,
     and-expect-reads.Asked,
     and-expect-reads.Learnt,
-    finish-reads.Asked,
-    finish-reads.Learnt,
+    write-node-reads.Asked,
+    write-node-reads.Learnt,
   )
 
-  pub head-requires : lts.Need-head-requires given (sizeof-at t) sizeof.Post
-  head-requires c κs =
+  pub peek-requires : lts.Need-peek-requires given (sizeof-at t) sizeof.Post
+  peek-requires c κs =
       let start = c .before .before .before .before .before in
       (start .pre .1 .asks .held, start .pre .1 .asks .at)
 
@@ -63,16 +63,16 @@ module _ (t : ℕ) where
   returns c =
       let at-access = c .before .before .before .before .before .before in
       let at-if1 = at-access .before .before .before .before in
-      let at-head = at-if1 .before .before in
-      let start = at-head .before .before .before .before .before .before in
-      sizeof-other (start .pre .1) (at-head .head .ensures) (at-if1 .if1 .taken)
+      let at-peek = at-if1 .before .before in
+      let start = at-peek .before .before .before .before .before .before in
+      sizeof-other (start .pre .1) (at-peek .peek .ensures) (at-if1 .if1 .taken)
       (at-access .access .ensures)
 
   pub expect-requires : lts.Need-expect-requires given (sizeof-at t) sizeof.Post
   expect-requires c κs =
-      let at-head = c .before .before .before .before in
-      let start = at-head .before .before .before .before .before .before in
-      (asks-fore (start .pre .1 .asks) (at-head .head .ensures), (omega arith, omega arith))
+      let at-peek = c .before .before .before .before in
+      let start = at-peek .before .before .before .before .before .before in
+      (asks-fore (start .pre .1 .asks) (at-peek .peek .ensures), (omega arith, omega arith))
 
   pub enum-told : lts.Need-enum-told given (sizeof-at t) sizeof.Post
   enum-told c = search needs
@@ -91,26 +91,26 @@ module _ (t : ℕ) where
   returns-2 c =
       let at-expect = c .before .before .before .before .before in
       let at-if1 = at-expect .before .before .before in
-      let at-head = at-if1 .before .before in
-      let start = at-head .before .before .before .before .before .before in
-      sizeof-stop (start .pre .1) (at-head .head .ensures) (at-if1 .if1 .left) (at-expect .expect .ensures)
+      let at-peek = at-if1 .before .before in
+      let start = at-peek .before .before .before .before .before .before in
+      sizeof-stop (start .pre .1) (at-peek .peek .ensures) (at-if1 .if1 .left) (at-expect .expect .ensures)
       (c .match .keys2)
 
   pub ty-requires : lts.Need-ty-requires given (sizeof-at t) sizeof.Post
   ty-requires c κs =
       let at-expect = c .before .before .before .before .before .before .before .before .before .before in
       let at-if1 = at-expect .before .before .before in
-      let at-head = at-if1 .before .before in
-      let start = at-head .before .before .before .before .before .before in (
+      let at-peek = at-if1 .before .before in
+      let start = at-peek .before .before .before .before .before .before in (
         omega (
           arith,
           start .pre .0,
           start .pre .1 .asks .at,
-          at-head .head .ensures,
+          at-peek .peek .ensures,
           at-if1 .if1 .left,
           at-expect .expect .ensures .moved,
         ),
-        asked-moved (asked-seen (start .pre .1) (at-head .head .ensures))
+        asked-moved (asked-seen (start .pre .1) (at-peek .peek .ensures))
             (at-expect .expect .ensures .moved) refl (omega (arith, at-expect .expect .kept))
             (omega (arith, at-expect .expect .kept)),
       )
@@ -121,37 +121,37 @@ module _ (t : ℕ) where
       let at-enum-told = at-ty .before .before .before .before .before in
       let at-expect = at-enum-told .before .before .before .before .before .before in
       let at-if1 = at-expect .before .before .before in
-      let at-head = at-if1 .before .before in
-      let start = at-head .before .before .before .before .before .before in (
-        sizeof-asks (start .pre .1) (at-head .head .ensures) (at-if1 .if1 .left)
+      let at-peek = at-if1 .before .before in
+      let start = at-peek .before .before .before .before .before .before in (
+        sizeof-asks (start .pre .1) (at-peek .peek .ensures) (at-if1 .if1 .left)
             (at-expect .expect .ensures) (at-enum-told .enum-told .given .1) (at-ty .ty .ensures)
             (omega (arith, at-ty .ty .kept, at-expect .expect .kept))
             (omega (arith, at-ty .ty .kept, at-expect .expect .kept)),
         (omega arith, omega arith),
       )
 
-  pub finish-requires : lts.Need-finish-requires given (sizeof-at t) sizeof.Post
-  finish-requires c κs =
+  pub write-node-requires : lts.Need-write-node-requires given (sizeof-at t) sizeof.Post
+  write-node-requires c κs =
       let at-and-expect = c .before .before .before .before .before in
       let at-ty = at-and-expect .before .before .before .before .before .before .before .before .before in
       let at-expect = at-ty .before .before .before .before .before .before .before .before .before .before .before in
-      let at-head = at-expect .before .before .before .before .before in
-      let start = at-head .before .before .before .before .before .before in
+      let at-peek = at-expect .before .before .before .before .before in
+      let start = at-peek .before .before .before .before .before .before in
       room-at (start .pre .1)
-      (moved-trans (moved-trans (moved-trans (fore-moved (start .pre .1 .asks) (at-head .head .ensures))
+      (moved-trans (moved-trans (moved-trans (fore-moved (start .pre .1 .asks) (at-peek .peek .ensures))
       (at-expect .expect .ensures .moved)) (at-ty .ty .ensures .moved))
       (at-and-expect .and-expect .ensures .moved))
       (omega (arith, at-ty .ty .kept))
 
   pub same-length-6 : lts.Need-same-length-6 given (sizeof-at t) sizeof.Post
   same-length-6 c =
-      let at-finish = c .before .before in
-      let at-and-expect = at-finish .before .before .before .before .before .before in
+      let at-write-node = c .before .before in
+      let at-and-expect = at-write-node .before .before .before .before .before .before in
       let at-ty = at-and-expect .before .before .before .before .before .before .before .before .before in
       let at-expect = at-ty .before .before .before .before .before .before .before .before .before .before .before in
       omega (
         arith,
-        at-finish .finish .kept,
+        at-write-node .write-node .kept,
         at-and-expect .and-expect .kept,
         at-ty .ty .kept,
         at-expect .expect .kept,
@@ -159,13 +159,13 @@ module _ (t : ℕ) where
 
   pub same-length-7 : lts.Need-same-length-7 given (sizeof-at t) sizeof.Post
   same-length-7 c =
-      let at-finish = c .before .before in
-      let at-and-expect = at-finish .before .before .before .before .before .before in
+      let at-write-node = c .before .before in
+      let at-and-expect = at-write-node .before .before .before .before .before .before in
       let at-ty = at-and-expect .before .before .before .before .before .before .before .before .before in
       let at-expect = at-ty .before .before .before .before .before .before .before .before .before .before .before in
       omega (
         arith,
-        at-finish .finish .kept,
+        at-write-node .write-node .kept,
         at-and-expect .and-expect .kept,
         at-ty .ty .kept,
         at-expect .expect .kept,
@@ -173,13 +173,13 @@ module _ (t : ℕ) where
 
   pub same-length-8 : lts.Need-same-length-8 given (sizeof-at t) sizeof.Post
   same-length-8 c =
-      let at-finish = c .before .before in
-      let at-and-expect = at-finish .before .before .before .before .before .before in
+      let at-write-node = c .before .before in
+      let at-and-expect = at-write-node .before .before .before .before .before .before in
       let at-ty = at-and-expect .before .before .before .before .before .before .before .before .before in
       let at-expect = at-ty .before .before .before .before .before .before .before .before .before .before .before in
       omega (
         arith,
-        at-finish .finish .kept,
+        at-write-node .write-node .kept,
         at-and-expect .and-expect .kept,
         at-ty .ty .kept,
         at-expect .expect .kept,
@@ -187,16 +187,16 @@ module _ (t : ℕ) where
 
   pub returns-3 : lts.Need-returns-3 given (sizeof-at t) sizeof.Post
   returns-3 c =
-      let at-finish = c .before .before in
-      let at-and-expect = at-finish .before .before .before .before .before .before in
+      let at-write-node = c .before .before in
+      let at-and-expect = at-write-node .before .before .before .before .before .before in
       let at-ty = at-and-expect .before .before .before .before .before .before .before .before .before in
       let at-enum-told = at-ty .before .before .before .before .before in
       let at-expect = at-enum-told .before .before .before .before .before .before in
       let at-if1 = at-expect .before .before .before in
-      let at-head = at-if1 .before .before in
-      let start = at-head .before .before .before .before .before .before in
-      sizeof-done (start .pre .1) (at-head .head .ensures) (at-if1 .if1 .left) (at-expect .expect .ensures)
+      let at-peek = at-if1 .before .before in
+      let start = at-peek .before .before .before .before .before .before in
+      sizeof-done (start .pre .1) (at-peek .peek .ensures) (at-if1 .if1 .left) (at-expect .expect .ensures)
       (at-enum-told .enum-told .given .1) (at-ty .ty .ensures)
       (omega (arith, at-ty .ty .kept, at-expect .expect .kept))
       (omega (arith, at-ty .ty .kept, at-expect .expect .kept)) (at-and-expect .and-expect .ensures)
-      (at-finish .finish .ensures)
+      (at-write-node .write-node .ensures)

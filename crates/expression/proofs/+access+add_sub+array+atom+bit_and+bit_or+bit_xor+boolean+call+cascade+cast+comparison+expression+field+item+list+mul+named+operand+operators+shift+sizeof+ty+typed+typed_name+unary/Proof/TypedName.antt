@@ -11,14 +11,14 @@ use Rattle.expression.proofs.typed_name.Reads as typed-name
 use Rattle.fallible.proofs.entry.Reads as entry-reads
 use Rattle.fallible.proofs.note.Reads as note-reads
 use Rattle.fallible.proofs.raise.Reads as raise-reads
-use Rattle.steps.proofs.head.Reads as head-reads
+use Rattle.steps.proofs.peek.Reads as peek-reads
 use Rattle.expression.proofs.+access+add_sub+array+atom+bit_and+bit_or+bit_xor+boolean+call+cascade+cast+comparison+expression+field+item+list+mul+named+operand+operators+shift+sizeof+ty+typed+typed_name+unary.Proof.Falls.{typed-below, typed-name-at}
 
 module _ (t : ℕ) where
   abbrev pub given : lts.Claims
   given = (
-    head-reads.Asked,
-    head-reads.Learnt,
+    peek-reads.Asked,
+    peek-reads.Learnt,
     typed-below t,
     typed.Post,
     entry-reads.Asked,
@@ -29,17 +29,17 @@ module _ (t : ℕ) where
     note-reads.Learnt,
   )
 
-  pub head-requires : lts.Need-head-requires given (typed-name-at t) typed-name.Post
-  head-requires c κs =
+  pub peek-requires : lts.Need-peek-requires given (typed-name-at t) typed-name.Post
+  peek-requires c κs =
       let start = c .before .before .before .before .before in
       (start .pre .1 .asks .held, start .pre .1 .asks .at)
 
   pub typed-requires : lts.Need-typed-requires given (typed-name-at t) typed-name.Post
   typed-requires c κs =
-      let at-head = c .before .before .before .before .before in
-      let start = at-head .before .before .before .before .before .before in (
-        omega (arith, start .pre .0, at-head .head .ensures),
-        (asked-seen (start .pre .1) (at-head .head .ensures), omega arith),
+      let at-peek = c .before .before .before .before .before in
+      let start = at-peek .before .before .before .before .before .before in (
+        omega (arith, start .pre .0, at-peek .peek .ensures),
+        (asked-seen (start .pre .1) (at-peek .peek .ensures), omega arith),
       )
 
   pub same-length : lts.Need-same-length given (typed-name-at t) typed-name.Post
@@ -61,9 +61,9 @@ module _ (t : ℕ) where
   returns c =
       let at-typed = c .before .before .before .before .before .before in
       let at-if1 = at-typed .before .before .before .before in
-      let at-head = at-if1 .before .before in
-      let start = at-head .before .before .before .before .before .before in
-      identifier-name (start .pre .1) (at-head .head .ensures) (at-if1 .if1 .taken)
+      let at-peek = at-if1 .before .before in
+      let start = at-peek .before .before .before .before .before .before in
+      identifier-name (start .pre .1) (at-peek .peek .ensures) (at-if1 .if1 .taken)
       (at-typed .typed .ensures)
 
   pub entry-requires : lts.Need-entry-requires given (typed-name-at t) typed-name.Post
@@ -71,9 +71,9 @@ module _ (t : ℕ) where
 
   pub raise-requires : lts.Need-raise-requires given (typed-name-at t) typed-name.Post
   raise-requires c κs =
-      let at-head = c .before .before .before .before .before .before .before in
-      let start = at-head .before .before .before .before .before .before in
-      raise-asked (asked-seen (start .pre .1) (at-head .head .ensures))
+      let at-peek = c .before .before .before .before .before .before .before in
+      let start = at-peek .before .before .before .before .before .before in
+      raise-asked (asked-seen (start .pre .1) (at-peek .peek .ensures))
 
   pub same-length-4 : lts.Need-same-length-4 given (typed-name-at t) typed-name.Post
   same-length-4 c =
@@ -91,21 +91,21 @@ module _ (t : ℕ) where
       let at-entry = at-raise .before .before .before in
       let at-if2 = at-entry .before in
       let at-if1 = at-if2 .before .before in
-      let at-head = at-if1 .before .before in
-      let start = at-head .before .before .before .before .before .before in
-      identifier-end (start .pre .1) (at-head .head .ensures) (at-if1 .if1 .left) (at-if2 .if2 .taken)
+      let at-peek = at-if1 .before .before in
+      let start = at-peek .before .before .before .before .before .before in
+      identifier-end (start .pre .1) (at-peek .peek .ensures) (at-if1 .if1 .left) (at-if2 .if2 .taken)
       (at-entry .entry .ensures) (at-raise .raise .ensures)
 
   pub entry-requires-2 : lts.Need-entry-requires-2 given (typed-name-at t) typed-name.Post
   entry-requires-2 c κs =
-      let at-head = c .before .before .before .before in
-      omega (arith, at-head .head .ensures)
+      let at-peek = c .before .before .before .before in
+      omega (arith, at-peek .peek .ensures)
 
   pub note-requires : lts.Need-note-requires given (typed-name-at t) typed-name.Post
   note-requires c κs =
-      let at-head = c .before .before .before .before .before .before .before in
-      let start = at-head .before .before .before .before .before .before in
-      raise-asked (asked-seen (start .pre .1) (at-head .head .ensures))
+      let at-peek = c .before .before .before .before .before .before .before in
+      let start = at-peek .before .before .before .before .before .before in
+      raise-asked (asked-seen (start .pre .1) (at-peek .peek .ensures))
 
   pub enum-told : lts.Need-enum-told given (typed-name-at t) typed-name.Post
   enum-told c = search needs
@@ -126,23 +126,23 @@ module _ (t : ℕ) where
       let at-entry2 = at-note .before .before .before in
       let at-if2 = at-entry2 .before in
       let at-if1 = at-if2 .before .before in
-      let at-head = at-if1 .before .before in
-      let start = at-head .before .before .before .before .before .before in
-      identifier-refused (start .pre .1) (at-head .head .ensures) (at-if1 .if1 .left) (at-if2 .if2 .left)
+      let at-peek = at-if1 .before .before in
+      let start = at-peek .before .before .before .before .before .before in
+      identifier-refused (start .pre .1) (at-peek .peek .ensures) (at-if1 .if1 .left) (at-if2 .if2 .left)
       (at-entry2 .entry2 .ensures) (at-note .note .ensures) (c .match .keys2)
 
   pub typed-requires-2 : lts.Need-typed-requires-2 given (typed-name-at t) typed-name.Post
   typed-requires-2 c κs =
       let at-note = c .before .before .before .before .before .before .before .before .before .before in
-      let at-head = at-note .before .before .before .before .before .before .before .before in
-      let start = at-head .before .before .before .before .before .before in (
+      let at-peek = at-note .before .before .before .before .before .before .before .before in
+      let start = at-peek .before .before .before .before .before .before in (
         omega (
           arith,
           start .pre .0,
-          at-head .head .ensures,
-          noted-moved (start .pre .1) (at-head .head .ensures) (at-note .note .ensures),
+          at-peek .peek .ensures,
+          noted-moved (start .pre .1) (at-peek .peek .ensures) (at-note .note .ensures),
         ),
-        noted-asked (start .pre .1) (at-head .head .ensures) (at-note .note .ensures)
+        noted-asked (start .pre .1) (at-peek .peek .ensures) (at-note .note .ensures)
             (omega (arith, at-note .note .kept)) (omega (arith, at-note .note .kept)),
       )
 
@@ -172,8 +172,8 @@ module _ (t : ℕ) where
       let at-entry2 = at-note .before .before .before in
       let at-if2 = at-entry2 .before in
       let at-if1 = at-if2 .before .before in
-      let at-head = at-if1 .before .before in
-      let start = at-head .before .before .before .before .before .before in
-      identifier-noted (start .pre .1) (at-head .head .ensures) (at-if1 .if1 .left) (at-if2 .if2 .left)
+      let at-peek = at-if1 .before .before in
+      let start = at-peek .before .before .before .before .before .before in
+      identifier-noted (start .pre .1) (at-peek .peek .ensures) (at-if1 .if1 .left) (at-if2 .if2 .left)
       (at-entry2 .entry2 .ensures) (at-note .note .ensures) (at-enum-told .enum-told .given .1)
       (at-typed2 .typed2 .ensures)

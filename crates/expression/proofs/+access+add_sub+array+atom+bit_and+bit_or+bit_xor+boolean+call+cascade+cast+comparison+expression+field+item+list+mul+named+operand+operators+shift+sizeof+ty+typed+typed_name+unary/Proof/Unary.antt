@@ -12,8 +12,8 @@ use Rattle.expression.proofs.call.Reads as call
 use Rattle.expression.proofs.unary.Reads as unary
 use Rattle.fallible.proofs.refuse.Reads as refuse-reads
 use Rattle.leaves.proofs.prefix.Reads as prefix-reads
-use Rattle.steps.proofs.finish.Reads as finish-reads
-use Rattle.steps.proofs.head.Reads as head-reads
+use Rattle.steps.proofs.write_node.Reads as write-node-reads
+use Rattle.steps.proofs.peek.Reads as peek-reads
 use Rattle.expression.proofs.+access+add_sub+array+atom+bit_and+bit_or+bit_xor+boolean+call+cascade+cast+comparison+expression+field+item+list+mul+named+operand+operators+shift+sizeof+ty+typed+typed_name+unary.Proof.Falls.{call-below, unary-at, unary-below}
 
 module _ (t : ℕ) where
@@ -21,16 +21,16 @@ module _ (t : ℕ) where
   given = (
     refuse-reads.Asked,
     refuse-reads.Learnt,
-    head-reads.Asked,
-    head-reads.Learnt,
+    peek-reads.Asked,
+    peek-reads.Learnt,
     prefix-reads.Asked,
     prefix-reads.Learnt,
     call-below t,
     call.Post,
     unary-below t,
     unary.Post,
-    finish-reads.Asked,
-    finish-reads.Learnt,
+    write-node-reads.Asked,
+    write-node-reads.Learnt,
   )
 
   pub refuse-requires : lts.Need-refuse-requires given (unary-at t) unary.Post
@@ -41,8 +41,8 @@ module _ (t : ℕ) where
       let start = c .before .before .before .before .before .before .before in
       deep Unary (start .pre .1 .asks) (c .before .if1 .taken) (c .refuse .ensures)
 
-  pub head-requires : lts.Need-head-requires given (unary-at t) unary.Post
-  head-requires c κs =
+  pub peek-requires : lts.Need-peek-requires given (unary-at t) unary.Post
+  peek-requires c κs =
       let start = c .before .before .before .before .before .before in
       (start .pre .1 .asks .held, start .pre .1 .asks .at)
 
@@ -77,10 +77,10 @@ module _ (t : ℕ) where
       let at-call = c .before .before .before .before .before .before in
       let at-if2 = at-call .before .before .before .before in
       let at-prefix = at-if2 .before in
-      let at-head = at-prefix .before in
-      let at-if1 = at-head .before in
+      let at-peek = at-prefix .before in
+      let at-if1 = at-peek .before in
       let start = at-if1 .before .before .before .before .before .before in
-      unary-none (start .pre .1) (at-if1 .if1 .left) (at-head .head .ensures) (at-prefix .prefix .ensures)
+      unary-none (start .pre .1) (at-if1 .if1 .left) (at-peek .peek .ensures) (at-prefix .prefix .ensures)
       (at-if2 .if2 .taken) (at-call .call .ensures)
 
   pub sub-unary : lts.Need-sub-unary given (unary-at t) unary.Post
@@ -90,53 +90,53 @@ module _ (t : ℕ) where
   unary-requires c κs =
       let at-if2 = c .before .before .before in
       let at-prefix = at-if2 .before in
-      let at-head = at-prefix .before in
-      let start = at-head .before .before .before .before .before .before .before in (
+      let at-peek = at-prefix .before in
+      let start = at-peek .before .before .before .before .before .before .before in (
         omega (
           arith,
           start .pre .0,
           start .pre .1 .asks .at,
-          at-head .head .ensures,
+          at-peek .peek .ensures,
           at-prefix .prefix .ensures,
           at-if2 .if2 .left,
         ),
-        asked-seen (start .pre .1) (at-head .head .ensures),
+        asked-seen (start .pre .1) (at-peek .peek .ensures),
       )
 
-  pub finish-requires : lts.Need-finish-requires given (unary-at t) unary.Post
-  finish-requires c κs =
+  pub write-node-requires : lts.Need-write-node-requires given (unary-at t) unary.Post
+  write-node-requires c κs =
       let at-unary = c .before .before .before .before .before .before .before in
-      let at-head = at-unary .before .before .before .before .before .before in
-      let start = at-head .before .before .before .before .before .before .before in
-      star-room (start .pre .1) (at-head .head .ensures) (at-unary .unary .ensures)
+      let at-peek = at-unary .before .before .before .before .before .before in
+      let start = at-peek .before .before .before .before .before .before .before in
+      star-room (start .pre .1) (at-peek .peek .ensures) (at-unary .unary .ensures)
       (omega (arith, at-unary .unary .kept))
 
   pub same-length-4 : lts.Need-same-length-4 given (unary-at t) unary.Post
   same-length-4 c =
-      let at-finish = c .before .before in
-      let at-unary = at-finish .before .before .before .before .before .before .before .before in
-      omega (arith, at-finish .finish .kept, at-unary .unary .kept)
+      let at-write-node = c .before .before in
+      let at-unary = at-write-node .before .before .before .before .before .before .before .before in
+      omega (arith, at-write-node .write-node .kept, at-unary .unary .kept)
 
   pub same-length-5 : lts.Need-same-length-5 given (unary-at t) unary.Post
   same-length-5 c =
-      let at-finish = c .before .before in
-      let at-unary = at-finish .before .before .before .before .before .before .before .before in
-      omega (arith, at-finish .finish .kept, at-unary .unary .kept)
+      let at-write-node = c .before .before in
+      let at-unary = at-write-node .before .before .before .before .before .before .before .before in
+      omega (arith, at-write-node .write-node .kept, at-unary .unary .kept)
 
   pub same-length-6 : lts.Need-same-length-6 given (unary-at t) unary.Post
   same-length-6 c =
-      let at-finish = c .before .before in
-      let at-unary = at-finish .before .before .before .before .before .before .before .before in
-      omega (arith, at-finish .finish .kept, at-unary .unary .kept)
+      let at-write-node = c .before .before in
+      let at-unary = at-write-node .before .before .before .before .before .before .before .before in
+      omega (arith, at-write-node .write-node .kept, at-unary .unary .kept)
 
   pub returns-3 : lts.Need-returns-3 given (unary-at t) unary.Post
   returns-3 c =
-      let at-finish = c .before .before in
-      let at-unary = at-finish .before .before .before .before .before .before .before .before in
+      let at-write-node = c .before .before in
+      let at-unary = at-write-node .before .before .before .before .before .before .before .before in
       let at-if2 = at-unary .before .before .before .before in
       let at-prefix = at-if2 .before in
-      let at-head = at-prefix .before in
-      let at-if1 = at-head .before in
+      let at-peek = at-prefix .before in
+      let at-if1 = at-peek .before in
       let start = at-if1 .before .before .before .before .before .before in
-      unary-prefix (start .pre .1) (at-if1 .if1 .left) (at-head .head .ensures) (at-prefix .prefix .ensures)
-      (at-if2 .if2 .left) (at-unary .unary .ensures) (at-finish .finish .ensures)
+      unary-prefix (start .pre .1) (at-if1 .if1 .left) (at-peek .peek .ensures) (at-prefix .prefix .ensures)
+      (at-if2 .if2 .left) (at-unary .unary .ensures) (at-write-node .write-node .ensures)

@@ -4,16 +4,16 @@ use native.Mathlib.Omega.{arith}
 use Rattle.items.proofs.functions.function_definition.Statement.{statement}
 use Rattle.items.proofs.functions.function_definition.Tie as tie
 
-head-requires : tie.Need-head-requires
-head-requires c κs =
+peek-requires : tie.Need-peek-requires
+peek-requires c κs =
     let start = c .before .before .before .before .before in
     (start .pre .asks .held, (start .pre) .asks .at)
 
 function-requires : tie.Need-function-requires
 function-requires c κs =
-    let at-head = c .before .before .before .before .before in
-    let start = at-head .before .before .before .before .before .before in
-    asked-seen (start .pre) (at-head .head .ensures)
+    let at-peek = c .before .before .before .before .before in
+    let start = at-peek .before .before .before .before .before .before in
+    asked-seen (start .pre) (at-peek .peek .ensures)
 
 same-length : tie.Need-same-length
 same-length c =
@@ -34,8 +34,8 @@ returns : tie.Need-returns
 returns c =
     let at-function = c .before .before .before .before .before .before in
     let at-if1 = at-function .before .before .before .before in
-    let at-head = at-if1 .before .before in
-    definition-external (at-head .head .ensures) (at-if1 .if1 .taken) (at-function .function .ensures)
+    let at-peek = at-if1 .before .before in
+    definition-external (at-peek .peek .ensures) (at-if1 .if1 .taken) (at-function .function .ensures)
 
 function-requires-2 : tie.Need-function-requires-2
 function-requires-2 c κs =
@@ -61,14 +61,14 @@ returns-2 : tie.Need-returns-2
 returns-2 c =
     let at-function2 = c .before .before .before .before .before .before in
     let at-if1 = at-function2 .before .before .before .before in
-    let at-head = at-if1 .before .before in
-    definition-whole (at-head .head .ensures) (at-if1 .if1 .left) (at-function2 .function2 .ensures)
+    let at-peek = at-if1 .before .before in
+    definition-whole (at-peek .peek .ensures) (at-if1 .if1 .left) (at-function2 .function2 .ensures)
 
 pub function-definition-spec : {M : Type 1} → statement M
 function-definition-spec =
     tie.close
     (tie.spec
-    head-requires
+    peek-requires
     function-requires
     same-length
     same-length-2

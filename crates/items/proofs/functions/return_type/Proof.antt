@@ -4,16 +4,16 @@ use native.Mathlib.Omega.{arith}
 use Rattle.items.proofs.functions.return_type.Statement.{statement}
 use Rattle.items.proofs.functions.return_type.Tie as tie
 
-head-requires : tie.Need-head-requires
-head-requires c κs =
+peek-requires : tie.Need-peek-requires
+peek-requires c κs =
     let start = c .before .before .before .before .before in
     (start .pre .asks .held, (start .pre) .asks .at)
 
 ty-requires : tie.Need-ty-requires
 ty-requires c κs =
-    let at-head = c .before .before .before .before .before in
-    let start = at-head .before .before .before .before .before .before in
-    asked-seen (start .pre) (at-head .head .ensures)
+    let at-peek = c .before .before .before .before .before in
+    let start = at-peek .before .before .before .before .before .before in
+    asked-seen (start .pre) (at-peek .peek .ensures)
 
 same-length : tie.Need-same-length
 same-length c =
@@ -34,37 +34,37 @@ returns : tie.Need-returns
 returns c =
     let at-ty = c .before .before .before .before .before .before in
     let at-if1 = at-ty .before .before .before .before in
-    let at-head = at-if1 .before .before in
-    type-given (at-head .head .ensures) (at-if1 .if1 .taken) (at-ty .ty .ensures)
+    let at-peek = at-if1 .before .before in
+    type-given (at-peek .peek .ensures) (at-if1 .if1 .taken) (at-ty .ty .ensures)
 
-finish-requires : tie.Need-finish-requires
-finish-requires c κs =
+write-node-requires : tie.Need-write-node-requires
+write-node-requires c κs =
     let start = c .before .before .before .before .before .before .before .before .before in
     record { room = omega (arith, (start .pre) .room); part = omega arith }
 
 same-length-4 : tie.Need-same-length-4
 same-length-4 c =
-    let at-finish = c .before .before in
-    omega (arith, at-finish .finish .kept)
+    let at-write-node = c .before .before in
+    omega (arith, at-write-node .write-node .kept)
 
 returns-2 : tie.Need-returns-2
 returns-2 c =
-    let at-finish = c .before .before in
-    let at-if1 = at-finish .before .before in
-    let at-head = at-if1 .before .before in
-    let start = at-head .before .before .before .before .before .before in
-    type-none (at-head .head .ensures) (start .pre) (at-if1 .if1 .left) (at-finish .finish .ensures)
+    let at-write-node = c .before .before in
+    let at-if1 = at-write-node .before .before in
+    let at-peek = at-if1 .before .before in
+    let start = at-peek .before .before .before .before .before .before in
+    type-none (at-peek .peek .ensures) (start .pre) (at-if1 .if1 .left) (at-write-node .write-node .ensures)
 
 pub return-type-spec : {M : Type 1} → statement M
 return-type-spec =
     tie.close
     (tie.spec
-    head-requires
+    peek-requires
     ty-requires
     same-length
     same-length-2
     same-length-3
     returns
-    finish-requires
+    write-node-requires
     same-length-4
     returns-2)

@@ -55,82 +55,82 @@ exchange-requires c κs =
           (omega (arith, at-body .body .kept)),
     )
 
-finish-requires : tie.Need-finish-requires
-finish-requires c κs =
+write-node-requires : tie.Need-write-node-requires
+write-node-requires c κs =
     let at-body = c .before .before .before .before .before .before .before .before .before .before .before .before .before .before in
     let start = at-body .before .before .before .before .before .before .before .before .before .before .before .before in
     room-at (start .pre .asked) (at-body .body .ensures .moved) (omega (arith, at-body .body .kept))
 
-head-requires : tie.Need-head-requires
-head-requires c κs =
+peek-requires : tie.Need-peek-requires
+peek-requires c κs =
     let start = c .before .before .before .before .before .before .before .before .before .before .before .before .before .before .before .before .before .before .before .before .before .before .before .before .before .before .before .before .before in
     (start .pre .asked .asks .held, (start .pre) .within)
 
-finish-text-requires : tie.Need-finish-text-requires
-finish-text-requires c κs =
-    let at-finish = c .before .before .before .before in
-    let at-body = at-finish .before .before .before .before .before .before .before .before .before .before .before .before .before .before .before in
+write-text-node-requires : tie.Need-write-text-node-requires
+write-text-node-requires c κs =
+    let at-write-node = c .before .before .before .before in
+    let at-body = at-write-node .before .before .before .before .before .before .before .before .before .before .before .before .before .before .before in
     let at-enum-told = at-body .before .before .before .before .before in
     let start = at-enum-told .before .before .before .before .before .before .before in
     whole-room (start .pre) (at-enum-told .enum-told .given .1) (at-body .body .ensures)
-    (at-finish .finish .ensures) (c .before .head .ensures)
-    (omega (arith, at-finish .finish .kept, at-body .body .kept))
+    (at-write-node .write-node .ensures) (c .before .peek .ensures)
+    (omega (arith, at-write-node .write-node .kept, at-body .body .kept))
 
 same-length-4 : tie.Need-same-length-4
 same-length-4 c =
-    let at-finish-text = c .before .before in
-    let at-finish = at-finish-text .before .before .before .before .before in
-    let at-exchange = at-finish .before .before .before .before in
+    let at-write-text-node = c .before .before in
+    let at-write-node = at-write-text-node .before .before .before .before .before in
+    let at-exchange = at-write-node .before .before .before .before in
     let at-body = at-exchange .before .before .before .before .before .before .before .before .before .before .before in
     omega (
       arith,
       at-body .body .kept,
       at-exchange .exchange .kept,
-      at-finish .finish .kept,
-      at-finish-text .finish-text .kept,
+      at-write-node .write-node .kept,
+      at-write-text-node .write-text-node .kept,
     )
 
 same-length-5 : tie.Need-same-length-5
 same-length-5 c =
-    let at-finish-text = c .before .before in
-    let at-finish = at-finish-text .before .before .before .before .before in
-    let at-exchange = at-finish .before .before .before .before in
+    let at-write-text-node = c .before .before in
+    let at-write-node = at-write-text-node .before .before .before .before .before in
+    let at-exchange = at-write-node .before .before .before .before in
     let at-body = at-exchange .before .before .before .before .before .before .before .before .before .before .before in
     omega (
       arith,
       at-body .body .kept,
       at-exchange .exchange .kept,
-      at-finish .finish .kept,
-      at-finish-text .finish-text .kept,
+      at-write-node .write-node .kept,
+      at-write-text-node .write-text-node .kept,
     )
 
 same-length-6 : tie.Need-same-length-6
 same-length-6 c =
-    let at-finish-text = c .before .before in
-    let at-finish = at-finish-text .before .before .before .before .before in
-    let at-exchange = at-finish .before .before .before .before in
+    let at-write-text-node = c .before .before in
+    let at-write-node = at-write-text-node .before .before .before .before .before in
+    let at-exchange = at-write-node .before .before .before .before in
     let at-body = at-exchange .before .before .before .before .before .before .before .before .before .before .before in
     omega (
       arith,
       at-body .body .kept,
       at-exchange .exchange .kept,
-      at-finish .finish .kept,
-      at-finish-text .finish-text .kept,
+      at-write-node .write-node .kept,
+      at-write-text-node .write-text-node .kept,
     )
 
 returns-3 : tie.Need-returns-3
 returns-3 c =
-    let at-finish-text = c .before .before in
-    let at-head = at-finish-text .before .before in
-    let at-finish = at-head .before .before .before in
-    let at-exchange = at-finish .before .before .before .before in
+    let at-write-text-node = c .before .before in
+    let at-peek = at-write-text-node .before .before in
+    let at-write-node = at-peek .before .before .before in
+    let at-exchange = at-write-node .before .before .before .before in
     let at-enum-told2 = at-exchange .before .before .before in
     let at-body = at-enum-told2 .before .before .before .before .before .before .before .before in
     let at-enum-told = at-body .before .before .before .before .before in
     let start = at-enum-told .before .before .before .before .before .before .before in
     whole-reads (start .pre) (at-enum-told .enum-told .given .1) (at-body .body .ensures)
-    (at-finish .finish .ensures) (at-head .head .ensures) (at-enum-told2 .enum-told2 .given .1)
-    (at-exchange .exchange .ensures) (at-finish-text .finish-text .ensures)
+    (at-write-node .write-node .ensures) (at-peek .peek .ensures) (at-enum-told2 .enum-told2 .given .1)
+    (at-exchange .exchange .ensures) (at-write-text-node .write-text-node .ensures)
 
 pub whole-function-spec : {M : Type 1} → statement M
 whole-function-spec =
@@ -145,9 +145,9 @@ whole-function-spec =
     same-length-3
     returns-2
     exchange-requires
-    finish-requires
-    head-requires
-    finish-text-requires
+    write-node-requires
+    peek-requires
+    write-text-node-requires
     same-length-4
     same-length-5
     same-length-6

@@ -7,8 +7,8 @@ use borrow.Author.Needs.{needs}
 use Rattle.items.proofs.others.alias.Statement.{statement}
 use Rattle.items.proofs.others.alias.Tie as tie
 
-head-requires : tie.Need-head-requires
-head-requires c κs =
+peek-requires : tie.Need-peek-requires
+peek-requires c κs =
     let start = c .before .before .before .before .before in
     (start .pre .asks .held, start .pre .asks .at)
 
@@ -17,14 +17,14 @@ refuse-requires c κs = search needs
 
 returns : tie.Need-returns
 returns c =
-    let at-head = c .before .before .before in
-    let start = at-head .before .before .before .before .before .before in
-    alias-end _ _ _ _ (start .pre) (at-head .head .ensures) (c .before .if1 .taken) (c .refuse .ensures)
+    let at-peek = c .before .before .before in
+    let start = at-peek .before .before .before .before .before .before in
+    alias-end _ _ _ _ (start .pre) (at-peek .peek .ensures) (c .before .if1 .taken) (c .refuse .ensures)
 
 entry-requires : tie.Need-entry-requires
 entry-requires c κs =
-    let at-head = c .before .before .before .before in
-    omega (arith, at-head .head .ensures .lines, at-head .head .ensures .columns)
+    let at-peek = c .before .before .before .before in
+    omega (arith, at-peek .peek .ensures .lines, at-peek .peek .ensures .columns)
 
 raise-requires : tie.Need-raise-requires
 raise-requires c κs =
@@ -47,16 +47,16 @@ returns-2 c =
     let at-entry = at-raise .before .before .before in
     let at-if2 = at-entry .before in
     let at-if1 = at-if2 .before .before in
-    let at-head = at-if1 .before .before in
-    let start = at-head .before .before .before .before .before .before in
-    alias-other _ _ _ _ (start .pre) (at-head .head .ensures) (at-if1 .if1 .left) (at-if2 .if2 .taken)
+    let at-peek = at-if1 .before .before in
+    let start = at-peek .before .before .before .before .before .before in
+    alias-other _ _ _ _ (start .pre) (at-peek .peek .ensures) (at-if1 .if1 .left) (at-if2 .if2 .taken)
     (at-entry .entry .ensures) (at-raise .raise .ensures)
 
 expect-requires : tie.Need-expect-requires
 expect-requires c κs =
-    let at-head = c .before .before .before .before .before .before in
-    let start = at-head .before .before .before .before .before .before in
-    (asks-fore (start .pre .asks) (at-head .head .ensures), (omega arith, omega arith))
+    let at-peek = c .before .before .before .before .before .before in
+    let start = at-peek .before .before .before .before .before .before in
+    (asks-fore (start .pre .asks) (at-peek .peek .ensures), (omega arith, omega arith))
 
 enum-told : tie.Need-enum-told
 enum-told c = search needs
@@ -75,17 +75,17 @@ returns-3 : tie.Need-returns-3
 returns-3 c =
     let at-expect = c .before .before .before .before .before in
     let at-if2 = at-expect .before .before .before in
-    let at-head = at-if2 .before .before .before .before in
-    let start = at-head .before .before .before .before .before .before in
-    alias-stops _ _ _ _ (start .pre) (at-head .head .ensures) (at-if2 .if2 .left)
+    let at-peek = at-if2 .before .before .before .before in
+    let start = at-peek .before .before .before .before .before .before in
+    alias-stops _ _ _ _ (start .pre) (at-peek .peek .ensures) (at-if2 .if2 .left)
     (at-expect .expect .ensures) (c .match .keys2)
 
 ty-requires : tie.Need-ty-requires
 ty-requires c κs =
     let at-expect = c .before .before .before .before .before .before .before .before .before .before in
-    let at-head = at-expect .before .before .before .before .before .before .before in
-    let start = at-head .before .before .before .before .before .before in
-    asked-moved (asked-seen (start .pre) (at-head .head .ensures)) (at-expect .expect .ensures .moved) refl
+    let at-peek = at-expect .before .before .before .before .before .before .before in
+    let start = at-peek .before .before .before .before .before .before in
+    asked-moved (asked-seen (start .pre) (at-peek .peek .ensures)) (at-expect .expect .ensures .moved) refl
     (omega (arith, at-expect .expect .kept)) (omega (arith, at-expect .expect .kept))
 
 and-expect-requires : tie.Need-and-expect-requires
@@ -93,30 +93,30 @@ and-expect-requires c κs =
     let at-ty = c .before .before .before .before .before .before .before .before in
     let at-enum-told = at-ty .before .before .before .before .before in
     let at-expect = at-enum-told .before .before .before .before .before .before in
-    let at-head = at-expect .before .before .before .before .before .before .before in
-    let start = at-head .before .before .before .before .before .before in (
-      alias-follows (start .pre) (at-head .head .ensures) (at-expect .expect .ensures) (at-ty .ty .ensures)
+    let at-peek = at-expect .before .before .before .before .before .before .before in
+    let start = at-peek .before .before .before .before .before .before in (
+      alias-follows (start .pre) (at-peek .peek .ensures) (at-expect .expect .ensures) (at-ty .ty .ensures)
           (at-enum-told .enum-told .given .1) (omega (arith, at-ty .ty .kept, at-expect .expect .kept))
           (omega (arith, at-ty .ty .kept, at-expect .expect .kept)),
       (omega arith, omega arith),
     )
 
-finish-text-requires : tie.Need-finish-text-requires
-finish-text-requires c κs =
+write-text-node-requires : tie.Need-write-text-node-requires
+write-text-node-requires c κs =
     let at-and-expect = c .before .before .before .before .before in
     let at-ty = at-and-expect .before .before .before .before .before .before .before .before .before in
     let at-expect = at-ty .before .before .before .before .before .before .before .before .before .before .before in
     let at-if2 = at-expect .before .before .before in
-    let at-head = at-if2 .before .before .before .before in
-    let start = at-head .before .before .before .before .before .before in
-    alias-room (start .pre) (at-head .head .ensures) (at-expect .expect .ensures) (at-ty .ty .ensures)
+    let at-peek = at-if2 .before .before .before .before in
+    let start = at-peek .before .before .before .before .before .before in
+    alias-room (start .pre) (at-peek .peek .ensures) (at-expect .expect .ensures) (at-ty .ty .ensures)
     (at-if2 .if2 .left) (at-and-expect .and-expect .ensures) (omega (arith, at-ty .ty .kept))
 
 same-length-5 : tie.Need-same-length-5
 same-length-5 c =
-    let at-finish-text = c .before .before in
-    let at-ty = at-finish-text .before .before .before .before .before .before .before .before .before .before .before .before .before .before .before in
-    omega (arith, at-ty .ty .kept, at-finish-text .finish-text .kept)
+    let at-write-text-node = c .before .before in
+    let at-ty = at-write-text-node .before .before .before .before .before .before .before .before .before .before .before .before .before .before .before in
+    omega (arith, at-ty .ty .kept, at-write-text-node .write-text-node .kept)
 
 same-length-6 : tie.Need-same-length-6
 same-length-6 c =
@@ -134,25 +134,25 @@ same-length-7 c =
 
 returns-4 : tie.Need-returns-4
 returns-4 c =
-    let at-finish-text = c .before .before in
-    let at-and-expect = at-finish-text .before .before .before .before .before .before in
+    let at-write-text-node = c .before .before in
+    let at-and-expect = at-write-text-node .before .before .before .before .before .before in
     let at-ty = at-and-expect .before .before .before .before .before .before .before .before .before in
     let at-enum-told = at-ty .before .before .before .before .before in
     let at-expect = at-enum-told .before .before .before .before .before .before in
     let at-if2 = at-expect .before .before .before in
-    let at-head = at-if2 .before .before .before .before in
-    let start = at-head .before .before .before .before .before .before in
-    alias-done _ _ _ _ (start .pre) (at-head .head .ensures) (at-if2 .if2 .left)
+    let at-peek = at-if2 .before .before .before .before in
+    let start = at-peek .before .before .before .before .before .before in
+    alias-done _ _ _ _ (start .pre) (at-peek .peek .ensures) (at-if2 .if2 .left)
     (at-expect .expect .ensures) (at-enum-told .enum-told .given .1) (at-ty .ty .ensures)
     (omega (arith, at-ty .ty .kept, at-expect .expect .kept))
     (omega (arith, at-ty .ty .kept, at-expect .expect .kept)) (at-and-expect .and-expect .ensures)
-    (at-finish-text .finish-text .ensures)
+    (at-write-text-node .write-text-node .ensures)
 
 pub alias-spec : {M : Type 1} → statement M
 alias-spec =
     tie.close
     (tie.spec
-    head-requires
+    peek-requires
     refuse-requires
     returns
     entry-requires
@@ -167,7 +167,7 @@ alias-spec =
     returns-3
     ty-requires
     and-expect-requires
-    finish-text-requires
+    write-text-node-requires
     same-length-5
     same-length-6
     same-length-7

@@ -19,39 +19,39 @@ loop-holds c =
     let start = c .before .before in
     ((start .pre .1, (omega arith, omega arith)), λ m g. g)
 
-head-requires : tie.Need-head-requires Inv-loop μ-loop
-head-requires c κs =
+peek-requires : tie.Need-peek-requires Inv-loop μ-loop
+peek-requires c κs =
     let start = c .before .before .before in
     (start .pre .0, c .loop .inv .0 .0)
 
 loop-less : tie.Need-loop-less Inv-loop μ-loop
 loop-less c =
-    let at-head = c .before .before in
-    let v = at-head .head .ensures in
+    let at-peek = c .before .before in
+    let v = at-peek .peek .ensures in
     omega (arith, v .on, v .end, c .if1 .taken)
 
 loop-again : tie.Need-loop-again Inv-loop μ-loop
 loop-again c =
-    let at-head = c .before .before in
-    let at-loop = at-head .before in (
-      (at-head .head .ensures .end, (omega arith, at-loop .loop .inv .0 .1 .1)),
-      λ m g. at-loop .loop .inv .1 m (modifiers-distinct (at-head .head .ensures) (c .if1 .taken) g),
+    let at-peek = c .before .before in
+    let at-loop = at-peek .before in (
+      (at-peek .peek .ensures .end, (omega arith, at-loop .loop .inv .0 .1 .1)),
+      λ m g. at-loop .loop .inv .1 m (modifiers-distinct (at-peek .peek .ensures) (c .if1 .taken) g),
     )
 
 loop-less-2 : tie.Need-loop-less-2 Inv-loop μ-loop
 loop-less-2 c =
-    let at-head = c .before .before .before .before in
-    let v = at-head .head .ensures in
+    let at-peek = c .before .before .before .before in
+    let v = at-peek .peek .ensures in
     omega (arith, v .on, v .end, c .if2 .taken)
 
 loop-again-2 : tie.Need-loop-again-2 Inv-loop μ-loop
 loop-again-2 c =
     let at-if1 = c .before .before in
-    let at-head = at-if1 .before .before in
-    let at-loop = at-head .before in (
-      (at-head .head .ensures .end, (at-loop .loop .inv .0 .1 .0, omega arith)),
+    let at-peek = at-if1 .before .before in
+    let at-loop = at-peek .before in (
+      (at-peek .peek .ensures .end, (at-loop .loop .inv .0 .1 .0, omega arith)),
       λ m g. at-loop .loop .inv .1 m
-          (modifiers-internal (at-head .head .ensures) (at-if1 .if1 .left) (c .if2 .taken) g),
+          (modifiers-internal (at-peek .peek .ensures) (at-if1 .if1 .left) (c .if2 .taken) g),
     )
 
 add-t10 : tie.Need-add-t10 Inv-loop μ-loop
@@ -62,10 +62,10 @@ add-t10 c =
 returns : tie.Need-returns Inv-loop μ-loop
 returns c =
     let at-if1 = c .before .before in
-    let at-head = at-if1 .before .before in
-    let at-loop = at-head .before in
+    let at-peek = at-if1 .before .before in
+    let at-loop = at-peek .before in
     at-loop .loop .inv .1 _
-    (modifiers-none (at-head .head .ensures) (at-loop .loop .inv .0 .0) (at-if1 .if1 .left) (c .if2 .left))
+    (modifiers-none (at-peek .peek .ensures) (at-loop .loop .inv .0 .0) (at-if1 .if1 .left) (c .if2 .left))
 
 pub modifiers-spec : {M : Type 1} → statement M
 modifiers-spec =
@@ -74,7 +74,7 @@ modifiers-spec =
     Inv-loop
     μ-loop
     loop-holds
-    head-requires
+    peek-requires
     loop-less
     loop-again
     loop-less-2

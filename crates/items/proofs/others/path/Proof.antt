@@ -6,8 +6,8 @@ use borrow.Author.Needs.{needs}
 use Rattle.items.proofs.others.path.Statement.{statement}
 use Rattle.items.proofs.others.path.Tie as tie
 
-head-requires : tie.Need-head-requires
-head-requires c κs =
+peek-requires : tie.Need-peek-requires
+peek-requires c κs =
     let start = c .before .before .before .before .before in
     (start .pre .asks .held, start .pre .asks .at)
 
@@ -16,14 +16,14 @@ refuse-requires c κs = search needs
 
 returns : tie.Need-returns
 returns c =
-    let at-head = c .before .before .before in
-    let start = at-head .before .before .before .before .before .before in
-    λ d. path-end d _ _ (start .pre) (at-head .head .ensures) (c .before .if1 .taken) (c .refuse .ensures)
+    let at-peek = c .before .before .before in
+    let start = at-peek .before .before .before .before .before .before in
+    λ d. path-end d _ _ (start .pre) (at-peek .peek .ensures) (c .before .if1 .taken) (c .refuse .ensures)
 
 entry-requires : tie.Need-entry-requires
 entry-requires c κs =
-    let at-head = c .before .before .before .before in
-    omega (arith, at-head .head .ensures .lines, at-head .head .ensures .columns)
+    let at-peek = c .before .before .before .before in
+    omega (arith, at-peek .peek .ensures .lines, at-peek .peek .ensures .columns)
 
 raise-requires : tie.Need-raise-requires
 raise-requires c κs =
@@ -46,58 +46,58 @@ returns-2 c =
     let at-entry = at-raise .before .before .before in
     let at-if2 = at-entry .before in
     let at-if1 = at-if2 .before .before in
-    let at-head = at-if1 .before .before in
-    let start = at-head .before .before .before .before .before .before in
-    λ d. path-other d _ _ (start .pre) (at-head .head .ensures) (at-if1 .if1 .left) (at-if2 .if2 .taken)
+    let at-peek = at-if1 .before .before in
+    let start = at-peek .before .before .before .before .before .before in
+    λ d. path-other d _ _ (start .pre) (at-peek .peek .ensures) (at-if1 .if1 .left) (at-if2 .if2 .taken)
     (at-entry .entry .ensures) (at-raise .raise .ensures)
 
 expect-requires : tie.Need-expect-requires
 expect-requires c κs =
-    let at-head = c .before .before .before .before .before .before in
-    let start = at-head .before .before .before .before .before .before in
-    (asks-fore (start .pre .asks) (at-head .head .ensures), (omega arith, omega arith))
+    let at-peek = c .before .before .before .before .before .before in
+    let start = at-peek .before .before .before .before .before .before in
+    (asks-fore (start .pre .asks) (at-peek .peek .ensures), (omega arith, omega arith))
 
-finish-text-requires : tie.Need-finish-text-requires
-finish-text-requires c κs =
+write-text-node-requires : tie.Need-write-text-node-requires
+write-text-node-requires c κs =
     let at-expect = c .before .before .before .before .before in
     let at-if2 = at-expect .before .before .before in
-    let at-head = at-if2 .before .before .before .before in
-    let start = at-head .before .before .before .before .before .before in
-    path-room (start .pre) (at-head .head .ensures) (at-if2 .if2 .left) (at-expect .expect .ensures)
+    let at-peek = at-if2 .before .before .before .before in
+    let start = at-peek .before .before .before .before .before .before in
+    path-room (start .pre) (at-peek .peek .ensures) (at-if2 .if2 .left) (at-expect .expect .ensures)
 
 same-length-3 : tie.Need-same-length-3
 same-length-3 c =
-    let at-finish-text = c .before .before in
-    let at-expect = at-finish-text .before .before .before .before .before .before in
-    omega (arith, at-finish-text .finish-text .kept, at-expect .expect .kept)
+    let at-write-text-node = c .before .before in
+    let at-expect = at-write-text-node .before .before .before .before .before .before in
+    omega (arith, at-write-text-node .write-text-node .kept, at-expect .expect .kept)
 
 same-length-4 : tie.Need-same-length-4
 same-length-4 c =
-    let at-finish-text = c .before .before in
-    let at-expect = at-finish-text .before .before .before .before .before .before in
-    omega (arith, at-finish-text .finish-text .kept, at-expect .expect .kept)
+    let at-write-text-node = c .before .before in
+    let at-expect = at-write-text-node .before .before .before .before .before .before in
+    omega (arith, at-write-text-node .write-text-node .kept, at-expect .expect .kept)
 
 same-length-5 : tie.Need-same-length-5
 same-length-5 c =
-    let at-finish-text = c .before .before in
-    let at-expect = at-finish-text .before .before .before .before .before .before in
-    omega (arith, at-finish-text .finish-text .kept, at-expect .expect .kept)
+    let at-write-text-node = c .before .before in
+    let at-expect = at-write-text-node .before .before .before .before .before .before in
+    omega (arith, at-write-text-node .write-text-node .kept, at-expect .expect .kept)
 
 returns-3 : tie.Need-returns-3
 returns-3 c =
-    let at-finish-text = c .before .before in
-    let at-expect = at-finish-text .before .before .before .before .before .before in
+    let at-write-text-node = c .before .before in
+    let at-expect = at-write-text-node .before .before .before .before .before .before in
     let at-if2 = at-expect .before .before .before in
-    let at-head = at-if2 .before .before .before .before in
-    let start = at-head .before .before .before .before .before .before in
-    λ d. path-done d _ _ (start .pre) (at-head .head .ensures) (at-if2 .if2 .left)
-    (at-expect .expect .ensures) (at-finish-text .finish-text .ensures)
+    let at-peek = at-if2 .before .before .before .before in
+    let start = at-peek .before .before .before .before .before .before in
+    λ d. path-done d _ _ (start .pre) (at-peek .peek .ensures) (at-if2 .if2 .left)
+    (at-expect .expect .ensures) (at-write-text-node .write-text-node .ensures)
 
 pub path-spec : {M : Type 1} → statement M
 path-spec =
     tie.close
     (tie.spec
-    head-requires
+    peek-requires
     refuse-requires
     returns
     entry-requires
@@ -106,7 +106,7 @@ path-spec =
     same-length-2
     returns-2
     expect-requires
-    finish-text-requires
+    write-text-node-requires
     same-length-3
     same-length-4
     same-length-5

@@ -6,8 +6,8 @@ use borrow.Author.Needs.{needs}
 use Rattle.items.proofs.others.type_alias.Statement.{statement}
 use Rattle.items.proofs.others.type_alias.Tie as tie
 
-head-requires : tie.Need-head-requires
-head-requires c κs =
+peek-requires : tie.Need-peek-requires
+peek-requires c κs =
     let start = c .before .before .before .before .before in
     (start .pre .asks .held, start .pre .asks .at)
 
@@ -42,9 +42,9 @@ returns : tie.Need-returns
 returns c =
     let at-expect = c .before .before .before .before .before in
     let at-modifiers = at-expect .before .before .before in
-    let at-head = at-modifiers .before in
-    let start = at-head .before .before .before .before .before .before in
-    modified-reads _ (start .pre) (at-head .head .ensures) (at-modifiers .modifiers .ensures)
+    let at-peek = at-modifiers .before in
+    let start = at-peek .before .before .before .before .before .before in
+    modified-reads _ (start .pre) (at-peek .peek .ensures) (at-modifiers .modifiers .ensures)
     (keyword-stops _ (at-expect .expect .ensures) (λ rd. refl) (c .match .keys2))
 
 alias-requires : tie.Need-alias-requires
@@ -80,16 +80,16 @@ returns-2 c =
     let at-enum-told = at-alias .before .before .before .before .before in
     let at-expect = at-enum-told .before .before .before .before .before .before in
     let at-modifiers = at-expect .before .before .before in
-    let at-head = at-modifiers .before in
-    let start = at-head .before .before .before .before .before .before in
-    modified-reads _ (start .pre) (at-head .head .ensures) (at-modifiers .modifiers .ensures)
+    let at-peek = at-modifiers .before in
+    let start = at-peek .before .before .before .before .before .before in
+    modified-reads _ (start .pre) (at-peek .peek .ensures) (at-modifiers .modifiers .ensures)
     (keyword-on _ (at-expect .expect .ensures) (λ rd. refl) (at-enum-told .enum-told .given .1) (at-alias .alias .ensures))
 
 pub type-alias-spec : {M : Type 1} → statement M
 type-alias-spec =
     tie.close
     (tie.spec
-    head-requires
+    peek-requires
     modifiers-requires
     expect-requires
     enum-told

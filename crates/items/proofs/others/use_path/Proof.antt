@@ -6,8 +6,8 @@ use borrow.Author.Needs.{needs}
 use Rattle.items.proofs.others.use_path.Statement.{statement}
 use Rattle.items.proofs.others.use_path.Tie as tie
 
-head-requires : tie.Need-head-requires
-head-requires c κs =
+peek-requires : tie.Need-peek-requires
+peek-requires c κs =
     let start = c .before .before .before .before .before in
     (start .pre .asks .held, start .pre .asks .at)
 
@@ -32,8 +32,8 @@ same-length-2 c =
 returns : tie.Need-returns
 returns c =
     let at-expect = c .before .before .before .before .before in
-    let at-head = at-expect .before .before .before in
-    λ d. use-stops (at-head .head .ensures) (at-expect .expect .ensures) (c .match .keys2)
+    let at-peek = at-expect .before .before .before in
+    λ d. use-stops (at-peek .peek .ensures) (at-expect .expect .ensures) (c .match .keys2)
 
 path-requires : tie.Need-path-requires
 path-requires c κs =
@@ -65,15 +65,15 @@ returns-2 c =
     let at-path = c .before .before .before .before .before .before in
     let at-enum-told = at-path .before .before .before .before .before in
     let at-expect = at-enum-told .before .before .before .before .before .before in
-    let at-head = at-expect .before .before .before in
-    λ d. use-on (at-head .head .ensures) (at-expect .expect .ensures) (at-enum-told .enum-told .given .1)
+    let at-peek = at-expect .before .before .before in
+    λ d. use-on (at-peek .peek .ensures) (at-expect .expect .ensures) (at-enum-told .enum-told .given .1)
     (at-path .path .ensures d)
 
 pub use-path-spec : {M : Type 1} → statement M
 use-path-spec =
     tie.close
     (tie.spec
-    head-requires
+    peek-requires
     expect-requires
     enum-told
     same-length

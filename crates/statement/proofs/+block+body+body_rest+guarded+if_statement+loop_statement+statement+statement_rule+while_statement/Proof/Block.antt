@@ -6,16 +6,16 @@ use Prim.Native.Nat.{ℕ}
 use Rattle.statement.proofs.+block+body+body_rest+guarded+if_statement+loop_statement+statement+statement_rule+while_statement.Lts-block as lts
 use Rattle.statement.proofs.block.Reads as block
 use Rattle.statement.proofs.body.Reads as body
-use Rattle.steps.proofs.finish.Reads as finish-reads
-use Rattle.steps.proofs.head.Reads as head-reads
+use Rattle.steps.proofs.write_node.Reads as write-node-reads
+use Rattle.steps.proofs.peek.Reads as peek-reads
 use Rattle.statement.proofs.+block+body+body_rest+guarded+if_statement+loop_statement+statement+statement_rule+while_statement.Proof.Falls.{block-at, body-below}
 
 module _ (t : ℕ) where
   abbrev pub given : lts.Claims
-  given = (head-reads.Asked, head-reads.Learnt, body-below t, body.Post, finish-reads.Asked, finish-reads.Learnt)
+  given = (peek-reads.Asked, peek-reads.Learnt, body-below t, body.Post, write-node-reads.Asked, write-node-reads.Learnt)
 
-  pub head-requires : lts.Need-head-requires given (block-at t) block.Post
-  head-requires c κs =
+  pub peek-requires : lts.Need-peek-requires given (block-at t) block.Post
+  peek-requires c κs =
       let start = c .before .before .before .before .before in
       (start .pre .1 .asked .asks .held, start .pre .1 .asked .asks .at)
 
@@ -24,35 +24,35 @@ module _ (t : ℕ) where
       let start = c .before .before .before .before .before .before .before .before .before in
       (omega (arith, start .pre .0), start .pre .1 .asked)
 
-  pub finish-requires : lts.Need-finish-requires given (block-at t) block.Post
-  finish-requires c κs =
+  pub write-node-requires : lts.Need-write-node-requires given (block-at t) block.Post
+  write-node-requires c κs =
       let at-body = c .before .before .before .before .before .before .before in
       let start = at-body .before .before .before .before .before .before .before .before .before .before in
       room-at (start .pre .1 .asked) (at-body .body .ensures .moved) (omega (arith, at-body .body .kept))
 
   pub same-length : lts.Need-same-length given (block-at t) block.Post
   same-length c =
-      let at-finish = c .before .before in
-      let at-body = at-finish .before .before .before .before .before .before .before .before in
-      omega (arith, at-finish .finish .kept, at-body .body .kept)
+      let at-write-node = c .before .before in
+      let at-body = at-write-node .before .before .before .before .before .before .before .before in
+      omega (arith, at-write-node .write-node .kept, at-body .body .kept)
 
   pub same-length-2 : lts.Need-same-length-2 given (block-at t) block.Post
   same-length-2 c =
-      let at-finish = c .before .before in
-      let at-body = at-finish .before .before .before .before .before .before .before .before in
-      omega (arith, at-finish .finish .kept, at-body .body .kept)
+      let at-write-node = c .before .before in
+      let at-body = at-write-node .before .before .before .before .before .before .before .before in
+      omega (arith, at-write-node .write-node .kept, at-body .body .kept)
 
   pub same-length-3 : lts.Need-same-length-3 given (block-at t) block.Post
   same-length-3 c =
-      let at-finish = c .before .before in
-      let at-body = at-finish .before .before .before .before .before .before .before .before in
-      omega (arith, at-finish .finish .kept, at-body .body .kept)
+      let at-write-node = c .before .before in
+      let at-body = at-write-node .before .before .before .before .before .before .before .before in
+      omega (arith, at-write-node .write-node .kept, at-body .body .kept)
 
   pub returns : lts.Need-returns given (block-at t) block.Post
   returns c =
-      let at-finish = c .before .before in
-      let at-body = at-finish .before .before .before .before .before .before .before .before in
-      let at-head = at-body .before .before .before .before in
-      let start = at-head .before .before .before .before .before .before in
-      block-reads (at-head .head .ensures) (start .pre .1) (at-body .body .ensures)
-      (at-finish .finish .ensures)
+      let at-write-node = c .before .before in
+      let at-body = at-write-node .before .before .before .before .before .before .before .before in
+      let at-peek = at-body .before .before .before .before in
+      let start = at-peek .before .before .before .before .before .before in
+      block-reads (at-peek .peek .ensures) (start .pre .1) (at-body .body .ensures)
+      (at-write-node .write-node .ensures)

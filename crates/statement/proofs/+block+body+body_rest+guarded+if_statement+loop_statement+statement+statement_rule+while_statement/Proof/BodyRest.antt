@@ -14,7 +14,7 @@ use Rattle.statement.proofs.statement.Reads as statement′
 use Rattle.fallible.proofs.entry.Reads as entry-reads
 use Rattle.fallible.proofs.note.Reads as note-reads
 use Rattle.leaves.proofs.counted.Reads as counted-reads
-use Rattle.steps.proofs.head.Reads as head-reads
+use Rattle.steps.proofs.peek.Reads as peek-reads
 use Rattle.statement.proofs.+block+body+body_rest+guarded+if_statement+loop_statement+statement+statement_rule+while_statement.Proof.Falls.{body-rest-at, statement-below}
 
 abbrev pub Inv-loop : lts.InvT-loop
@@ -26,8 +26,8 @@ abbrev pub μ-loop : lts.MeasureT-loop
 module _ (t : ℕ) where
   abbrev pub given : lts.Claims
   given = (
-    head-reads.Asked,
-    head-reads.Learnt,
+    peek-reads.Asked,
+    peek-reads.Learnt,
     entry-reads.Asked,
     entry-reads.Learnt,
     note-reads.Asked,
@@ -43,8 +43,8 @@ module _ (t : ℕ) where
       let start = c .before .before .before .before .before in
       ((start .pre .1, omega arith), at-start)
 
-  pub head-requires : lts.Need-head-requires given (body-rest-at t) body-rest.Post Inv-loop μ-loop
-  head-requires c κs = (c .loop .inv .0 .0 .asks .held, c .loop .inv .0 .0 .asks .at)
+  pub peek-requires : lts.Need-peek-requires given (body-rest-at t) body-rest.Post Inv-loop μ-loop
+  peek-requires c κs = (c .loop .inv .0 .0 .asks .held, c .loop .inv .0 .0 .asks .at)
 
   pub same-length : lts.Need-same-length given (body-rest-at t) body-rest.Post Inv-loop μ-loop
   same-length c =
@@ -63,10 +63,10 @@ module _ (t : ℕ) where
 
   pub returns : lts.Need-returns given (body-rest-at t) body-rest.Post Inv-loop μ-loop
   returns c =
-      let at-head = c .before .before in
-      let at-loop = at-head .before in
+      let at-peek = c .before .before in
+      let at-loop = at-peek .before in
       at-loop .loop .inv .1 .rest
-      (rest-closed (at-loop .loop .inv .0) (at-head .head .ensures) (c .if1 .taken))
+      (rest-closed (at-loop .loop .inv .0) (at-peek .peek .ensures) (c .if1 .taken))
 
   pub entry-requires : lts.Need-entry-requires given (body-rest-at t) body-rest.Post Inv-loop μ-loop
   entry-requires c κs = omega arith
@@ -99,10 +99,10 @@ module _ (t : ℕ) where
       let at-entry = at-note .before .before .before in
       let at-if2 = at-entry .before in
       let at-if1 = at-if2 .before .before in
-      let at-head = at-if1 .before .before in
-      let at-loop = at-head .before in
+      let at-peek = at-if1 .before .before in
+      let at-loop = at-peek .before in
       at-loop .loop .inv .1 .rest
-      (rest-end (at-loop .loop .inv .0) (at-head .head .ensures) (at-if1 .if1 .left) (at-if2 .if2 .taken)
+      (rest-end (at-loop .loop .inv .0) (at-peek .peek .ensures) (at-if1 .if1 .left) (at-if2 .if2 .taken)
       (at-entry .entry .ensures) (at-note .note .ensures))
 
   pub statement-requires : lts.Need-statement-requires given (body-rest-at t) body-rest.Post Inv-loop μ-loop
@@ -137,10 +137,10 @@ module _ (t : ℕ) where
       let at-statement = c .before .before .before .before .before .before .before .before .before in
       let at-if2 = at-statement .before .before .before .before in
       let at-if1 = at-if2 .before .before in
-      let at-head = at-if1 .before .before in
-      let at-loop = at-head .before in
+      let at-peek = at-if1 .before .before in
+      let at-loop = at-peek .before in
       at-loop .loop .inv .1 .rest
-      (rest-refused (at-loop .loop .inv .0) (at-head .head .ensures) (at-if1 .if1 .left) (at-if2 .if2 .left)
+      (rest-refused (at-loop .loop .inv .0) (at-peek .peek .ensures) (at-if1 .if1 .left) (at-if2 .if2 .left)
       (at-statement .statement .ensures) (c .before .match .keys1))
 
   pub counted-requires : lts.Need-counted-requires given (body-rest-at t) body-rest.Post Inv-loop μ-loop
@@ -157,12 +157,12 @@ module _ (t : ℕ) where
   loop-less c =
       let at-statement = c .before .before .before .before .before .before .before .before .before in
       let at-if2 = at-statement .before .before .before .before in
-      let at-head = at-if2 .before .before .before .before in
-      let at-loop = at-head .before in
+      let at-peek = at-if2 .before .before .before .before in
+      let at-loop = at-peek .before in
       omega (
         arith,
         at-loop .loop .inv .0 .0 .asks .at,
-        at-head .head .ensures .kind,
+        at-peek .peek .ensures .kind,
         at-if2 .if2 .left,
         at-statement .statement .ensures .on,
         at-statement .statement .ensures .moved,
@@ -173,16 +173,16 @@ module _ (t : ℕ) where
       let at-statement = c .before .before .before .before .before .before .before .before .before in
       let at-if2 = at-statement .before .before .before .before in
       let at-if1 = at-if2 .before .before in
-      let at-head = at-if1 .before .before in
-      let at-loop = at-head .before in (
-        loop-asked (at-loop .loop .inv .0) (at-head .head .ensures) (at-if2 .if2 .left)
+      let at-peek = at-if1 .before .before in
+      let at-loop = at-peek .before in (
+        loop-asked (at-loop .loop .inv .0) (at-peek .peek .ensures) (at-if2 .if2 .left)
             (at-statement .statement .ensures) (c .counted .ensures)
             (omega (arith, at-statement .statement .kept)) (omega (arith, at-statement .statement .kept))
             (omega (arith, at-statement .statement .kept)),
         one-turn (at-loop .loop .inv .1) (omega (arith, at-statement .statement .kept))
             (omega (arith, at-statement .statement .kept)) (omega (arith, at-statement .statement .kept))
             (at-statement .statement .ensures .moved .at)
-            (λ _ _ _ _ g. rest-next (at-loop .loop .inv .0) (at-head .head .ensures) (at-if1 .if1 .left)
+            (λ _ _ _ _ g. rest-next (at-loop .loop .inv .0) (at-peek .peek .ensures) (at-if1 .if1 .left)
             (at-if2 .if2 .left) (at-statement .statement .ensures) (c .before .match .keys2)
             (c .counted .ensures) g),
       )

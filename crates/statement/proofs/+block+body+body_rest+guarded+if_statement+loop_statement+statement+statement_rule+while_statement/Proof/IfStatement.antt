@@ -11,43 +11,43 @@ use Rattle.statement.proofs.guarded.Reads as guarded
 use Rattle.statement.proofs.if_statement.Reads as if-statement
 use Rattle.statement.proofs.statement.Reads as statement′
 use Rattle.fallible.proofs.abandon.Reads as abandon-reads
-use Rattle.steps.proofs.finish.Reads as finish-reads
-use Rattle.steps.proofs.head.Reads as head-reads
+use Rattle.steps.proofs.write_node.Reads as write-node-reads
+use Rattle.steps.proofs.peek.Reads as peek-reads
 use Rattle.statement.proofs.+block+body+body_rest+guarded+if_statement+loop_statement+statement+statement_rule+while_statement.Proof.Falls.{guarded-below, if-statement-at, statement-below}
 
 module _ (t : ℕ) where
   abbrev pub given : lts.Claims
   given = (
-    head-reads.Asked,
-    head-reads.Learnt,
+    peek-reads.Asked,
+    peek-reads.Learnt,
     guarded-below t,
     guarded.Post,
-    finish-reads.Asked,
-    finish-reads.Learnt,
+    write-node-reads.Asked,
+    write-node-reads.Learnt,
     statement-below t,
     statement′.Post,
     abandon-reads.Asked,
     abandon-reads.Learnt,
   )
 
-  pub head-requires : lts.Need-head-requires given (if-statement-at t) if-statement.Post
-  head-requires c κs =
+  pub peek-requires : lts.Need-peek-requires given (if-statement-at t) if-statement.Post
+  peek-requires c κs =
       let start = c .before .before .before .before .before in
       (start .pre .1 .asked .asks .held, start .pre .1 .asked .asks .at)
 
   pub guarded-requires : lts.Need-guarded-requires given (if-statement-at t) if-statement.Post
   guarded-requires c κs =
-      let at-head = c .before .before .before in
-      let start = at-head .before .before .before .before .before .before in (
+      let at-peek = c .before .before .before in
+      let start = at-peek .before .before .before .before .before .before in (
         omega (
           arith,
           start .pre .0,
           start .pre .1 .kind,
-          at-head .head .ensures .kind,
-          at-head .head .ensures .on,
-          at-head .head .ensures .end,
+          at-peek .peek .ensures .kind,
+          at-peek .peek .ensures .on,
+          at-peek .peek .ensures .end,
         ),
-        asked-seen (start .pre .1 .asked) (at-head .head .ensures),
+        asked-seen (start .pre .1 .asked) (at-peek .peek .ensures),
       )
 
   pub enum-told : lts.Need-enum-told given (if-statement-at t) if-statement.Post
@@ -71,74 +71,74 @@ module _ (t : ℕ) where
   pub returns : lts.Need-returns given (if-statement-at t) if-statement.Post
   returns c =
       let at-guarded = c .before .before .before .before .before .before .before in
-      let at-head = at-guarded .before .before .before .before in
-      let start = at-head .before .before .before .before .before .before in
-      if-stops (at-head .head .ensures) (start .pre .1) (at-guarded .guarded .ensures) (c .match .keys2)
+      let at-peek = at-guarded .before .before .before .before in
+      let start = at-peek .before .before .before .before .before .before in
+      if-stops (at-peek .peek .ensures) (start .pre .1) (at-guarded .guarded .ensures) (c .match .keys2)
 
-  pub head-requires-2 : lts.Need-head-requires-2 given (if-statement-at t) if-statement.Post
-  head-requires-2 c κs =
+  pub peek-requires-2 : lts.Need-peek-requires-2 given (if-statement-at t) if-statement.Post
+  peek-requires-2 c κs =
       let at-guarded = c .before .before .before .before .before .before .before .before .before in
       let start = at-guarded .before .before .before .before .before .before .before .before .before .before in
       (start .pre .1 .asked .asks .held, at-guarded .guarded .ensures .moved .end)
 
-  pub finish-requires : lts.Need-finish-requires given (if-statement-at t) if-statement.Post
-  finish-requires c κs =
+  pub write-node-requires : lts.Need-write-node-requires given (if-statement-at t) if-statement.Post
+  write-node-requires c κs =
       let at-guarded = c .before .before .before .before .before .before .before .before .before .before .before .before .before in
-      let at-head = at-guarded .before .before .before .before in
-      let start = at-head .before .before .before .before .before .before in
+      let at-peek = at-guarded .before .before .before .before in
+      let start = at-peek .before .before .before .before .before .before in
       room-at (start .pre .1 .asked)
-      (moved-trans (fore-moved (start .pre .1 .asked .asks) (at-head .head .ensures)) (at-guarded .guarded .ensures .moved))
+      (moved-trans (fore-moved (start .pre .1 .asked .asks) (at-peek .peek .ensures)) (at-guarded .guarded .ensures .moved))
       (omega (arith, at-guarded .guarded .kept))
 
   pub same-length-4 : lts.Need-same-length-4 given (if-statement-at t) if-statement.Post
   same-length-4 c =
-      let at-finish = c .before .before in
-      let at-guarded = at-finish .before .before .before .before .before .before .before .before .before .before .before .before .before .before in
-      omega (arith, at-finish .finish .kept, at-guarded .guarded .kept)
+      let at-write-node = c .before .before in
+      let at-guarded = at-write-node .before .before .before .before .before .before .before .before .before .before .before .before .before .before in
+      omega (arith, at-write-node .write-node .kept, at-guarded .guarded .kept)
 
   pub same-length-5 : lts.Need-same-length-5 given (if-statement-at t) if-statement.Post
   same-length-5 c =
-      let at-finish = c .before .before in
-      let at-guarded = at-finish .before .before .before .before .before .before .before .before .before .before .before .before .before .before in
-      omega (arith, at-finish .finish .kept, at-guarded .guarded .kept)
+      let at-write-node = c .before .before in
+      let at-guarded = at-write-node .before .before .before .before .before .before .before .before .before .before .before .before .before .before in
+      omega (arith, at-write-node .write-node .kept, at-guarded .guarded .kept)
 
   pub same-length-6 : lts.Need-same-length-6 given (if-statement-at t) if-statement.Post
   same-length-6 c =
-      let at-finish = c .before .before in
-      let at-guarded = at-finish .before .before .before .before .before .before .before .before .before .before .before .before .before .before in
-      omega (arith, at-finish .finish .kept, at-guarded .guarded .kept)
+      let at-write-node = c .before .before in
+      let at-guarded = at-write-node .before .before .before .before .before .before .before .before .before .before .before .before .before .before in
+      omega (arith, at-write-node .write-node .kept, at-guarded .guarded .kept)
 
   pub returns-2 : lts.Need-returns-2 given (if-statement-at t) if-statement.Post
   returns-2 c =
-      let at-finish = c .before .before in
-      let at-if1 = at-finish .before .before in
-      let at-head2 = at-if1 .before .before in
-      let at-enum-told = at-head2 .before .before in
+      let at-write-node = c .before .before in
+      let at-if1 = at-write-node .before .before in
+      let at-peek2 = at-if1 .before .before in
+      let at-enum-told = at-peek2 .before .before in
       let at-guarded = at-enum-told .before .before .before .before .before .before .before .before in
-      let at-head = at-guarded .before .before .before .before in
-      let start = at-head .before .before .before .before .before .before in
-      if-two (at-head .head .ensures) (start .pre .1) (at-guarded .guarded .ensures)
-      (at-enum-told .enum-told .given .1) (at-head2 .head2 .ensures) (at-if1 .if1 .taken)
-      (at-finish .finish .ensures)
+      let at-peek = at-guarded .before .before .before .before in
+      let start = at-peek .before .before .before .before .before .before in
+      if-two (at-peek .peek .ensures) (start .pre .1) (at-guarded .guarded .ensures)
+      (at-enum-told .enum-told .given .1) (at-peek2 .peek2 .ensures) (at-if1 .if1 .taken)
+      (at-write-node .write-node .ensures)
 
   pub statement-requires : lts.Need-statement-requires given (if-statement-at t) if-statement.Post
   statement-requires c κs =
-      let at-head2 = c .before .before .before .before .before in
-      let at-guarded = at-head2 .before .before .before .before .before .before .before .before .before .before in
-      let at-head = at-guarded .before .before .before .before in
-      let start = at-head .before .before .before .before .before .before in (
+      let at-peek2 = c .before .before .before .before .before in
+      let at-guarded = at-peek2 .before .before .before .before .before .before .before .before .before .before in
+      let at-peek = at-guarded .before .before .before .before in
+      let start = at-peek .before .before .before .before .before .before in (
         omega (
           arith,
           start .pre .0,
           start .pre .1 .kind,
-          at-head .head .ensures .kind,
-          at-head .head .ensures .on,
+          at-peek .peek .ensures .kind,
+          at-peek .peek .ensures .on,
           at-guarded .guarded .ensures .moved .at,
-          at-head2 .head2 .ensures .up,
-          at-head2 .head2 .ensures .end,
+          at-peek2 .peek2 .ensures .up,
+          at-peek2 .peek2 .ensures .end,
         ),
-        later-asked (start .pre .1 .asked) (at-head .head .ensures) (at-guarded .guarded .ensures .moved)
-            (at-head2 .head2 .ensures) (omega (arith, at-guarded .guarded .kept))
+        later-asked (start .pre .1 .asked) (at-peek .peek .ensures) (at-guarded .guarded .ensures .moved)
+            (at-peek2 .peek2 .ensures) (omega (arith, at-guarded .guarded .kept))
             (omega (arith, at-guarded .guarded .kept)) (omega (arith, at-guarded .guarded .kept)),
       )
 
@@ -146,34 +146,34 @@ module _ (t : ℕ) where
   abandon-requires c κs =
       let at-statement = c .before .before .before .before .before .before .before in
       let at-guarded = at-statement .before .before .before .before .before .before .before .before .before .before .before .before .before .before .before .before in
-      let at-head = at-guarded .before .before .before .before in
-      let start = at-head .before .before .before .before .before .before in
+      let at-peek = at-guarded .before .before .before .before in
+      let start = at-peek .before .before .before .before .before .before in
       later-cuts (start .pre .1 .asked)
-      (moved-trans (fore-moved (start .pre .1 .asked .asks) (at-head .head .ensures)) (at-guarded .guarded .ensures .moved))
+      (moved-trans (fore-moved (start .pre .1 .asked .asks) (at-peek .peek .ensures)) (at-guarded .guarded .ensures .moved))
       (at-statement .statement .ensures .moved) refl refl
       (omega (arith, at-statement .statement .kept, at-guarded .guarded .kept))
 
-  pub finish-requires-2 : lts.Need-finish-requires-2 given (if-statement-at t) if-statement.Post
-  finish-requires-2 c κs =
+  pub write-node-requires-2 : lts.Need-write-node-requires-2 given (if-statement-at t) if-statement.Post
+  write-node-requires-2 c κs =
       let at-abandon = c .before .before .before in
       let at-statement = at-abandon .before .before .before .before .before .before .before .before in
-      let at-head2 = at-statement .before .before .before .before .before .before in
-      let at-guarded = at-head2 .before .before .before .before .before .before .before .before .before .before in
-      let at-head = at-guarded .before .before .before .before in
-      let start = at-head .before .before .before .before .before .before in
-      later-room (start .pre .1 .asked) (at-head .head .ensures) (at-guarded .guarded .ensures .moved)
-      (at-head2 .head2 .ensures) (at-statement .statement .ensures .moved) (at-abandon .abandon .ensures)
+      let at-peek2 = at-statement .before .before .before .before .before .before in
+      let at-guarded = at-peek2 .before .before .before .before .before .before .before .before .before .before in
+      let at-peek = at-guarded .before .before .before .before in
+      let start = at-peek .before .before .before .before .before .before in
+      later-room (start .pre .1 .asked) (at-peek .peek .ensures) (at-guarded .guarded .ensures .moved)
+      (at-peek2 .peek2 .ensures) (at-statement .statement .ensures .moved) (at-abandon .abandon .ensures)
       (omega (arith, at-statement .statement .kept, at-guarded .guarded .kept))
 
   pub same-length-7 : lts.Need-same-length-7 given (if-statement-at t) if-statement.Post
   same-length-7 c =
-      let at-finish2 = c .before .before in
-      let at-abandon = at-finish2 .before .before .before .before in
+      let at-write-node2 = c .before .before in
+      let at-abandon = at-write-node2 .before .before .before .before in
       let at-statement = at-abandon .before .before .before .before .before .before .before .before in
       let at-guarded = at-statement .before .before .before .before .before .before .before .before .before .before .before .before .before .before .before .before in
       omega (
         arith,
-        at-finish2 .finish2 .kept,
+        at-write-node2 .write-node2 .kept,
         at-abandon .abandon .kept,
         at-statement .statement .kept,
         at-guarded .guarded .kept,
@@ -181,13 +181,13 @@ module _ (t : ℕ) where
 
   pub same-length-8 : lts.Need-same-length-8 given (if-statement-at t) if-statement.Post
   same-length-8 c =
-      let at-finish2 = c .before .before in
-      let at-abandon = at-finish2 .before .before .before .before in
+      let at-write-node2 = c .before .before in
+      let at-abandon = at-write-node2 .before .before .before .before in
       let at-statement = at-abandon .before .before .before .before .before .before .before .before in
       let at-guarded = at-statement .before .before .before .before .before .before .before .before .before .before .before .before .before .before .before .before in
       omega (
         arith,
-        at-finish2 .finish2 .kept,
+        at-write-node2 .write-node2 .kept,
         at-abandon .abandon .kept,
         at-statement .statement .kept,
         at-guarded .guarded .kept,
@@ -195,13 +195,13 @@ module _ (t : ℕ) where
 
   pub same-length-9 : lts.Need-same-length-9 given (if-statement-at t) if-statement.Post
   same-length-9 c =
-      let at-finish2 = c .before .before in
-      let at-abandon = at-finish2 .before .before .before .before in
+      let at-write-node2 = c .before .before in
+      let at-abandon = at-write-node2 .before .before .before .before in
       let at-statement = at-abandon .before .before .before .before .before .before .before .before in
       let at-guarded = at-statement .before .before .before .before .before .before .before .before .before .before .before .before .before .before .before .before in
       omega (
         arith,
-        at-finish2 .finish2 .kept,
+        at-write-node2 .write-node2 .kept,
         at-abandon .abandon .kept,
         at-statement .statement .kept,
         at-guarded .guarded .kept,
@@ -209,16 +209,16 @@ module _ (t : ℕ) where
 
   pub returns-3 : lts.Need-returns-3 given (if-statement-at t) if-statement.Post
   returns-3 c =
-      let at-finish2 = c .before .before in
-      let at-abandon = at-finish2 .before .before .before .before in
+      let at-write-node2 = c .before .before in
+      let at-abandon = at-write-node2 .before .before .before .before in
       let at-statement = at-abandon .before .before .before .before .before .before .before .before in
       let at-if1 = at-statement .before .before .before .before in
-      let at-head2 = at-if1 .before .before in
-      let at-enum-told = at-head2 .before .before in
+      let at-peek2 = at-if1 .before .before in
+      let at-enum-told = at-peek2 .before .before in
       let at-guarded = at-enum-told .before .before .before .before .before .before .before .before in
-      let at-head = at-guarded .before .before .before .before in
-      let start = at-head .before .before .before .before .before .before in
-      if-three (at-head .head .ensures) (start .pre .1) (at-guarded .guarded .ensures)
-      (at-enum-told .enum-told .given .1) (at-head2 .head2 .ensures) (at-if1 .if1 .left)
+      let at-peek = at-guarded .before .before .before .before in
+      let start = at-peek .before .before .before .before .before .before in
+      if-three (at-peek .peek .ensures) (start .pre .1) (at-guarded .guarded .ensures)
+      (at-enum-told .enum-told .given .1) (at-peek2 .peek2 .ensures) (at-if1 .if1 .left)
       (at-statement .statement .ensures) (omega (arith, at-guarded .guarded .kept))
-      (at-abandon .abandon .ensures) (at-finish2 .finish2 .ensures)
+      (at-abandon .abandon .ensures) (at-write-node2 .write-node2 .ensures)

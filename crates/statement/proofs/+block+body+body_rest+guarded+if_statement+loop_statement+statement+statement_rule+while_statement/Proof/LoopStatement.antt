@@ -7,66 +7,66 @@ use Prim.Native.Nat.{ℕ}
 use Rattle.statement.proofs.+block+body+body_rest+guarded+if_statement+loop_statement+statement+statement_rule+while_statement.Lts-loop_statement as lts
 use Rattle.statement.proofs.loop_statement.Reads as loop-statement
 use Rattle.statement.proofs.statement.Reads as statement′
-use Rattle.steps.proofs.finish.Reads as finish-reads
-use Rattle.steps.proofs.head.Reads as head-reads
+use Rattle.steps.proofs.write_node.Reads as write-node-reads
+use Rattle.steps.proofs.peek.Reads as peek-reads
 use Rattle.statement.proofs.+block+body+body_rest+guarded+if_statement+loop_statement+statement+statement_rule+while_statement.Proof.Falls.{loop-statement-at, statement-below}
 
 module _ (t : ℕ) where
   abbrev pub given : lts.Claims
-  given = (head-reads.Asked, head-reads.Learnt, statement-below t, statement′.Post, finish-reads.Asked, finish-reads.Learnt)
+  given = (peek-reads.Asked, peek-reads.Learnt, statement-below t, statement′.Post, write-node-reads.Asked, write-node-reads.Learnt)
 
-  pub head-requires : lts.Need-head-requires given (loop-statement-at t) loop-statement.Post
-  head-requires c κs =
+  pub peek-requires : lts.Need-peek-requires given (loop-statement-at t) loop-statement.Post
+  peek-requires c κs =
       let start = c .before .before .before .before .before in
       (start .pre .1 .asked .asks .held, start .pre .1 .asked .asks .at)
 
   pub statement-requires : lts.Need-statement-requires given (loop-statement-at t) loop-statement.Post
   statement-requires c κs =
-      let at-head = c .before .before .before in
-      let start = at-head .before .before .before .before .before .before in (
+      let at-peek = c .before .before .before in
+      let start = at-peek .before .before .before .before .before .before in (
         omega (
           arith,
           start .pre .0,
           start .pre .1 .kind,
-          at-head .head .ensures .kind,
-          at-head .head .ensures .on,
-          at-head .head .ensures .end,
+          at-peek .peek .ensures .kind,
+          at-peek .peek .ensures .on,
+          at-peek .peek .ensures .end,
         ),
-        asked-seen (start .pre .1 .asked) (at-head .head .ensures),
+        asked-seen (start .pre .1 .asked) (at-peek .peek .ensures),
       )
 
-  pub finish-requires : lts.Need-finish-requires given (loop-statement-at t) loop-statement.Post
-  finish-requires c κs =
+  pub write-node-requires : lts.Need-write-node-requires given (loop-statement-at t) loop-statement.Post
+  write-node-requires c κs =
       let at-statement = c .before .before .before .before .before .before .before in
-      let at-head = at-statement .before .before .before .before in
-      let start = at-head .before .before .before .before .before .before in
+      let at-peek = at-statement .before .before .before .before in
+      let start = at-peek .before .before .before .before .before .before in
       room-at (start .pre .1 .asked)
-      (moved-trans (fore-moved (start .pre .1 .asked .asks) (at-head .head .ensures)) (at-statement .statement .ensures .moved))
+      (moved-trans (fore-moved (start .pre .1 .asked .asks) (at-peek .peek .ensures)) (at-statement .statement .ensures .moved))
       (omega (arith, at-statement .statement .kept))
 
   pub same-length : lts.Need-same-length given (loop-statement-at t) loop-statement.Post
   same-length c =
-      let at-finish = c .before .before in
-      let at-statement = at-finish .before .before .before .before .before .before .before .before in
-      omega (arith, at-finish .finish .kept, at-statement .statement .kept)
+      let at-write-node = c .before .before in
+      let at-statement = at-write-node .before .before .before .before .before .before .before .before in
+      omega (arith, at-write-node .write-node .kept, at-statement .statement .kept)
 
   pub same-length-2 : lts.Need-same-length-2 given (loop-statement-at t) loop-statement.Post
   same-length-2 c =
-      let at-finish = c .before .before in
-      let at-statement = at-finish .before .before .before .before .before .before .before .before in
-      omega (arith, at-finish .finish .kept, at-statement .statement .kept)
+      let at-write-node = c .before .before in
+      let at-statement = at-write-node .before .before .before .before .before .before .before .before in
+      omega (arith, at-write-node .write-node .kept, at-statement .statement .kept)
 
   pub same-length-3 : lts.Need-same-length-3 given (loop-statement-at t) loop-statement.Post
   same-length-3 c =
-      let at-finish = c .before .before in
-      let at-statement = at-finish .before .before .before .before .before .before .before .before in
-      omega (arith, at-finish .finish .kept, at-statement .statement .kept)
+      let at-write-node = c .before .before in
+      let at-statement = at-write-node .before .before .before .before .before .before .before .before in
+      omega (arith, at-write-node .write-node .kept, at-statement .statement .kept)
 
   pub returns : lts.Need-returns given (loop-statement-at t) loop-statement.Post
   returns c =
-      let at-finish = c .before .before in
-      let at-statement = at-finish .before .before .before .before .before .before .before .before in
-      let at-head = at-statement .before .before .before .before in
-      let start = at-head .before .before .before .before .before .before in
-      loop-reads (at-head .head .ensures) (start .pre .1) (at-statement .statement .ensures)
-      (at-finish .finish .ensures)
+      let at-write-node = c .before .before in
+      let at-statement = at-write-node .before .before .before .before .before .before .before .before in
+      let at-peek = at-statement .before .before .before .before in
+      let start = at-peek .before .before .before .before .before .before in
+      loop-reads (at-peek .peek .ensures) (start .pre .1) (at-statement .statement .ensures)
+      (at-write-node .write-node .ensures)

@@ -16,14 +16,14 @@ use Rattle.statement.proofs.simple.break_statement.Reads as break-state
 use Rattle.statement.proofs.simple.expression_statement.Reads as expression-statement-reads
 use Rattle.statement.proofs.simple.return_statement.Reads as return-statement-reads
 use Rattle.statement.proofs.simple.var_statement.Reads as var-statement-reads
-use Rattle.steps.proofs.head.Reads as head-reads
+use Rattle.steps.proofs.peek.Reads as peek-reads
 use Rattle.statement.proofs.+block+body+body_rest+guarded+if_statement+loop_statement+statement+statement_rule+while_statement.Proof.Falls.{block-below, if-statement-below, loop-statement-below, statement-rule-at, while-statement-below}
 
 module _ (t : ℕ) where
   abbrev pub given : lts.Claims
   given = (
-    head-reads.Asked,
-    head-reads.Learnt,
+    peek-reads.Asked,
+    peek-reads.Learnt,
     return-statement-reads.Asked,
     return-statement-reads.Learnt,
     var-statement-reads.Asked,
@@ -48,17 +48,17 @@ module _ (t : ℕ) where
     expression-statement-reads.Learnt,
   )
 
-  pub head-requires : lts.Need-head-requires given (statement-rule-at t) statement-rule.Post
-  head-requires c κs =
+  pub peek-requires : lts.Need-peek-requires given (statement-rule-at t) statement-rule.Post
+  peek-requires c κs =
       let start = c .before .before .before .before .before in
       (start .pre .1 .asks .held, start .pre .1 .asks .at)
 
   pub return-statement-requires : lts.Need-return-statement-requires given (statement-rule-at t) statement-rule.Post
   return-statement-requires c κs =
       let at-if1 = c .before .before .before in
-      let at-head = at-if1 .before .before in
-      let start = at-head .before .before .before .before .before .before in
-      begins (start .pre .1) (at-head .head .ensures) (at-if1 .if1 .taken)
+      let at-peek = at-if1 .before .before in
+      let start = at-peek .before .before .before .before .before .before in
+      begins (start .pre .1) (at-peek .peek .ensures) (at-if1 .if1 .taken)
 
   pub same-length : lts.Need-same-length given (statement-rule-at t) statement-rule.Post
   same-length c =
@@ -83,9 +83,9 @@ module _ (t : ℕ) where
   pub var-statement-requires : lts.Need-var-statement-requires given (statement-rule-at t) statement-rule.Post
   var-statement-requires c κs =
       let at-if2 = c .before .before .before in
-      let at-head = at-if2 .before .before .before .before in
-      let start = at-head .before .before .before .before .before .before in
-      begins (start .pre .1) (at-head .head .ensures) (at-if2 .if2 .taken)
+      let at-peek = at-if2 .before .before .before .before in
+      let start = at-peek .before .before .before .before .before .before in
+      begins (start .pre .1) (at-peek .peek .ensures) (at-if2 .if2 .taken)
 
   pub same-length-4 : lts.Need-same-length-4 given (statement-rule-at t) statement-rule.Post
   same-length-4 c =
@@ -110,9 +110,9 @@ module _ (t : ℕ) where
   pub block-requires : lts.Need-block-requires given (statement-rule-at t) statement-rule.Post
   block-requires c κs =
       let at-if3 = c .before .before .before in
-      let at-head = at-if3 .before .before .before .before .before .before in
-      let start = at-head .before .before .before .before .before .before in
-      (omega (arith, start .pre .0), begins (start .pre .1) (at-head .head .ensures) (at-if3 .if3 .taken))
+      let at-peek = at-if3 .before .before .before .before .before .before in
+      let start = at-peek .before .before .before .before .before .before in
+      (omega (arith, start .pre .0), begins (start .pre .1) (at-peek .peek .ensures) (at-if3 .if3 .taken))
 
   pub same-length-7 : lts.Need-same-length-7 given (statement-rule-at t) statement-rule.Post
   same-length-7 c =
@@ -137,9 +137,9 @@ module _ (t : ℕ) where
   pub loop-statement-requires : lts.Need-loop-statement-requires given (statement-rule-at t) statement-rule.Post
   loop-statement-requires c κs =
       let at-if4 = c .before .before .before in
-      let at-head = at-if4 .before .before .before .before .before .before .before .before in
-      let start = at-head .before .before .before .before .before .before in
-      (omega (arith, start .pre .0), begins (start .pre .1) (at-head .head .ensures) (at-if4 .if4 .taken))
+      let at-peek = at-if4 .before .before .before .before .before .before .before .before in
+      let start = at-peek .before .before .before .before .before .before in
+      (omega (arith, start .pre .0), begins (start .pre .1) (at-peek .peek .ensures) (at-if4 .if4 .taken))
 
   pub same-length-10 : lts.Need-same-length-10 given (statement-rule-at t) statement-rule.Post
   same-length-10 c =
@@ -164,9 +164,9 @@ module _ (t : ℕ) where
   pub while-statement-requires : lts.Need-while-statement-requires given (statement-rule-at t) statement-rule.Post
   while-statement-requires c κs =
       let at-if5 = c .before .before .before in
-      let at-head = at-if5 .before .before .before .before .before .before .before .before .before .before in
-      let start = at-head .before .before .before .before .before .before in
-      (omega (arith, start .pre .0), begins (start .pre .1) (at-head .head .ensures) (at-if5 .if5 .taken))
+      let at-peek = at-if5 .before .before .before .before .before .before .before .before .before .before in
+      let start = at-peek .before .before .before .before .before .before in
+      (omega (arith, start .pre .0), begins (start .pre .1) (at-peek .peek .ensures) (at-if5 .if5 .taken))
 
   pub same-length-13 : lts.Need-same-length-13 given (statement-rule-at t) statement-rule.Post
   same-length-13 c =
@@ -191,9 +191,9 @@ module _ (t : ℕ) where
   pub break-statement-requires : lts.Need-break-statement-requires given (statement-rule-at t) statement-rule.Post
   break-statement-requires c κs =
       let at-if6 = c .before .before .before in
-      let at-head = at-if6 .before .before .before .before .before .before .before .before .before .before .before .before in
-      let start = at-head .before .before .before .before .before .before in
-      begins (start .pre .1) (at-head .head .ensures) (at-if6 .if6 .taken)
+      let at-peek = at-if6 .before .before .before .before .before .before .before .before .before .before .before .before in
+      let start = at-peek .before .before .before .before .before .before in
+      begins (start .pre .1) (at-peek .peek .ensures) (at-if6 .if6 .taken)
 
   pub same-length-16 : lts.Need-same-length-16 given (statement-rule-at t) statement-rule.Post
   same-length-16 c =
@@ -218,9 +218,9 @@ module _ (t : ℕ) where
   pub if-statement-requires : lts.Need-if-statement-requires given (statement-rule-at t) statement-rule.Post
   if-statement-requires c κs =
       let at-if7 = c .before .before .before in
-      let at-head = at-if7 .before .before .before .before .before .before .before .before .before .before .before .before .before .before in
-      let start = at-head .before .before .before .before .before .before in
-      (omega (arith, start .pre .0), begins (start .pre .1) (at-head .head .ensures) (at-if7 .if7 .taken))
+      let at-peek = at-if7 .before .before .before .before .before .before .before .before .before .before .before .before .before .before in
+      let start = at-peek .before .before .before .before .before .before in
+      (omega (arith, start .pre .0), begins (start .pre .1) (at-peek .peek .ensures) (at-if7 .if7 .taken))
 
   pub same-length-19 : lts.Need-same-length-19 given (statement-rule-at t) statement-rule.Post
   same-length-19 c =
@@ -245,9 +245,9 @@ module _ (t : ℕ) where
   pub assembly-statement-requires : lts.Need-assembly-statement-requires given (statement-rule-at t) statement-rule.Post
   assembly-statement-requires c κs =
       let at-if8 = c .before .before .before in
-      let at-head = at-if8 .before .before .before .before .before .before .before .before .before .before .before .before .before .before .before .before in
-      let start = at-head .before .before .before .before .before .before in
-      begins (start .pre .1) (at-head .head .ensures) (at-if8 .if8 .taken)
+      let at-peek = at-if8 .before .before .before .before .before .before .before .before .before .before .before .before .before .before .before .before in
+      let start = at-peek .before .before .before .before .before .before in
+      begins (start .pre .1) (at-peek .peek .ensures) (at-if8 .if8 .taken)
 
   pub same-length-22 : lts.Need-same-length-22 given (statement-rule-at t) statement-rule.Post
   same-length-22 c =
@@ -300,9 +300,9 @@ module _ (t : ℕ) where
       let at-if3 = at-if4 .before .before in
       let at-if2 = at-if3 .before .before in
       let at-if1 = at-if2 .before .before in
-      let at-head = at-if1 .before .before in
-      let start = at-head .before .before .before .before .before .before in
-      end-reads (at-head .head .ensures) (at-if1 .if1 .left) (at-if2 .if2 .left) (at-if3 .if3 .left)
+      let at-peek = at-if1 .before .before in
+      let start = at-peek .before .before .before .before .before .before in
+      end-reads (at-peek .peek .ensures) (at-if1 .if1 .left) (at-if2 .if2 .left) (at-if3 .if3 .left)
       (at-if4 .if4 .left) (at-if5 .if5 .left) (at-if6 .if6 .left) (at-if7 .if7 .left) (at-if8 .if8 .left)
       (start .pre .1) (at-if9 .if9 .taken) (at-entry .entry .ensures) (at-raise .raise .ensures)
 
@@ -338,7 +338,7 @@ module _ (t : ℕ) where
       let at-if3 = at-if4 .before .before in
       let at-if2 = at-if3 .before .before in
       let at-if1 = at-if2 .before .before in
-      let at-head = at-if1 .before .before in
-      other-reads (at-head .head .ensures) (at-if1 .if1 .left) (at-if2 .if2 .left) (at-if3 .if3 .left)
+      let at-peek = at-if1 .before .before in
+      other-reads (at-peek .peek .ensures) (at-if1 .if1 .left) (at-if2 .if2 .left) (at-if3 .if3 .left)
       (at-if4 .if4 .left) (at-if5 .if5 .left) (at-if6 .if6 .left) (at-if7 .if7 .left) (at-if8 .if8 .left)
       (at-if9 .if9 .left) (at-expression-statement .expression-statement .ensures)

@@ -29,8 +29,8 @@ returns c =
     let at-expect = c .before .before .before .before .before in
     compound-stops (at-expect .expect .ensures) (c .match .keys2)
 
-head-requires : tie.Need-head-requires
-head-requires c κs =
+peek-requires : tie.Need-peek-requires
+peek-requires c κs =
     let at-expect = c .before .before .before .before .before .before .before in
     let start = at-expect .before .before .before .before .before .before .before .before in
     (start .pre .asks .held, at-expect .expect .ensures .moved .end)
@@ -61,11 +61,11 @@ returns-2 c =
     let at-raise = c .before .before .before .before in
     let at-entry = at-raise .before .before .before in
     let at-if1 = at-entry .before in
-    let at-head = at-if1 .before .before in
-    let at-enum-told = at-head .before .before in
+    let at-peek = at-if1 .before .before in
+    let at-enum-told = at-peek .before .before in
     let at-expect = at-enum-told .before .before .before .before .before .before in
     let start = at-expect .before .before .before .before .before .before .before .before in
-    compound-end (at-expect .expect .ensures) (at-enum-told .enum-told .given .1) (at-head .head .ensures)
+    compound-end (at-expect .expect .ensures) (at-enum-told .enum-told .given .1) (at-peek .peek .ensures)
     (asks-moved (start .pre .asks) (at-expect .expect .ensures .moved) (omega (arith, at-expect .expect .kept))
     (omega (arith, at-expect .expect .kept)))
     (at-raise .raise .ensures) (at-if1 .if1 .taken) (at-entry .entry .ensures)
@@ -73,13 +73,13 @@ returns-2 c =
 values-requires : tie.Need-values-requires
 values-requires c κs =
     let at-if2 = c .before .before .before in
-    let at-head = at-if2 .before .before .before .before in
-    let at-expect = at-head .before .before .before .before .before .before .before .before in
+    let at-peek = at-if2 .before .before .before .before in
+    let at-expect = at-peek .before .before .before .before .before .before .before .before in
     let start = at-expect .before .before .before .before .before .before .before .before in
     record {
       asked = asked-moved (start .pre) (at-expect .expect .ensures .moved) refl
           (omega (arith, at-expect .expect .kept)) (omega (arith, at-expect .expect .kept));
-      kind = at-head .head .ensures .kind ∙ at-if2 .if2 .taken;
+      kind = at-peek .peek .ensures .kind ∙ at-if2 .if2 .taken;
     }
 
 same-length-5 : tie.Need-same-length-5
@@ -104,22 +104,22 @@ returns-3 : tie.Need-returns-3
 returns-3 c =
     let at-values = c .before .before .before .before .before .before in
     let at-if2 = at-values .before .before .before .before in
-    let at-head = at-if2 .before .before .before .before in
-    let at-enum-told = at-head .before .before in
+    let at-peek = at-if2 .before .before .before .before in
+    let at-enum-told = at-peek .before .before in
     let at-expect = at-enum-told .before .before .before .before .before .before in
-    compound-array (at-expect .expect .ensures) (at-enum-told .enum-told .given .1) (at-head .head .ensures)
+    compound-array (at-expect .expect .ensures) (at-enum-told .enum-told .given .1) (at-peek .peek .ensures)
     (at-if2 .if2 .taken) (at-values .values .ensures)
 
 values-requires-2 : tie.Need-values-requires-2
 values-requires-2 c κs =
     let at-if3 = c .before .before .before in
-    let at-head = at-if3 .before .before .before .before .before .before in
-    let at-expect = at-head .before .before .before .before .before .before .before .before in
+    let at-peek = at-if3 .before .before .before .before .before .before in
+    let at-expect = at-peek .before .before .before .before .before .before .before .before in
     let start = at-expect .before .before .before .before .before .before .before .before in
     record {
       asked = asked-moved (start .pre) (at-expect .expect .ensures .moved) refl
           (omega (arith, at-expect .expect .kept)) (omega (arith, at-expect .expect .kept));
-      kind = at-head .head .ensures .kind ∙ at-if3 .if3 .taken;
+      kind = at-peek .peek .ensures .kind ∙ at-if3 .if3 .taken;
     }
 
 same-length-8 : tie.Need-same-length-8
@@ -144,16 +144,16 @@ returns-4 : tie.Need-returns-4
 returns-4 c =
     let at-values2 = c .before .before .before .before .before .before in
     let at-if3 = at-values2 .before .before .before .before in
-    let at-head = at-if3 .before .before .before .before .before .before in
-    let at-enum-told = at-head .before .before in
+    let at-peek = at-if3 .before .before .before .before .before .before in
+    let at-enum-told = at-peek .before .before in
     let at-expect = at-enum-told .before .before .before .before .before .before in
     compound-struct (at-expect .expect .ensures) (at-enum-told .enum-told .given .1)
-    (at-head .head .ensures) (at-if3 .if3 .taken) (at-values2 .values2 .ensures)
+    (at-peek .peek .ensures) (at-if3 .if3 .taken) (at-values2 .values2 .ensures)
 
 entry-requires-2 : tie.Need-entry-requires-2
 entry-requires-2 c κs =
-    let at-head = c .before .before .before .before .before .before in
-    omega (arith, at-head .head .ensures)
+    let at-peek = c .before .before .before .before .before .before in
+    omega (arith, at-peek .peek .ensures)
 
 raise-requires-2 : tie.Need-raise-requires-2
 raise-requires-2 c κs =
@@ -180,11 +180,11 @@ returns-5 c =
     let at-if3 = at-entry2 .before in
     let at-if2 = at-if3 .before .before in
     let at-if1 = at-if2 .before .before in
-    let at-head = at-if1 .before .before in
-    let at-enum-told = at-head .before .before in
+    let at-peek = at-if1 .before .before in
+    let at-enum-told = at-peek .before .before in
     let at-expect = at-enum-told .before .before .before .before .before .before in
     let start = at-expect .before .before .before .before .before .before .before .before in
-    compound-other (at-expect .expect .ensures) (at-enum-told .enum-told .given .1) (at-head .head .ensures)
+    compound-other (at-expect .expect .ensures) (at-enum-told .enum-told .given .1) (at-peek .peek .ensures)
     (asks-moved (start .pre .asks) (at-expect .expect .ensures .moved) (omega (arith, at-expect .expect .kept))
     (omega (arith, at-expect .expect .kept)))
     (at-raise2 .raise2 .ensures) (at-if1 .if1 .left) (at-if2 .if2 .left) (at-if3 .if3 .left)
@@ -199,7 +199,7 @@ compound-spec =
     same-length
     same-length-2
     returns
-    head-requires
+    peek-requires
     entry-requires
     raise-requires
     same-length-3

@@ -14,32 +14,32 @@ returns c =
     let start = c .before .before .before .before .before .before in
     value-stops (start .pre) (c .match .keys2)
 
-head-requires : tie.Need-head-requires
-head-requires c κs =
+peek-requires : tie.Need-peek-requires
+peek-requires c κs =
     let start = c .before .before .before .before .before .before .before .before in
     (start .pre .asked .asks .held, (start .pre) .asked .asks .at)
 
 expression-requires : tie.Need-expression-requires
 expression-requires c κs =
-    let at-head = c .before .before .before .before .before in
-    let start = at-head .before .before .before .before .before .before .before .before .before in
-    asked-seen (start .pre .asked) (at-head .head .ensures)
+    let at-peek = c .before .before .before .before .before in
+    let start = at-peek .before .before .before .before .before .before .before .before .before in
+    asked-seen (start .pre .asked) (at-peek .peek .ensures)
 
 abandon-requires : tie.Need-abandon-requires
 abandon-requires c κs =
     let at-expression = c .before .before .before .before .before .before .before in
-    let at-head = at-expression .before .before .before .before .before .before in
-    let start = at-head .before .before .before .before .before .before .before .before .before in
-    join-cuts (start .pre) (at-head .head .ensures) (at-expression .expression .ensures)
+    let at-peek = at-expression .before .before .before .before .before .before in
+    let start = at-peek .before .before .before .before .before .before .before .before .before in
+    join-cuts (start .pre) (at-peek .peek .ensures) (at-expression .expression .ensures)
     (omega (arith, at-expression .expression .kept))
 
 bare-requires : tie.Need-bare-requires
 bare-requires c κs =
     let at-abandon = c .before .before .before in
     let at-expression = at-abandon .before .before .before .before .before .before .before .before in
-    let at-head = at-expression .before .before .before .before .before .before in
-    let start = at-head .before .before .before .before .before .before .before .before .before in
-    join-room (start .pre) (at-head .head .ensures) (at-expression .expression .ensures)
+    let at-peek = at-expression .before .before .before .before .before .before in
+    let start = at-peek .before .before .before .before .before .before .before .before .before in
+    join-room (start .pre) (at-peek .peek .ensures) (at-expression .expression .ensures)
     (at-abandon .abandon .ensures) (omega (arith, at-expression .expression .kept))
 
 same-length : tie.Need-same-length
@@ -69,34 +69,34 @@ returns-2 c =
     let at-abandon = at-bare .before .before .before .before in
     let at-expression = at-abandon .before .before .before .before .before .before .before .before in
     let at-if1 = at-expression .before .before .before .before in
-    let at-head = at-if1 .before .before in
-    let at-enum-told = at-head .before .before in
+    let at-peek = at-if1 .before .before in
+    let at-enum-told = at-peek .before .before in
     let start = at-enum-told .before .before .before .before .before .before .before in
-    value-assigned (start .pre) (at-enum-told .enum-told .given .1) (at-head .head .ensures)
+    value-assigned (start .pre) (at-enum-told .enum-told .given .1) (at-peek .peek .ensures)
     (at-if1 .if1 .taken) (at-expression .expression .ensures) (at-abandon .abandon .ensures)
     (at-bare .bare .ensures)
 
 compound-requires : tie.Need-compound-requires
 compound-requires c κs =
-    let at-head = c .before .before .before .before .before .before .before in
-    let start = at-head .before .before .before .before .before .before .before .before .before in
-    asked-seen (start .pre .asked) (at-head .head .ensures)
+    let at-peek = c .before .before .before .before .before .before .before in
+    let start = at-peek .before .before .before .before .before .before .before .before .before in
+    asked-seen (start .pre .asked) (at-peek .peek .ensures)
 
 abandon-requires-2 : tie.Need-abandon-requires-2
 abandon-requires-2 c κs =
     let at-compound = c .before .before .before .before .before .before .before in
-    let at-head = at-compound .before .before .before .before .before .before .before .before in
-    let start = at-head .before .before .before .before .before .before .before .before .before in
-    join-cuts (start .pre) (at-head .head .ensures) (at-compound .compound .ensures)
+    let at-peek = at-compound .before .before .before .before .before .before .before .before in
+    let start = at-peek .before .before .before .before .before .before .before .before .before in
+    join-cuts (start .pre) (at-peek .peek .ensures) (at-compound .compound .ensures)
     (omega (arith, at-compound .compound .kept))
 
 bare-requires-2 : tie.Need-bare-requires-2
 bare-requires-2 c κs =
     let at-abandon2 = c .before .before .before in
     let at-compound = at-abandon2 .before .before .before .before .before .before .before .before in
-    let at-head = at-compound .before .before .before .before .before .before .before .before in
-    let start = at-head .before .before .before .before .before .before .before .before .before in
-    join-room (start .pre) (at-head .head .ensures) (at-compound .compound .ensures)
+    let at-peek = at-compound .before .before .before .before .before .before .before .before in
+    let start = at-peek .before .before .before .before .before .before .before .before .before in
+    join-room (start .pre) (at-peek .peek .ensures) (at-compound .compound .ensures)
     (at-abandon2 .abandon2 .ensures) (omega (arith, at-compound .compound .kept))
 
 same-length-4 : tie.Need-same-length-4
@@ -126,10 +126,10 @@ returns-3 c =
     let at-abandon2 = at-bare2 .before .before .before .before in
     let at-compound = at-abandon2 .before .before .before .before .before .before .before .before in
     let at-if2 = at-compound .before .before .before .before in
-    let at-head = at-if2 .before .before .before .before in
-    let at-enum-told = at-head .before .before in
+    let at-peek = at-if2 .before .before .before .before in
+    let at-enum-told = at-peek .before .before in
     let start = at-enum-told .before .before .before .before .before .before .before in
-    value-compound (start .pre) (at-enum-told .enum-told .given .1) (at-head .head .ensures)
+    value-compound (start .pre) (at-enum-told .enum-told .given .1) (at-peek .peek .ensures)
     (at-if2 .if2 .taken) (at-compound .compound .ensures) (at-abandon2 .abandon2 .ensures)
     (at-bare2 .bare2 .ensures)
 
@@ -148,10 +148,10 @@ returns-4 c =
     let at-bare3 = c .before .before in
     let at-if2 = at-bare3 .before .before in
     let at-if1 = at-if2 .before .before in
-    let at-head = at-if1 .before .before in
-    let at-enum-told = at-head .before .before in
+    let at-peek = at-if1 .before .before in
+    let at-enum-told = at-peek .before .before in
     let start = at-enum-told .before .before .before .before .before .before .before in
-    value-none (start .pre) (at-enum-told .enum-told .given .1) (at-head .head .ensures) (at-if1 .if1 .left)
+    value-none (start .pre) (at-enum-told .enum-told .given .1) (at-peek .peek .ensures) (at-if1 .if1 .left)
     (at-if2 .if2 .left) (at-bare3 .bare3 .ensures)
 
 pub initial-value-spec : {M : Type 1} → statement M
@@ -160,7 +160,7 @@ initial-value-spec =
     (tie.spec
     enum-told
     returns
-    head-requires
+    peek-requires
     expression-requires
     abandon-requires
     bare-requires

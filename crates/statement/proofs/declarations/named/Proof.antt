@@ -11,54 +11,54 @@ enum-told c = search needs
 returns : tie.Need-returns
 returns c = named-stops (c .match .keys2)
 
-head-requires : tie.Need-head-requires
-head-requires c κs =
+peek-requires : tie.Need-peek-requires
+peek-requires c κs =
     let start = c .before .before .before .before .before in
     (start .pre .held, (start .pre) .within)
 
-finish-text-requires : tie.Need-finish-text-requires
-finish-text-requires c κs =
-    let at-head = c .before .before .before in
-    let at-enum-told = at-head .before in
+write-text-node-requires : tie.Need-write-text-node-requires
+write-text-node-requires c κs =
+    let at-peek = c .before .before .before in
+    let at-enum-told = at-peek .before in
     let start = at-enum-told .before .before .before .before .before in
-    bare-room (start .pre) (at-enum-told .enum-told .given .1) (at-head .head .ensures)
+    bare-room (start .pre) (at-enum-told .enum-told .given .1) (at-peek .peek .ensures)
 
 same-length : tie.Need-same-length
 same-length c =
-    let at-finish-text = c .before .before in
-    omega (arith, at-finish-text .finish-text .kept)
+    let at-write-text-node = c .before .before in
+    omega (arith, at-write-text-node .write-text-node .kept)
 
 returns-2 : tie.Need-returns-2
 returns-2 c =
-    let at-finish-text = c .before .before in
-    let at-if1 = at-finish-text .before .before in
-    let at-head = at-if1 .before .before in
-    let at-enum-told = at-head .before in
-    named-there (at-enum-told .enum-told .given .1) (at-head .head .ensures) (at-if1 .if1 .taken)
-    (at-finish-text .finish-text .ensures)
+    let at-write-text-node = c .before .before in
+    let at-if1 = at-write-text-node .before .before in
+    let at-peek = at-if1 .before .before in
+    let at-enum-told = at-peek .before in
+    named-there (at-enum-told .enum-told .given .1) (at-peek .peek .ensures) (at-if1 .if1 .taken)
+    (at-write-text-node .write-text-node .ensures)
 
-slice-aggregate-finish-text : tie.Need-slice-aggregate-finish-text
-slice-aggregate-finish-text c = search needs
+slice-aggregate-write-text-node : tie.Need-slice-aggregate-write-text-node
+slice-aggregate-write-text-node c = search needs
 
-finish-text-requires-2 : tie.Need-finish-text-requires-2
-finish-text-requires-2 c κs =
+write-text-node-requires-2 : tie.Need-write-text-node-requires-2
+write-text-node-requires-2 c κs =
     let at-enum-told = c .before .before .before .before .before in
     let start = at-enum-told .before .before .before .before .before in
     unknown-room (start .pre) (at-enum-told .enum-told .given .1)
 
 same-length-2 : tie.Need-same-length-2
 same-length-2 c =
-    let at-finish-text2 = c .before .before in
-    omega (arith, at-finish-text2 .finish-text2 .kept)
+    let at-write-text-node2 = c .before .before in
+    omega (arith, at-write-text-node2 .write-text-node2 .kept)
 
 returns-3 : tie.Need-returns-3
 returns-3 c =
-    let at-finish-text2 = c .before .before in
-    let at-if1 = at-finish-text2 .before .before .before in
-    let at-head = at-if1 .before .before in
-    let at-enum-told = at-head .before in
-    named-none (at-enum-told .enum-told .given .1) (at-head .head .ensures) (at-if1 .if1 .left)
-    (at-finish-text2 .finish-text2 .ensures)
+    let at-write-text-node2 = c .before .before in
+    let at-if1 = at-write-text-node2 .before .before .before in
+    let at-peek = at-if1 .before .before in
+    let at-enum-told = at-peek .before in
+    named-none (at-enum-told .enum-told .given .1) (at-peek .peek .ensures) (at-if1 .if1 .left)
+    (at-write-text-node2 .write-text-node2 .ensures)
 
 pub named-spec : {M : Type 1} → statement M
 named-spec =
@@ -66,11 +66,11 @@ named-spec =
     (tie.spec
     enum-told
     returns
-    head-requires
-    finish-text-requires
+    peek-requires
+    write-text-node-requires
     same-length
     returns-2
-    slice-aggregate-finish-text
-    finish-text-requires-2
+    slice-aggregate-write-text-node
+    write-text-node-requires-2
     same-length-2
     returns-3)

@@ -5,17 +5,17 @@ use native.Mathlib.Omega.{arith}
 use Rattle.statement.proofs.simple.after_expression.Statement.{statement}
 use Rattle.statement.proofs.simple.after_expression.Tie as tie
 
-head-requires : tie.Need-head-requires
-head-requires c κs =
+peek-requires : tie.Need-peek-requires
+peek-requires c κs =
     let start = c .before .before .before .before .before in
     (start .pre .0 .asks .held, (start .pre) .0 .asks .at)
 
 assignment-requires : tie.Need-assignment-requires
 assignment-requires c κs =
     let at-if1 = c .before .before .before in
-    let at-head = at-if1 .before .before in
-    let start = at-head .before .before .before .before .before .before in
-    (begins (start .pre .0) (at-head .head .ensures) (at-if1 .if1 .taken), (start .pre) .1)
+    let at-peek = at-if1 .before .before in
+    let start = at-peek .before .before .before .before .before .before in
+    (begins (start .pre .0) (at-peek .peek .ensures) (at-if1 .if1 .taken), (start .pre) .1)
 
 same-length : tie.Need-same-length
 same-length c =
@@ -40,9 +40,9 @@ returns c =
 compound-assignment-requires : tie.Need-compound-assignment-requires
 compound-assignment-requires c κs =
     let at-if2 = c .before .before .before in
-    let at-head = at-if2 .before .before .before .before in
-    let start = at-head .before .before .before .before .before .before in
-    (begins (start .pre .0) (at-head .head .ensures) (at-if2 .if2 .taken), (start .pre) .1)
+    let at-peek = at-if2 .before .before .before .before in
+    let start = at-peek .before .before .before .before .before .before in
+    (begins (start .pre .0) (at-peek .peek .ensures) (at-if2 .if2 .taken), (start .pre) .1)
 
 same-length-4 : tie.Need-same-length-4
 same-length-4 c =
@@ -71,46 +71,46 @@ and-expect-requires c κs =
       (omega arith, omega arith),
     )
 
-finish-requires : tie.Need-finish-requires
-finish-requires c κs =
+write-node-requires : tie.Need-write-node-requires
+write-node-requires c κs =
     let at-and-expect = c .before .before .before .before .before in
     let start = at-and-expect .before .before .before .before .before .before .before .before .before .before .before .before .before in
     record { room = omega (arith, (start .pre) .0 .room, at-and-expect .and-expect .ensures .high); part = omega arith }
 
 same-length-7 : tie.Need-same-length-7
 same-length-7 c =
-    let at-finish = c .before .before in
-    let at-and-expect = at-finish .before .before .before .before .before .before in
-    omega (arith, at-finish .finish .kept, at-and-expect .and-expect .kept)
+    let at-write-node = c .before .before in
+    let at-and-expect = at-write-node .before .before .before .before .before .before in
+    omega (arith, at-write-node .write-node .kept, at-and-expect .and-expect .kept)
 
 same-length-8 : tie.Need-same-length-8
 same-length-8 c =
-    let at-finish = c .before .before in
-    let at-and-expect = at-finish .before .before .before .before .before .before in
-    omega (arith, at-finish .finish .kept, at-and-expect .and-expect .kept)
+    let at-write-node = c .before .before in
+    let at-and-expect = at-write-node .before .before .before .before .before .before in
+    omega (arith, at-write-node .write-node .kept, at-and-expect .and-expect .kept)
 
 same-length-9 : tie.Need-same-length-9
 same-length-9 c =
-    let at-finish = c .before .before in
-    let at-and-expect = at-finish .before .before .before .before .before .before in
-    omega (arith, at-finish .finish .kept, at-and-expect .and-expect .kept)
+    let at-write-node = c .before .before in
+    let at-and-expect = at-write-node .before .before .before .before .before .before in
+    omega (arith, at-write-node .write-node .kept, at-and-expect .and-expect .kept)
 
 returns-3 : tie.Need-returns-3
 returns-3 c =
-    let at-finish = c .before .before in
-    let at-and-expect = at-finish .before .before .before .before .before .before in
+    let at-write-node = c .before .before in
+    let at-and-expect = at-write-node .before .before .before .before .before .before in
     let at-if2 = at-and-expect .before .before .before in
     let at-if1 = at-if2 .before .before in
-    let at-head = at-if1 .before .before in
-    let start = at-head .before .before .before .before .before .before in
-    expression-behind (start .pre .0) (start .pre .1) (at-head .head .ensures) refl (at-if1 .if1 .left)
-    (at-if2 .if2 .left) (at-and-expect .and-expect .ensures) (at-finish .finish .ensures)
+    let at-peek = at-if1 .before .before in
+    let start = at-peek .before .before .before .before .before .before in
+    expression-behind (start .pre .0) (start .pre .1) (at-peek .peek .ensures) refl (at-if1 .if1 .left)
+    (at-if2 .if2 .left) (at-and-expect .and-expect .ensures) (at-write-node .write-node .ensures)
 
 pub after-expression-spec : {M : Type 1} → statement M
 after-expression-spec =
     tie.close
     (tie.spec
-    head-requires
+    peek-requires
     assignment-requires
     same-length
     same-length-2
@@ -122,7 +122,7 @@ after-expression-spec =
     same-length-6
     returns-2
     and-expect-requires
-    finish-requires
+    write-node-requires
     same-length-7
     same-length-8
     same-length-9

@@ -3,32 +3,32 @@ use native.Mathlib.Omega.{arith}
 use Rattle.statement.proofs.simple.assembly_statement.Statement.{statement}
 use Rattle.statement.proofs.simple.assembly_statement.Tie as tie
 
-head-requires : tie.Need-head-requires
-head-requires c κs =
+peek-requires : tie.Need-peek-requires
+peek-requires c κs =
     let start = c .before .before .before .before .before in
     (start .pre .asked .asks .held, (start .pre) .asked .asks .at)
 
-finish-text-requires : tie.Need-finish-text-requires
-finish-text-requires c κs =
+write-text-node-requires : tie.Need-write-text-node-requires
+write-text-node-requires c κs =
     let start = c .before .before .before .before .before .before .before in
-    record { room = omega (arith, (start .pre) .asked .room, c .before .head .ensures .pays); part = c .before .head .ensures .part }
+    record { room = omega (arith, (start .pre) .asked .room, c .before .peek .ensures .pays); part = c .before .peek .ensures .part }
 
 same-length : tie.Need-same-length
 same-length c =
-    let at-finish-text = c .before .before in
-    omega (arith, at-finish-text .finish-text .kept)
+    let at-write-text-node = c .before .before in
+    omega (arith, at-write-text-node .write-text-node .kept)
 
 returns : tie.Need-returns
 returns c =
-    let at-finish-text = c .before .before in
-    let at-head = at-finish-text .before .before in
-    let start = at-head .before .before .before .before .before .before in
-    λ d. assembly-reads (at-head .head .ensures) (start .pre) (at-finish-text .finish-text .ensures)
+    let at-write-text-node = c .before .before in
+    let at-peek = at-write-text-node .before .before in
+    let start = at-peek .before .before .before .before .before .before in
+    λ d. assembly-reads (at-peek .peek .ensures) (start .pre) (at-write-text-node .write-text-node .ensures)
 
 pub assembly-statement-spec : {M : Type 1} → statement M
 assembly-statement-spec =
     tie.close (tie.spec
-    head-requires
-    finish-text-requires
+    peek-requires
+    write-text-node-requires
     same-length
     returns)

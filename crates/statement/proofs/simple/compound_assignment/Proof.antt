@@ -5,58 +5,58 @@ use native.Mathlib.Omega.{arith}
 use Rattle.statement.proofs.simple.compound_assignment.Statement.{statement}
 use Rattle.statement.proofs.simple.compound_assignment.Tie as tie
 
-head-requires : tie.Need-head-requires
-head-requires c κs =
+peek-requires : tie.Need-peek-requires
+peek-requires c κs =
     let start = c .before .before .before .before .before in
     (start .pre .0 .asked .asks .held, (start .pre) .0 .asked .asks .at)
 
 compound-requires : tie.Need-compound-requires
 compound-requires c κs =
-    let at-head = c .before .before .before in
-    let start = at-head .before .before .before .before .before .before in
-    asked-seen (start .pre .0 .asked) (at-head .head .ensures)
+    let at-peek = c .before .before .before in
+    let start = at-peek .before .before .before .before .before .before in
+    asked-seen (start .pre .0 .asked) (at-peek .peek .ensures)
 
 abandon-requires : tie.Need-abandon-requires
 abandon-requires c κs =
     let at-compound = c .before .before .before .before .before .before .before in
-    let at-head = at-compound .before .before .before .before in
-    let start = at-head .before .before .before .before .before .before in
-    assigned-cuts (start .pre .0 .asked) (start .pre .1) (at-head .head .ensures)
+    let at-peek = at-compound .before .before .before .before in
+    let start = at-peek .before .before .before .before .before .before in
+    assigned-cuts (start .pre .0 .asked) (start .pre .1) (at-peek .peek .ensures)
     (at-compound .compound .ensures) (omega (arith, at-compound .compound .kept))
 
 and-expect-requires : tie.Need-and-expect-requires
 and-expect-requires c κs =
     let at-abandon = c .before .before .before .before in
     let at-compound = at-abandon .before .before .before .before .before .before .before .before in
-    let at-head = at-compound .before .before .before .before in
-    let start = at-head .before .before .before .before .before .before in (
-      assigned-asks (start .pre .0 .asked) (start .pre .1) (at-head .head .ensures)
+    let at-peek = at-compound .before .before .before .before in
+    let start = at-peek .before .before .before .before .before .before in (
+      assigned-asks (start .pre .0 .asked) (start .pre .1) (at-peek .peek .ensures)
           (at-compound .compound .ensures) (at-abandon .abandon .ensures)
           (omega (arith, at-abandon .abandon .kept, at-compound .compound .kept))
           (omega (arith, at-compound .compound .kept)),
       (omega arith, omega arith),
     )
 
-finish-requires : tie.Need-finish-requires
-finish-requires c κs =
+write-node-requires : tie.Need-write-node-requires
+write-node-requires c κs =
     let at-and-expect = c .before .before .before .before .before in
     let at-abandon = at-and-expect .before .before .before .before .before in
     let at-compound = at-abandon .before .before .before .before .before .before .before .before in
-    let at-head = at-compound .before .before .before .before in
-    let start = at-head .before .before .before .before .before .before in
-    assigned-room (start .pre .0 .asked) (start .pre .1) (at-head .head .ensures)
+    let at-peek = at-compound .before .before .before .before in
+    let start = at-peek .before .before .before .before .before .before in
+    assigned-room (start .pre .0 .asked) (start .pre .1) (at-peek .peek .ensures)
     (at-compound .compound .ensures) (at-abandon .abandon .ensures) (at-and-expect .and-expect .ensures)
     (omega (arith, at-compound .compound .kept))
 
 same-length : tie.Need-same-length
 same-length c =
-    let at-finish = c .before .before in
-    let at-and-expect = at-finish .before .before .before .before .before .before in
+    let at-write-node = c .before .before in
+    let at-and-expect = at-write-node .before .before .before .before .before .before in
     let at-abandon = at-and-expect .before .before .before .before .before in
     let at-compound = at-abandon .before .before .before .before .before .before .before .before in
     omega (
       arith,
-      at-finish .finish .kept,
+      at-write-node .write-node .kept,
       at-and-expect .and-expect .kept,
       at-abandon .abandon .kept,
       at-compound .compound .kept,
@@ -64,13 +64,13 @@ same-length c =
 
 same-length-2 : tie.Need-same-length-2
 same-length-2 c =
-    let at-finish = c .before .before in
-    let at-and-expect = at-finish .before .before .before .before .before .before in
+    let at-write-node = c .before .before in
+    let at-and-expect = at-write-node .before .before .before .before .before .before in
     let at-abandon = at-and-expect .before .before .before .before .before in
     let at-compound = at-abandon .before .before .before .before .before .before .before .before in
     omega (
       arith,
-      at-finish .finish .kept,
+      at-write-node .write-node .kept,
       at-and-expect .and-expect .kept,
       at-abandon .abandon .kept,
       at-compound .compound .kept,
@@ -78,13 +78,13 @@ same-length-2 c =
 
 same-length-3 : tie.Need-same-length-3
 same-length-3 c =
-    let at-finish = c .before .before in
-    let at-and-expect = at-finish .before .before .before .before .before .before in
+    let at-write-node = c .before .before in
+    let at-and-expect = at-write-node .before .before .before .before .before .before in
     let at-abandon = at-and-expect .before .before .before .before .before in
     let at-compound = at-abandon .before .before .before .before .before .before .before .before in
     omega (
       arith,
-      at-finish .finish .kept,
+      at-write-node .write-node .kept,
       at-and-expect .and-expect .kept,
       at-abandon .abandon .kept,
       at-compound .compound .kept,
@@ -92,27 +92,27 @@ same-length-3 c =
 
 returns : tie.Need-returns
 returns c =
-    let at-finish = c .before .before in
-    let at-and-expect = at-finish .before .before .before .before .before .before in
+    let at-write-node = c .before .before in
+    let at-and-expect = at-write-node .before .before .before .before .before .before in
     let at-abandon = at-and-expect .before .before .before .before .before in
     let at-compound = at-abandon .before .before .before .before .before .before .before .before in
-    let at-head = at-compound .before .before .before .before in
-    let start = at-head .before .before .before .before .before .before in
-    compound-behind (start .pre .0 .asked) (start .pre .1) (at-head .head .ensures)
-    (sym (at-head .head .ensures .kind) ∙ start .pre .0 .kind) (at-compound .compound .ensures)
+    let at-peek = at-compound .before .before .before .before in
+    let start = at-peek .before .before .before .before .before .before in
+    compound-behind (start .pre .0 .asked) (start .pre .1) (at-peek .peek .ensures)
+    (sym (at-peek .peek .ensures .kind) ∙ start .pre .0 .kind) (at-compound .compound .ensures)
     (at-abandon .abandon .ensures) (omega (arith, at-abandon .abandon .kept, at-compound .compound .kept))
     (omega (arith, at-compound .compound .kept)) (at-and-expect .and-expect .ensures)
-    (at-finish .finish .ensures)
+    (at-write-node .write-node .ensures)
 
 pub compound-assignment-spec : {M : Type 1} → statement M
 compound-assignment-spec =
     tie.close
     (tie.spec
-    head-requires
+    peek-requires
     compound-requires
     abandon-requires
     and-expect-requires
-    finish-requires
+    write-node-requires
     same-length
     same-length-2
     same-length-3

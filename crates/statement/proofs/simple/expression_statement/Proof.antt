@@ -35,8 +35,8 @@ returns c =
     let start = at-expression .before .before .before .before .before .before .before .before .before in
     statement-stops (start .pre) (at-expression .expression .ensures) _ _ (c .match .keys2)
 
-finish-requires : tie.Need-finish-requires
-finish-requires c κs =
+write-node-requires : tie.Need-write-node-requires
+write-node-requires c κs =
     let at-expression = c .before .before .before .before .before .before .before .before .before .before .before .before .before in
     let start = at-expression .before .before .before .before .before .before .before .before .before in
     room-at (start .pre) (at-expression .expression .ensures .moved)
@@ -44,32 +44,32 @@ finish-requires c κs =
 
 same-length-4 : tie.Need-same-length-4
 same-length-4 c =
-    let at-finish = c .before .before in
-    let at-expression = at-finish .before .before .before .before .before .before .before .before .before .before .before .before .before .before in
-    omega (arith, at-finish .finish .kept, at-expression .expression .kept)
+    let at-write-node = c .before .before in
+    let at-expression = at-write-node .before .before .before .before .before .before .before .before .before .before .before .before .before .before in
+    omega (arith, at-write-node .write-node .kept, at-expression .expression .kept)
 
 same-length-5 : tie.Need-same-length-5
 same-length-5 c =
-    let at-finish = c .before .before in
-    let at-expression = at-finish .before .before .before .before .before .before .before .before .before .before .before .before .before .before in
-    omega (arith, at-finish .finish .kept, at-expression .expression .kept)
+    let at-write-node = c .before .before in
+    let at-expression = at-write-node .before .before .before .before .before .before .before .before .before .before .before .before .before .before in
+    omega (arith, at-write-node .write-node .kept, at-expression .expression .kept)
 
 same-length-6 : tie.Need-same-length-6
 same-length-6 c =
-    let at-finish = c .before .before in
-    let at-expression = at-finish .before .before .before .before .before .before .before .before .before .before .before .before .before .before in
-    omega (arith, at-finish .finish .kept, at-expression .expression .kept)
+    let at-write-node = c .before .before in
+    let at-expression = at-write-node .before .before .before .before .before .before .before .before .before .before .before .before .before .before in
+    omega (arith, at-write-node .write-node .kept, at-expression .expression .kept)
 
 returns-2 : tie.Need-returns-2
 returns-2 c =
-    let at-finish = c .before .before in
-    let at-if1 = at-finish .before .before in
+    let at-write-node = c .before .before in
+    let at-if1 = at-write-node .before .before in
     let at-enum-told = at-if1 .before .before .before .before in
     let at-expression = at-enum-told .before .before .before .before .before .before .before .before in
     let start = at-expression .before .before .before .before .before .before .before .before .before in
     statement-errors (start .pre) (at-expression .expression .ensures) _ _
     (at-enum-told .enum-told .given .1) (omega (arith, at-expression .expression .kept))
-    (omega (arith, at-expression .expression .kept)) (at-if1 .if1 .taken) (at-finish .finish .ensures)
+    (omega (arith, at-expression .expression .kept)) (at-if1 .if1 .taken) (at-write-node .write-node .ensures)
 
 after-expression-requires : tie.Need-after-expression-requires
 after-expression-requires c κs =
@@ -121,7 +121,7 @@ expression-statement-spec =
     same-length-2
     same-length-3
     returns
-    finish-requires
+    write-node-requires
     same-length-4
     same-length-5
     same-length-6

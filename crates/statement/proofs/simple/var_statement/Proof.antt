@@ -4,16 +4,16 @@ use native.Mathlib.Omega.{arith}
 use Rattle.statement.proofs.simple.var_statement.Statement.{statement}
 use Rattle.statement.proofs.simple.var_statement.Tie as tie
 
-head-requires : tie.Need-head-requires
-head-requires c κs =
+peek-requires : tie.Need-peek-requires
+peek-requires c κs =
     let start = c .before .before .before .before .before in
     (start .pre .asked .asks .held, (start .pre) .asked .asks .at)
 
 declaration-requires : tie.Need-declaration-requires
 declaration-requires c κs =
-    let at-head = c .before .before .before in
-    let start = at-head .before .before .before .before .before .before in
-    asked-seen (start .pre .asked) (at-head .head .ensures)
+    let at-peek = c .before .before .before in
+    let start = at-peek .before .before .before .before .before .before in
+    asked-seen (start .pre .asked) (at-peek .peek .ensures)
 
 same-length : tie.Need-same-length
 same-length c =
@@ -33,15 +33,15 @@ same-length-3 c =
 returns : tie.Need-returns
 returns c =
     let at-declaration = c .before .before .before .before .before .before in
-    let at-head = at-declaration .before .before .before .before in
-    let start = at-head .before .before .before .before .before .before in
-    var-reads (at-head .head .ensures) (start .pre) (at-declaration .declaration .ensures)
+    let at-peek = at-declaration .before .before .before .before in
+    let start = at-peek .before .before .before .before .before .before in
+    var-reads (at-peek .peek .ensures) (start .pre) (at-declaration .declaration .ensures)
 
 pub var-statement-spec : {M : Type 1} → statement M
 var-statement-spec =
     tie.close
     (tie.spec
-    head-requires
+    peek-requires
     declaration-requires
     same-length
     same-length-2

@@ -1,7 +1,7 @@
 use Rattle.steps.proofs.Tokens.{seen-wide, seen-end}
 use borrow.Author.Needs.{needs}
-use Rattle.steps.proofs.head.Statement.{statement}
-use Rattle.steps.proofs.head.Tie as tie
+use Rattle.steps.proofs.peek.Statement.{statement}
+use Rattle.steps.proofs.peek.Tie as tie
 
 mul-i : tie.Need-mul-i
 mul-i c = search needs
@@ -91,8 +91,8 @@ returns-2 c =
     let start = c .before .before .before in
     seen-end (start .pre .1) (c .if1 .left)
 
-pub head-spec : {M : Type 1} → statement M
-head-spec =
+pub peek-spec : {M : Type 1} → statement M
+peek-spec =
     tie.close
     (tie.spec
     mul-i

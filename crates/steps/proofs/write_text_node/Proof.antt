@@ -1,7 +1,7 @@
 use Rattle.steps.proofs.OneToken.{finish-stop, finish-on}
 use borrow.Author.Needs.{needs}
-use Rattle.steps.proofs.finish_text.Statement.{statement}
-use Rattle.steps.proofs.finish_text.Tie as tie
+use Rattle.steps.proofs.write_text_node.Statement.{statement}
+use Rattle.steps.proofs.write_text_node.Tie as tie
 
 enum-told : tie.Need-enum-told
 enum-told c = search needs
@@ -21,8 +21,8 @@ returns-2 c =
     let at-enum-told = at-write-record .before .before .before in
     finish-on (at-enum-told .enum-told .given .1) (at-write-record .write-record .ensures)
 
-pub finish-text-spec : {M : Type 1} → statement M
-finish-text-spec =
+pub write-text-node-spec : {M : Type 1} → statement M
+write-text-node-spec =
     tie.close (tie.spec
     enum-told
     returns
