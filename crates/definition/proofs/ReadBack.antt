@@ -19,33 +19,33 @@ use Rattle.definition.specs.Tokenizer as Z
 use Rattle.definition.specs.Tokenizer.{tokenize}
 use Rattle.definition.specs.Operations.{Validated, both, validate}
 use Rattle.definition.proofs.Tests.{both-true, between-true, All}
-use Rattle.definition.proofs.Tokens.{Placed, Good, Fault, Behind, texts, Made, TokensOf, script-tokens}
+use Rattle.definition.proofs.Tokens.{Placed, Good, Fault, ReadsAfter, texts, Made, TokensOf, script-tokens}
 
 -- ---- records in a slice
 
 -- the j-th word of those after others
-word-behind : (before ws : List ℕ) (k j : ℕ) → k ≡ length before + j → getD (before ++ ws) k 0 ≡ getD ws j 0
-word-behind before ws k j e = rw e (getD-append-add before ws j 0)
+word-after : (before ws : List ℕ) (k j : ℕ) → k ≡ length before + j → getD (before ++ ws) k 0 ≡ getD ws j 0
+word-after before ws k j e = rw e (getD-append-add before ws j 0)
 
-token-behind : (before ws : List ℕ) (i : ℕ) → length before ≡ 8 * i → words-at (before ++ ws) i ≡ words-at ws 0
-token-behind before ws i l = λ x. record {
-  kind = word-behind before ws (8 * i) 0 (omega arith) x;
-  line = word-behind before ws (8 * i + 1) 1 (omega arith) x;
-  column = word-behind before ws (8 * i + 2) 2 (omega arith) x;
-  start = word-behind before ws (8 * i + 3) 3 (omega arith) x;
-  size = word-behind before ws (8 * i + 4) 4 (omega arith) x;
-  base = word-behind before ws (8 * i + 5) 5 (omega arith) x;
-  seventh = word-behind before ws (8 * i + 6) 6 (omega arith) x;
-  eighth = word-behind before ws (8 * i + 7) 7 (omega arith) x;
+token-after : (before ws : List ℕ) (i : ℕ) → length before ≡ 8 * i → words-at (before ++ ws) i ≡ words-at ws 0
+token-after before ws i l = λ x. record {
+  kind = word-after before ws (8 * i) 0 (omega arith) x;
+  line = word-after before ws (8 * i + 1) 1 (omega arith) x;
+  column = word-after before ws (8 * i + 2) 2 (omega arith) x;
+  start = word-after before ws (8 * i + 3) 3 (omega arith) x;
+  size = word-after before ws (8 * i + 4) 4 (omega arith) x;
+  base = word-after before ws (8 * i + 5) 5 (omega arith) x;
+  seventh = word-after before ws (8 * i + 6) 6 (omega arith) x;
+  eighth = word-after before ws (8 * i + 7) 7 (omega arith) x;
 }
 
-error-behind : (before ws : List ℕ) (i : ℕ) → length before ≡ 4 * i → error-at (before ++ ws) i ≡ error-at ws 0
-error-behind before ws i l =
+error-after : (before ws : List ℕ) (i : ℕ) → length before ≡ 4 * i → error-at (before ++ ws) i ≡ error-at ws 0
+error-after before ws i l =
     λ x. record {
-      number = word-behind before ws (4 * i) 0 (omega arith) x;
-      line = word-behind before ws (4 * i + 1) 1 (omega arith) x;
-      column = word-behind before ws (4 * i + 2) 2 (omega arith) x;
-      fourth = word-behind before ws (4 * i + 3) 3 (omega arith) x;
+      number = word-after before ws (4 * i) 0 (omega arith) x;
+      line = word-after before ws (4 * i + 1) 1 (omega arith) x;
+      column = word-after before ws (4 * i + 2) 2 (omega arith) x;
+      fourth = word-after before ws (4 * i + 3) 3 (omega arith) x;
     }
 
 -- a list in three parts: the second's front goes to the first
@@ -122,8 +122,8 @@ module _ (t : Tok) (g : Good t) (text before rest : List ℕ) (n : ℕ) (e : tex
   token-is : token-of text (words n t) ≡ t
   token-is = ap (λ (x : List ℕ). tok (t .kind) (t .place) x (t .base)) part-is
 
-text-behind : (t : Tok) (n e : ℕ) → e ≤ n → pick (has-text (t .kind)) (leb e (words n t .start)) true ≡ true
-text-behind t n e h = go (has-text (t .kind))
+text-after : (t : Tok) (n e : ℕ) → e ≤ n → pick (has-text (t .kind)) (leb e (words n t .start)) true ≡ true
+text-after t n e h = go (has-text (t .kind))
   where
     go : (b : Bool) → pick b (leb e (pick b n 0)) true ≡ true
     go true = le-leb e n h
@@ -155,15 +155,15 @@ module _ (ws text : List ℕ) where
   tokens-back : (ts : List Tok) (p : Place) (e n i : ℕ) (before rest before′ rest′ : List ℕ)
       → ws ≡ before ++ (tokens-words n ts ++ rest) → length before ≡ 8 * i
       → text ≡ before′ ++ (tokens-text ts ++ rest′) → length before′ ≡ n → e ≤ n → n + texts ts ≤ 16384
-      → Behind p ts → All Good ts
+      → ReadsAfter p ts → All Good ts
       → tokens-of ws text p e i (length ts) ≡ some ts
   unfolding tokens-of tokens-words tokens-text
   tokens-back [] p e n i before rest before′ rest′ w l x k h m b g = refl
   tokens-back (t ∷ ts) p e n i before rest before′ rest′ w l x k h m b g =
       token-step ws text p e i (length ts) (words n t)
-      (ap (λ (y : List ℕ). words-at y i) w ∙ token-behind before (tokens-words n (t ∷ ts) ++ rest) i l)
+      (ap (λ (y : List ℕ). words-at y i) w ∙ token-after before (tokens-words n (t ∷ ts) ++ rest) i l)
       (alone t (g .0) text before′ (tokens-text ts ++ rest′) n here k (omega arith))
-      (both-true (b .0) (text-behind t n e h))
+      (both-true (b .0) (text-after t n e h))
       ∙ ap₂ token-before (token-is t (g .0) text before′ (tokens-text ts ++ rest′) n here k (omega arith))
       (tokens-back ts (t .place) (text-end e (words n t)) (n + length (t .text)) (suc i)
       (before ++ token-words n t) rest (before′ ++ t .text) rest′
@@ -190,7 +190,7 @@ errors-back ws [] i before rest w l f = refl
 errors-back ws (e ∷ es) i before rest w l f =
     error-step ws i (length es)
     (record { number = e .number; line = e .place .line; column = e .place .column; fourth = 0 })
-    (ap (λ (y : List ℕ). error-at y i) w ∙ error-behind before (errors-words (e ∷ es) ++ rest) i l)
+    (ap (λ (y : List ℕ). error-at y i) w ∙ error-after before (errors-words (e ∷ es) ++ rest) i l)
     (both-true
     (both-true (both-true (between-true (f .0 .low) (f .0 .high)) (line-fits (e .place) (f .0 .placed)))
     (column-fits (e .place) (f .0 .placed))) refl)

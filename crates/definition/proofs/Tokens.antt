@@ -224,9 +224,9 @@ run-skip c cs (ends s) p = spans-skip c cs (s .text) (s .rest) p
 run-skip c cs foreign p = tt
 
 -- after characters that are passed over
-run-behind : (cs rest : List Ch) (n : ℕ) (r : Run) → Ran cs rest n → RunOf rest r → RunOf cs r
-run-behind cs rest n (ends s) p q = record { ran = ran-trans p (q .ran); utf8 = λ k h. q .utf8 k (p .keeps k h) }
-run-behind cs rest n foreign p q = tt
+run-after : (cs rest : List Ch) (n : ℕ) (r : Run) → Ran cs rest n → RunOf rest r → RunOf cs r
+run-after cs rest n (ends s) p q = record { ran = ran-trans p (q .ran); utf8 = λ k h. q .utf8 k (p .keeps k h) }
+run-after cs rest n foreign p q = tt
 
 word-spans : (cs : List Ch) → RunOf cs (word cs)
 unfolding word
@@ -341,7 +341,7 @@ module _ (c : Ch) (cs : List Ch) where
   word-turned k h l (ends s) p =
       chosen (TurnOf c cs) (Z.same (c .byte ∷ s .text) (ascii "asm")) _ _
       (λ _. assembly-turned k h (white (s .rest))
-      (run-behind cs (s .rest) (length (s .text)) (white (s .rest)) (p .ran) (white-spans (s .rest))))
+      (run-after cs (s .rest) (length (s .text)) (white (s .rest)) (p .ran) (white-spans (s .rest))))
       (λ _. counted (TurnOf c cs) (Z.keyword (c .byte ∷ s .text)) _ _ (gives-token (s .rest) (length (s .text)) [] _ (p .ran) refl (omega arith) (text-formed K.Identifier (c .place) (c .byte ∷ s .text) refl refl (omega arith) (omega arith) (utf8-byte (c .byte) (s .text) l (p .utf8 k h))) tt)
       (λ j e. plain-turned (s .rest) (length (s .text)) (suc j) (p .ran)
       (plain-formed (suc j) (c .place) (subst Plain e (keyword-plain (c .byte ∷ s .text))) (omega arith))))
@@ -440,9 +440,9 @@ abbrev pub Kinds : List Tok → Type 0
 Kinds ts = All (λ t. 0 < t .kind) ts
 
 -- each token comes after the previous, the first after the place p
-abbrev pub Behind : Place → List Tok → Type 0
-Behind p [] = Unit {0}
-Behind p (t ∷ ts) = (comes-after p (t .place .line) (t .place .column) ≡ true) × Behind (t .place) ts
+abbrev pub ReadsAfter : Place → List Tok → Type 0
+ReadsAfter p [] = Unit {0}
+ReadsAfter p (t ∷ ts) = (comes-after p (t .place .line) (t .place .column) ≡ true) × ReadsAfter (t .place) ts
 
 abbrev pub texts : List Tok → ℕ
 texts [] = 0
@@ -463,7 +463,7 @@ later-place p q a b h = go (ltb (p .line) (q .line)) refl
         let l : q .line ≤ p .line = ltb-false _ _ e in
         both-true (eq-eqb (p .line) (q .line) (omega arith)) (lt-ltb (p .column) (q .column) (omega arith))
 
-behind : (p : Place) (ts : List Tok) (k : ℕ) → p .column < 65536 → Rising (key p) ts k → All Good ts → Behind p ts
+behind : (p : Place) (ts : List Tok) (k : ℕ) → p .column < 65536 → Rising (key p) ts k → All Good ts → ReadsAfter p ts
 behind p [] k h r g = tt
 behind p (t ∷ ts) k h r g = (
   later-place p (t .place) h (omega (arith, g .0 .placed)) (r .0),
@@ -489,7 +489,7 @@ distinct (t ∷ ts) j k r = (apart (t .place) ts (key (t .place)) k (omega arith
 -- what is known of the tokens and errors of a script
 pub record Made (ts : List Tok) (es : List Err) : Type 0 where
   pub good : All Good ts
-  pub behind : Behind nowhere ts
+  pub behind : ReadsAfter nowhere ts
   pub faults : All Fault es
   pub distinct : Distinct ts
   pub kinds : Kinds ts

@@ -34,7 +34,7 @@ use Rattle.steps.proofs.Tokens.{alive, yes, no, fore, adv}
 use Rattle.steps.proofs.Moves.{asks-moved, fore-moved, moved-trans}
 use Rattle.steps.proofs.Answers.{Stopped, say, good-of, stops, follows, wrapped, finishes, tree-join, errs-join}
 use Rattle.steps.proofs.Constructs.{down}
-use Rattle.steps.proofs.Following.{expecting, expects-behind}
+use Rattle.steps.proofs.Following.{expecting, expects-after}
 use Rattle.leaves.specs.Leaves.{Prefix, ClosingOf, Closing, ClosedOf, Closed}
 use Rattle.expression_laws.specs.Post.{ReadsList}
 use Rattle.expression_laws.proofs.Types.{past, drops, dropping}
@@ -290,7 +290,7 @@ module _ {w x : List ℕ} {n d : ℕ} {o r f : List ℕ} {s : State} {t : Token}
               ∙ expect-seam d plain 42 (sized (next-token (rest w x n (s .at))))
               (go d P.parse-type (st-of w x n f1 (g .read) (a .state))))
               (finishes d (λ _. next-token (rest w x n (s .at)) .place) (λ _. []) [] F (λ i _. rw (u .place))
-              (expects-behind (sizeof-asks z B lr lf) C plain d (length-take-le (s .pos) o (omega arith))
+              (expects-after (sizeof-asks z B lr lf) C plain d (length-take-le (s .pos) o (omega arith))
               (errs-length r (s .reported) (omega arith)) v));
         }
 

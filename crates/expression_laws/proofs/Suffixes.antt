@@ -30,7 +30,7 @@ use Rattle.steps.proofs.Tokens.{yes, no, fore, adv}
 use Rattle.steps.proofs.Moves.{asks-fore, fore-moved, refused-moved, making-moved, moved-trans, asks-moved}
 use Rattle.steps.proofs.Answers.{say, good-of, is-good, follows, abandons, wrapped, finishes, errs-join}
 use Rattle.steps.proofs.Constructs.{seam}
-use Rattle.steps.proofs.Following.{expecting, expects-behind}
+use Rattle.steps.proofs.Following.{expecting, expects-after}
 use Rattle.leaves.proofs.Errors.{made-so, makes, makes-none}
 use Rattle.expression_laws.specs.Post.{suffixes-on}
 use Rattle.expression_laws.proofs.Types.{past}
@@ -315,7 +315,7 @@ module _ {w x : List ℕ} {n d i j : ℕ} {o r f : List ℕ} {a : Answer} {t : T
           (after q1 (λ z S. go d (or-return (expecting plain 44) z) S)))
           (G .is T E _ li lj
           (finishes d (λ _. pl) (λ _. []) [] F (λ _ _. rw (u .place))
-          (expects-behind (index-asks B C lr lf) X plain d li lj
+          (expects-after (index-asks B C lr lf) X plain d li lj
           (abandons {T = T} {E = E} (g .tree) (g .rep) li lj (errs-length r (a .state .reported) (omega arith)) C
           (omega (arith, q .pos, B .moved .pos)) (omega (arith, q .reported, B .moved .reported))
           (B .is (past w x n (a .state .at) (g .read)))))));

@@ -33,7 +33,7 @@ use Rattle.steps.proofs.Tokens.{yes, no, fore, adv}
 use Rattle.steps.proofs.Moves.{refused-moved, asks-moved, fore-moved, moved-trans}
 use Rattle.steps.proofs.Answers.{Stopped, say, good-of, stops, follows, wrapped, raise-same}
 use Rattle.steps.proofs.Constructs.{within}
-use Rattle.steps.proofs.Following.{expecting, expects-behind}
+use Rattle.steps.proofs.Following.{expecting, expects-after}
 use Rattle.leaves.proofs.Errors.{raise-reads}
 use Rattle.expression_laws.specs.Post.{place-at}
 use Rattle.expression_laws.proofs.Types.{moved-onward, shown-from, record-reads, past}
@@ -239,7 +239,7 @@ module _ (d words line column : ℕ) {w x : List ℕ} {n : ℕ} {o r f : List �
         (λ _. equals-on words (place-at line column) (next-token (rest w x n (s .at)))) (g rd .is) ∙ go-bind d
         P.parse-type (or-return (λ ty. P.expect 50 >>? λ _. end ty)) (st-of w x n f1 (g rd .read) (a .state))
         ∙ expect-seam d plain 50 end (go d P.parse-type (st-of w x n f1 (g rd .read) (a .state))))
-        (λ rd. expects-behind (alias-follows q u X B z lr lf) C plain d
+        (λ rd. expects-after (alias-follows q u X B z lr lf) C plain d
         (length-take-le (s .pos) o (omega (arith, q .room)))
         (errs-length r (s .reported) (omega (arith, q .asks)))
         (shown-from B (X .pos) (X .kept z .1) (g rd .read)))

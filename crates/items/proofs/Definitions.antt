@@ -30,7 +30,7 @@ use Rattle.steps.specs.Tokens.{rest, budget, Seen}
 use Rattle.steps.specs.Shows.{st-of, Asked, Moved, Good, Shows, Reads, done-of, node, token, items, Expects, Follows, Expected, Finished}
 use Rattle.steps.proofs.Tokens.{yes, no, fore, adv}
 use Rattle.steps.proofs.Answers.{Stopped, say, good-of, is-good, stops, follows, wrapped, finishes}
-use Rattle.steps.proofs.Following.{expects-behind}
+use Rattle.steps.proofs.Following.{expects-after}
 use Rattle.expression_laws.specs.Post.{place-at, as-answer}
 use Rattle.expression_laws.proofs.Names.{text-length}
 use Rattle.expression_laws.proofs.Types.{paid, past}
@@ -92,7 +92,7 @@ module _ {w x : List ℕ} {n name i j : ℕ} {o r f : List ℕ} {a : Answer} (q 
               ∙ expect-seam d plain 50 (outside (place-at line column) (next-token (rest w x n name))) p)
               (finishes d (λ _. place-at line column) (λ i. byte 1 ∷ two (i .count) ∷ [])
               (next-token (rest w x n name) .text) F (λ k h. rw (h, expected-line X, u .text))
-              (expects-behind external-follows X plain d li lj v));
+              (expects-after external-follows X plain d li lj v));
         }
 
 -- ---- `whole_function`

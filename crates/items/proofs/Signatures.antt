@@ -166,9 +166,9 @@ module _ {w x : List ℕ} {n d : ℕ} {p : Place} {o r f o1 r1 f1 : List ℕ} {s
       module _ (rd : List Consumed)
           (g : Good items (take (s .pos) o) (errs r (s .reported)) [] [] w x n o1 r1 f1 a (go d (P.parse-list A.Parameters >>= as-answer) (st-of w x n f rd s))) where
         -- the type after the parameters
-        typed-behind : Shows node (take (s .pos) o) (errs r (s .reported)) (g .item .recs) (g .errors) w x n o2 r3 f2 c
+        typed-after : Shows node (take (s .pos) o) (errs r (s .reported)) (g .item .recs) (g .errors) w x n o2 r3 f2 c
             (go d (return-rule p) (st-of w x n f1 (g .read) (a .state)))
-        typed-behind =
+        typed-after =
             abandons {T = take (s .pos) o} {E = errs r (s .reported)} (g .tree) (g .rep)
             (length-take-le (s .pos) o (omega (arith, q .room)))
             (errs-length r (s .reported) (omega (arith, q .asks)))
@@ -190,7 +190,7 @@ module _ {w x : List ℕ} {n d : ℕ} {p : Place} {o r f o1 r1 f1 : List ℕ} {s
         is =
             λ rd. let g = good-of z (B .is rd) in
             say (typed-step rd g)
-            (stops d (signing (record { item = g .item; errors = g .errors })) _ nd (typed-behind rd g));
+            (stops d (signing (record { item = g .item; errors = g .errors })) _ nd (typed-after rd g));
       }
 
       pub signature-reads : {r4 : List ℕ} → a .how ≡ Done → c .how ≡ Done
@@ -204,7 +204,7 @@ module _ {w x : List ℕ} {n d : ℕ} {p : Place} {o r f o1 r1 f1 : List ℕ} {s
             moved = signature-moved;
             is = λ rd.
                 let g = good-of z (B .is rd) in
-                let v = good-of y (typed-behind rd g) in
+                let v = good-of y (typed-after rd g) in
                 say (typed-step rd g ∙ follows d (signing (record { item = g .item; errors = g .errors })) (v .is))
                 (is-good y
                 (record {

@@ -29,11 +29,11 @@ use Rattle.steps.proofs.Tokens.{yes, no, fore, adv}
 use Rattle.steps.proofs.Moves.{fore-moved, moved-trans, asks-moved, abandoned-moved}
 use Rattle.steps.proofs.Answers.{Stopped, say, good-of, is-good, follows, abandons, wrapped, finishes}
 use Rattle.steps.proofs.Constructs.{then-stops}
-use Rattle.steps.proofs.Following.{expects-behind}
+use Rattle.steps.proofs.Following.{expects-after}
 use Rattle.expression_laws.specs.Post.{place-at}
 use Rattle.expression_laws.proofs.Types.{past}
 use Rattle.expression_laws.proofs.Calls.{expect-seam}
-use Rattle.statement.specs.Post.{Behind}
+use Rattle.statement.specs.Post.{ReadsAfter}
 use Rattle.statement.proofs.Spare.{expression-spares}
 
 -- a record of a statement at a place
@@ -51,14 +51,14 @@ module _ {w x : List ℕ} {n d : ℕ} {o r f : List ℕ} {s : State} {t : Token}
   -- `=` or `<-`, a value read by m, `;`
   module _ {o1 r1 f1 r2 r3 f2 o2 : List ℕ} {a b c y : Answer} {m : Act (Ans Node)} (tag : ℕ) (B : Reads node w x n d m o r f (fore s t) o1 r1 f1 a) (C : Abandoned r1 a i (s .reported) (s .reported) r2 b) (lr : length r2 ≡ length r) (lf : length f1 ≡ length f)
       (X : Expected w x n 50 i (s .reported) r2 f1 b r3 f2 c) (F : Finished x o1 c (placed tag line column) o2 y) where
-    assigned-behind : 0 < t .kind
+    assigned-after : 0 < t .kind
         → ((e : Node) (rd : List Consumed)
         → go d (P.after-expression (place-at line column) e) (st-of w x n f rd s)
         ≡ go d
         (m >>? λ v. P.expect 50 >>? λ _. wrapped node (e .recs) [] tag (λ _. place-at line column) (λ _. []) [] v)
         (st-of w x n f (past w x n (s .at) rd) (fore s t)))
-        → Behind w x n d (P.after-expression (place-at line column)) i o r f s o2 r3 f2 y
-    assigned-behind k step =
+        → ReadsAfter w x n d (P.after-expression (place-at line column)) i o r f s o2 r3 f2 y
+    assigned-after k step =
         let e : budget w x n (y .state .at) ≡ budget w x n (c .state .at) = ap (λ (k : ℕ). budget w x n k) (F .at) in
         let M : Moved w x n i (s .reported) (fore s t) (b .state) = abandoned-moved (B .moved) C in
         record {
@@ -79,26 +79,26 @@ module _ {w x : List ℕ} {n d : ℕ} {o r f : List ℕ} {s : State} {t : Token}
               say (step e rd ∙ go-bind d m (or-return (λ z. P.expect 50 >>? λ _. v z)) _
               ∙ expect-seam d plain 50 v (go d m (st-of w x n f (past w x n (s .at) rd) (fore s t))))
               (finishes d (λ _. place-at line column) (λ _. []) [] F (λ _ _. refl)
-              (expects-behind (record { asks = asks-moved (q .asks) (moved-trans (fore-moved (q .asks) u) M) lr lf; pos = C .low; reported = C .first }) X plain d li lj
+              (expects-after (record { asks = asks-moved (q .asks) (moved-trans (fore-moved (q .asks) u) M) lr lf; pos = C .low; reported = C .first }) X plain d li lj
               (abandons {T = T} {E = errs r (s .reported)} tree (sym (append-nil (errs r (s .reported)))) li lj
               lj C (omega (arith, B .moved .pos, hi)) (B .moved .reported) (B .is (past w x n (s .at) rd)))));
         }
 
   module _ {o1 r1 f1 r2 r3 f2 o2 : List ℕ} {a b c y : Answer} (h : t .kind ≡ 26) (B : Reads node w x n d P.parse-expression o r f (fore s t) o1 r1 f1 a) (C : Abandoned r1 a i (s .reported) (s .reported) r2 b) (lr : length r2 ≡ length r) (lf : length f1 ≡ length f)
       (X : Expected w x n 50 i (s .reported) r2 f1 b r3 f2 c) (F : Finished x o1 c (placed 0x43 line column) o2 y) where
-    pub assignment-behind : Behind w x n d (P.after-expression (place-at line column)) i o r f s o2 r3 f2 y
+    pub assignment-after : ReadsAfter w x n d (P.after-expression (place-at line column)) i o r f s o2 r3 f2 y
     unfolding go run P.after-expression
-    assignment-behind =
-        assigned-behind 0x43 B C lr lf X F (omega (arith, h)) (λ e rd. rw (run, yes u h)
+    assignment-after =
+        assigned-after 0x43 B C lr lf X F (omega (arith, h)) (λ e rd. rw (run, yes u h)
         (ap (λ (S : St). go d (P.parse-expression >>? λ v. P.expect 50 >>? λ _. wrapped node (e .recs) [] 0x43
         (λ _. place-at line column) (λ _. []) [] v) S) (adv s u (λ _. plain) f rd)))
 
   module _ {o1 r1 f1 r2 r3 f2 o2 : List ℕ} {a b c y : Answer} (h : t .kind ≡ 52) (B : Reads node w x n d P.parse-compound o r f (fore s t) o1 r1 f1 a) (C : Abandoned r1 a i (s .reported) (s .reported) r2 b) (lr : length r2 ≡ length r) (lf : length f1 ≡ length f)
       (X : Expected w x n 50 i (s .reported) r2 f1 b r3 f2 c) (F : Finished x o1 c (placed 0x44 line column) o2 y) where
-    pub compound-behind : Behind w x n d (P.after-expression (place-at line column)) i o r f s o2 r3 f2 y
+    pub compound-after : ReadsAfter w x n d (P.after-expression (place-at line column)) i o r f s o2 r3 f2 y
     unfolding go run P.after-expression
-    compound-behind =
-        assigned-behind 0x44 B C lr lf X F (omega (arith, h))
+    compound-after =
+        assigned-after 0x44 B C lr lf X F (omega (arith, h))
         (λ e rd. rw (run, no {k = 26} u (λ e. omega (arith, h)), yes u h)
         (ap (λ (S : St). go d (P.parse-compound >>? λ v. P.expect 50 >>? λ _. wrapped node (e .recs) [] 0x44
         (λ _. place-at line column) (λ _. []) [] v) S) (adv s u (λ _. plain) f rd)))
@@ -142,11 +142,11 @@ finished-high {x} {o} {o′} {b} {y} {line} {column} {tag} F = one (b .how) (F .
 module _ {w x : List ℕ} {n d : ℕ} {o r f : List ℕ} {t : Token} {i line column : ℕ} {a : Answer}
     (q : Asked w x n o r f (a .state)) (hi : i ≤ a .state .pos) (u : Seen w x n (a .state .at) t)
     (z : a .how ≡ Done) where
-  pub expression-behind : {r1 f1 o2 : List ℕ} {b y : Answer} → (t .kind ≡ 26 → ⊥) → (t .kind ≡ 52 → ⊥)
+  pub expression-after : {r1 f1 o2 : List ℕ} {b y : Answer} → (t .kind ≡ 26 → ⊥) → (t .kind ≡ 52 → ⊥)
       → Expected w x n 50 i (a .state .reported) r f a r1 f1 b → Finished x o b (placed 0x41 line column) o2 y
-      → Behind w x n d (P.after-expression (place-at line column)) i o r f (a .state) o2 r1 f1 y
+      → ReadsAfter w x n d (P.after-expression (place-at line column)) i o r f (a .state) o2 r1 f1 y
   unfolding go run P.after-expression
-  expression-behind {b = b} {y = y} m26 m52 X F =
+  expression-after {b = b} {y = y} m26 m52 X F =
       let e : budget w x n (y .state .at) ≡ budget w x n (b .state .at) = ap (λ (k : ℕ). budget w x n k) (F .at) in
       record {
         moved =
@@ -175,7 +175,7 @@ module _ {w x : List ℕ} {n d : ℕ} {o r f : List ℕ} {t : Token} {i line col
             say (rw (run, no u m26, no u m52) (expect-seam d plain 50 v
             (gives (ok (record { item = e; errors = [] })) (st-of w x n f rd (a .state)))))
             (finishes d (λ _. place-at line column) (λ _. []) [] F (λ _ _. refl)
-            (expects-behind (record { asks = q .asks; pos = hi; reported = omega arith }) X plain d li
+            (expects-after (record { asks = q .asks; pos = hi; reported = omega arith }) X plain d li
             (errs-length r (a .state .reported) (omega (arith, q .asks))) A));
       }
 
@@ -241,7 +241,7 @@ module _ {w x : List ℕ} {n d : ℕ} {o r f o1 r1 f1 : List ℕ} {s : State} {a
           }
 
       pub statement-after : {o2 r2 f2 : List ℕ} {y : Answer} → (s .reported < a .state .reported → ⊥)
-          → Behind w x n d (P.after-expression (place-at line column)) (s .pos) o1 r1 f1 (a .state) o2 r2 f2 y
+          → ReadsAfter w x n d (P.after-expression (place-at line column)) (s .pos) o1 r1 f1 (a .state) o2 r2 f2 y
           → Reads node w x n d (P.expression-statement (place-at line column)) o r f s o2 r2 f2 y
       unfolding go run P.expression-statement
       statement-after {o2} {r2} {f2} {y} h G = record {

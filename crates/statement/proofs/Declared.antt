@@ -30,7 +30,7 @@ use Rattle.steps.specs.Shows.{st-of, Asks, Asked, Moved, ShowsOf, Shows, Reads,
 use Rattle.steps.proofs.Tokens.{yes, no}
 use Rattle.steps.proofs.Moves.{making-moved, asks-moved}
 use Rattle.steps.proofs.Answers.{Stopped, say, good-of, stops, follows, wrapped, finishes, wrote, raise-shows, not-done, done-le, raise-same}
-use Rattle.steps.proofs.Following.{expects-behind}
+use Rattle.steps.proofs.Following.{expects-after}
 use Rattle.expression_laws.specs.Post.{place-at, name-of, ReadsList, NameRoom}
 use Rattle.expression_laws.proofs.Types.{through}
 use Rattle.expression_laws.proofs.Calls.{expect-seam}
@@ -299,7 +299,7 @@ module _ {w x : List ℕ} {n d : ℕ} {o r f o1 r1 f1 r2 f2 o2 : List ℕ} {s : 
             (or-return (λ x. P.expect 50 >>? λ _. declares tag (place-at line column) x)) _
             ∙ expect-seam d plain 50 (declares tag (place-at line column))
             (go d P.parse-var-like-declaration (st-of w x n f rd s)))
-            (names d N (expects-behind (record {
+            (names d N (expects-after (record {
               asks = asks-moved (q .asks) (D .moved) lr lf;
               pos = D .moved .pos;
               reported = D .moved .reported;

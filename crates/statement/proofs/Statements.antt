@@ -32,7 +32,7 @@ use Rattle.steps.proofs.Tokens.{yes, no, fore, adv}
 use Rattle.steps.proofs.Moves.{making-moved, fore-moved, moved-trans, asks-moved, asked-seen, asked-moved}
 use Rattle.steps.proofs.Answers.{Stopped, say, good-of, stops, follows, abandons, wrapped, finishes, raise-shows, raise-same}
 use Rattle.steps.proofs.Constructs.{then-stops}
-use Rattle.steps.proofs.Following.{expects-behind}
+use Rattle.steps.proofs.Following.{expects-after}
 use Rattle.leaves.specs.Leaves.{there}
 use Rattle.leaves.proofs.Atoms.{leaf-reads}
 use Rattle.expression_laws.specs.Post.{place-at}
@@ -424,7 +424,7 @@ module _ {w x : List ℕ} {n d : ℕ} {o r f : List ℕ} {s : State} {t : Token}
             ∙ expect-seam d plain 50 k
             (go d P.parse-expression (st-of w x n f (past w x n (s .at) rd) (fore s t))))
             (finishes d (λ _. here w x n s) (λ _. byte 1 ∷ []) [] F (λ i _. rw (u .place))
-            (expects-behind (record {
+            (expects-after (record {
               asks = asks-moved (q .asked .asks) (moved-trans (fore-moved (q .asked .asks) u) (B .moved)) lr lf;
               pos = B .moved .pos;
               reported = B .moved .reported;

@@ -34,7 +34,7 @@ ReadsBody tokens text n file rep full st left r =
     B.ReadsBody (at-entry tokens) (at-entry text) n left (at-entry file) (at-entry rep) (at-entry full) st
     (at-exit file) (at-exit rep) (at-exit full) r
 
-abbrev pub Behind : (Node → Act (Ans Node)) → Lent → Lent → ℕ → Lent → Lent → Lent → ℕ → State → ℕ → Answer → Type 0
-Behind k tokens text n file rep full i st left r =
-    B.Behind (at-entry tokens) (at-entry text) n left k i (at-entry file) (at-entry rep) (at-entry full) st
+abbrev pub ReadsAfter : (Node → Act (Ans Node)) → Lent → Lent → ℕ → Lent → Lent → Lent → ℕ → State → ℕ → Answer → Type 0
+ReadsAfter k tokens text n file rep full i st left r =
+    B.ReadsAfter (at-entry tokens) (at-entry text) n left k i (at-entry file) (at-entry rep) (at-entry full) st
     (at-exit file) (at-exit rep) (at-exit full) r

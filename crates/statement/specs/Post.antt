@@ -93,7 +93,7 @@ statements-on i = loop (Body i) done
 -- ---- statements
 
 -- after an expression with no errors, written from i on: what is shown of what follows
-pub record Behind (w x : List ℕ) (n d : ℕ) (k : Node → Act (Ans Node)) (i : ℕ) (o r f : List ℕ) (s : State) (o′ r′ f′ : List ℕ) (y : Answer) : Type 0 where
+pub record ReadsAfter (w x : List ℕ) (n d : ℕ) (k : Node → Act (Ans Node)) (i : ℕ) (o r f : List ℕ) (s : State) (o′ r′ f′ : List ℕ) (y : Answer) : Type 0 where
   pub moved : Moved w x n i (s .reported) s (y .state)
   pub is : (rd : List Consumed) (T : List ℕ) (e : Node) → length T ≡ i → take (s .pos) o ≡ T ++ recs-bytes (e .recs)
       → Shows node T (errs r (s .reported)) [] [] w x n o′ r′ f′ y (go d (k e) (st-of w x n f rd s))

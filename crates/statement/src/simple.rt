@@ -20,7 +20,7 @@ ghost use Rattle.definition.specs.Kind as K;
 ghost use Rattle.definition.specs.Parser as P;
 ghost use Rattle.expression_laws.specs.Post.{place-of};
 ghost use Rattle.steps.specs.Contract.{Asked, Parses};
-ghost use Rattle.statement.specs.Contract.{Starts, Behind};
+ghost use Rattle.statement.specs.Contract.{Starts, ReadsAfter};
 
 // `return` [expression] `;`
 pub fn return_statement(
@@ -129,7 +129,7 @@ fn assignment(
     left: usize,
 ) -> Answer
     requires { ⌜ Starts K.Equals tokens text n file rep full st × (i ≤ st .pos) ⌝ }
-    ensures { λ r. ⌜ Behind (P.after-expression (place-of lead)) tokens text n file rep full i st left r ⌝ }
+    ensures { λ r. ⌜ ReadsAfter (P.after-expression (place-of lead)) tokens text n file rep full i st left r ⌝ }
 {
     let t = peek(tokens, text, n, st.at);
     let on = State { at: t.next, ..st };
@@ -154,7 +154,7 @@ fn compound_assignment(
     left: usize,
 ) -> Answer
     requires { ⌜ Starts K.LArrow tokens text n file rep full st × (i ≤ st .pos) ⌝ }
-    ensures { λ r. ⌜ Behind (P.after-expression (place-of lead)) tokens text n file rep full i st left r ⌝ }
+    ensures { λ r. ⌜ ReadsAfter (P.after-expression (place-of lead)) tokens text n file rep full i st left r ⌝ }
 {
     let t = peek(tokens, text, n, st.at);
     let on = State { at: t.next, ..st };
@@ -179,7 +179,7 @@ fn after_expression(
     left: usize,
 ) -> Answer
     requires { ⌜ Asked tokens text n file rep full st × (i ≤ st .pos) ⌝ }
-    ensures { λ r. ⌜ Behind (P.after-expression (place-of lead)) tokens text n file rep full i st left r ⌝ }
+    ensures { λ r. ⌜ ReadsAfter (P.after-expression (place-of lead)) tokens text n file rep full i st left r ⌝ }
 {
     let t = peek(tokens, text, n, st.at);
     if t.kind == kind::EQUALS {

@@ -89,10 +89,10 @@ module _ {A : Type 0} {K : View A} {w x : List ℕ} {n k i j : ℕ} {r f r′ f�
           (after q (λ z S. go d (or-return (expecting role k) z) S))) (sym (m .how)) (lost c)
       one (Refused u) h m t = rw (m .0, h) (step ∙ rw t)
 
-  pub expects-behind : Shows K T E rs es w x n o r f a q
+  pub expects-after : Shows K T E rs es w x n o r f a q
       → Shows K T E rs es w x n o r′ f′ y (after q (λ z S. go d (or-return (expecting role k) z) S))
   unfolding go run
-  expects-behind v = one (a .how) refl (u .is) (v .told)
+  expects-after v = one (a .how) refl (u .is) (v .told)
     where
       one : (h : How) → a .how ≡ h → ExpectedOf h w x n k i j r f a r′ f′ y
           → ShowsOf h K T E rs es w x n o r f a q

@@ -1,4 +1,4 @@
-use Rattle.statement.proofs.Assigned.{expression-behind}
+use Rattle.statement.proofs.Assigned.{expression-after}
 use Rattle.statement.proofs.Statements.{begins}
 use mathlib.Core.Path.{refl}
 use native.Mathlib.Omega.{arith}
@@ -103,7 +103,7 @@ returns-3 c =
     let at-if1 = at-if2 .before .before in
     let at-peek = at-if1 .before .before in
     let start = at-peek .before .before .before .before .before .before in
-    expression-behind (start .pre .0) (start .pre .1) (at-peek .peek .ensures) refl (at-if1 .if1 .left)
+    expression-after (start .pre .0) (start .pre .1) (at-peek .peek .ensures) refl (at-if1 .if1 .left)
     (at-if2 .if2 .left) (at-and-expect .and-expect .ensures) (at-write-node .write-node .ensures)
 
 pub after-expression-spec : {M : Type 1} → statement M

@@ -1,4 +1,4 @@
-use Rattle.statement.proofs.Assigned.{assignment-behind, assigned-cuts, assigned-asks, assigned-room}
+use Rattle.statement.proofs.Assigned.{assignment-after, assigned-cuts, assigned-asks, assigned-room}
 use Rattle.steps.proofs.Moves.{asked-seen}
 use mathlib.Core.Path.{sym, _∙_}
 use native.Mathlib.Omega.{arith}
@@ -98,7 +98,7 @@ returns c =
     let at-expression = at-abandon .before .before .before .before .before .before .before .before in
     let at-peek = at-expression .before .before .before .before in
     let start = at-peek .before .before .before .before .before .before in
-    assignment-behind (start .pre .0 .asked) (start .pre .1) (at-peek .peek .ensures)
+    assignment-after (start .pre .0 .asked) (start .pre .1) (at-peek .peek .ensures)
     (sym (at-peek .peek .ensures .kind) ∙ start .pre .0 .kind) (at-expression .expression .ensures)
     (at-abandon .abandon .ensures)
     (omega (arith, at-abandon .abandon .kept, at-expression .expression .kept))

@@ -1,4 +1,4 @@
-use Rattle.statement.proofs.Assigned.{compound-behind, assigned-cuts, assigned-asks, assigned-room}
+use Rattle.statement.proofs.Assigned.{compound-after, assigned-cuts, assigned-asks, assigned-room}
 use Rattle.steps.proofs.Moves.{asked-seen}
 use mathlib.Core.Path.{sym, _∙_}
 use native.Mathlib.Omega.{arith}
@@ -98,7 +98,7 @@ returns c =
     let at-compound = at-abandon .before .before .before .before .before .before .before .before in
     let at-peek = at-compound .before .before .before .before in
     let start = at-peek .before .before .before .before .before .before in
-    compound-behind (start .pre .0 .asked) (start .pre .1) (at-peek .peek .ensures)
+    compound-after (start .pre .0 .asked) (start .pre .1) (at-peek .peek .ensures)
     (sym (at-peek .peek .ensures .kind) ∙ start .pre .0 .kind) (at-compound .compound .ensures)
     (at-abandon .abandon .ensures) (omega (arith, at-abandon .abandon .kept, at-compound .compound .kept))
     (omega (arith, at-compound .compound .kept)) (at-and-expect .and-expect .ensures)
