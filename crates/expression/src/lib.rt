@@ -4,8 +4,8 @@ use definition::parse_error;
 use definition::refusal;
 use definition::tag;
 use fallible::Answer;
-use fallible::How;
 use fallible::State;
+use fallible::Status;
 use fallible::abandon;
 use fallible::entry;
 use fallible::note;
@@ -80,8 +80,8 @@ fn boolean(
     ensures { λ r. ⌜ Parses P.expression-rule tokens text n file rep full st left r ⌝ }
 {
     let a = comparison(tokens, text, n, file, rep, full, st, left);
-    let how = a.how;
-    let How::Done = how else {
+    let status = a.status;
+    let Status::Done = status else {
         return a;
     };
     let s = a.state;
@@ -110,8 +110,8 @@ fn comparison(
     ensures { λ r. ⌜ Parses P.parse-comparison tokens text n file rep full st left r ⌝ }
 {
     let a = bit_or(tokens, text, n, file, rep, full, st, left);
-    let how = a.how;
-    let How::Done = how else {
+    let status = a.status;
+    let Status::Done = status else {
         return a;
     };
     let s = a.state;
@@ -143,8 +143,8 @@ fn bit_or(
     ensures { λ r. ⌜ Parses P.parse-bitwise-or tokens text n file rep full st left r ⌝ }
 {
     let mut a = cast(tokens, text, n, file, rep, full, st, left);
-    let how = a.how;
-    let How::Done = how else {
+    let status = a.status;
+    let Status::Done = status else {
         return a;
     };
     let s = a.state;
@@ -297,8 +297,8 @@ fn operators(
 {
     let mut a = first;
     loop {
-        let how = a.how;
-        let How::Done = how else {
+        let status = a.status;
+        let Status::Done = status else {
             return a;
         };
         let s = a.state;
@@ -331,8 +331,8 @@ fn cast(
 {
     let mut a = operand(tokens, text, n, file, rep, full, st, left);
     loop {
-        let how = a.how;
-        let How::Done = how else {
+        let status = a.status;
+        let Status::Done = status else {
             return a;
         };
         let s = a.state;
@@ -416,8 +416,8 @@ fn call(
     ensures { λ r. ⌜ Parses P.parse-call tokens text n file rep full st left r ⌝ }
 {
     let a = sizeof(tokens, text, n, file, rep, full, st, left);
-    let how = a.how;
-    let How::Done = how else {
+    let status = a.status;
+    let Status::Done = status else {
         return a;
     };
     let s = a.state;
@@ -455,8 +455,8 @@ fn sizeof(
     }
     let on = State { at: t.next, ..st };
     let a = expect(tokens, text, n, rep, full, on, kind::L_PAREN);
-    let how = a.how;
-    let How::Done = how else {
+    let status = a.status;
+    let Status::Done = status else {
         return a;
     };
     let s = a.state;
@@ -481,8 +481,8 @@ fn access(
 {
     let mut a = atom(tokens, text, n, file, rep, full, st, left);
     loop {
-        let how = a.how;
-        let How::Done = how else {
+        let status = a.status;
+        let Status::Done = status else {
             return a;
         };
         let s = a.state;
@@ -496,17 +496,17 @@ fn access(
             if u.kind != kind::IDENTIFIER {
                 let error = entry(parse_error::IDENTIFIER, u.line, u.column, 0, 0);
                 let b = note(n, rep, full, on, error);
-                let h = b.how;
+                let h = b.status;
                 let e = b.state;
                 return Answer {
-                    how: h,
+                    status: h,
                     state: e,
                     line: a.line,
                     column: a.column,
                 };
             }
             let c = Answer {
-                how,
+                status,
                 state: on,
                 line: a.line,
                 column: a.column,
@@ -517,7 +517,7 @@ fn access(
         let on = State { at: t.next, ..s };
         if t.kind == kind::DOT_STAR {
             let c = Answer {
-                how,
+                status,
                 state: on,
                 line: a.line,
                 column: a.column,
@@ -573,8 +573,8 @@ fn bare_name(
     requires { ⌜ NameRoom tokens text n file a at ⌝ }
     ensures { λ r. ⌜ BareNamed tokens text n file a tag at r ⌝ }
 {
-    let how = a.how;
-    let How::Done = how else {
+    let status = a.status;
+    let Status::Done = status else {
         return a;
     };
     let s = a.state;
@@ -582,7 +582,7 @@ fn bare_name(
     if t.kind == kind::IDENTIFIER {
         let pos = write_bare(file, text, s.pos, tag, Numbers::None, t.start, t.len);
         return Answer {
-            how,
+            status,
             state: State { pos, ..s },
             line: 0,
             column: 0,
@@ -590,7 +590,7 @@ fn bare_name(
     }
     let pos = write_bare(file, b"<?>", s.pos, tag, Numbers::None, 0, 3);
     Answer {
-        how,
+        status,
         state: State { pos, ..s },
         line: 0,
         column: 0,
@@ -620,7 +620,7 @@ pub fn ty(
     let on = State { at: t.next, ..st };
     if t.kind == kind::IDENTIFIER {
         let a = Answer {
-            how: How::Done,
+            status: Status::Done,
             state: on,
             line: t.line,
             column: t.column,
@@ -681,8 +681,8 @@ fn array(
         return raise(n, rep, full, on, error);
     }
     let a = expect(tokens, text, n, rep, full, on, kind::R_BRACKET);
-    let how = a.how;
-    let How::Done = how else {
+    let status = a.status;
+    let Status::Done = status else {
         return a;
     };
     let s = a.state;
@@ -709,8 +709,8 @@ fn typed(
     let a = expect(tokens, text, n, rep, full, st, kind::COLON);
     let from = State { reported: j, ..st };
     let b = abandon(rep, a, from, st);
-    let how = b.how;
-    let How::Done = how else {
+    let status = b.status;
+    let Status::Done = status else {
         return b;
     };
     let s = b.state;
@@ -743,8 +743,8 @@ pub fn typed_name(
     }
     let error = entry(parse_error::IDENTIFIER, t.line, t.column, 0, 0);
     let b = note(n, rep, full, on, error);
-    let how = b.how;
-    let How::Done = how else {
+    let status = b.status;
+    let Status::Done = status else {
         return b;
     };
     let s = b.state;
@@ -788,8 +788,8 @@ fn field(
     let t = peek(tokens, text, n, st.at);
     let a = expect_identifier(tokens, text, n, rep, full, st);
     let b = and_expect(tokens, text, n, rep, full, a, kind::EQUALS, st);
-    let how = b.how;
-    let How::Done = how else {
+    let status = b.status;
+    let Status::Done = status else {
         return b;
     };
     let s = b.state;
@@ -843,8 +843,8 @@ pub fn list(
 {
     let open = opener(what);
     let a = expect(tokens, text, n, rep, full, st, open);
-    let how = a.how;
-    if let How::Refused(_) = how {
+    let status = a.status;
+    if let Status::Refused(_) = status {
         return a;
     }
     let close = closer(what);
@@ -855,10 +855,10 @@ pub fn list(
         if t.kind == kind::END {
             let error = entry(parse_error::LIST_AT_END, 0, 0, 0, 0);
             let b = note(n, rep, full, s, error);
-            let h = b.how;
+            let h = b.status;
             let e = b.state;
             return Answer {
-                how: h,
+                status: h,
                 state: e,
                 line: count,
                 column: 0,
@@ -866,21 +866,21 @@ pub fn list(
         }
         if t.kind == close {
             return Answer {
-                how: How::Done,
+                status: Status::Done,
                 state: State { at: t.next, ..s },
                 line: count,
                 column: 0,
             };
         }
         let b = item(tokens, text, n, file, rep, full, what, s, left);
-        let h = b.how;
+        let h = b.status;
         let e = b.state;
-        if let How::Refused(_) = h {
+        if let Status::Refused(_) = h {
             return b;
         }
         let c = comma(tokens, text, n, rep, full, e, close);
-        let g = c.how;
-        let How::Done = g else {
+        let g = c.status;
+        let Status::Done = g else {
             return c;
         };
         count = counted(h, count);

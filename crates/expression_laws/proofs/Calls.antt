@@ -19,8 +19,8 @@ use Rattle.definition.specs.Go.{go}
 use Rattle.definition.proofs.Flat.{go-bind}
 use Rattle.fallible.proofs.Grown.{errs-length}
 use Rattle.fallible.specs.declared.State.{State}
-use Rattle.fallible.specs.declared.How.{How}
-use Rattle.fallible.specs.declared.How.the-variants.{Done, Fatal, Refused}
+use Rattle.fallible.specs.declared.Status.{Status}
+use Rattle.fallible.specs.declared.Status.the-variants.{Done, Fatal, Refused}
 use Rattle.fallible.specs.declared.Answer.{Answer}
 use Rattle.fallible.specs.Lists.{errs}
 use Rattle.fallible.specs.Answers.{silent}
@@ -104,13 +104,13 @@ call-on e =
     (P.node (e .item .recs ++ i .recs) 0x24 (e .item .place) (two (i .count) ∷ []) []) (e .errors))
     (done (ok e))
 
-module _ {A : Type 0} {K : View A} {w x : List ℕ} {n : ℕ} {o r f : List ℕ} {b : Answer} {q : Res (Ans A)} (never : b .how ≡ Fatal → ⊥) where
+module _ {A : Type 0} {K : View A} {w x : List ℕ} {n : ℕ} {o r f : List ℕ} {b : Answer} {q : Res (Ans A)} (never : b .status ≡ Fatal → ⊥) where
   -- after what the construct has before
   pub rebased : {T T′ : List ℕ} {E E′ : List Err} (rs : List Rec) (es : List Err) → T′ ≡ T ++ recs-bytes rs → E′ ≡ E ++ es
       → Shows K T′ E′ [] [] w x n o r f b q → Shows K T E rs es w x n o r f b q
-  rebased {T} {T′} {E} {E′} rs es t e v = record { told = one (b .how) refl (v .told) }
+  rebased {T} {T′} {E} {E′} rs es t e v = record { told = one (b .status) refl (v .told) }
     where
-      one : (s : How) → b .how ≡ s → ShowsOf s K T′ E′ [] [] w x n o r f b q → ShowsOf s K T E rs es w x n o r f b q
+      one : (s : Status) → b .status ≡ s → ShowsOf s K T′ E′ [] [] w x n o r f b q → ShowsOf s K T E rs es w x n o r f b q
       one Done z g =
           record {
             item = g .item;
@@ -125,7 +125,7 @@ module _ {A : Type 0} {K : View A} {w x : List ℕ} {n : ℕ} {o r f : List ℕ}
       one (Refused m) z g = g
 
 module _ {w x : List ℕ} {n d i j : ℕ} {o r f : List ℕ} {a : Answer} {t : Token} (q : GoesOn w x n o r f a i j)
-    (z : a .how ≡ Done) (u : Seen w x n (a .state .at) t) where
+    (z : a .status ≡ Done) (u : Seen w x n (a .state .at) t) where
   pub call-none : (t .kind ≡ 41 → ⊥) → Goes node node w x n d call-on i j o r f a o r f a
   unfolding go run
   call-none h = goes-none q z (λ e rd. rw (run, no u h))
@@ -242,7 +242,7 @@ module _ {w x : List ℕ} {n d : ℕ} {o r f : List ℕ} {s : State} {t : Token}
           is = λ rd. say (sizeof-step d f s u h rd) (stops d _ _ nd (X .is plain d (past w x n (s .at) rd) o));
         }
 
-    pub sizeof-asks : {o1 r2 f2 : List ℕ} {b : Answer} → a .how ≡ Done
+    pub sizeof-asks : {o1 r2 f2 : List ℕ} {b : Answer} → a .status ≡ Done
         → Reads node w x n d P.parse-type o r1 f1 (a .state) o1 r2 f2 b → length r2 ≡ length r
         → length f2 ≡ length f → Follows w x n r2 f2 b (s .pos) (s .reported)
     sizeof-asks z B lr lf =
@@ -253,7 +253,7 @@ module _ {w x : List ℕ} {n d : ℕ} {o r f : List ℕ} {s : State} {t : Token}
           reported = omega (arith, B .moved, X .kept z .0);
         }
 
-    pub sizeof-done : {o1 r2 f2 r3 f3 o2 : List ℕ} {b c y : Answer} → a .how ≡ Done
+    pub sizeof-done : {o1 r2 f2 r3 f3 o2 : List ℕ} {b c y : Answer} → a .status ≡ Done
         → Reads node w x n d P.parse-type o r1 f1 (a .state) o1 r2 f2 b → length r2 ≡ length r
         → length f2 ≡ length f → Expected w x n 42 (s .pos) (s .reported) r2 f2 b r3 f3 c
         → Finished x o1 c
@@ -302,10 +302,10 @@ closing e = P.expect-as group 42 >>= λ c. done (P.both e c)
 
 module _ {w x : List ℕ} {n : ℕ} {o r f r1 f1 : List ℕ} {a y : Answer} (d : ℕ) {T : List ℕ} {E : List Err} {q : Res (Ans Node)} where
   -- a node with the errors of the parenthesis after its own
-  pub closes-good : a .how ≡ Done → Good node T E [] [] w x n o r f a q → Closing w x n r f a r1 f1 y
+  pub closes-good : a .status ≡ Done → Good node T E [] [] w x n o r f a q → Closing w x n r f a r1 f1 y
       → Shows node T E [] [] w x n o r1 f1 y (after q (λ z S. go d (closing z) S))
   unfolding go run
-  closes-good z g v = one (v .b .how) refl (v .is) (v .expects .is group d (g .read) o .told)
+  closes-good z g v = one (v .b .status) refl (v .is) (v .expects .is group d (g .read) o .told)
     where
       S : St
       S = st-of w x n f (g .read) (a .state)
@@ -322,7 +322,7 @@ module _ {w x : List ℕ} {n : ℕ} {o r f r1 f1 : List ℕ} {a y : Answer} (d :
       tree : take (v .b .state .pos) o ≡ T ++ recs-bytes (g .item .recs)
       tree = ap (λ (l : ℕ). take l o) (v .expects .pos) ∙ g .tree
 
-      one : (h : How) → v .b .how ≡ h → ClosingOf h a (v .b) y
+      one : (h : Status) → v .b .status ≡ h → ClosingOf h a (v .b) y
           → ShowsOf h (token (next-token (rest w x n (a .state .at)))) (take (a .state .pos) o)
           (errs r (a .state .reported)) [] [] w x n o r1 f1 (v .b) (go d (P.expect-as group 42) S)
           → Shows node T E [] [] w x n o r1 f1 y (after q (λ z S. go d (closing z) S))
@@ -353,10 +353,10 @@ module _ {w x : List ℕ} {n : ℕ} {o r f r1 f1 : List ℕ} {a y : Answer} (d :
       one (Refused k) h m t = rw m (record { told = rw h (step ∙ rw t) })
 
   -- a fatal answer with them
-  pub closes-bad : a .how ≡ Fatal → Bad T E w x n o r f a q → Closing w x n r f a r1 f1 y
+  pub closes-bad : a .status ≡ Fatal → Bad T E w x n o r f a q → Closing w x n r f a r1 f1 y
       → Shows node T E [] [] w x n o r1 f1 y (after q (λ z S. go d (closing z) S))
   unfolding go run
-  closes-bad z g v = one (v .b .how) refl (v .is) (v .expects .is group d (g .read) o .told)
+  closes-bad z g v = one (v .b .status) refl (v .is) (v .expects .is group d (g .read) o .told)
     where
       S : St
       S = st-of w x n f (g .read) (a .state)
@@ -372,7 +372,7 @@ module _ {w x : List ℕ} {n : ℕ} {o r f r1 f1 : List ℕ} {a y : Answer} (d :
       tree : take (v .b .state .pos) o ≡ T
       tree = ap (λ (l : ℕ). take l o) (v .expects .pos) ∙ g .tree
 
-      one : (h : How) → v .b .how ≡ h → ClosingOf h a (v .b) y
+      one : (h : Status) → v .b .status ≡ h → ClosingOf h a (v .b) y
           → ShowsOf h (token (next-token (rest w x n (a .state .at)))) (take (a .state .pos) o)
           (errs r (a .state .reported)) [] [] w x n o r1 f1 (v .b) (go d (P.expect-as group 42) S)
           → Shows node T E [] [] w x n o r1 f1 y (after q (λ z S. go d (closing z) S))
@@ -401,9 +401,9 @@ module _ {w x : List ℕ} {n : ℕ} {o r f r1 f1 : List ℕ} {a y : Answer} (d :
   pub closes : Closed w x n r f a r1 f1 y → Shows node T E [] [] w x n o r f a q
       → Shows node T E [] [] w x n o r1 f1 y (after q (λ z S. go d (closing z) S))
   unfolding go run
-  closes v u = one (a .how) refl (v .is) (u .told)
+  closes v u = one (a .status) refl (v .is) (u .told)
     where
-      one : (h : How) → a .how ≡ h → ClosedOf h w x n r f a r1 f1 y → ShowsOf h node T E [] [] w x n o r f a q
+      one : (h : Status) → a .status ≡ h → ClosedOf h w x n r f a r1 f1 y → ShowsOf h node T E [] [] w x n o r f a q
           → Shows node T E [] [] w x n o r1 f1 y (after q (λ z S. go d (closing z) S))
       one Done z m g = closes-good z g m
       one Fatal z m g = closes-bad z g m

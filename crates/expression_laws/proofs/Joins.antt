@@ -13,7 +13,7 @@ use Rattle.definition.specs.Go.{go}
 use Rattle.definition.proofs.Flat.{go-bind}
 use Rattle.fallible.proofs.Grown.{errs-length}
 use Rattle.fallible.specs.declared.State.{State}
-use Rattle.fallible.specs.declared.How.the-variants.{Done}
+use Rattle.fallible.specs.declared.Status.the-variants.{Done}
 use Rattle.fallible.specs.declared.Answer.{Answer}
 use Rattle.fallible.specs.Answers.{Abandoned, Cuts}
 use Rattle.node.specs.Put.{rec-of, size-of, Room}
@@ -61,7 +61,7 @@ module _ {w x : List ℕ} {n i j : ℕ} {o r f : List ℕ} {a : Answer} (q : Goe
       → Goes K L w x n d k i j o r f a o r f a
   goes-stops {d = d} {k = k} nd = record { moved = stays-on; is = λ T E p li lj h. stops d k p nd h }
 
-  pub goes-none : {A : Type 0} {K : View A} {d : ℕ} {k : Fallible A → Act (Ans A)} → a .how ≡ Done
+  pub goes-none : {A : Type 0} {K : View A} {d : ℕ} {k : Fallible A → Act (Ans A)} → a .status ≡ Done
       → ((e : Fallible A) (rd : List Consumed)
       → go d (k e) (st-of w x n f rd (a .state)) ≡ gives (ok e) (st-of w x n f rd (a .state)))
       → Goes K K w x n d k i j o r f a o r f a
@@ -104,7 +104,7 @@ module _ {A : Type 0} {K : View A} {w x : List ℕ} {n d i j : ℕ} {o r f o1 r1
 
 -- Behind the answer a, the token t is read and then b by the act m; what `?` leaves of it is c; y has the record v.
 module _ {A : Type 0} {K : View A} {w x : List ℕ} {n d i j : ℕ} {o r f o1 r1 f1 r2 o2 : List ℕ} {a b c y : Answer} {t : Token} {v : Record} {m : Act (Ans A)} (p : Place) (ns : List Num)
-    (q : GoesOn w x n o r f a i j) (z : a .how ≡ Done) (u : Seen w x n (a .state .at) t)
+    (q : GoesOn w x n o r f a i j) (z : a .status ≡ Done) (u : Seen w x n (a .state .at) t)
     (B : Reads K w x n d m o r f (fore (a .state) t) o1 r1 f1 b)
     (C : Abandoned r1 b i j (a .state .reported) r2 c) (F : Finished x o1 c v o2 y)
     (paid : size-of v ≤ 16 * min (t .kind) 1) (made : rec-of x v ≡ record { tag = v .tag; place = some p; numbers = ns; text = [] }) where

@@ -15,7 +15,7 @@ use Rattle.definition.specs.Act.{Act, done, Operators, Casts, Node, plain, St, 
 use Rattle.definition.specs.Parser as P
 use Rattle.definition.specs.Go.{go}
 use Rattle.definition.proofs.Flat.{go-loop}
-use Rattle.fallible.specs.declared.How.the-variants.{Done}
+use Rattle.fallible.specs.declared.Status.the-variants.{Done}
 use Rattle.fallible.specs.declared.State.{State}
 use Rattle.fallible.specs.declared.Answer.{Answer}
 use Rattle.fallible.specs.Answers.{Abandoned}
@@ -56,7 +56,7 @@ module _ {ops : List P.Op} {c op : ℕ} (k : Operator ops c op) (t : Tok) (e : t
   one-found h = k .is t e found other d S ∙ rw (ne-eqb op 0 h)
 
 module _ {w x : List ℕ} {n d i j : ℕ} {o r f : List ℕ} {a : Answer} {t : Token} (q : GoesOn w x n o r f a i j)
-    (z : a .how ≡ Done) (u : Seen w x n (a .state .at) t) where
+    (z : a .status ≡ Done) (u : Seen w x n (a .state .at) t) where
   -- ---- `&&`
 
   pub and-none : (t .kind ≡ 29 → ⊥) → Goes node node w x n d and-on i j o r f a o r f a

@@ -16,12 +16,12 @@ use Rattle.definition.specs.Parser as P
 use Rattle.definition.specs.Go.{go}
 use Rattle.definition.proofs.Flat.{go-loop, go-bind}
 use Rattle.fallible.specs.declared.State.{State}
-use Rattle.fallible.specs.declared.How.{How}
-use Rattle.fallible.specs.declared.How.the-variants.{Done, Fatal, Refused}
+use Rattle.fallible.specs.declared.Status.{Status}
+use Rattle.fallible.specs.declared.Status.the-variants.{Done, Fatal, Refused}
 use Rattle.fallible.specs.declared.Answer.{Answer}
 use Rattle.fallible.specs.Lists.{unpack, error-at, errs}
 use Rattle.fallible.specs.Answers.{noted, Raised}
-use Rattle.fallible.proofs.How.{the-type}
+use Rattle.fallible.proofs.Status.{the-type}
 use Rattle.steps.specs.declared.Token.{Token}
 use Rattle.steps.specs.Tokens.{rest, Seen}
 use Rattle.steps.specs.Shows.{st-of, Asks, Asked, ShowsOf, Shows, node, token, items, Reads, Expects}
@@ -93,7 +93,7 @@ module _ {w x : List ℕ} {n wanted : ℕ} (k : A.Listed) {o r f r1 f1 : List �
     moved = e .moved;
     on = e .on;
     spare = omega (arith, e .pos, paid (s .at) (a .state .at) (q .asks .held) (e .on));
-    never = not-fatal (a .how) h;
+    never = not-fatal (a .status) h;
     is = λ rd. refusal h (λ m g. listing k d _ ∙ rw g) (opens d rd);
   }
 
@@ -105,10 +105,10 @@ module _ {w x : List ℕ} {n wanted : ℕ} (k : A.Listed) {o r f r1 f1 : List �
     on = omega (arith, e .on, u .moved .at);
     spare = omega (arith, u .moved .room, e .pos, paid (s .at) (a .state .at) (q .asks .held) (e .on));
     never = u .never;
-    is = λ rd. say (listing k d _) (one rd (a .how) h (opens d rd .told));
+    is = λ rd. say (listing k d _) (one rd (a .status) h (opens d rd .told));
   }
     where
-      one : (rd : List Consumed) (g : How) → OneOf (0 ∷ 1 ∷ []) (tagOf the-type g)
+      one : (rd : List Consumed) (g : Status) → OneOf (0 ∷ 1 ∷ []) (tagOf the-type g)
           → ShowsOf g (token (next-token (rest w x n (s .at)))) (take (s .pos) o) (errs r (s .reported)) [] [] w x n o
           r1 f1 a (go d (P.expect (P.opener k)) (st-of w x n f rd s))
           → Shows items (take (s .pos) o) (errs r (s .reported)) [] [] w x n o2 r2 f2 y
@@ -130,7 +130,7 @@ module _ {w x : List ℕ} {n count : ℕ} (k : A.Listed) {o r f : List ℕ} {s :
   pub rest-end : {d e : ℕ} {r1 f1 : List ℕ} {b : Answer} → t .kind ≡ 0 → unpack e ≡ error-at 14 0 0 0 0
       → Raised (noted n s) r f s e r1 f1 b
       → LoopOn (listed-on k) w x n d count o r f s o r1 f1
-      (record { how = b .how; state = b .state; line = count; column = 0 })
+      (record { status = b .status; state = b .state; line = count; column = 0 })
   unfolding go run P.list-turn
   rest-end {d} z i g =
       loop-ended (listed-on k) q v g (λ rd l. go-loop d (ListOf k l) (st-of w x n f rd s) ∙ rw (run, yes v z)
@@ -139,7 +139,7 @@ module _ {w x : List ℕ} {n count : ℕ} (k : A.Listed) {o r f : List ℕ} {s :
   module _ {close : ℕ} (m0 : t .kind ≡ 0 → ⊥) (c : close ≡ P.closer k) where
     pub rest-closed : {d : ℕ} → t .kind ≡ close
         → LoopOn (listed-on k) w x n d count o r f s o r f
-        (record { how = Done; state = fore s t; line = count; column = 0 })
+        (record { status = Done; state = fore s t; line = count; column = 0 })
     unfolding go run P.list-turn
     rest-closed {d} z =
         loop-closed (listed-on k) q v
@@ -164,16 +164,16 @@ module _ {w x : List ℕ} {n count : ℕ} (k : A.Listed) {o r f : List ℕ} {s :
           moved = moved-onward (u .moved) (g .moved);
           never =
               λ z. subst
-              (λ (h : How). CommasOf h w x n k r1 f1 (b .state) r2 f2 (a .state) d [] (P.no-items [])) z
+              (λ (h : Status). CommasOf h w x n k r1 f1 (b .state) r2 f2 (a .state) d [] (P.no-items [])) z
               (g .is k (sym c) d [] (P.no-items []));
           is =
               λ rd T E l et ee ec. let j = joined (listed-on k) (P.after-item k) (P.item k) item-turn u alive rd
               T E l et ee ec in
               say (j .is)
-              (record { told = one T E (j .read) (j .list) (a .how) nd (g .is k (sym c) d (j .read) (j .list)) });
+              (record { told = one T E (j .read) (j .list) (a .status) nd (g .is k (sym c) d (j .read) (j .list)) });
         }
           where
-            one : (T : List ℕ) (E : List Err) (rd : List Consumed) (l : Items) (h : How)
+            one : (T : List ℕ) (E : List Err) (rd : List Consumed) (l : Items) (h : Status)
                 → OneOf (1 ∷ 2 ∷ []) (tagOf the-type h)
                 → CommasOf h w x n k r1 f1 (b .state) r2 f2 (a .state) d rd l
                 → ShowsOf h items T E [] [] w x n o1 r2 f2 a (answered d (go d (P.after-item k l) (st-of w x n f1 rd (b .state))))
@@ -181,7 +181,7 @@ module _ {w x : List ℕ} {n count : ℕ} (k : A.Listed) {o r f : List ℕ} {s :
             one T E rd l Fatal nd i = absurd i
             one T E rd l (Refused m) nd i = rw i
 
-        pub rest-next : {m : ℕ} {o3 r3 f3 : List ℕ} {y : Answer} → a .how ≡ Done → Counted (b .how) count m
+        pub rest-next : {m : ℕ} {o3 r3 f3 : List ℕ} {y : Answer} → a .status ≡ Done → Counted (b .status) count m
             → LoopOn (listed-on k) w x n d m o1 r2 f2 (a .state) o3 r3 f3 y
             → LoopOn (listed-on k) w x n d count o r f s o3 r3 f3 y
         rest-next {m} z cm h = record {
@@ -190,7 +190,7 @@ module _ {w x : List ℕ} {n count : ℕ} (k : A.Listed) {o r f : List ℕ} {s :
           is = λ rd T E l et ee ec.
               let j = joined (listed-on k) (P.after-item k) (P.item k) item-turn u alive rd T E l et ee ec in
               let i : Next w x n k r1 f1 (b .state) r2 f2 (a .state) d (j .read) (j .list) = subst
-              (λ (h : How). CommasOf h w x n k r1 f1 (b .state) r2 f2 (a .state) d (j .read) (j .list)) z
+              (λ (h : Status). CommasOf h w x n k r1 f1 (b .state) r2 f2 (a .state) d (j .read) (j .list)) z
               (g .is k (sym c) d (j .read) (j .list)) in
               say (j .is ∙ ap (answered d) (i .is) ∙ sym (go-bind d (listed-on k (with-errors (j .list) (i .errors))) as-answer _))
               (h .is (i .read) T E (with-errors (j .list) (i .errors))
@@ -207,7 +207,7 @@ module _ {w x : List ℕ} {n d count : ℕ} {act : Act (Ans Node)} {o r f o1 r1 
   comma-asks l g = asks-moved (q .0 .asks) (u .moved) l g
 
   pub rest-asked : {close m : ℕ} {r2 f2 : List ℕ} {a : Answer} → Commas w x n r1 f1 (b .state) close r2 f2 a
-      → Counted (b .how) count m → length o1 ≡ length o → length r2 ≡ length r → length f2 ≡ length f
+      → Counted (b .status) count m → length o1 ≡ length o → length r2 ≡ length r → length f2 ≡ length f
       → Asked w x n o1 r2 f2 (a .state) × (m ≤ a .state .at)
   rest-asked g c lo l h = (
     asked-moved (q .0) (moved-onward (u .moved) (g .moved)) lo l h,

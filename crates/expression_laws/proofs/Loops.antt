@@ -13,10 +13,10 @@ use Rattle.definition.specs.Act.{Act, Items, Node, done, make, Consumed, Res, g
 use Rattle.definition.specs.Parser as P
 use Rattle.definition.specs.Go.{go}
 use Rattle.definition.proofs.Flat.{go-bind}
-use Rattle.fallible.proofs.How.{the-type}
+use Rattle.fallible.proofs.Status.{the-type}
 use Rattle.fallible.specs.declared.State.{State}
-use Rattle.fallible.specs.declared.How.{How}
-use Rattle.fallible.specs.declared.How.the-variants.{Done, Fatal, Refused}
+use Rattle.fallible.specs.declared.Status.{Status}
+use Rattle.fallible.specs.declared.Status.the-variants.{Done, Fatal, Refused}
 use Rattle.fallible.specs.declared.Answer.{Answer}
 use Rattle.fallible.specs.Lists.{unpack, errs}
 use Rattle.fallible.specs.Answers.{noted, Raised}
@@ -39,7 +39,7 @@ answered d q = after q (λ i S. go d (as-answer i) S)
 -- ---- refusals
 
 -- a refused answer is not fatal
-pub not-fatal : (h : How) → tagOf the-type h ≡ 2 → h ≡ Fatal → ⊥
+pub not-fatal : (h : Status) → tagOf the-type h ≡ 2 → h ≡ Fatal → ⊥
 not-fatal h e z = let y : tagOf the-type h ≡ 1 = rw z in omega arith
 
 -- a refusal is one for what follows, too
@@ -47,9 +47,9 @@ pub refusal : {A : Type 0} {K : View A} {T : List ℕ} {E : List Err} {w x : Lis
     {T′ : List ℕ} {E′ : List Err} {a : Answer} {q : Res (Ans A)} {q′ : Res (Ans Items)}
     → Ended a → ((m : ℕ) → q ≡ refused m → q′ ≡ refused m)
     → Shows {A = A} K T E [] [] w x n o r f a q → Shows items T′ E′ [] [] w x n o′ r′ f′ a q′
-refusal {A} {K} {T} {E} {w} {x} {n} {o} {r} {f} {o′} {r′} {f′} {T′} {E′} {a} {q} {q′} e h v = record { told = one (a .how) e (v .told) }
+refusal {A} {K} {T} {E} {w} {x} {n} {o} {r} {f} {o′} {r′} {f′} {T′} {E′} {a} {q} {q′} e h v = record { told = one (a .status) e (v .told) }
   where
-    one : (k : How) → tagOf the-type k ≡ 2 → ShowsOf k K T E [] [] w x n o r f a q → ShowsOf k items T′ E′ [] [] w x n o′ r′ f′ a q′
+    one : (k : Status) → tagOf the-type k ≡ 2 → ShowsOf k K T E [] [] w x n o r f a q → ShowsOf k items T′ E′ [] [] w x n o′ r′ f′ a q′
     one Done e g = absurd (omega arith)
     one Fatal e g = absurd (omega arith)
     one (Refused m) e g = h m g
@@ -61,7 +61,7 @@ module _ {w x : List ℕ} {n d count : ℕ} (on : Items → Act Items) {o r f : 
   -- after the token that closes it
   pub loop-closed : ((rd : List Consumed) (l : Items)
       → go d (on l) (st-of w x n f rd s) ≡ gives l (st-of w x n f (past w x n (s .at) rd) (fore s t)))
-      → LoopOn on w x n d count o r f s o r f (record { how = Done; state = fore s t; line = count; column = 0 })
+      → LoopOn on w x n d count o r f s o r f (record { status = Done; state = fore s t; line = count; column = 0 })
   unfolding go run
   loop-closed step = record {
     moved = fore-moved (q .0 .asks) v;
@@ -85,18 +85,18 @@ module _ {w x : List ℕ} {n d count : ℕ} (on : Items → Act Items) {o r f : 
       → ((rd : List Consumed) (l : Items)
       → go d (on l) (st-of w x n f rd s)
       ≡ go d (make (unpack e) (done (P.with-error l (unpack e)))) (st-of w x n f rd s))
-      → LoopOn on w x n d count o r f s o r1 f1 (record { how = b .how; state = b .state; line = count; column = 0 })
+      → LoopOn on w x n d count o r f s o r1 f1 (record { status = b .status; state = b .state; line = count; column = 0 })
   unfolding go run
   loop-ended {e} {r1} {f1} {b} g step = record {
     moved = rw (g .is) (making-moved (q .0 .asks) Done);
     never =
-        made-so Done n s (λ y. y .how ≡ Fatal → ⊥) (g .is) (λ _ y. let e : _≡_ {A = ℕ} 0 1 = cc in omega arith)
+        made-so Done n s (λ y. y .status ≡ Fatal → ⊥) (g .is) (λ _ y. let e : _≡_ {A = ℕ} 0 1 = cc in omega arith)
         (λ _ y. let e : _≡_ {A = ℕ} 0 1 = cc in omega arith);
     is = λ rd T E l et ee ec.
         let made : go d (on l >>= as-answer) (st-of w x n f rd s) ≡ answered d (go d (make (unpack e) (done (P.with-error l (unpack e)))) (st-of w x n f rd s)) =
         go-bind d (on l) as-answer _ ∙ ap (answered d) (step rd l) in
         made-so Done n s (λ y. Shows items T E [] [] w x n o r1 f1
-        (record { how = y .how; state = y .state; line = count; column = 0 })
+        (record { status = y .status; state = y .state; line = count; column = 0 })
         (go d (on l >>= as-answer) (st-of w x n f rd s))) (g .is)
         (λ h. record {
           told = record {
@@ -121,7 +121,7 @@ pub record Joined (w x : List ℕ) (n d : ℕ) (next : Items → Act Items) (T :
   pub is : q ≡ answered d (go d (next list) (st-of w x n f read (b .state)))
   pub tree : take (b .state .pos) o ≡ T ++ recs-bytes (list .recs)
   pub rep : errs r (b .state .reported) ≡ E ++ list .errors
-  pub counts : list .count ≡ count-of (b .how) count
+  pub counts : list .count ≡ count-of (b .status) count
 
 -- Of the loop `on`, where a turn at s reads an item by the act m and goes on with `next`.
 module _ {w x : List ℕ} {n d : ℕ} {o r f o1 r1 f1 : List ℕ} {s : State} {b : Answer} (on next : Items → Act Items) (m : Act (Ans Node)) (step : (rd : List Consumed) (l : Items) → go d (on l) (st-of w x n f rd s) ≡ go d (m >>= λ a. next (P.integrate l a)) (st-of w x n f rd s))
@@ -138,16 +138,16 @@ module _ {w x : List ℕ} {n d : ℕ} {o r f o1 r1 f1 : List ℕ} {s : State} {b
   loop-refused h =
       record {
         moved = u .moved;
-        never = not-fatal (b .how) h;
+        never = not-fatal (b .status) h;
         is = λ rd T E l et ee ec. refusal h (λ m g. item-first rd l ∙ rw g) (u .is rd);
       }
 
   pub joined : {count : ℕ} → Alive b → (rd : List Consumed) (T : List ℕ) (E : List Err) (l : Items)
       → take (s .pos) o ≡ T ++ recs-bytes (l .recs) → errs r (s .reported) ≡ E ++ l .errors → l .count ≡ count
       → Joined w x n d next T E o1 r1 f1 b count (go d (on l >>= as-answer) (st-of w x n f rd s))
-  joined {count} alive rd T E l et ee ec = one (b .how) refl alive (u .is rd .told)
+  joined {count} alive rd T E l et ee ec = one (b .status) refl alive (u .is rd .told)
     where
-      one : (h : How) → b .how ≡ h → OneOf (0 ∷ 1 ∷ []) (tagOf the-type h)
+      one : (h : Status) → b .status ≡ h → OneOf (0 ∷ 1 ∷ []) (tagOf the-type h)
           → ShowsOf h node (take (s .pos) o) (errs r (s .reported)) [] [] w x n o1 r1 f1 b
           (go d m (st-of w x n f rd s))
           → Joined w x n d next T E o1 r1 f1 b count (go d (on l >>= as-answer) (st-of w x n f rd s))
@@ -174,7 +174,7 @@ module _ {w x : List ℕ} {n d : ℕ} {o r f o1 r1 f1 : List ℕ} {s : State} {b
 -- a loop that goes on with itself
 module _ {w x : List ℕ} {n d : ℕ} {o r f o1 r1 f1 : List ℕ} {s : State} {b : Answer} (on : Items → Act Items) (m : Act (Ans Node)) (step : (rd : List Consumed) (l : Items) → go d (on l) (st-of w x n f rd s) ≡ go d (m >>= λ a. on (P.integrate l a)) (st-of w x n f rd s))
     (u : Reads node w x n d m o r f s o1 r1 f1 b) where
-  pub loop-next : {count k : ℕ} {o3 r3 f3 : List ℕ} {y : Answer} → Alive b → Counted (b .how) count k
+  pub loop-next : {count k : ℕ} {o3 r3 f3 : List ℕ} {y : Answer} → Alive b → Counted (b .status) count k
       → LoopOn on w x n d k o1 r1 f1 (b .state) o3 r3 f3 y → LoopOn on w x n d count o r f s o3 r3 f3 y
   loop-next alive ck h = record {
     moved = moved-onward (u .moved) (h .moved);
@@ -189,7 +189,7 @@ module _ {w x : List ℕ} {n d : ℕ} {o r f o1 r1 f1 : List ℕ} {s : State} {b
 pub loop-asked : {w x : List ℕ} {n d count k : ℕ} {m : Act (Ans Node)} {o r f o1 r1 f1 : List ℕ} {s : State} {b : Answer}
     {t : Token}
     → Asked w x n o r f s × (count ≤ s .at) → Seen w x n (s .at) t → (t .kind ≡ 0 → ⊥)
-    → Reads node w x n d m o r f s o1 r1 f1 b → Counted (b .how) count k → length o1 ≡ length o
+    → Reads node w x n d m o r f s o1 r1 f1 b → Counted (b .status) count k → length o1 ≡ length o
     → length r1 ≡ length r → length f1 ≡ length f
     → Asked w x n o1 r1 f1 (b .state) × (k ≤ b .state .at)
 loop-asked q v m0 u c lo lr lf = (asked-moved (q .0) (u .moved) lo lr lf, omega (arith, q .1, v .kind, m0, u .on, c .high))

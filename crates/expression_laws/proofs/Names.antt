@@ -20,12 +20,12 @@ use Rattle.definition.proofs.Flat.{go-bind}
 use Rattle.node.specs.Put.{Room, Wrote, bare-of, bare-size}
 use Rattle.node.specs.declared.Numbers.the-variants.{None}
 use Rattle.fallible.specs.declared.State.{State}
-use Rattle.fallible.specs.declared.How.{How}
-use Rattle.fallible.specs.declared.How.the-variants.{Done, Fatal, Refused}
+use Rattle.fallible.specs.declared.Status.{Status}
+use Rattle.fallible.specs.declared.Status.the-variants.{Done, Fatal, Refused}
 use Rattle.fallible.specs.declared.Answer.{Answer}
 use Rattle.fallible.specs.Lists.{unpack, error-at, errs}
 use Rattle.fallible.specs.Answers.{refused-at, one-more, raised, noted, Raised, AbandonedOf, Abandoned, Cuts}
-use Rattle.fallible.proofs.How.{the-type}
+use Rattle.fallible.proofs.Status.{the-type}
 use Rattle.fallible.proofs.Grown.{errs-length}
 use Rattle.steps.specs.declared.Token.{Token}
 use Rattle.steps.specs.Tokens.{rest, budget, Seen}
@@ -49,26 +49,26 @@ unknown = 60 ∷ 63 ∷ 62 ∷ []
 
 module _ {w x : List ℕ} {n : ℕ} {o : List ℕ} {a : Answer} {tag at : ℕ} (q : NameRoom w x n o a at) where
   pub bare-stops : Stopped a → BareNamed w x n o a tag at o a
-  bare-stops nd = record { at = refl; reported = refl; full = refl; low = omega arith; high = omega arith; is = one (a .how) nd }
+  bare-stops nd = record { at = refl; reported = refl; full = refl; low = omega arith; high = omega arith; is = one (a .status) nd }
     where
-      one : (h : How) → OneOf (1 ∷ 2 ∷ []) (tagOf the-type h) → BareNamedOf h w x n o a tag at o a
+      one : (h : Status) → OneOf (1 ∷ 2 ∷ []) (tagOf the-type h) → BareNamedOf h w x n o a tag at o a
       one Done nd = absurd (⊎-elim (λ z. omega arith) (λ z. omega arith) nd)
       one Fatal nd = (refl, refl)
       one (Refused m) nd = (refl, refl)
 
-  module _ {t : Token} (z : a .how ≡ Done) (v : Seen w x n at t) where
+  module _ {t : Token} (z : a .status ≡ Done) (v : Seen w x n at t) where
     -- the name is written
     named : {o′ : List ℕ} {p k : ℕ} {name : List ℕ} → name-of (next-token (rest w x n at)) ≡ name
         → length name ≤ 3 + length (next-token (rest w x n at) .text) → k ≡ 3 + length name
         → Wrote o (a .state .pos) (bare-of tag None name) k o′ p
         → BareNamed w x n o a tag at o′ (record {
-          how = a .how;
+          status = a .status;
           state = record { at = a .state .at; pos = p; reported = a .state .reported; full = a .state .full };
           line = 0;
           column = 0;
         })
     named e l g u =
-        let d : done-of (a .how) ≡ 1 = rw z in
+        let d : done-of (a .status) ≡ 1 = rw z in
         record {
           at = refl;
           reported = refl;
@@ -82,7 +82,7 @@ module _ {w x : List ℕ} {n : ℕ} {o : List ℕ} {a : Answer} {tag at : ℕ} (
         → Wrote o (a .state .pos) (bare-of tag None (take (t .len) (drop (t .start) x))) (bare-size None (t .len))
         o′ p
         → BareNamed w x n o a tag at o′ (record {
-          how = a .how;
+          status = a .status;
           state = record { at = a .state .at; pos = p; reported = a .state .reported; full = a .state .full };
           line = 0;
           column = 0;
@@ -95,7 +95,7 @@ module _ {w x : List ℕ} {n : ℕ} {o : List ℕ} {a : Answer} {tag at : ℕ} (
     pub bare-unknown : {o′ : List ℕ} {p : ℕ} → (t .kind ≡ 1 → ⊥)
         → Wrote o (a .state .pos) (bare-of tag None (take 3 (drop 0 unknown))) (bare-size None 3) o′ p
         → BareNamed w x n o a tag at o′ (record {
-          how = a .how;
+          status = a .status;
           state = record { at = a .state .at; pos = p; reported = a .state .reported; full = a .state .full };
           line = 0;
           column = 0;
@@ -104,22 +104,22 @@ module _ {w x : List ℕ} {n : ℕ} {o : List ℕ} {a : Answer} {tag at : ℕ} (
     bare-unknown y u = named (rw (ne-eqb _ _ (λ k. y (sym (v .kind) ∙ k)))) (omega arith) (omega arith) u
 
 -- there is room for either
-module _ {w x : List ℕ} {n : ℕ} {o : List ℕ} {a : Answer} {at : ℕ} (q : NameRoom w x n o a at) (z : a .how ≡ Done) where
+module _ {w x : List ℕ} {n : ℕ} {o : List ℕ} {a : Answer} {at : ℕ} (q : NameRoom w x n o a at) (z : a .status ≡ Done) where
   pub bare-room : {t : Token} → Seen w x n at t → Room o x (a .state .pos) (16 + t .len) (t .start) (t .len)
-  bare-room v = let d : done-of (a .how) ≡ 1 = rw z in record { room = omega (arith, q .room, text-length v); part = v .part }
+  bare-room v = let d : done-of (a .status) ≡ 1 = rw z in record { room = omega (arith, q .room, text-length v); part = v .part }
 
   pub unknown-room : Room o unknown (a .state .pos) (16 + 3) 0 3
-  unknown-room = let d : done-of (a .how) ≡ 1 = rw z in record { room = omega (arith, q .room); part = omega arith }
+  unknown-room = let d : done-of (a .status) ≡ 1 = rw z in record { room = omega (arith, q .room); part = omega arith }
 
 -- ---- `typed`
 
 -- what `?` leaves there is as it was
-pub kept-done : {r r′ : List ℕ} {b c : Answer} {i j k : ℕ} → Abandoned r b i j k r′ c → c .how ≡ Done → (c ≡ b) × (r′ ≡ r)
-kept-done {r} {r′} {b} {c} {i} {j} {k} v z = one (b .how) refl (v .is)
+pub kept-done : {r r′ : List ℕ} {b c : Answer} {i j k : ℕ} → Abandoned r b i j k r′ c → c .status ≡ Done → (c ≡ b) × (r′ ≡ r)
+kept-done {r} {r′} {b} {c} {i} {j} {k} v z = one (b .status) refl (v .is)
   where
-    one : (h : How) → b .how ≡ h → AbandonedOf h r b i j k r′ c → (c ≡ b) × (r′ ≡ r)
+    one : (h : Status) → b .status ≡ h → AbandonedOf h r b i j k r′ c → (c ≡ b) × (r′ ≡ r)
     one Done y m = m
-    one Fatal y m = let g = m .how in let e : _≡_ {A = ℕ} 0 1 = cc in absurd (omega arith)
+    one Fatal y m = let g = m .status in let e : _≡_ {A = ℕ} 0 1 = cc in absurd (omega arith)
     one (Refused u) y m = m
 
 -- after the type, and after `:`
@@ -134,9 +134,9 @@ typed-shows : {T : List ℕ} {E es : List Err} {w x : List ℕ} {n : ℕ} {o r f
     → Shows node T E [] es w x n o r f a q
     → Shows (typed name) T E [] [] w x n o r f a (after q (λ z S. go d (or-return (type-on name es) z) S))
 unfolding go run
-typed-shows {T} {E} {es} {w} {x} {n} {o} {r} {f} {a} {q} d name v = record { told = one (a .how) (v .told) }
+typed-shows {T} {E} {es} {w} {x} {n} {o} {r} {f} {a} {q} d name v = record { told = one (a .status) (v .told) }
   where
-    one : (h : How) → ShowsOf h node T E [] es w x n o r f a q
+    one : (h : Status) → ShowsOf h node T E [] es w x n o r f a q
         → ShowsOf h (typed name) T E [] [] w x n o r f a (after q (λ z S. go d (or-return (type-on name es) z) S))
     one Done g =
         record {
@@ -169,7 +169,7 @@ module _ {w x : List ℕ} {n d j : ℕ} {o r f r1 f1 r2 : List ℕ} {s : State} 
       let m = abandoned-moved (e .moved) v in
       record {
         moved = m;
-        spare = omega (arith, m .room, not-done (b .how) nd);
+        spare = omega (arith, m .room, not-done (b .status) nd);
         is =
             λ rd name E es le h. say (go-bind d (P.expect 49) (or-return (colon-on name es)) _)
             (stops d (colon-on name es) _ nd
@@ -179,7 +179,7 @@ module _ {w x : List ℕ} {n d j : ℕ} {o r f r1 f1 r2 : List ℕ} {s : State} 
 
   module _ {o3 r3 f3 r4 : List ℕ} {c y : Answer} where
     -- where `:` is there, it is as it was
-    typed-there : a .how ≡ Done → Reads node w x n d P.parse-type o r1 f1 (a .state) o3 r3 f3 c
+    typed-there : a .status ≡ Done → Reads node w x n d P.parse-type o r1 f1 (a .state) o3 r3 f3 c
         → Abandoned r3 c (s .pos) j (a .state .reported) r4 y → TypedOn w x n d j o r f s o3 r4 f3 y
     unfolding P.typed recs-bytes
     typed-there z u k =
@@ -187,10 +187,10 @@ module _ {w x : List ℕ} {n d j : ℕ} {o r f r1 f1 r2 : List ℕ} {s : State} 
         let b : budget w x n (y .state .at) ≡ budget w x n (c .state .at) = ap (λ (i : ℕ). budget w x n i) (k .at) in
         let g : (rd : List Consumed) → Good (token (next-token (rest w x n (s .at)))) (take (s .pos) o) (errs r (s .reported)) [] [] w x n o r1 f1 a (go d (P.expect 49) (st-of w x n f rd s)) =
         λ rd. good-of z (e .is plain d rd o) in
-        let da : done-of (a .how) ≡ 1 = rw z in
+        let da : done-of (a .status) ≡ 1 = rw z in
         record {
           moved = m;
-          spare = omega (arith, e .pays, e .pos, u .moved .room, k .high, done-le (y .how));
+          spare = omega (arith, e .pays, e .pos, u .moved .room, k .high, done-le (y .status));
           is =
               λ rd name E es le h. say
               (go-bind d (P.expect 49) (or-return (colon-on name es)) _ ∙ follows d (colon-on name es) (g rd .is)
@@ -202,17 +202,17 @@ module _ {w x : List ℕ} {n d j : ℕ} {o r f r1 f1 r2 : List ℕ} {s : State} 
               (omega (arith, q .1, e .moved .reported, u .moved .reported)) (u .is (g rd .read))));
         }
 
-    pub typed-type : b .how ≡ Done → Reads node w x n d P.parse-type o r2 f1 (b .state) o3 r3 f3 c
+    pub typed-type : b .status ≡ Done → Reads node w x n d P.parse-type o r2 f1 (b .state) o3 r3 f3 c
         → Abandoned r3 c (s .pos) j (b .state .reported) r4 y → TypedOn w x n d j o r f s o3 r4 f3 y
     typed-type z u k = let h = kept-done v z in typed-there (rw (h .0) at z) (rw (h .0, h .1) at u) (rw (h .0) at k)
 
 -- ---- an error noted
 
 module _ (n : ℕ) {e : ℕ} {r f r′ f′ : List ℕ} {s : State} {b : Answer} (g : Raised (noted n s) r f s e r′ f′ b) where
-  pub note-there : b .how ≡ Done → (s .full < 255) × (b ≡ record { how = Done; state = one-more s; line = 0; column = 0 })
+  pub note-there : b .status ≡ Done → (s .full < 255) × (b ≡ record { status = Done; state = one-more s; line = 0; column = 0 })
   note-there z =
-      made-so Done n s (λ y. y .how ≡ Done → (s .full < 255)
-      × (y ≡ record { how = Done; state = one-more s; line = 0; column = 0 })) (g .is) (λ l _. (l, refl))
+      made-so Done n s (λ y. y .status ≡ Done → (s .full < 255)
+      × (y ≡ record { status = Done; state = one-more s; line = 0; column = 0 })) (g .is) (λ l _. (l, refl))
       (λ l y. let e : _≡_ {A = ℕ} 0 1 = cc in absurd (omega arith)) z
 
   pub note-none : Stopped b → (255 ≤ s .full) × (b ≡ refused-at n s 12)
@@ -239,7 +239,7 @@ module _ {w x : List ℕ} {n : ℕ} {o r f : List ℕ} {s : State} {t : Token} (
   identifier-name {d} {a = a} z u = record {
     moved = moved-trans (fore-moved (q .asks) v) (u .moved);
     on = omega (arith, v .kind, v .on, u .moved .at);
-    spare = omega (arith, text-length v, v .pays, u .spare, done-le (a .how));
+    spare = omega (arith, text-length v, v .pays, u .spare, done-le (a .status));
     is =
         λ rd. renamed (rw (eq-eqb _ _ (v .kind ∙ z))) (say (rw (run, yes v z)
         (ap (λ (S : St). go d (P.typed (next-token (rest w x n (s .at)) .text) []) S) (adv s v (λ _. plain) f rd)))
@@ -260,7 +260,7 @@ module _ {w x : List ℕ} {n : ℕ} {o r f : List ℕ} {s : State} {t : Token} (
           on = u .on;
           spare =
               made-so Fatal n (fore s t)
-              (λ y. y .state .pos + budget w x n (y .state .at) + 32 * done-of (y .how) + length
+              (λ y. y .state .pos + budget w x n (y .state .at) + 32 * done-of (y .status) + length
               (next-token (rest w x n (s .at)) .text) ≤ s .pos + budget w x n (s .at)) (g .is)
               (λ _. omega (arith, text-length v, v .pays))
               (λ _. omega (arith, text-length v, v .pays, spent w x n));
@@ -288,7 +288,7 @@ module _ {w x : List ℕ} {n : ℕ} {o r f : List ℕ} {s : State} {t : Token} (
             is = λ rd. record { told = unnamed d rd ∙ makes-none (asks-fore (q .asks) v) g d _ _ (h .0) };
           })
 
-      pub identifier-noted : {d : ℕ} {o2 r2 f2 : List ℕ} {a : Answer} → b .how ≡ Done
+      pub identifier-noted : {d : ℕ} {o2 r2 f2 : List ℕ} {a : Answer} → b .status ≡ Done
           → TypedOn w x n d (s .reported) o r1 f1 (b .state) o2 r2 f2 a → ReadsTyped w x n d o r f s o2 r2 f2 a
       identifier-noted {d} {o2} {r2} {f2} {a} z u =
           let h = note-there n g z in
@@ -297,7 +297,7 @@ module _ {w x : List ℕ} {n : ℕ} {o r f : List ℕ} {s : State} {t : Token} (
           record {
             moved = m;
             on = omega (arith, v .kind, v .on, k .moved .at);
-            spare = omega (arith, text-length v, v .pays, k .spare, done-le (a .how));
+            spare = omega (arith, text-length v, v .pays, k .spare, done-le (a .status));
             is =
                 λ rd. renamed {u′ = ascii "<?>"} (rw (ne-eqb _ _ (λ y. m1 (sym (v .kind) ∙ y))))
                 (say (unnamed d rd ∙ makes (asks-fore (q .asks) v) g d _ _ (h .0))
@@ -316,11 +316,11 @@ bare-shows : {T : List ℕ} {E : List Err} {w x : List ℕ} {n at : ℕ} {o r f 
     → BareNamed w x n o a 21 at o′ y → Shows (typed (name-of (next-token (rest w x n at)))) T E [] [] w x n o r f a q
     → Shows node T E [] [] w x n o′ r f y (after q (λ z S. go d (or-return name-on z) S))
 unfolding go run
-bare-shows {T} {E} {w} {x} {n} {at} {o} {r} {f} {o′} {a} {y} {q} d u v = record { told = one (a .how) refl (u .is) (v .told) }
+bare-shows {T} {E} {w} {x} {n} {at} {o} {r} {f} {o′} {a} {y} {q} d u v = record { told = one (a .status) refl (u .is) (v .told) }
   where
-    one : (h : How) → a .how ≡ h → BareNamedOf h w x n o a 21 at o′ y
+    one : (h : Status) → a .status ≡ h → BareNamedOf h w x n o a 21 at o′ y
         → ShowsOf h (typed (name-of (next-token (rest w x n at)))) T E [] [] w x n o r f a q
-        → ShowsOf (y .how) node T E [] [] w x n o′ r f y (after q (λ z S. go d (or-return name-on z) S))
+        → ShowsOf (y .status) node T E [] [] w x n o′ r f y (after q (λ z S. go d (or-return name-on z) S))
     one Done z m g =
         rw (m .0) (record {
           item = P.bare (g .item .type) 21 (g .item .name);
@@ -366,7 +366,7 @@ module _ {w x : List ℕ} {n d : ℕ} {o r f o1 r1 f1 : List ℕ} {s : State} {a
 
 -- it is there
 pub record Met (w x : List ℕ) (n k : ℕ) (r f : List ℕ) (a : Answer) (r′ f′ : List ℕ) (y : Answer) : Type 0 where
-  pub there : a .how ≡ Done
+  pub there : a .status ≡ Done
   pub pos : y .state .pos ≡ a .state .pos
   pub reported : y .state .reported ≡ a .state .reported
   pub rep : errs r′ (y .state .reported) ≡ errs r (a .state .reported)
@@ -379,16 +379,16 @@ pub record Met (w x : List ℕ) (n k : ℕ) (r f : List ℕ) (a : Answer) (r′ 
       ≡ gives (ok (item d rd)) (st-of w x n f′ (read d rd) (y .state))
 
 pub expected-there : {w x : List ℕ} {n k i j : ℕ} {r f r′ f′ : List ℕ} {a y : Answer} → Expected w x n k i j r f a r′ f′ y
-    → y .how ≡ Done → Met w x n k r f a r′ f′ y
-expected-there {w} {x} {n} {k} {i} {j} {r} {f} {r′} {f′} {a} {y} v z = one (a .how) refl (v .is)
+    → y .status ≡ Done → Met w x n k r f a r′ f′ y
+expected-there {w} {x} {n} {k} {i} {j} {r} {f} {r′} {f′} {a} {y} v z = one (a .status) refl (v .is)
   where
-    never : {h : How} → a .how ≡ h → y ≡ a → (h ≡ Done → ⊥) → ⊥
-    never e u m = m (sym e ∙ ap (λ (b : Answer). b .how) (sym u) ∙ z)
+    never : {h : Status} → a .status ≡ h → y ≡ a → (h ≡ Done → ⊥) → ⊥
+    never e u m = m (sym e ∙ ap (λ (b : Answer). b .status) (sym u) ∙ z)
 
-    on : a .how ≡ Done → (F : Followed w x n k i j r f a r′ f′ y) → F .c .how ≡ Done
+    on : a .status ≡ Done → (F : Followed w x n k i j r f a r′ f′ y) → F .c .status ≡ Done
         → (F .c ≡ F .b) × (r′ ≡ F .between) → Met w x n k r f a r′ f′ y
     on e F zc h =
-        let zb : F .b .how ≡ Done = ap (λ (b : Answer). b .how) (sym (h .0)) ∙ zc in
+        let zb : F .b .status ≡ Done = ap (λ (b : Answer). b .status) (sym (h .0)) ∙ zc in
         let st : y .state ≡ F .b .state = ap (λ (b : Answer). b .state) (F .is) ∙ ap (λ (b : Answer). b .state) (h .0) in
         let g : (d : ℕ) (rd : List Consumed) → Good (token (next-token (rest w x n (a .state .at)))) (take (a .state .pos) []) (errs r (a .state .reported)) [] [] w x n [] (F .between) f′ (F .b) (go d (P.expect k) (st-of w x n f rd (a .state))) =
         λ d rd. good-of zb (F .expects .is plain d rd []) in
@@ -407,8 +407,8 @@ expected-there {w} {x} {n} {k} {i} {j} {r} {f} {r′} {f′} {a} {y} v z = one (
               (st-of w x n f′ (g d rd .read) u)) (sym st);
         }
 
-    one : (h : How) → a .how ≡ h → ExpectedOf h w x n k i j r f a r′ f′ y → Met w x n k r f a r′ f′ y
-    one Done e F = let zc : F .c .how ≡ Done = ap (λ (b : Answer). b .how) (sym (F .is)) ∙ z in on e F zc (kept-done (F .abandoned) zc)
+    one : (h : Status) → a .status ≡ h → ExpectedOf h w x n k i j r f a r′ f′ y → Met w x n k r f a r′ f′ y
+    one Done e F = let zc : F .c .status ≡ Done = ap (λ (b : Answer). b .status) (sym (F .is)) ∙ z in on e F zc (kept-done (F .abandoned) zc)
     one Fatal e m = absurd (never e (m .0) (λ u. let c : _≡_ {A = ℕ} 0 1 = cc in omega arith))
     one (Refused p) e m = absurd (never e (m .0) (λ u. let c : _≡_ {A = ℕ} 0 1 = cc in omega arith))
 
@@ -416,11 +416,11 @@ expected-there {w} {x} {n} {k} {i} {j} {r} {f} {r′} {f′} {a} {y} v z = one (
 relined : {A : Type 0} {K : View A} {T : List ℕ} {E : List Err} {w x : List ℕ} {n l m : ℕ} {o r f : List ℕ}
     {a : Answer} {q : Res (Ans A)}
     → Stopped a → Shows K T E [] [] w x n o r f a q
-    → Shows K T E [] [] w x n o r f (record { how = a .how; state = a .state; line = l; column = m }) q
-relined {A} {K} {T} {E} {w} {x} {n} {l} {m} {o} {r} {f} {a} {q} nd v = record { told = one (a .how) nd (v .told) }
+    → Shows K T E [] [] w x n o r f (record { status = a .status; state = a .state; line = l; column = m }) q
+relined {A} {K} {T} {E} {w} {x} {n} {l} {m} {o} {r} {f} {a} {q} nd v = record { told = one (a .status) nd (v .told) }
   where
-    one : (h : How) → OneOf (1 ∷ 2 ∷ []) (tagOf the-type h) → ShowsOf h K T E [] [] w x n o r f a q
-        → ShowsOf h K T E [] [] w x n o r f (record { how = a .how; state = a .state; line = l; column = m }) q
+    one : (h : Status) → OneOf (1 ∷ 2 ∷ []) (tagOf the-type h) → ShowsOf h K T E [] [] w x n o r f a q
+        → ShowsOf h K T E [] [] w x n o r f (record { status = a .status; state = a .state; line = l; column = m }) q
     one Done nd g = absurd (⊎-elim (λ z. omega arith) (λ z. omega arith) nd)
     one Fatal nd g = record { errors = g .errors; read = g .read; is = g .is; tree = g .tree; rep = g .rep }
     one (Refused u) nd g = g
@@ -432,9 +432,9 @@ pub expected-stops : {A B : Type 0} {K : View A} {L : View B} {T : List ℕ} {E 
     → Shows K T E [] [] w x n o r f a q
     → Shows L T E [] [] w x n o r′ f′ y (after q (λ z S. go d (or-return (λ e. P.expect k >>? on e) z) S))
 expected-stops {A} {B} {K} {L} {T} {E} {w} {x} {n} {k} {i} {j} {o} {r} {f} {r′} {f′} {a} {y} {q} d on p v nd li lj u =
-    one (a .how) refl (v .is)
+    one (a .status) refl (v .is)
   where
-    one : (h : How) → a .how ≡ h → ExpectedOf h w x n k i j r f a r′ f′ y
+    one : (h : Status) → a .status ≡ h → ExpectedOf h w x n k i j r f a r′ f′ y
         → Shows L T E [] [] w x n o r′ f′ y (after q (λ z S. go d (or-return (λ e. P.expect k >>? on e) z) S))
     one Done e F =
         let g = good-of e u in
@@ -482,12 +482,12 @@ module _ {w x : List ℕ} {n : ℕ} {o r f r1 f1 : List ℕ} {s : State} {t : To
           (expected-stops d equals-on (field-follows l k) u nd (len-pos q) (len-rep q) (e .is plain d rd o));
     }
 
-    module _ {d : ℕ} {o3 r3 f3 : List ℕ} {c : Answer} (z : b .how ≡ Done)
+    module _ {d : ℕ} {o3 r3 f3 : List ℕ} {c : Answer} (z : b .status ≡ Done)
         (h : Reads node w x n d P.parse-expression o r2 f2 (b .state) o3 r3 f3 c) where
       -- the record is paid for
       field-paid : c .state .pos + budget w x n (c .state .at) + 16 + t .len ≤ s .pos + budget w x n (s .at)
       field-paid =
-          let db : done-of (b .how) ≡ 1 = rw z in
+          let db : done-of (b .status) ≡ 1 = rw z in
           omega (
             arith,
             h .moved .room,

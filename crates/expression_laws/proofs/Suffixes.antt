@@ -16,7 +16,7 @@ use Rattle.definition.specs.Go.{go}
 use Rattle.definition.proofs.Flat.{go-bind, go-loop}
 use Rattle.fallible.proofs.Grown.{errs-length}
 use Rattle.fallible.specs.declared.State.{State}
-use Rattle.fallible.specs.declared.How.the-variants.{Done}
+use Rattle.fallible.specs.declared.Status.the-variants.{Done}
 use Rattle.fallible.specs.declared.Answer.{Answer}
 use Rattle.fallible.specs.Lists.{errs, unpack, error-at}
 use Rattle.fallible.specs.Answers.{refused-at, noted, Raised, Abandoned}
@@ -61,8 +61,8 @@ dot-step {w} {x} {n} d f s u h e rd =
 
 -- ---- a record after the operand itself, and the next turn
 
-module _ {w x : List ℕ} {n d i j : ℕ} {o r f o2 o3 r3 f3 : List ℕ} {a y y′ : Answer} {on : State} {v : Record} (p : Place) (text : List ℕ) (q : GoesOn w x n o r f a i j) (z : a .how ≡ Done)
-    (F : Finished x o (record { how = a .how; state = on; line = a .line; column = a .column }) v o2 y) (made : rec-of x v ≡ record { tag = v .tag; place = some p; numbers = []; text = text }) where
+module _ {w x : List ℕ} {n d i j : ℕ} {o r f o2 o3 r3 f3 : List ℕ} {a y y′ : Answer} {on : State} {v : Record} (p : Place) (text : List ℕ) (q : GoesOn w x n o r f a i j) (z : a .status ≡ Done)
+    (F : Finished x o (record { status = a .status; state = on; line = a .line; column = a .column }) v o2 y) (made : rec-of x v ≡ record { tag = v .tag; place = some p; numbers = []; text = text }) where
   pub goes-wrapped : (rd′ : List Consumed → List Consumed) → on .pos ≡ a .state .pos → on .reported ≡ a .state .reported
       → on .full ≡ a .state .full → Moved w x n i j (a .state) (y .state)
       → ((e : Fallible Node) (rd : List Consumed)
@@ -92,7 +92,7 @@ module _ {w x : List ℕ} {n d i j : ℕ} {o r f o2 o3 r3 f3 : List ℕ} {a y y�
 module _ {w x : List ℕ} {n i j : ℕ} {o r f : List ℕ} {a : Answer} {t : Token} (q : GoesOn w x n o r f a i j)
     (u : Seen w x n (a .state .at) t) where
   pub star-moved : {o2 : List ℕ} {y : Answer} → t .kind ≡ 35
-      → Finished x o (record { how = a .how; state = fore (a .state) t; line = a .line; column = a .column })
+      → Finished x o (record { status = a .status; state = fore (a .state) t; line = a .line; column = a .column })
       (record { tag = 0x28; line = t .line; column = t .column; numbers = None; start = 0; len = 0 }) o2 y
       → Moved w x n i j (a .state) (y .state)
   star-moved {y = y} k F =
@@ -110,7 +110,7 @@ module _ {w x : List ℕ} {n i j : ℕ} {o r f : List ℕ} {a : Answer} {t : Tok
 
   pub dot-moved : {v : Token} {o2 : List ℕ} {y : Answer} → Seen w x n (t .next) v → v .kind ≡ 1
       → Finished x o
-      (record { how = a .how; state = fore (fore (a .state) t) v; line = a .line; column = a .column })
+      (record { status = a .status; state = fore (fore (a .state) t) v; line = a .line; column = a .column })
       (record { tag = 0x29; line = t .line; column = t .column; numbers = None; start = v .start; len = v .len })
       o2 y
       → Moved w x n i j (a .state) (y .state)
@@ -128,7 +128,7 @@ module _ {w x : List ℕ} {n i j : ℕ} {o r f : List ℕ} {a : Answer} {t : Tok
       }
 
 module _ {w x : List ℕ} {n d i j : ℕ} {o r f : List ℕ} {a : Answer} {t : Token} (q : GoesOn w x n o r f a i j)
-    (z : a .how ≡ Done) (u : Seen w x n (a .state .at) t) where
+    (z : a .status ≡ Done) (u : Seen w x n (a .state .at) t) where
   pub suffix-none : (t .kind ≡ 34 → ⊥) → (t .kind ≡ 35 → ⊥) → (t .kind ≡ 43 → ⊥) → Goes node node w x n d suffixes-on i j o r f a o r f a
   unfolding go run P.suffixes-turn
   suffix-none h k l = goes-none q z (λ e rd. go-loop d (Suffixes e) (st-of w x n f rd (a .state)) ∙ rw (run, no u h, no u k, no u l))
@@ -136,7 +136,7 @@ module _ {w x : List ℕ} {n d i j : ℕ} {o r f : List ℕ} {a : Answer} {t : T
   -- ---- `.*`
 
   pub suffix-star : {o2 o3 r3 f3 : List ℕ} {y y′ : Answer} → (t .kind ≡ 34 → ⊥) → t .kind ≡ 35
-      → Finished x o (record { how = a .how; state = fore (a .state) t; line = a .line; column = a .column })
+      → Finished x o (record { status = a .status; state = fore (a .state) t; line = a .line; column = a .column })
       (record { tag = 0x28; line = t .line; column = t .column; numbers = None; start = 0; len = 0 }) o2 y
       → Goes node node w x n d suffixes-on i j o2 r f y o3 r3 f3 y′ → Goes node node w x n d suffixes-on i j o r f a o3 r3 f3 y′
   unfolding go run P.suffixes-turn
@@ -178,7 +178,7 @@ module _ {w x : List ℕ} {n d i j : ℕ} {o r f : List ℕ} {a : Answer} {t : T
 
     pub dot-name : {o2 o3 r3 f3 : List ℕ} {y y′ : Answer} → (v .kind ≡ 0 → ⊥) → v .kind ≡ 1
         → Finished x o
-        (record { how = a .how; state = fore (fore (a .state) t) v; line = a .line; column = a .column })
+        (record { status = a .status; state = fore (fore (a .state) t) v; line = a .line; column = a .column })
         (record {
           tag = 0x29;
           line = t .line;
@@ -202,7 +202,7 @@ module _ {w x : List ℕ} {n d i j : ℕ} {o r f : List ℕ} {a : Answer} {t : T
         → unpack e ≡ error-at 4 (v .line) (v .column) 0 0
         → Raised (noted n (fore (fore (a .state) t) v)) r f (fore (fore (a .state) t) v) e r1 f1 b
         → Goes node node w x n d suffixes-on i j o r f a o r1 f1
-        (record { how = b .how; state = b .state; line = a .line; column = a .column })
+        (record { status = b .status; state = b .state; line = a .line; column = a .column })
     unfolding go run P.suffixes-turn
     dot-other {e} {r1} {f1} {b} m k c g =
         let q2 : Asks w x n r f (fore (fore (a .state) t) v) = asks-fore (asks-fore (q .asked .asks) u) s in
@@ -230,7 +230,7 @@ module _ {w x : List ℕ} {n d i j : ℕ} {o r f : List ℕ} {a : Answer} {t : T
               ∙ ap (λ (er : Err). go d (Act.make er (P.good (h2 .item) (h2 .errors ++ (er ∷ []))))
               (st-of w x n f (past-two w x n (a .state .at) (t .next) (h2 .read)) (fore (fore (a .state) t) v)))
               (rw (s .place) (sym c))))
-              (made-so Done n (fore (fore (a .state) t) v) (λ b. Shows node T E [] [] w x n o r1 f1 (record { how = b .how; state = b .state; line = a .line; column = a .column }) (go d (Act.make (unpack e) (P.good (h2 .item) (h2 .errors ++ (unpack e ∷ [])))) (st-of w x n f (past-two w x n (a .state .at) (t .next) (h2 .read)) (fore (fore (a .state) t) v)))) (g .is)
+              (made-so Done n (fore (fore (a .state) t) v) (λ b. Shows node T E [] [] w x n o r1 f1 (record { status = b .status; state = b .state; line = a .line; column = a .column }) (go d (Act.make (unpack e) (P.good (h2 .item) (h2 .errors ++ (unpack e ∷ [])))) (st-of w x n f (past-two w x n (a .state .at) (t .next) (h2 .read)) (fore (fore (a .state) t) v)))) (g .is)
               (λ l. record {
                 told = record {
                   item = h2 .item;

@@ -21,8 +21,8 @@ use Rattle.node.specs.Put.{Room, rec-of, size-of}
 use Rattle.node.specs.declared.Record.{Record}
 use Rattle.node.specs.declared.Numbers.the-variants.{None, Two, Eight}
 use Rattle.fallible.specs.declared.State.{State}
-use Rattle.fallible.specs.declared.How.{How}
-use Rattle.fallible.specs.declared.How.the-variants.{Done, Fatal, Refused}
+use Rattle.fallible.specs.declared.Status.{Status}
+use Rattle.fallible.specs.declared.Status.the-variants.{Done, Fatal, Refused}
 use Rattle.fallible.specs.declared.Answer.{Answer}
 use Rattle.fallible.specs.Lists.{unpack, error-at, errs}
 use Rattle.fallible.specs.Answers.{refused-at, raised, Raised, silent}
@@ -164,12 +164,12 @@ through d m k h e S =
 -- its errors are dropped
 pub drops : {A : Type 0} {K : View A} {T : List ℕ} {E : List Err} {w x : List ℕ} {n j : ℕ} {o r f : List ℕ} {a : Answer}
     {q : Res (Ans A)} (d : ℕ)
-    → (a .how ≡ Fatal → ⊥) → length E ≡ j → j ≤ a .state .reported → Shows K T E [] [] w x n o r f a q
+    → (a .status ≡ Fatal → ⊥) → length E ≡ j → j ≤ a .state .reported → Shows K T E [] [] w x n o r f a q
     → Shows K T E [] [] w x n o r f (silent a j) (after q (λ z S. go d (or-return (λ y. P.good (y .item) []) z) S))
 unfolding go run
-drops {A} {K} {T} {E} {w} {x} {n} {j} {o} {r} {f} {a} {q} d nf le hj v = record { told = one (a .how) nf (v .told) }
+drops {A} {K} {T} {E} {w} {x} {n} {j} {o} {r} {f} {a} {q} d nf le hj v = record { told = one (a .status) nf (v .told) }
   where
-    one : (h : How) → (h ≡ Fatal → ⊥) → ShowsOf h K T E [] [] w x n o r f a q
+    one : (h : Status) → (h ≡ Fatal → ⊥) → ShowsOf h K T E [] [] w x n o r f a q
         → ShowsOf h K T E [] [] w x n o r f (silent a j)
         (after q (λ z S. go d (or-return (λ y. P.good (y .item) []) z) S))
     one Done nf g =
@@ -348,7 +348,7 @@ module _ {w x : List ℕ} {n : ℕ} (line column : ℕ) {o r f : List ℕ} {s : 
                 (stops d bracket-on _ nd (e .is plain d (past-as size w x n (s .at) rd) o));
           }
 
-      pub array-done : {d : ℕ} {o2 r2 f2 o3 : List ℕ} {b y : Answer} → a .how ≡ Done
+      pub array-done : {d : ℕ} {o2 r2 f2 o3 : List ℕ} {b y : Answer} → a .status ≡ Done
           → Reads node w x n d P.parse-type o r1 f1 (a .state) o2 r2 f2 b
           → Finished x o2 b
           (record { tag = 19; line = line; column = column; numbers = Eight (u .number); start = 0; len = 0 })

@@ -19,8 +19,8 @@ use Rattle.definition.specs.Go.{go}
 use Rattle.node.specs.Put.{Wrote, bare-of}
 use Rattle.node.specs.declared.Numbers.the-variants.{None}
 use Rattle.fallible.specs.declared.State.{State}
-use Rattle.fallible.specs.declared.How.{How}
-use Rattle.fallible.specs.declared.How.the-variants.{Done, Fatal, Refused}
+use Rattle.fallible.specs.declared.Status.{Status}
+use Rattle.fallible.specs.declared.Status.the-variants.{Done, Fatal, Refused}
 use Rattle.fallible.specs.declared.Answer.{Answer}
 use Rattle.fallible.specs.Lists.{errs}
 use Rattle.steps.specs.declared.Token.{Token}
@@ -56,10 +56,10 @@ name-of t = pick (eqb (t .kind) K.Identifier) (t .text) (ascii "<?>")
 pub record NameRoom (w x : List ℕ) (n : ℕ) (o : List ℕ) (a : Answer) (at : ℕ) : Type 0 where
   pub held : Held w x n
   pub within : at ≤ n
-  pub room : a .state .pos + 19 * done-of (a .how) + length (next-token (rest w x n at) .text) ≤ length o
+  pub room : a .state .pos + 19 * done-of (a .status) + length (next-token (rest w x n at) .text) ≤ length o
 
-abbrev pub BareNamedOf : How → List ℕ → List ℕ → ℕ → List ℕ → Answer → ℕ → ℕ → List ℕ → Answer → Type 0
-BareNamedOf Done w x n o a tag at o′ y = (y .how ≡ Done) × (Wrote o (a .state .pos) (bare-of tag None (name-of (next-token (rest w x n at)))) (3 + length (name-of (next-token (rest w x n at)))) o′ (y .state .pos) × ((y .line ≡ 0) × (y .column ≡ 0)))
+abbrev pub BareNamedOf : Status → List ℕ → List ℕ → ℕ → List ℕ → Answer → ℕ → ℕ → List ℕ → Answer → Type 0
+BareNamedOf Done w x n o a tag at o′ y = (y .status ≡ Done) × (Wrote o (a .state .pos) (bare-of tag None (name-of (next-token (rest w x n at)))) (3 + length (name-of (next-token (rest w x n at)))) o′ (y .state .pos) × ((y .line ≡ 0) × (y .column ≡ 0)))
 BareNamedOf Fatal w x n o a tag at o′ y = (y ≡ a) × (o′ ≡ o)
 BareNamedOf (Refused m) w x n o a tag at o′ y = (y ≡ a) × (o′ ≡ o)
 
@@ -68,21 +68,21 @@ pub record BareNamed (w x : List ℕ) (n : ℕ) (o : List ℕ) (a : Answer) (tag
   pub reported : y .state .reported ≡ a .state .reported
   pub full : y .state .full ≡ a .state .full
   pub low : a .state .pos ≤ y .state .pos
-  pub high : y .state .pos ≤ a .state .pos + 6 * done-of (a .how) + length (next-token (rest w x n p) .text)
-  pub is : BareNamedOf (a .how) w x n o a tag p o′ y
+  pub high : y .state .pos ≤ a .state .pos + 6 * done-of (a .status) + length (next-token (rest w x n p) .text)
+  pub is : BareNamedOf (a .status) w x n o a tag p o′ y
 
 -- ---- typed identifiers
 
 pub record ReadsTyped (w x : List ℕ) (n d : ℕ) (o r f : List ℕ) (s : State) (o′ r′ f′ : List ℕ) (a : Answer) : Type 0 where
   pub moved : Moved w x n (s .pos) (s .reported) s (a .state)
   pub on : s .at + min (next-token (rest w x n (s .at)) .kind) 1 ≤ a .state .at
-  pub spare : a .state .pos + budget w x n (a .state .at) + 32 * done-of (a .how) + length (next-token (rest w x n (s .at)) .text) ≤ s .pos + budget w x n (s .at)
+  pub spare : a .state .pos + budget w x n (a .state .at) + 32 * done-of (a .status) + length (next-token (rest w x n (s .at)) .text) ≤ s .pos + budget w x n (s .at)
   pub is : (rd : List Consumed) → Shows (typed (name-of (next-token (rest w x n (s .at))))) (take (s .pos) o) (errs r (s .reported)) [] [] w x n o′ r′ f′ a (go d P.parse-typed-identifier (st-of w x n f rd s))
 
 -- after the name: the construct has the errors since j
 pub record TypedOn (w x : List ℕ) (n d j : ℕ) (o r f : List ℕ) (s : State) (o′ r′ f′ : List ℕ) (a : Answer) : Type 0 where
   pub moved : Moved w x n (s .pos) j s (a .state)
-  pub spare : a .state .pos + budget w x n (a .state .at) + 16 * done-of (a .how) ≤ s .pos + budget w x n (s .at)
+  pub spare : a .state .pos + budget w x n (a .state .at) + 16 * done-of (a .status) ≤ s .pos + budget w x n (s .at)
   pub is : (rd : List Consumed) (name : List ℕ) (E es : List Err) → length E ≡ j → errs r (s .reported) ≡ E ++ es
       → Shows (typed name) (take (s .pos) o) E [] [] w x n o′ r′ f′ a (go d (P.typed name es) (st-of w x n f rd s))
 
@@ -96,7 +96,7 @@ pub record ReadsList (w x : List ℕ) (n d : ℕ) (k : A.Listed) (o r f : List �
   pub moved : Moved w x n (s .pos) (s .reported) s (a .state)
   pub on : s .at + min (next-token (rest w x n (s .at)) .kind) 1 ≤ a .state .at
   pub spare : a .state .pos + budget w x n (a .state .at) + 16 * min (next-token (rest w x n (s .at)) .kind) 1 ≤ s .pos + budget w x n (s .at)
-  pub never : a .how ≡ Fatal → ⊥
+  pub never : a .status ≡ Fatal → ⊥
   pub is : (rd : List Consumed) → Shows items (take (s .pos) o) (errs r (s .reported)) [] [] w x n o′ r′ f′ a (go d (P.parse-list k >>= as-answer) (st-of w x n f rd s))
 
 -- ---- loops that collect items
@@ -104,7 +104,7 @@ pub record ReadsList (w x : List ℕ) (n d : ℕ) (k : A.Listed) (o r f : List �
 -- the loop `on`, where so many items are read
 pub record LoopOn (on : Items → Act Items) (w x : List ℕ) (n d : ℕ) (count : ℕ) (o r f : List ℕ) (s : State) (o′ r′ f′ : List ℕ) (a : Answer) : Type 0 where
   pub moved : Moved w x n (s .pos) (s .reported) s (a .state)
-  pub never : a .how ≡ Fatal → ⊥
+  pub never : a .status ≡ Fatal → ⊥
   pub is : (rd : List Consumed) (T : List ℕ) (E : List Err) (i : Items) → take (s .pos) o ≡ T ++ recs-bytes (i .recs) → errs r (s .reported) ≡ E ++ i .errors → i .count ≡ count
       → Shows items T E [] [] w x n o′ r′ f′ a (go d (on i >>= as-answer) (st-of w x n f rd s))
 

@@ -9,18 +9,18 @@ use types.Run.{OneOf}
 use denote.Enum.Declared.{tagOf}
 use Rattle.fallible.specs.declared.Tally.{Tally}
 use Rattle.fallible.specs.declared.State.{State}
-use Rattle.fallible.specs.declared.How.{How}
-use Rattle.fallible.specs.declared.How.the-variants.{Done, Fatal, Refused}
+use Rattle.fallible.specs.declared.Status.{Status}
+use Rattle.fallible.specs.declared.Status.the-variants.{Done, Fatal, Refused}
 use Rattle.fallible.specs.declared.Answer.{Answer}
-use Rattle.fallible.proofs.How.{the-type}
+use Rattle.fallible.proofs.Status.{the-type}
 use Rattle.fallible.specs.Tallies.{Pushed, Propagated}
 use Rattle.fallible.specs.Answers.{refused-at, making, Raised, AbandonedOf, Abandoned, Cuts}
 
 -- there is room for an error, and it is entered
-pub made : (h : How) (n : ℕ) (s : State) {r f r′ f′ : List ℕ} {e : ℕ} {t : Tally} → s .full < 255
+pub made : (h : Status) (n : ℕ) (s : State) {r f r′ f′ : List ℕ} {e : ℕ} {t : Tally} → s .full < 255
     → Pushed r f (record { reported = s .reported; full = s .full }) e r′ f′ t
     → Raised (making h n s) r f s e r′ f′ (record {
-      how = h;
+      status = h;
       state = record { at = s .at; pos = s .pos; reported = t .reported; full = t .full };
       line = 0;
       column = 0;
@@ -28,7 +28,7 @@ pub made : (h : How) (n : ℕ) (s : State) {r f r′ f′ : List ℕ} {e : ℕ} 
 made h n s l p = record {
   is =
       ap (λ (t : Tally). record {
-        how = h;
+        status = h;
         state = record { at = s .at; pos = s .pos; reported = t .reported; full = t .full };
         line = 0;
         column = 0;
@@ -39,7 +39,7 @@ made h n s l p = record {
 }
 
 -- there is none
-pub none-made : (h : How) (n : ℕ) (s : State) {r f : List ℕ} {e : ℕ} {a : Answer} → 255 ≤ s .full → a ≡ refused-at n s 12
+pub none-made : (h : Status) (n : ℕ) (s : State) {r f : List ℕ} {e : ℕ} {a : Answer} → 255 ≤ s .full → a ≡ refused-at n s 12
     → Raised (making h n s) r f s e r f a
 none-made h n s l z =
     record {
@@ -49,7 +49,7 @@ none-made h n s l z =
     }
 
 -- an answer that is not fatal stays as it is
-pub same : {r : List ℕ} {a : Answer} {i j k : ℕ} → Cuts r a i j k → OneOf (0 ∷ 2 ∷ []) (tagOf the-type (a .how)) → Abandoned r a i j k r a
+pub same : {r : List ℕ} {a : Answer} {i j k : ℕ} → Cuts r a i j k → OneOf (0 ∷ 2 ∷ []) (tagOf the-type (a .status)) → Abandoned r a i j k r a
 same {r} {a} {i} {j} {k} c h =
     record {
       at = refl;
@@ -58,19 +58,19 @@ same {r} {a} {i} {j} {k} c h =
       high = omega arith;
       first = omega arith;
       last = omega arith;
-      is = go (a .how) h;
+      is = go (a .status) h;
     }
   where
-    go : (x : How) → OneOf (0 ∷ 2 ∷ []) (tagOf the-type x) → AbandonedOf x r a i j k r a
+    go : (x : Status) → OneOf (0 ∷ 2 ∷ []) (tagOf the-type x) → AbandonedOf x r a i j k r a
     go Done h = (refl, refl)
     go Fatal h = absurd (⊎-elim (λ z. omega arith) (λ z. omega arith) h)
     go (Refused m) h = (refl, refl)
 
 -- a fatal one is cut
-pub cut : {r r′ : List ℕ} {a : Answer} {i j k : ℕ} {t : Tally} → Cuts r a i j k → a .how ≡ Fatal
+pub cut : {r r′ : List ℕ} {a : Answer} {i j k : ℕ} {t : Tally} → Cuts r a i j k → a .status ≡ Fatal
     → Propagated r (record { reported = j; full = a .state .full }) k (a .state .reported) r′ t
     → Abandoned r a i j k r′ (record {
-      how = a .how;
+      status = a .status;
       state = record { at = a .state .at; pos = i; reported = t .reported; full = t .full };
       line = 0;
       column = 0;
@@ -84,5 +84,5 @@ cut {r} {r′} {a} {i} {j} {k} {t} c h p =
       high = omega arith;
       first = omega arith;
       last = omega arith;
-      is = rw h (record { how = refl; pos = refl; reported = m; is = p .rep });
+      is = rw h (record { status = refl; pos = refl; reported = m; is = p .rep });
     }

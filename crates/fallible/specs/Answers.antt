@@ -6,22 +6,22 @@ use lib.Dec.{ltb}
 use lib.ListN.{length, take, drop}
 use Rattle.definition.specs.Choice.{pick}
 use Rattle.fallible.specs.declared.State.{State}
-use Rattle.fallible.specs.declared.How.{How}
-use Rattle.fallible.specs.declared.How.the-variants.{Done, Fatal, Refused}
+use Rattle.fallible.specs.declared.Status.{Status}
+use Rattle.fallible.specs.declared.Status.the-variants.{Done, Fatal, Refused}
 use Rattle.fallible.specs.declared.Answer.{Answer}
 use Rattle.fallible.specs.Lists.{unpack, errs}
 
 -- a refusal: all n tokens are passed
 abbrev pub refused-at : ℕ → State → ℕ → Answer
-refused-at n s m = record { how = Refused m; state = record { at = n; pos = s .pos; reported = s .reported; full = s .full }; line = 0; column = 0 }
+refused-at n s m = record { status = Refused m; state = record { at = n; pos = s .pos; reported = s .reported; full = s .full }; line = 0; column = 0 }
 
 -- one error more in both lists
 abbrev pub one-more : State → State
 one-more s = record { at = s .at; pos = s .pos; reported = s .reported + 1; full = s .full + 1 }
 
 -- an error is made, with an answer so; or a 256th is refused
-abbrev pub making : How → ℕ → State → Answer
-making h n s = pick (ltb (s .full) 255) (record { how = h; state = one-more s; line = 0; column = 0 }) (refused-at n s 12)
+abbrev pub making : Status → ℕ → State → Answer
+making h n s = pick (ltb (s .full) 255) (record { status = h; state = one-more s; line = 0; column = 0 }) (refused-at n s 12)
 
 abbrev pub raised : ℕ → State → Answer
 raised n s = making Fatal n s
@@ -39,12 +39,12 @@ pub record Raised (expected : Answer) (r f : List ℕ) (s : State) (e : ℕ) (r�
 
 -- of a fatal answer: what was written since i goes, and the errors from j to k
 pub record Cut (r : List ℕ) (a : Answer) (i j k : ℕ) (r′ : List ℕ) (a′ : Answer) : Type 0 where
-  pub how : a′ .how ≡ Fatal
+  pub status : a′ .status ≡ Fatal
   pub pos : a′ .state .pos ≡ i
   pub reported : a′ .state .reported ≡ j + (a .state .reported - k)
   pub is : take (a′ .state .reported) r′ ≡ take j r ++ drop k (take (a .state .reported) r)
 
-abbrev pub AbandonedOf : How → List ℕ → Answer → ℕ → ℕ → ℕ → List ℕ → Answer → Type 0
+abbrev pub AbandonedOf : Status → List ℕ → Answer → ℕ → ℕ → ℕ → List ℕ → Answer → Type 0
 AbandonedOf Done r a i j k r′ a′ = (a′ ≡ a) × (r′ ≡ r)
 AbandonedOf Fatal r a i j k r′ a′ = Cut r a i j k r′ a′
 AbandonedOf (Refused m) r a i j k r′ a′ = (a′ ≡ a) × (r′ ≡ r)
@@ -56,7 +56,7 @@ pub record Abandoned (r : List ℕ) (a : Answer) (i j k : ℕ) (r′ : List ℕ)
   pub high : a′ .state .pos ≤ a .state .pos
   pub first : j ≤ a′ .state .reported
   pub last : a′ .state .reported ≤ a .state .reported
-  pub is : AbandonedOf (a .how) r a i j k r′ a′
+  pub is : AbandonedOf (a .status) r a i j k r′ a′
 
 pub record Cuts (r : List ℕ) (a : Answer) (i j k : ℕ) : Type 0 where
   pub pos : i ≤ a .state .pos
@@ -67,4 +67,4 @@ pub record Cuts (r : List ℕ) (a : Answer) (i j k : ℕ) : Type 0 where
 -- ---- errors dropped
 
 abbrev pub silent : Answer → ℕ → Answer
-silent a j = record { how = a .how; state = record { at = a .state .at; pos = a .state .pos; reported = j; full = a .state .full }; line = a .line; column = a .column }
+silent a j = record { status = a .status; state = record { at = a .state .at; pos = a .state .pos; reported = j; full = a .state .full }; line = a .line; column = a .column }

@@ -20,7 +20,7 @@ use Rattle.definition.specs.Go.{go}
 use Rattle.definition.proofs.Flat.{go-bind, go-loop}
 use Rattle.fallible.proofs.Grown.{errs-length}
 use Rattle.fallible.specs.declared.State.{State}
-use Rattle.fallible.specs.declared.How.the-variants.{Done}
+use Rattle.fallible.specs.declared.Status.the-variants.{Done}
 use Rattle.fallible.specs.declared.Answer.{Answer}
 use Rattle.fallible.specs.Lists.{unpack, error-at, errs}
 use Rattle.fallible.specs.Answers.{refused-at, raised, Raised}
@@ -103,7 +103,7 @@ module _ {w x : List ℕ} {n d k : ℕ} {o r f r1 f1 : List ℕ} {s : State} {a 
             (stops d (λ _. m) _ nd (X .is plain d rd o));
       }
 
-  pub keyword-on : {o1 r2 f2 : List ℕ} {y : Answer} → a .how ≡ Done → Reads node w x n d m o r1 f1 (a .state) o1 r2 f2 y
+  pub keyword-on : {o1 r2 f2 : List ℕ} {y : Answer} → a .status ≡ Done → Reads node w x n d m o r1 f1 (a .state) o1 r2 f2 y
       → Reads node w x n d M o r f s o1 r2 f2 y
   keyword-on z B = record {
     moved = moved-onward (X .moved) (B .moved);
@@ -164,7 +164,7 @@ module _ {w x : List ℕ} {n d : ℕ} {o r f r1 f1 o1 r2 f2 : List ℕ} {s : Sta
     (q : Asked w x n o r f s) (u : Seen w x n (s .at) t)
     (X : Expects w x n (λ role. P.expect-as role 26) r f (fore s t) r1 f1 a)
     (B : Reads node w x n d P.parse-type o r1 f1 (a .state) o1 r2 f2 b) where
-  pub alias-follows : a .how ≡ Done → length r2 ≡ length r → length f2 ≡ length f → Follows w x n r2 f2 b (s .pos) (s .reported)
+  pub alias-follows : a .status ≡ Done → length r2 ≡ length r → length f2 ≡ length f → Follows w x n r2 f2 b (s .pos) (s .reported)
   alias-follows z lr lf =
       record {
         asks = asks-moved (q .asks) (moved-trans (moved-trans (fore-moved (q .asks) u) (X .moved)) (B .moved))
@@ -213,7 +213,7 @@ module _ (d words line column : ℕ) {w x : List ℕ} {n : ℕ} {o r f : List �
           is = λ rd. say (alias-named rd) (stops d _ _ nd (X .is plain d (past w x n (s .at) rd) o));
         }
 
-    pub alias-done : {o1 r2 f2 r3 f3 o2 : List ℕ} {b c y : Answer} → a .how ≡ Done
+    pub alias-done : {o1 r2 f2 r3 f3 o2 : List ℕ} {b c y : Answer} → a .status ≡ Done
         → Reads node w x n d P.parse-type o r1 f1 (a .state) o1 r2 f2 b → length r2 ≡ length r
         → length f2 ≡ length f → Expected w x n 50 (s .pos) (s .reported) r2 f2 b r3 f3 c
         → Finished x o1 c (record {
@@ -370,7 +370,7 @@ module _ {w x : List ℕ} {n d : ℕ} {o r f r1 f1 : List ℕ} {s : State} {t : 
     pub use-stops : Stopped a → Reads node w x n d P.parse-use o r f s o r1 f1 a
     use-stops nd = keyword-stops (path-rule (place-at (t .line) (t .column))) X (use-step d f s u) nd
 
-    pub use-on : {o1 r2 f2 : List ℕ} {y : Answer} → a .how ≡ Done
+    pub use-on : {o1 r2 f2 : List ℕ} {y : Answer} → a .status ≡ Done
         → Reads node w x n d (path-rule (place-at (t .line) (t .column))) o r1 f1 (a .state) o1 r2 f2 y
         → Reads node w x n d P.parse-use o r f s o1 r2 f2 y
     use-on z B = keyword-on (path-rule (place-at (t .line) (t .column))) X (use-step d f s u) z B
@@ -379,7 +379,7 @@ module _ {w x : List ℕ} {n d : ℕ} {o r f r1 f1 : List ℕ} {s : State} {t : 
     pub var-stops : Stopped a → Reads node w x n d P.parse-top-level-var-declaration o r f s o r1 f1 a
     var-stops nd = keyword-stops (P.declaration 0x53 (place-at (t .line) (t .column))) X (var-step d f s u) nd
 
-    pub var-on : {o1 r2 f2 : List ℕ} {y : Answer} → a .how ≡ Done
+    pub var-on : {o1 r2 f2 : List ℕ} {y : Answer} → a .status ≡ Done
         → Reads node w x n d (P.declaration 0x53 (place-at (t .line) (t .column))) o r1 f1 (a .state) o1 r2 f2 y
         → Reads node w x n d P.parse-top-level-var-declaration o r f s o1 r2 f2 y
     var-on z B = keyword-on (P.declaration 0x53 (place-at (t .line) (t .column))) X (var-step d f s u) z B

@@ -19,7 +19,7 @@ use Rattle.definition.specs.Go.{go}
 use Rattle.definition.proofs.Flat.{go-bind}
 use Rattle.fallible.proofs.Grown.{errs-length}
 use Rattle.fallible.specs.declared.State.{State}
-use Rattle.fallible.specs.declared.How.the-variants.{Done}
+use Rattle.fallible.specs.declared.Status.the-variants.{Done}
 use Rattle.fallible.specs.declared.Answer.{Answer}
 use Rattle.fallible.specs.Lists.{errs}
 use Rattle.fallible.specs.Orders.{Exchanged}
@@ -144,7 +144,7 @@ module _ {w x : List ℕ} {n d name i j : ℕ} {o r f : List ℕ} {a : Answer} (
     is = λ T E h li lj v. stops d (function-on p 0 (next-token (rest w x n name))) h nd v;
   }
 
-  module _ {o1 r1 f1 : List ℕ} {b : Answer} (z : a .how ≡ Done) (B : ReadsBody w x n d o r f (a .state) o1 r1 f1 b) where
+  module _ {o1 r1 f1 : List ℕ} {b : Answer} (z : a .status ≡ Done) (B : ReadsBody w x n d o r f (a .state) o1 r1 f1 b) where
     pub whole-refused : {p : Place} → Stopped b → FunctionOn w x n d 0 p name i j o r f a o1 r1 f1 b
     whole-refused {p} nd = record {
       moved =
@@ -179,12 +179,12 @@ module _ {w x : List ℕ} {n d name i j : ℕ} {o r f : List ℕ} {a : Answer} (
       ),
     )
 
-module _ {w x : List ℕ} {n d name i j line column : ℕ} {o r f : List ℕ} {a : Answer} (q : FunctionAsked w x n o r f name a i j) {o1 r1 f1 o2 : List ℕ} {b c : Answer} {t : Token} (z : a .how ≡ Done) (B : ReadsBody w x n d o r f (a .state) o1 r1 f1 b)
+module _ {w x : List ℕ} {n d name i j line column : ℕ} {o r f : List ℕ} {a : Answer} (q : FunctionAsked w x n o r f name a i j) {o1 r1 f1 o2 : List ℕ} {b c : Answer} {t : Token} (z : a .status ≡ Done) (B : ReadsBody w x n d o r f (a .state) o1 r1 f1 b)
     (F : Finished x o1 b (record { tag = 0x40; line = line; column = column; numbers = Two (b .line); start = 0; len = 0 }) o2 c) (u : Seen w x n name t) where
   pub whole-room : length o2 ≡ length o → Room o2 x (c .state .pos) (16 + t .len) (t .start) (t .len)
   whole-room l = record { room = omega (arith, q .room, B .moved .room, F .high, text-length u, l); part = u .part }
 
-  module _ {r2 o3 : List ℕ} {y : Answer} (h : b .how ≡ Done)
+  module _ {r2 o3 : List ℕ} {y : Answer} (h : b .status ≡ Done)
       (X : Exchanged r1 j (a .state .reported) (b .state .reported) r2)
       (G : Finished x o2 c (record { tag = 0x50; line = line; column = column; numbers = ByteTwo 0 (a .line); start = t .start; len = t .len }) o3 y) where
     whole-moved : Moved w x n i j (up (19 + length (next-token (rest w x n name) .text)) (a .state)) (y .state)
@@ -325,7 +325,7 @@ module _ {w x : List ℕ} {n d : ℕ} {o r f r1 f1 : List ℕ} {s : State} {a : 
             (stops d (λ _. P.expect-identifier >>? headed p external) _ nd (X .is plain d rd o));
       }
 
-  module _ {r2 f2 : List ℕ} {b : Answer} (z : a .how ≡ Done)
+  module _ {r2 f2 : List ℕ} {b : Answer} (z : a .status ≡ Done)
       (Y : Expects w x n (λ role. P.expect-identifier) r1 f1 (a .state) r2 f2 b) where
     pub function-unnamed : (external : ℕ) (p : Place) → Stopped b → Reads node w x n d (P.function p external) o r f s o r2 f2 b
     function-unnamed external p nd =
@@ -357,14 +357,14 @@ module _ {w x : List ℕ} {n d : ℕ} {o r f r1 f1 : List ℕ} {s : State} {a : 
               (Y .is plain d (g .read) o))));
         }
 
-    module _ {p : Place} {o3 r3 f3 : List ℕ} {c : Answer} (q : Asked w x n o r f s) (y : b .how ≡ Done)
+    module _ {p : Place} {o3 r3 f3 : List ℕ} {c : Answer} (q : Asked w x n o r f s) (y : b .status ≡ Done)
         (G : ReadsSignature w x n d p o r2 f2 (b .state) o3 r3 f3 c) where
       -- `fn` and the name pay for the records of the type, the block and the function
       function-pays : c .state .pos + budget w x n (c .state .at) + 25 + length (next-token (rest w x n (a .state .at)) .text)
           ≤ s .pos + budget w x n (s .at)
       function-pays =
-          let da : done-of (a .how) ≡ 1 = rw z in
-          let db : done-of (b .how) ≡ 1 = rw y in
+          let da : done-of (a .status) ≡ 1 = rw z in
+          let db : done-of (b .status) ≡ 1 = rw y in
           let k = real (a .state .at) (q .asks .held) (omega (arith, Y .pays, db)) in
           omega (arith, G .moved .room, X .pays, da, paid (a .state .at) (b .state .at) (q .asks .held) (Y .on), k, X .pos, Y .pos)
 

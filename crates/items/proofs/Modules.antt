@@ -12,7 +12,7 @@ use Rattle.definition.specs.Parser as P
 use Rattle.definition.specs.Go.{go}
 use Rattle.definition.proofs.Flat.{go-bind, go-loop}
 use Rattle.fallible.specs.declared.State.{State}
-use Rattle.fallible.specs.declared.How.the-variants.{Done}
+use Rattle.fallible.specs.declared.Status.the-variants.{Done}
 use Rattle.fallible.specs.declared.Answer.{Answer}
 use Rattle.fallible.specs.Lists.{unpack, error-at, errs}
 use Rattle.fallible.specs.Answers.{raised, Raised}
@@ -102,7 +102,7 @@ module _ {w x : List ℕ} {n d : ℕ} {o r f : List ℕ} {s : State} {t : Token}
 
 module _ {w x : List ℕ} {n d count : ℕ} {o r f : List ℕ} {s : State} {t : Token}
     (q : Asked w x n o r f s × (count ≤ s .at)) (v : Seen w x n (s .at) t) where
-  pub module-end : t .kind ≡ 0 → LoopOn items-on w x n d count o r f s o r f (record { how = Done; state = s; line = count; column = 0 })
+  pub module-end : t .kind ≡ 0 → LoopOn items-on w x n d count o r f s o r f (record { status = Done; state = s; line = count; column = 0 })
   unfolding go run P.module-turn
   module-end z = record {
     moved = stays (q .0 .asks);
@@ -135,7 +135,7 @@ module _ {w x : List ℕ} {n d count : ℕ} {o r f : List ℕ} {s : State} {t : 
     pub module-refused : Ended b → LoopOn items-on w x n d count o r f s o1 r1 f1 b
     module-refused h = loop-refused items-on items-on P.parse-top-level-item item-turn u h
 
-    pub module-next : {k : ℕ} {o3 r3 f3 : List ℕ} {y : Answer} → Alive b → Counted (b .how) count k → LoopOn items-on w x n d k o1 r1 f1 (b .state) o3 r3 f3 y → LoopOn items-on w x n d count o r f s o3 r3 f3 y
+    pub module-next : {k : ℕ} {o3 r3 f3 : List ℕ} {y : Answer} → Alive b → Counted (b .status) count k → LoopOn items-on w x n d k o1 r1 f1 (b .state) o3 r3 f3 y → LoopOn items-on w x n d count o r f s o3 r3 f3 y
     module-next h c l = loop-next items-on P.parse-top-level-item item-turn u h c l
 
 -- ---- `module`

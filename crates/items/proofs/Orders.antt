@@ -11,8 +11,8 @@ use Rattle.definition.specs.Token.{next-token}
 use Rattle.definition.specs.Act.{Act, Items, St, Res, gives, refused, after, or-return, run, _>>=_}
 use Rattle.definition.specs.Go.{go}
 use Rattle.definition.proofs.Flat.{go-bind}
-use Rattle.fallible.specs.declared.How.{How}
-use Rattle.fallible.specs.declared.How.the-variants.{Done, Fatal, Refused}
+use Rattle.fallible.specs.declared.Status.{Status}
+use Rattle.fallible.specs.declared.Status.the-variants.{Done, Fatal, Refused}
 use Rattle.fallible.specs.declared.Answer.{Answer}
 use Rattle.fallible.specs.Lists.{errs}
 use Rattle.fallible.specs.Answers.{AbandonedOf, Abandoned}
@@ -40,20 +40,20 @@ answered d m k S =
     one (refused n) = refl
 
 -- where what `?` leaves is there, it is the answer itself
-pub still : {r r′ : List ℕ} {i j k : ℕ} {b c : Answer} → Abandoned r b i j k r′ c → c .how ≡ Done → c ≡ b
-still {r} {r′} {i} {j} {k} {b} {c} v z = one (b .how) (v .is)
+pub still : {r r′ : List ℕ} {i j k : ℕ} {b c : Answer} → Abandoned r b i j k r′ c → c .status ≡ Done → c ≡ b
+still {r} {r′} {i} {j} {k} {b} {c} v z = one (b .status) (v .is)
   where
-    one : (h : How) → AbandonedOf h r b i j k r′ c → c ≡ b
+    one : (h : Status) → AbandonedOf h r b i j k r′ c → c ≡ b
     one Done m = m .0
-    one Fatal m = let y : done-of (c .how) ≡ 0 = rw (m .how) in let u : done-of (c .how) ≡ 1 = rw z in absurd (omega (arith, y, u))
+    one Fatal m = let y : done-of (c .status) ≡ 0 = rw (m .status) in let u : done-of (c .status) ≡ 1 = rw z in absurd (omega (arith, y, u))
     one (Refused n) m = m .0
 
 -- `expect` after an answer keeps its numbers
 pub expected-line : {w x : List ℕ} {n k i j : ℕ} {r f r′ f′ : List ℕ} {a y : Answer} → Expected w x n k i j r f a r′ f′ y
     → y .line ≡ a .line
-expected-line {w} {x} {n} {k} {i} {j} {r} {f} {r′} {f′} {a} {y} v = one (a .how) (v .is)
+expected-line {w} {x} {n} {k} {i} {j} {r} {f} {r′} {f′} {a} {y} v = one (a .status) (v .is)
   where
-    one : (h : How) → ExpectedOf h w x n k i j r f a r′ f′ y → y .line ≡ a .line
+    one : (h : Status) → ExpectedOf h w x n k i j r f a r′ f′ y → y .line ≡ a .line
     one Done m = rw (m .is)
     one Fatal m = rw (m .0)
     one (Refused u) m = rw (m .0)

@@ -15,7 +15,7 @@ use Rattle.definition.specs.Go.{go}
 use Rattle.definition.proofs.Flat.{go-bind}
 use Rattle.fallible.proofs.Grown.{errs-length}
 use Rattle.fallible.specs.declared.State.{State}
-use Rattle.fallible.specs.declared.How.the-variants.{Done}
+use Rattle.fallible.specs.declared.Status.the-variants.{Done}
 use Rattle.fallible.specs.declared.Answer.{Answer}
 use Rattle.fallible.specs.Lists.{errs}
 use Rattle.fallible.specs.Answers.{Abandoned, Cuts}
@@ -56,7 +56,7 @@ module _ {w x : List ℕ} {n d line column : ℕ} {o r f : List ℕ} {s : State}
   }
 
   pub type-none : {o2 : List ℕ} {y : Answer} → Asked w x n o r f s → (t .kind ≡ 51 → ⊥)
-      → Finished x o (record { how = Done; state = s; line = line; column = column })
+      → Finished x o (record { status = Done; state = s; line = line; column = column })
       (record { tag = 0x11; line = line; column = column; numbers = None; start = 0; len = 0 }) o2 y
       → ReadsType w x n d (place-at line column) o r f s o2 r f y
   unfolding go run recs-bytes
@@ -151,7 +151,7 @@ module _ {w x : List ℕ} {n d : ℕ} {p : Place} {o r f o1 r1 f1 : List ℕ} {s
           }
 
       -- what `exchange` asks for
-      pub signature-order : c .how ≡ Done → length r3 ≡ length r
+      pub signature-order : c .status ≡ Done → length r3 ≡ length r
           → (s .reported ≤ a .state .reported) × ((a .state .reported ≤ c .state .reported)
           × ((c .state .reported ≤ 256) × (c .state .reported ≤ length r3)))
       signature-order y l =
@@ -184,7 +184,7 @@ module _ {w x : List ℕ} {n d : ℕ} {p : Place} {o r f o1 r1 f1 : List ℕ} {s
             ∙ go-bind d (return-rule p) (or-return (signing (record { item = g .item; errors = g .errors })))
             (st-of w x n f1 (g .read) (a .state))
 
-      pub signature-untyped : a .how ≡ Done → Stopped c → ReadsSignature w x n d p o r f s o2 r3 f2 c
+      pub signature-untyped : a .status ≡ Done → Stopped c → ReadsSignature w x n d p o r f s o2 r3 f2 c
       signature-untyped z nd = record {
         moved = signature-moved;
         is =
@@ -193,10 +193,10 @@ module _ {w x : List ℕ} {n d : ℕ} {p : Place} {o r f o1 r1 f1 : List ℕ} {s
             (stops d (signing (record { item = g .item; errors = g .errors })) _ nd (typed-after rd g));
       }
 
-      pub signature-reads : {r4 : List ℕ} → a .how ≡ Done → c .how ≡ Done
+      pub signature-reads : {r4 : List ℕ} → a .status ≡ Done → c .status ≡ Done
           → Exchanged r3 (s .reported) (a .state .reported) (c .state .reported) r4
           → ReadsSignature w x n d p o r f s o2 r4 f2
-          (record { how = c .how; state = c .state; line = a .line; column = 0 })
+          (record { status = c .status; state = c .state; line = a .line; column = 0 })
       unfolding go run
       signature-reads z y X =
           let e : c .state .reported ≡ b .state .reported = ap (λ (z : Answer). z .state .reported) (still C y) in

@@ -12,7 +12,7 @@ use Rattle.definition.specs.Act.{Items, done, loop, Consumed, begin, Res, gives
 use Rattle.definition.specs.Parser as P
 use Rattle.definition.specs.Go.{go}
 use Rattle.fallible.specs.declared.State.{State}
-use Rattle.fallible.specs.declared.How.the-variants.{Fatal}
+use Rattle.fallible.specs.declared.Status.the-variants.{Fatal}
 use Rattle.fallible.specs.declared.Answer.{Answer}
 use Rattle.fallible.specs.Lists.{errs}
 use Rattle.steps.specs.Tokens.{rest, budget}
@@ -70,5 +70,5 @@ pub record ReadsModule (w x : List ℕ) (n d : ℕ) (o r f : List ℕ) (a : Answ
   pub room : a .state .pos ≤ budget w x n 0
   pub reported : a .state .reported ≤ a .state .full
   pub few : a .state .full ≤ 255
-  pub never : a .how ≡ Fatal → ⊥
+  pub never : a .status ≡ Fatal → ⊥
   pub is : Shows items [] [] [] [] w x n o r f a (go d (items-on (P.no-items []) >>= as-answer) (begin (rest w x n 0)))

@@ -4,8 +4,8 @@ use definition::tag;
 use expression::list;
 use expression::ty;
 use fallible::Answer;
-use fallible::How;
 use fallible::State;
+use fallible::Status;
 use fallible::abandon;
 use fallible::exchange;
 use leaves::Listed;
@@ -46,7 +46,7 @@ fn return_type(
         return ty(tokens, text, n, file, rep, full, on, left);
     }
     let a = Answer {
-        how: How::Done,
+        status: Status::Done,
         state: st,
         line: lead.line,
         column: lead.column,
@@ -71,21 +71,21 @@ fn signature(
 {
     let what = Listed::Parameters;
     let a = list(tokens, text, n, file, rep, full, what, st, left);
-    let how = a.how;
-    let How::Done = how else {
+    let status = a.status;
+    let Status::Done = status else {
         return a;
     };
     let s = a.state;
     let b = return_type(tokens, text, n, file, rep, full, lead, s, left);
     let c = abandon(rep, b, st, s);
-    let h = c.how;
-    let How::Done = h else {
+    let h = c.status;
+    let Status::Done = h else {
         return c;
     };
     let e = c.state;
     exchange(rep, st.reported, s.reported, e.reported);
     Answer {
-        how: h,
+        status: h,
         state: e,
         line: a.line,
         column: 0,
@@ -131,14 +131,14 @@ fn whole_function(
     requires { ⌜ FunctionAsked tokens text n file rep full name a from ⌝ }
     ensures { λ r. ⌜ FunctionOn 0 (place-of lead) tokens text n file rep full name a from left r ⌝ }
 {
-    let how = a.how;
-    let How::Done = how else {
+    let status = a.status;
+    let Status::Done = status else {
         return a;
     };
     let s = a.state;
     let b = body(tokens, text, n, file, rep, full, s, left);
-    let h = b.how;
-    let How::Done = h else {
+    let h = b.status;
+    let Status::Done = h else {
         return b;
     };
     let e = b.state;
@@ -166,14 +166,14 @@ fn function(
     ensures { λ r. ⌜ Parses (P.function (place-of lead) (flag external)) tokens text n file rep full st left r ⌝ }
 {
     let a = expect(tokens, text, n, rep, full, st, kind::KW_FN);
-    let how = a.how;
-    let How::Done = how else {
+    let status = a.status;
+    let Status::Done = status else {
         return a;
     };
     let s = a.state;
     let b = expect_identifier(tokens, text, n, rep, full, s);
-    let h = b.how;
-    let How::Done = h else {
+    let h = b.status;
+    let Status::Done = h else {
         return b;
     };
     let e = b.state;

@@ -6,8 +6,8 @@ use definition::kind;
 use definition::parse_error;
 use definition::tag;
 use fallible::Answer;
-use fallible::How;
 use fallible::State;
+use fallible::Status;
 use fallible::entry;
 use fallible::raise;
 use functions::function_definition;
@@ -52,7 +52,7 @@ fn top_level_item(
     let on = State { at: t.next, ..st };
     if t.kind == kind::INLINE_ASSEMBLY_FRAGMENT {
         let a = Answer {
-            how: How::Done,
+            status: Status::Done,
             state: on,
             line: t.line,
             column: t.column,
@@ -89,19 +89,19 @@ pub fn module(
         let t = peek(tokens, text, n, st.at);
         if t.kind == kind::END {
             return Answer {
-                how: How::Done,
+                status: Status::Done,
                 state: st,
                 line: count,
                 column: 0,
             };
         }
         let b = top_level_item(tokens, text, n, file, rep, full, st, left);
-        let how = b.how;
+        let status = b.status;
         let s = b.state;
-        if let How::Refused(_) = how {
+        if let Status::Refused(_) = status {
             return b;
         }
-        count = counted(how, count);
+        count = counted(status, count);
         st = s;
     }
 }

@@ -5,8 +5,8 @@ use definition::refusal;
 use definition::tag;
 use expression::ty;
 use fallible::Answer;
-use fallible::How;
 use fallible::State;
+use fallible::Status;
 use fallible::entry;
 use fallible::raise;
 use fallible::refuse;
@@ -84,8 +84,8 @@ fn alias(
         return raise(n, rep, full, on, error);
     }
     let a = expect(tokens, text, n, rep, full, on, kind::EQUALS);
-    let how = a.how;
-    let How::Done = how else {
+    let status = a.status;
+    let Status::Done = status else {
         return a;
     };
     let s = a.state;
@@ -114,8 +114,8 @@ pub fn type_alias(
     let m = modifiers(tokens, text, n, at);
     let on = State { at: m.next, ..st };
     let a = expect(tokens, text, n, rep, full, on, kind::KW_TYPE);
-    let how = a.how;
-    let How::Done = how else {
+    let status = a.status;
+    let Status::Done = status else {
         return a;
     };
     let s = a.state;
@@ -164,8 +164,8 @@ pub fn use_path(
 {
     let t = peek(tokens, text, n, st.at);
     let a = expect(tokens, text, n, rep, full, st, kind::KW_USE);
-    let how = a.how;
-    let How::Done = how else {
+    let status = a.status;
+    let Status::Done = status else {
         return a;
     };
     let s = a.state;
@@ -188,8 +188,8 @@ pub fn top_level_var_declaration(
 {
     let t = peek(tokens, text, n, st.at);
     let a = expect(tokens, text, n, rep, full, st, kind::KW_VAR);
-    let how = a.how;
-    let How::Done = how else {
+    let status = a.status;
+    let Status::Done = status else {
         return a;
     };
     let s = a.state;

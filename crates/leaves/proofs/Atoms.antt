@@ -18,12 +18,12 @@ use Rattle.node.specs.Put.{rec-of, size-of}
 use Rattle.node.specs.declared.Record.{Record}
 use Rattle.node.specs.declared.Numbers.the-variants.{None, Byte}
 use Rattle.fallible.specs.declared.State.{State}
-use Rattle.fallible.specs.declared.How.{How}
-use Rattle.fallible.specs.declared.How.the-variants.{Done, Fatal, Refused}
+use Rattle.fallible.specs.declared.Status.{Status}
+use Rattle.fallible.specs.declared.Status.the-variants.{Done, Fatal, Refused}
 use Rattle.fallible.specs.declared.Answer.{Answer}
 use Rattle.fallible.specs.Lists.{unpack, error-at, errs}
 use Rattle.fallible.specs.Answers.{raised, Raised}
-use Rattle.fallible.proofs.How.{the-type}
+use Rattle.fallible.proofs.Status.{the-type}
 use Rattle.steps.specs.declared.Token.{Token}
 use Rattle.steps.specs.Tokens.{rest, budget, Seen}
 use Rattle.steps.specs.Shows.{st-of, Asks, node, token, Reads, Expects, Finished, texted, untexted}
@@ -147,17 +147,17 @@ module _ {w x : List ℕ} {n : ℕ} {o r f : List ℕ} {s : State} {t : Token} (
 
 -- an answer that is refused, or not
 abbrev pub Ended : Answer → Type 0
-Ended a = tagOf the-type (a .how) ≡ 2
+Ended a = tagOf the-type (a .status) ≡ 2
 
 abbrev pub Alive : Answer → Type 0
-Alive a = OneOf (0 ∷ 1 ∷ []) (tagOf the-type (a .how))
+Alive a = OneOf (0 ∷ 1 ∷ []) (tagOf the-type (a .status))
 
-pub if-ended : (C : How → Type 0) (h : How) → tagOf the-type h ≡ 2 → ((m : ℕ) → C (Refused m)) → C h
+pub if-ended : (C : Status → Type 0) (h : Status) → tagOf the-type h ≡ 2 → ((m : ℕ) → C (Refused m)) → C h
 if-ended C Done e p = absurd (omega arith)
 if-ended C Fatal e p = absurd (omega arith)
 if-ended C (Refused m) e p = p m
 
-pub if-alive : (C : How → Type 0) (h : How) → OneOf (0 ∷ 1 ∷ []) (tagOf the-type h) → C Done → C Fatal → C h
+pub if-alive : (C : Status → Type 0) (h : Status) → OneOf (0 ∷ 1 ∷ []) (tagOf the-type h) → C Done → C Fatal → C h
 if-alive C Done e p q = p
 if-alive C Fatal e p q = q
 if-alive C (Refused m) e p q = absurd (⊎-elim (λ z. omega arith) (λ z. omega arith) e)
@@ -168,25 +168,25 @@ module _ {w x : List ℕ} {n : ℕ} {r f : List ℕ} {a : Answer} (q : Asks w x 
       record {
         moved = stays q;
         pos = refl;
-        is = if-ended (λ k. ClosedOf k w x n r f a r f a) (a .how) h (λ m. (refl, (refl, refl)));
+        is = if-ended (λ k. ClosedOf k w x n r f a r f a) (a .status) h (λ m. (refl, (refl, refl)));
       }
 
   module _ {r′ f′ : List ℕ} {b : Answer} (l : Alive a) (e : Expects w x n (λ role. P.expect-as role 42) r f (a .state) r′ f′ b) where
     -- what `expect` answers is the rest
-    closes : (y : Answer) → y .state ≡ b .state → ClosingOf (b .how) a b y → Closed w x n r f a r′ f′ y
+    closes : (y : Answer) → y .state ≡ b .state → ClosingOf (b .status) a b y → Closed w x n r f a r′ f′ y
     closes y z i =
         record {
           moved = rw z (e .moved);
           pos = rw z (e .pos);
-          is = if-alive (λ k. ClosedOf k w x n r f a r′ f′ y) (a .how) l (record { b = b; expects = e; is = i })
+          is = if-alive (λ k. ClosedOf k w x n r f a r′ f′ y) (a .status) l (record { b = b; expects = e; is = i })
               (record { b = b; expects = e; is = i });
         }
 
     pub close-refused : Ended b → Closed w x n r f a r′ f′ b
-    close-refused h = closes b refl (if-ended (λ k. ClosingOf k a b b) (b .how) h (λ m. refl))
+    close-refused h = closes b refl (if-ended (λ k. ClosingOf k a b b) (b .status) h (λ m. refl))
 
-    pub close-on : Alive b → Closed w x n r f a r′ f′ (record { how = a .how; state = b .state; line = a .line; column = a .column })
+    pub close-on : Alive b → Closed w x n r f a r′ f′ (record { status = a .status; state = b .state; line = a .line; column = a .column })
     close-on h =
         closes _ refl (if-alive
-        (λ k. ClosingOf k a b (record { how = a .how; state = b .state; line = a .line; column = a .column }))
-        (b .how) h refl refl)
+        (λ k. ClosingOf k a b (record { status = a .status; state = b .state; line = a .line; column = a .column }))
+        (b .status) h refl refl)

@@ -13,8 +13,8 @@ use Rattle.definition.specs.Act.{Act, make, Role, Consumed, refused, now-read, 
 use Rattle.definition.specs.Parser as P
 use Rattle.definition.specs.Go.{go}
 use Rattle.fallible.specs.declared.State.{State}
-use Rattle.fallible.specs.declared.How.{How}
-use Rattle.fallible.specs.declared.How.the-variants.{Fatal}
+use Rattle.fallible.specs.declared.Status.{Status}
+use Rattle.fallible.specs.declared.Status.the-variants.{Fatal}
 use Rattle.fallible.specs.declared.Answer.{Answer}
 use Rattle.fallible.specs.Lists.{unpack, errs}
 use Rattle.fallible.specs.Answers.{refused-at, one-more, making, raised, Raised}
@@ -27,12 +27,12 @@ use Rattle.steps.proofs.Moves.{asks-fore, fore-moved, making-moved, moved-trans
 use Rattle.steps.proofs.Answers.{say, raise-shows}
 
 -- what holds of both answers holds of the one that is made
-pub made-so : {a : Answer} (h : How) (n : ℕ) (s : State) (C : Answer → Type 0) → a ≡ making h n s
-    → (s .full < 255 → C (record { how = h; state = one-more s; line = 0; column = 0 }))
+pub made-so : {a : Answer} (h : Status) (n : ℕ) (s : State) (C : Answer → Type 0) → a ≡ making h n s
+    → (s .full < 255 → C (record { status = h; state = one-more s; line = 0; column = 0 }))
     → (255 ≤ s .full → C (refused-at n s 12)) → C a
 made-so h n s C e p c = subst C (sym e) (one (ltb (s .full) 255) refl)
   where
-    one : (b : Bool) → ltb (s .full) 255 ≡ b → C (pick b (record { how = h; state = one-more s; line = 0; column = 0 }) (refused-at n s 12))
+    one : (b : Bool) → ltb (s .full) 255 ≡ b → C (pick b (record { status = h; state = one-more s; line = 0; column = 0 }) (refused-at n s 12))
     one true l = p (ltb-true _ _ l)
     one false l = c (ltb-false _ _ l)
 

@@ -8,8 +8,8 @@ use Rattle.definition.specs.Act.{Items, Listed, done, make, loop, ListOf, plain
 use Rattle.definition.specs.Parser as P
 use Rattle.definition.specs.Go.{go}
 use Rattle.fallible.specs.declared.State.{State}
-use Rattle.fallible.specs.declared.How.{How}
-use Rattle.fallible.specs.declared.How.the-variants.{Done}
+use Rattle.fallible.specs.declared.Status.{Status}
+use Rattle.fallible.specs.declared.Status.the-variants.{Done}
 use Rattle.fallible.specs.declared.Answer.{Answer}
 use Rattle.fallible.specs.Lists.{unpack, error-at}
 use Rattle.fallible.specs.Answers.{noted, Raised}
@@ -21,7 +21,7 @@ use Rattle.steps.proofs.Moves.{stays, asks-fore, fore-moved, making-moved, move
 use Rattle.leaves.specs.Leaves.{Counted, CommasOf, Commas}
 use Rattle.leaves.proofs.Errors.{made-so, makes, makes-none}
 
-pub counted-done : {h : How} {n : ℕ} → h ≡ Done → Counted h n (n + 1)
+pub counted-done : {h : Status} {n : ℕ} → h ≡ Done → Counted h n (n + 1)
 counted-done z = record { is = rw z; low = omega arith; high = omega arith }
 
 make-same : (d : ℕ) (k : Listed) (i : Items) {X Y : Err} {S S′ : St} → X ≡ Y → S ≡ S′
@@ -36,7 +36,7 @@ module _ {w x : List ℕ} {n : ℕ} {r f : List ℕ} {s : State} {close : ℕ} {
       → ((k : Listed) → P.closer k ≡ close → (d : ℕ) (rd : List Consumed) (i : Items)
       → go d (P.after-item k i) (st-of w x n f rd s)
       ≡ go d (loop (ListOf k i) done) (st-of w x n f (read k rd) s′))
-      → Commas w x n r f s close r f (record { how = Done; state = s′; line = 0; column = 0 })
+      → Commas w x n r f s close r f (record { status = Done; state = s′; line = 0; column = 0 })
   goes read m p e h =
       record {
         moved = m;
@@ -45,19 +45,19 @@ module _ {w x : List ℕ} {n : ℕ} {r f : List ℕ} {s : State} {close : ℕ} {
             record { errors = []; read = read k rd; is = h k ck d rd i ∙ rw append-nil; rep = rw (e, append-nil) };
       }
 
-  pub comma-there : t .kind ≡ 53 → Commas w x n r f s close r f (record { how = Done; state = fore s t; line = 0; column = 0 })
+  pub comma-there : t .kind ≡ 53 → Commas w x n r f s close r f (record { status = Done; state = fore s t; line = 0; column = 0 })
   unfolding go run P.after-item
   comma-there z =
       goes (λ k rd. rd ++ now-read (P.comma-role k) (rest w x n (s .at))) (fore-moved q v) refl refl
       (λ k ck d rd i. rw (run, yes v z, v .tail))
 
   module _ (m : t .kind ≡ 53 → ⊥) where
-    pub comma-close : t .kind ≡ close → Commas w x n r f s close r f (record { how = Done; state = s; line = 0; column = 0 })
+    pub comma-close : t .kind ≡ close → Commas w x n r f s close r f (record { status = Done; state = s; line = 0; column = 0 })
     unfolding go run P.after-item
     comma-close z = goes (λ k rd. rd) (stays q) refl refl (λ k ck d rd i. rw (run, no v m, yes v (z ∙ sym ck)))
 
     module _ (mc : t .kind ≡ close → ⊥) where
-      pub comma-end : t .kind ≡ 0 → Commas w x n r f s close r f (record { how = Done; state = s; line = 0; column = 0 })
+      pub comma-end : t .kind ≡ 0 → Commas w x n r f s close r f (record { status = Done; state = s; line = 0; column = 0 })
       unfolding go run P.after-item
       comma-end z = goes (λ k rd. rd) (stays q) refl refl (λ k ck d rd i. rw (run, no v m, no v (λ y. mc (y ∙ ck)), yes v z))
 
@@ -78,7 +78,7 @@ module _ {w x : List ℕ} {n : ℕ} {r f : List ℕ} {s : State} {close : ℕ} {
         comma-other = record {
           moved = rw (g .is) (moved-trans (fore-moved q v) (making-moved (asks-fore q v) Done));
           pos = made-so Done n (fore s t) (λ y. y .state .pos ≡ s .pos) (g .is) (λ l. refl) (λ l. refl);
-          is = λ k ck d rd i. made-so Done n (fore s t) (λ y. CommasOf (y .how) w x n k r f s r′ f′ (y .state) d rd i) (g .is)
+          is = λ k ck d rd i. made-so Done n (fore s t) (λ y. CommasOf (y .status) w x n k r f s r′ f′ (y .state) d rd i) (g .is)
               (λ l. record {
                 errors = unpack e ∷ [];
                 read = rd ++ now-read (λ _. plain) (rest w x n (s .at));

@@ -15,8 +15,8 @@ use Rattle.definition.specs.Go.{go}
 use Rattle.node.specs.declared.Numbers.the-variants.{None}
 use Rattle.node.specs.declared.Record.{Record}
 use Rattle.fallible.specs.declared.State.{State}
-use Rattle.fallible.specs.declared.How.{How}
-use Rattle.fallible.specs.declared.How.the-variants.{Done, Fatal, Refused}
+use Rattle.fallible.specs.declared.Status.{Status}
+use Rattle.fallible.specs.declared.Status.the-variants.{Done, Fatal, Refused}
 use Rattle.fallible.specs.declared.Answer.{Answer}
 use Rattle.fallible.specs.Lists.{errs}
 use Rattle.steps.specs.declared.Token.{Token}
@@ -37,12 +37,12 @@ listed-of I.StructFields = A.StructFields
 listed-of I.ArrayValues = A.ArrayValues
 listed-of I.StructValues = A.StructValues
 
-abbrev pub count-of : How → ℕ → ℕ
+abbrev pub count-of : Status → ℕ → ℕ
 count-of Done n = n + 1
 count-of Fatal n = n
 count-of (Refused m) n = n
 
-pub record Counted (h : How) (n r : ℕ) : Type 0 where
+pub record Counted (h : Status) (n r : ℕ) : Type 0 where
   pub is : r ≡ count-of h n
   pub low : n ≤ r
   pub high : r ≤ n + 1
@@ -58,7 +58,7 @@ pub record Next (w x : List ℕ) (n : ℕ) (k : A.Listed) (r f : List ℕ) (s : 
   pub is : go d (P.after-item k i) (st-of w x n f rd s) ≡ go d (loop (ListOf k (with-errors i errors)) done) (st-of w x n f′ read s′)
   pub rep : errs r′ (s′ .reported) ≡ errs r (s .reported) ++ errors
 
-abbrev pub CommasOf : How → List ℕ → List ℕ → ℕ → A.Listed → List ℕ → List ℕ → State → List ℕ → List ℕ → State → ℕ → List Consumed → Items → Type 0
+abbrev pub CommasOf : Status → List ℕ → List ℕ → ℕ → A.Listed → List ℕ → List ℕ → State → List ℕ → List ℕ → State → ℕ → List Consumed → Items → Type 0
 CommasOf Done w x n k r f s r′ f′ s′ d rd i = Next w x n k r f s r′ f′ s′ d rd i
 CommasOf Fatal w x n k r f s r′ f′ s′ d rd i = ⊥
 CommasOf (Refused m) w x n k r f s r′ f′ s′ d rd i = go d (P.after-item k i) (st-of w x n f rd s) ≡ refused m
@@ -66,7 +66,7 @@ CommasOf (Refused m) w x n k r f s r′ f′ s′ d rd i = go d (P.after-item k 
 pub record Commas (w x : List ℕ) (n : ℕ) (r f : List ℕ) (s : State) (close : ℕ) (r′ f′ : List ℕ) (a : Answer) : Type 0 where
   pub moved : Moved w x n (s .pos) (s .reported) s (a .state)
   pub pos : a .state .pos ≡ s .pos
-  pub is : (k : A.Listed) → P.closer k ≡ close → (d : ℕ) (rd : List Consumed) (i : Items) → CommasOf (a .how) w x n k r f s r′ f′ (a .state) d rd i
+  pub is : (k : A.Listed) → P.closer k ≡ close → (d : ℕ) (rd : List Consumed) (i : Items) → CommasOf (a .status) w x n k r f s r′ f′ (a .state) d rd i
 
 -- ---- array sizes
 
@@ -112,7 +112,7 @@ pub record Prefix (k r : ℕ) : Type 0 where
 
 -- the answer of a token that is read
 abbrev pub there : State → Token → Answer
-there s t = record { how = Done; state = record { at = t .next; pos = s .pos; reported = s .reported; full = s .full }; line = t .line; column = t .column }
+there s t = record { status = Done; state = record { at = t .next; pos = s .pos; reported = s .reported; full = s .full }; line = t .line; column = t .column }
 
 -- the record of a name
 abbrev pub identifier : Token → Record
@@ -128,17 +128,17 @@ pub record Literal (w x : List ℕ) (n : ℕ) (o r f : List ℕ) (s : State) : T
   pub bare : next-token (rest w x n (s .at)) .kind ≡ 41 → ⊥
 
 -- after the item a, `)` is asked for: b is that answer
-abbrev pub ClosingOf : How → Answer → Answer → Answer → Type 0
-ClosingOf Done a b y = y ≡ record { how = a .how; state = b .state; line = a .line; column = a .column }
-ClosingOf Fatal a b y = y ≡ record { how = a .how; state = b .state; line = a .line; column = a .column }
+abbrev pub ClosingOf : Status → Answer → Answer → Answer → Type 0
+ClosingOf Done a b y = y ≡ record { status = a .status; state = b .state; line = a .line; column = a .column }
+ClosingOf Fatal a b y = y ≡ record { status = a .status; state = b .state; line = a .line; column = a .column }
 ClosingOf (Refused m) a b y = y ≡ b
 
 pub record Closing (w x : List ℕ) (n : ℕ) (r f : List ℕ) (a : Answer) (r′ f′ : List ℕ) (y : Answer) : Type 0 where
   pub b : Answer
   pub expects : Expects w x n (λ role. P.expect-as role 42) r f (a .state) r′ f′ b
-  pub is : ClosingOf (b .how) a b y
+  pub is : ClosingOf (b .status) a b y
 
-abbrev pub ClosedOf : How → List ℕ → List ℕ → ℕ → List ℕ → List ℕ → Answer → List ℕ → List ℕ → Answer → Type 0
+abbrev pub ClosedOf : Status → List ℕ → List ℕ → ℕ → List ℕ → List ℕ → Answer → List ℕ → List ℕ → Answer → Type 0
 ClosedOf Done w x n r f a r′ f′ y = Closing w x n r f a r′ f′ y
 ClosedOf Fatal w x n r f a r′ f′ y = Closing w x n r f a r′ f′ y
 ClosedOf (Refused m) w x n r f a r′ f′ y = (y ≡ a) × ((r′ ≡ r) × (f′ ≡ f))
@@ -146,4 +146,4 @@ ClosedOf (Refused m) w x n r f a r′ f′ y = (y ≡ a) × ((r′ ≡ r) × (f�
 pub record Closed (w x : List ℕ) (n : ℕ) (r f : List ℕ) (a : Answer) (r′ f′ : List ℕ) (y : Answer) : Type 0 where
   pub moved : Moved w x n (a .state .pos) (a .state .reported) (a .state) (y .state)
   pub pos : y .state .pos ≡ a .state .pos
-  pub is : ClosedOf (a .how) w x n r f a r′ f′ y
+  pub is : ClosedOf (a .status) w x n r f a r′ f′ y

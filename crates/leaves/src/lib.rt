@@ -3,8 +3,8 @@ use definition::kind;
 use definition::parse_error;
 use definition::tag;
 use fallible::Answer;
-use fallible::How;
 use fallible::State;
+use fallible::Status;
 use fallible::entry;
 use fallible::note;
 use fallible::raise;
@@ -71,14 +71,14 @@ pub fn closer(what: Listed) -> u32
 }
 
 // One more where the item is there.
-pub fn counted(how: How, count: usize) -> usize
+pub fn counted(status: Status, count: usize) -> usize
     requires { ⌜ count < 65536 ⌝ }
-    ensures { λ r. ⌜ Counted how count r ⌝ }
+    ensures { λ r. ⌜ Counted status count r ⌝ }
 {
-    match how {
-        How::Done => count + 1,
-        How::Fatal => count,
-        How::Refused(_) => count,
+    match status {
+        Status::Done => count + 1,
+        Status::Fatal => count,
+        Status::Refused(_) => count,
     }
 }
 
@@ -99,7 +99,7 @@ pub fn comma(
     let on = State { at: t.next, ..st };
     if t.kind == kind::COMMA {
         return Answer {
-            how: How::Done,
+            status: Status::Done,
             state: on,
             line: 0,
             column: 0,
@@ -107,7 +107,7 @@ pub fn comma(
     }
     if t.kind == close {
         return Answer {
-            how: How::Done,
+            status: Status::Done,
             state: st,
             line: 0,
             column: 0,
@@ -115,7 +115,7 @@ pub fn comma(
     }
     if t.kind == kind::END {
         return Answer {
-            how: How::Done,
+            status: Status::Done,
             state: st,
             line: 0,
             column: 0,
@@ -292,7 +292,7 @@ fn leaf(file: &mut [u8], text: &[u8], st: State, t: Token, tag: u8, numbers: Num
     };
     let pos = write_record(file, text, st.pos, v);
     Answer {
-        how: How::Done,
+        status: Status::Done,
         state: State {
             at: t.next,
             pos,
@@ -378,19 +378,19 @@ pub fn close(
     requires { ⌜ Asks tokens text n rep full (a .state) ⌝ }
     ensures { λ r. ⌜ Closed tokens text n rep full a r ⌝ }
 {
-    let how = a.how;
-    if let How::Refused(_) = how {
+    let status = a.status;
+    if let Status::Refused(_) = status {
         return a;
     }
     let s = a.state;
     let b = expect(tokens, text, n, rep, full, s, kind::R_PAREN);
-    let h = b.how;
-    if let How::Refused(_) = h {
+    let h = b.status;
+    if let Status::Refused(_) = h {
         return b;
     }
     let e = b.state;
     Answer {
-        how,
+        status,
         state: e,
         line: a.line,
         column: a.column,

@@ -19,8 +19,8 @@ use Rattle.definition.specs.Parser as P
 use Rattle.definition.specs.Parser.{parse-module}
 use Rattle.definition.specs.Go.{go}
 use Rattle.definition.proofs.Flat.{go-bind, go-module}
-use Rattle.fallible.specs.declared.How.{How}
-use Rattle.fallible.specs.declared.How.the-variants.{Done, Fatal, Refused}
+use Rattle.fallible.specs.declared.Status.{Status}
+use Rattle.fallible.specs.declared.Status.the-variants.{Done, Fatal, Refused}
 use Rattle.fallible.specs.declared.Answer.{Answer}
 use Rattle.fallible.specs.Lists.{errs}
 use Rattle.zeros.specs.Cleared.{Cleared}
@@ -30,7 +30,7 @@ use Rattle.steps.specs.Shows.{st-of, Asked, ShowsOf, items}
 use Rattle.steps.proofs.Tokens.{rest-cons, rest-nil}
 use Rattle.steps.proofs.Answers.{good-of}
 use denote.Enum.Declared.{tagOf}
-use Rattle.fallible.proofs.How.{the-type}
+use Rattle.fallible.proofs.Status.{the-type}
 use Rattle.leaves.proofs.Atoms.{Ended, Alive, if-alive}
 use Rattle.expression_laws.specs.Post.{as-answer}
 use Rattle.validate.specs.Tested.{Tested}
@@ -94,7 +94,7 @@ module _ {w x : List ℕ} {n : ℕ} {o r f : List ℕ} {a : Answer} (B : ReadsMo
     pub rep : errs r (a .state .reported) ≡ tree .errors
     pub count : tree .count ≡ a .line
 
-  pub tree-of : a .how ≡ Done → Tree
+  pub tree-of : a .status ≡ Done → Tree
   tree-of z =
       let g = good-of z (B .is) in
       let e = gave 96 (parse-module (rest w x n 0)) _ _ (parsed ∙ g .is) in
@@ -108,29 +108,29 @@ module _ {w x : List ℕ} {n : ℕ} {o r f : List ℕ} {a : Answer} (B : ReadsMo
         count = g .holds;
       }
 
-  refused-with : (k : ℕ) → a .how ≡ Refused k → parse-module (rest w x n 0) ≡ refused k
+  refused-with : (k : ℕ) → a .status ≡ Refused k → parse-module (rest w x n 0) ≡ refused k
   refused-with k z =
       refuses 96 (parse-module (rest w x n 0)) k (parsed
-      ∙ subst (λ (h : How). ShowsOf h items [] [] [] [] w x n o r f a
+      ∙ subst (λ (h : Status). ShowsOf h items [] [] [] [] w x n o r f a
       (go 96 (items-on (P.no-items []) >>= as-answer) (begin (rest w x n 0)))) z
       (B .is .told))
 
-  pub refused-of : Ended a → parse-module (rest w x n 0) ≡ refused (refusal-number (a .how))
-  refused-of e = one (a .how) refl e
+  pub refused-of : Ended a → parse-module (rest w x n 0) ≡ refused (refusal-number (a .status))
+  refused-of e = one (a .status) refl e
     where
-      one : (h : How) → a .how ≡ h → tagOf the-type h ≡ 2 → parse-module (rest w x n 0) ≡ refused (refusal-number h)
+      one : (h : Status) → a .status ≡ h → tagOf the-type h ≡ 2 → parse-module (rest w x n 0) ≡ refused (refusal-number h)
       one Done z e = absurd (omega arith)
       one Fatal z e = absurd (omega arith)
       one (Refused k) z e = refused-with k z
 
-  pub done-of-module : Alive a → a .how ≡ Done
-  done-of-module l = one (a .how) refl l
+  pub done-of-module : Alive a → a .status ≡ Done
+  done-of-module l = one (a .status) refl l
     where
-      one : (h : How) → a .how ≡ h → Alive a → a .how ≡ Done
+      one : (h : Status) → a .status ≡ h → Alive a → a .status ≡ Done
       one Done e l = e
       one Fatal e l = absurd (B .never e)
       one (Refused k) e l =
-          absurd (if-alive (λ (h : How). h ≡ Refused k → ⊥) (a .how) l
+          absurd (if-alive (λ (h : Status). h ≡ Refused k → ⊥) (a .status) l
           (λ z. let y : _≡_ {A = ℕ} 0 1 = cc in omega arith) (λ z. let y : _≡_ {A = ℕ} 0 1 = cc in omega arith)
           e)
 
@@ -213,7 +213,7 @@ module _ (T : List ℕ) (n : ℕ) (E : List ℕ) (m : ℕ) (X : List ℕ) (g : i
 
 module _ (T : List ℕ) (n : ℕ) (E : List ℕ) (m : ℕ) (X o : List ℕ) {o1 r1 f1 : List ℕ} {a : Answer}
     (B : ReadsModule T X n 96 o1 r1 f1 a) (some-n : 0 < n) (l : length o1 ≡ length o) where
-  pub read-refused : {o2 : List ℕ} {k : ℕ} {y : Written} → Ended a → Cleared o1 0 o2 → k ≡ refusal-number (a .how)
+  pub read-refused : {o2 : List ℕ} {k : ℕ} {y : Written} → Ended a → Cleared o1 0 o2 → k ≡ refusal-number (a .status)
       → y ≡ refusal-of k → ReadValidated T n E m X o o2 y
   read-refused {o2} {k} {y} z C u v h e =
       let t = tested T n E m X h e in

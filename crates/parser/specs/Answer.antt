@@ -11,15 +11,15 @@ use Rattle.definition.specs.Fallible.{Err, errs-bytes}
 use Rattle.definition.specs.Records.{errors-of}
 use Rattle.definition.specs.Operations as O
 use Rattle.definition.specs.Operations.{filled}
-use Rattle.fallible.specs.declared.How.{How}
-use Rattle.fallible.specs.declared.How.the-variants.{Done, Fatal, Refused}
+use Rattle.fallible.specs.declared.Status.{Status}
+use Rattle.fallible.specs.declared.Status.the-variants.{Done, Fatal, Refused}
 use Rattle.fallible.specs.Lists.{errs}
 use Rattle.parser.specs.declared.Written.{Written}
 
 abbrev pub refusal-of : ℕ → Written
 refusal-of n = record { number = n; bytes = 0 }
 
-abbrev pub refusal-number : How → ℕ
+abbrev pub refusal-number : Status → ℕ
 refusal-number Done = 0
 refusal-number Fatal = 0
 refusal-number (Refused n) = n

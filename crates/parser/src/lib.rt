@@ -4,7 +4,7 @@ use definition::refusal;
 use definition::tag;
 use error_fields::error_fields;
 use error_fields::token_error_fields;
-use fallible::How;
+use fallible::Status;
 use items::module;
 use node::Numbers;
 use node::write_bare;
@@ -30,13 +30,13 @@ fn refused(number: u32) -> Written
 }
 
 // The number of a refusal; 0 for none.
-fn number_of(how: How) -> u32
-    ensures { λ r. ⌜ r ≡ refusal-number how ⌝ }
+fn number_of(status: Status) -> u32
+    ensures { λ r. ⌜ r ≡ refusal-number status ⌝ }
 {
-    match how {
-        How::Done => 0,
-        How::Fatal => 0,
-        How::Refused(number) => number as u32,
+    match status {
+        Status::Done => 0,
+        Status::Fatal => 0,
+        Status::Refused(number) => number as u32,
     }
 }
 
@@ -86,10 +86,10 @@ pub fn read_tokens(
         &mut full,
         limit::NESTING,
     );
-    let how = a.how;
-    if let How::Refused(_) = how {
+    let status = a.status;
+    if let Status::Refused(_) = status {
         clear_bytes(file, 0);
-        return refused(number_of(how));
+        return refused(number_of(status));
     }
     let s = a.state;
     let bytes = end_file(

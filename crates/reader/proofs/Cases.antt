@@ -83,14 +83,14 @@ module _ (s o : List ℕ) (q : Stands s origin × (length s ≤ 16384) × (65536
       (ap (λ (t : Z.Tokens). written o (read-tokenised t)) (sym (within-limit (rest s origin) ∙ e)))
 
   module _ {T E X : List ℕ} {f : State} (g : Ran 2048 (rest s origin) T E X f) where
-    pub whole-stopped : (f .how ≡ 0 → ⊥) → written o (O.refused (f .how)) ≡ whole s o
+    pub whole-stopped : (f .refusal ≡ 0 → ⊥) → written o (O.refused (f .refusal)) ≡ whole s o
     whole-stopped n = go g
       where
-        go : Ran 2048 (rest s origin) T E X f → written o (O.refused (f .how)) ≡ whole s o
-        go (inl d) = absurd (n (d .few .how))
+        go : Ran 2048 (rest s origin) T E X f → written o (O.refused (f .refusal)) ≡ whole s o
+        go (inl d) = absurd (n (d .few .refusal))
         go (inr d) = runs (d .is)
 
-    module _ (n : f .how ≡ 0) where
+    module _ (n : f .refusal ≡ 0) where
       d : Done 2048 (rest s origin) T E X f
       d = ran-done g n
 

@@ -31,8 +31,8 @@ fn read_valid(script: &[u8], file: &mut [u8]) -> Written
     let mut errors: [u32; 1024] = [0; 1024];
     let mut text: [u8; 16384] = [0; 16384];
     let st = run(limit::TOKENS, script, &mut tokens, &mut errors, &mut text);
-    if st.how != 0 {
-        return cleared(st.how, file);
+    if st.refusal != 0 {
+        return cleared(st.refusal, file);
     }
     if st.tokens == 0 {
         return cleared(refusal::NO_TOKENS, file);

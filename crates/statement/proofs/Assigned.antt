@@ -14,8 +14,8 @@ use Rattle.definition.specs.Go.{go}
 use Rattle.definition.proofs.Flat.{go-bind}
 use Rattle.fallible.proofs.Grown.{errs-length}
 use Rattle.fallible.specs.declared.State.{State}
-use Rattle.fallible.specs.declared.How.{How}
-use Rattle.fallible.specs.declared.How.the-variants.{Done, Fatal, Refused}
+use Rattle.fallible.specs.declared.Status.{Status}
+use Rattle.fallible.specs.declared.Status.the-variants.{Done, Fatal, Refused}
 use Rattle.fallible.specs.declared.Answer.{Answer}
 use Rattle.fallible.specs.Lists.{errs}
 use Rattle.fallible.specs.Answers.{Abandoned, Cuts}
@@ -130,10 +130,10 @@ module _ {w x : List ℕ} {n d : ℕ} {o r f : List ℕ} {s : State} {t : Token}
 
 -- a record is paid for only where the answer is there
 finished-high : {x o o′ : List ℕ} {b y : Answer} {line column tag : ℕ} → Finished x o b (placed tag line column) o′ y
-    → y .state .pos ≤ b .state .pos + 7 * done-of (b .how)
-finished-high {x} {o} {o′} {b} {y} {line} {column} {tag} F = one (b .how) (F .is)
+    → y .state .pos ≤ b .state .pos + 7 * done-of (b .status)
+finished-high {x} {o} {o′} {b} {y} {line} {column} {tag} F = one (b .status) (F .is)
   where
-    one : (h : How) → FinishedOf h x o b (placed tag line column) o′ y → y .state .pos ≤ b .state .pos + 7 * done-of h
+    one : (h : Status) → FinishedOf h x o b (placed tag line column) o′ y → y .state .pos ≤ b .state .pos + 7 * done-of h
     one Done m = omega (arith, F .high)
     one Fatal m = omega (arith, ap (λ (k : Answer). k .state .pos) (m .0))
     one (Refused u) m = omega (arith, ap (λ (k : Answer). k .state .pos) (m .0))
@@ -141,7 +141,7 @@ finished-high {x} {o} {o′} {b} {y} {line} {column} {tag} F = one (b .how) (F .
 -- `;`
 module _ {w x : List ℕ} {n d : ℕ} {o r f : List ℕ} {t : Token} {i line column : ℕ} {a : Answer}
     (q : Asked w x n o r f (a .state)) (hi : i ≤ a .state .pos) (u : Seen w x n (a .state .at) t)
-    (z : a .how ≡ Done) where
+    (z : a .status ≡ Done) where
   pub expression-after : {r1 f1 o2 : List ℕ} {b y : Answer} → (t .kind ≡ 26 → ⊥) → (t .kind ≡ 52 → ⊥)
       → Expected w x n 50 i (a .state .reported) r f a r1 f1 b → Finished x o b (placed 0x41 line column) o2 y
       → ReadsAfter w x n d (P.after-expression (place-at line column)) i o r f (a .state) o2 r1 f1 y
@@ -208,7 +208,7 @@ module _ {w x : List ℕ} {n d : ℕ} {o r f o1 r1 f1 : List ℕ} {s : State} {a
     unfolding P.expression-statement
     statement-stops nd = then-stops (on (place-at line column)) B nd
 
-    module _ (z : a .how ≡ Done) (lo : length o1 ≡ length o) (lr : length r1 ≡ length r) where
+    module _ (z : a .status ≡ Done) (lo : length o1 ≡ length o) (lr : length r1 ≡ length r) where
       pub statement-errors : {o2 : List ℕ} {y : Answer} → s .reported < a .state .reported
           → Finished x o1 a (placed 0x41 line column) o2 y
           → Reads node w x n d (P.expression-statement (place-at line column)) o r f s o2 r1 f1 y

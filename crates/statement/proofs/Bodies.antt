@@ -12,8 +12,8 @@ use Rattle.definition.specs.Parser as P
 use Rattle.definition.specs.Go.{go}
 use Rattle.definition.proofs.Flat.{go-bind, go-loop}
 use Rattle.fallible.specs.declared.State.{State}
-use Rattle.fallible.specs.declared.How.{How}
-use Rattle.fallible.specs.declared.How.the-variants.{Done, Fatal}
+use Rattle.fallible.specs.declared.Status.{Status}
+use Rattle.fallible.specs.declared.Status.the-variants.{Done, Fatal}
 use Rattle.fallible.specs.declared.Answer.{Answer}
 use Rattle.fallible.specs.Lists.{unpack, error-at, errs}
 use Rattle.fallible.specs.Answers.{noted, Raised}
@@ -49,8 +49,8 @@ opening d S =
 
 fatal-of : {A : Type 0} {K : View A} {T : List ℕ} {E : List Err} {w x : List ℕ} {n : ℕ} {o r f : List ℕ} {a : Answer}
     {q : Res (Ans A)}
-    → a .how ≡ Fatal → Shows K T E [] [] w x n o r f a q → Bad T E w x n o r f a q
-fatal-of {A} {K} {T} {E} {w} {x} {n} {o} {r} {f} {a} {q} z v = subst (λ (h : How). ShowsOf h K T E [] [] w x n o r f a q) z (v .told)
+    → a .status ≡ Fatal → Shows K T E [] [] w x n o r f a q → Bad T E w x n o r f a q
+fatal-of {A} {K} {T} {E} {w} {x} {n} {o} {r} {f} {a} {q} z v = subst (λ (h : Status). ShowsOf h K T E [] [] w x n o r f a q) z (v .told)
 
 module _ {w x : List ℕ} {n d : ℕ} {o r f r1 f1 : List ℕ} {s : State} {a : Answer} (q : Asked w x n o r f s)
     (e : Expects w x n (λ role. P.expect-as role 39) r f s r1 f1 a) where
@@ -59,11 +59,11 @@ module _ {w x : List ℕ} {n d : ℕ} {o r f r1 f1 : List ℕ} {s : State} {a : 
     moved = e .moved;
     on = e .on;
     spare = omega (arith, e .pos, paid (s .at) (a .state .at) (q .asks .held) (e .on));
-    never = not-fatal (a .how) h;
+    never = not-fatal (a .status) h;
     is = λ rd. refusal h (λ m g. opening d _ ∙ rw g) (e .is plain d rd o);
   }
 
-  pub body-none : a .how ≡ Fatal → ReadsBody w x n d o r f s o r1 f1 (record { how = Done; state = a .state; line = 0; column = 0 })
+  pub body-none : a .status ≡ Fatal → ReadsBody w x n d o r f s o r1 f1 (record { status = Done; state = a .state; line = 0; column = 0 })
   unfolding go run recs-bytes _>>=_
   body-none z = record {
     moved = e .moved;
@@ -75,7 +75,7 @@ module _ {w x : List ℕ} {n d : ℕ} {o r f r1 f1 : List ℕ} {s : State} {a : 
     where
       one : (rd : List Consumed) → Bad (take (s .pos) o) (errs r (s .reported)) w x n o r1 f1 a (go d (P.expect 39) (st-of w x n f rd s))
           → Shows items (take (s .pos) o) (errs r (s .reported)) [] [] w x n o r1 f1
-          (record { how = Done; state = a .state; line = 0; column = 0 })
+          (record { status = Done; state = a .state; line = 0; column = 0 })
           (go d (P.parse-body >>= as-answer) (st-of w x n f rd s))
       one rd i =
           record {
@@ -90,7 +90,7 @@ module _ {w x : List ℕ} {n d : ℕ} {o r f r1 f1 : List ℕ} {s : State} {a : 
             };
           }
 
-  pub body-on : {o2 r2 f2 : List ℕ} {y : Answer} → a .how ≡ Done
+  pub body-on : {o2 r2 f2 : List ℕ} {y : Answer} → a .status ≡ Done
       → LoopOn statements-on w x n d 0 o r1 f1 (a .state) o2 r2 f2 y → ReadsBody w x n d o r f s o2 r2 f2 y
   unfolding recs-bytes
   body-on {o2} {r2} {f2} {y} z u = record {
@@ -117,7 +117,7 @@ module _ {w x : List ℕ} {n count : ℕ} {o r f : List ℕ} {s : State} {t : To
     (q : Asked w x n o r f s × (count ≤ s .at)) (v : Seen w x n (s .at) t) where
   pub rest-closed : {d : ℕ} → t .kind ≡ 40
       → LoopOn statements-on w x n d count o r f s o r f
-      (record { how = Done; state = fore s t; line = count; column = 0 })
+      (record { status = Done; state = fore s t; line = count; column = 0 })
   unfolding go run P.body-turn
   rest-closed {d} z =
       loop-closed statements-on q v (λ rd l. go-loop d (Body l) (st-of w x n f rd s) ∙ rw (run, yes v z)
@@ -127,7 +127,7 @@ module _ {w x : List ℕ} {n count : ℕ} {o r f : List ℕ} {s : State} {t : To
     pub rest-end : {d e : ℕ} {r1 f1 : List ℕ} {b : Answer} → t .kind ≡ 0 → unpack e ≡ error-at 13 0 0 0 0
         → Raised (noted n s) r f s e r1 f1 b
         → LoopOn statements-on w x n d count o r f s o r1 f1
-        (record { how = b .how; state = b .state; line = count; column = 0 })
+        (record { status = b .status; state = b .state; line = count; column = 0 })
     unfolding go run P.body-turn
     rest-end {d} z i g =
         loop-ended statements-on q v g
@@ -146,7 +146,7 @@ module _ {w x : List ℕ} {n count : ℕ} {o r f : List ℕ} {s : State} {t : To
       pub rest-refused : Ended b → LoopOn statements-on w x n d count o r f s o1 r1 f1 b
       rest-refused h = loop-refused statements-on statements-on P.parse-statement statement-turn u h
 
-      pub rest-next : {k : ℕ} {o3 r3 f3 : List ℕ} {y : Answer} → Alive b → Counted (b .how) count k
+      pub rest-next : {k : ℕ} {o3 r3 f3 : List ℕ} {y : Answer} → Alive b → Counted (b .status) count k
           → LoopOn statements-on w x n d k o1 r1 f1 (b .state) o3 r3 f3 y
           → LoopOn statements-on w x n d count o r f s o3 r3 f3 y
       rest-next h c l = loop-next statements-on P.parse-statement statement-turn u h c l

@@ -18,8 +18,8 @@ use Rattle.definition.specs.Go.{go}
 use Rattle.definition.proofs.Flat.{go-bind}
 use Rattle.fallible.proofs.Grown.{errs-length}
 use Rattle.fallible.specs.declared.State.{State}
-use Rattle.fallible.specs.declared.How.{How}
-use Rattle.fallible.specs.declared.How.the-variants.{Done, Fatal, Refused}
+use Rattle.fallible.specs.declared.Status.{Status}
+use Rattle.fallible.specs.declared.Status.the-variants.{Done, Fatal, Refused}
 use Rattle.fallible.specs.declared.Answer.{Answer}
 use Rattle.fallible.specs.Lists.{unpack, error-at, errs}
 use Rattle.fallible.specs.Answers.{raised, Raised}
@@ -95,7 +95,7 @@ module _ {w x : List ℕ} {n d : ℕ} {o r f r1 f1 : List ℕ} {s : State} {a : 
             (stops d (λ _. hashed) _ nd (X .is plain d rd o));
       }
 
-  module _ (z : a .how ≡ Done) where
+  module _ (z : a .status ≡ Done) where
     -- what follows `#` is read by m
     compound-on : {o1 r2 f2 : List ℕ} {y : Answer} (m : Act (Ans Node))
         → ((rd : List Consumed)
@@ -183,16 +183,16 @@ named-stops {w} {x} {n} {o} {a} {tag} {line} {column} {p} nd =
       full = refl;
       low = omega arith;
       high = omega arith;
-      is = one (a .how) (not-done (a .how) nd);
+      is = one (a .status) (not-done (a .status) nd);
     }
   where
-    one : (h : How) → done-of h ≡ 0 → NamedOf h w x n o a tag line column p o a
+    one : (h : Status) → done-of h ≡ 0 → NamedOf h w x n o a tag line column p o a
     one Done z = absurd (omega arith)
     one Fatal z = (refl, refl)
     one (Refused m) z = (refl, refl)
 
 module _ {w x : List ℕ} {n : ℕ} {o o2 : List ℕ} {a y : Answer} {tag line column p : ℕ} {t : Token}
-    (z : a .how ≡ Done) (u : Seen w x n p t) where
+    (z : a .status ≡ Done) (u : Seen w x n p t) where
   -- the record has the name
   named-so : (X : List ℕ) (start len : ℕ) → name-of (next-token (rest w x n p)) ≡ take len (drop start X)
       → length (name-of (next-token (rest w x n p))) ≡ len → len ≤ 3 + length (next-token (rest w x n p) .text)
@@ -200,8 +200,8 @@ module _ {w x : List ℕ} {n : ℕ} {o o2 : List ℕ} {a y : Answer} {tag line c
       (record { tag = tag; line = line; column = column; numbers = None; start = start; len = len }) o2 y
       → Named w x n o a tag line column p o2 y
   named-so X start len e l h F =
-      let one : done-of (a .how) ≡ 1 = rw z in
-      let m = subst (λ (k : How). FinishedOf k X o a
+      let one : done-of (a .status) ≡ 1 = rw z in
+      let m = subst (λ (k : Status). FinishedOf k X o a
       (record { tag = tag; line = line; column = column; numbers = None; start = start; len = len }) o2 y) z
       (F .is) in
       record {
@@ -210,7 +210,7 @@ module _ {w x : List ℕ} {n : ℕ} {o o2 : List ℕ} {a y : Answer} {tag line c
         full = F .full;
         low = F .low;
         high = omega (arith, F .high, one, h);
-        is = subst (λ (k : How). NamedOf k w x n o a tag line column p o2 y) (sym z)
+        is = subst (λ (k : Status). NamedOf k w x n o a tag line column p o2 y) (sym z)
             (m .0, (rw (l, e) (m .1 .0), (m .1 .1 .0, m .1 .1 .1)));
       }
 
@@ -246,11 +246,11 @@ names : {T : List ℕ} {E : List Err} {w x : List ℕ} {n : ℕ} {o o′ r f : L
     → Shows node T E [] [] w x n o′ r f y (after q (λ z S. go d (or-return (declares tag (place-at line column)) z) S))
 unfolding go run
 names {T} {E} {w} {x} {n} {o} {o′} {r} {f} {b} {y} {tag} {line} {column} {at} {q} d N v =
-    record { told = one (b .how) refl (N .is) (v .told) }
+    record { told = one (b .status) refl (N .is) (v .told) }
   where
-    one : (h : How) → b .how ≡ h → NamedOf h w x n o b tag line column at o′ y
+    one : (h : Status) → b .status ≡ h → NamedOf h w x n o b tag line column at o′ y
         → ShowsOf h (typed (name-of (next-token (rest w x n at)))) T E [] [] w x n o r f b q
-        → ShowsOf (y .how) node T E [] [] w x n o′ r f y
+        → ShowsOf (y .status) node T E [] [] w x n o′ r f y
         (after q (λ z S. go d (or-return (declares tag (place-at line column)) z) S))
     one Done z m g =
         rw (m .0) (record {
@@ -272,7 +272,7 @@ declaration-room {b = b} q D X l =
     record {
       held = q .asks .held;
       within = q .asks .at;
-      room = omega (arith, q .room, D .spare, X .high, X .pays, done-le (b .how));
+      room = omega (arith, q .room, D .spare, X .high, X .pays, done-le (b .status));
     }
 
 module _ {w x : List ℕ} {n d : ℕ} {o r f o1 r1 f1 r2 f2 o2 : List ℕ} {s : State} {a b y : Answer} {tag line column : ℕ} (q : Asked w x n o r f s) (D : ReadsDeclared w x n d o r f s o1 r1 f1 a) (lr : length r1 ≡ length r) (lf : length f1 ≡ length f)

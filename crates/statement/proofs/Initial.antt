@@ -12,8 +12,8 @@ use Rattle.definition.specs.Go.{go}
 use Rattle.definition.proofs.Flat.{go-bind}
 use Rattle.fallible.proofs.Grown.{errs-length}
 use Rattle.fallible.specs.declared.State.{State}
-use Rattle.fallible.specs.declared.How.{How}
-use Rattle.fallible.specs.declared.How.the-variants.{Done, Fatal, Refused}
+use Rattle.fallible.specs.declared.Status.{Status}
+use Rattle.fallible.specs.declared.Status.the-variants.{Done, Fatal, Refused}
 use Rattle.fallible.specs.declared.Answer.{Answer}
 use Rattle.fallible.specs.Lists.{errs}
 use Rattle.fallible.specs.Answers.{Abandoned}
@@ -39,32 +39,32 @@ bare-stops {o} {a} {tag} nd =
       full = refl;
       low = omega arith;
       high = omega arith;
-      is = one (a .how) (not-done (a .how) nd);
+      is = one (a .status) (not-done (a .status) nd);
     }
   where
-    one : (h : How) → done-of h ≡ 0 → BaredOf h o a tag o a
+    one : (h : Status) → done-of h ≡ 0 → BaredOf h o a tag o a
     one Done z = absurd (omega arith)
     one Fatal z = (refl, refl)
     one (Refused m) z = (refl, refl)
 
-pub bare-on : {o o2 : List ℕ} {a : Answer} {tag p : ℕ} → a .how ≡ Done
+pub bare-on : {o o2 : List ℕ} {a : Answer} {tag p : ℕ} → a .status ≡ Done
     → Wrote o (a .state .pos) (bare-of tag None []) (bare-size None 0) o2 p
     → Bared o a tag o2 (record {
-      how = a .how;
+      status = a .status;
       state = record { at = a .state .at; pos = p; reported = a .state .reported; full = a .state .full };
       line = 0;
       column = 0;
     })
 bare-on {o} {o2} {a} {tag} {p} z v =
-    let one : done-of (a .how) ≡ 1 = rw z in
+    let one : done-of (a .status) ≡ 1 = rw z in
     record {
       at = refl;
       reported = refl;
       full = refl;
       low = omega (arith, v .end);
       high = omega (arith, v .end, one);
-      is = subst (λ (h : How). BaredOf h o a tag o2 (record {
-        how = a .how;
+      is = subst (λ (h : Status). BaredOf h o a tag o2 (record {
+        status = a .status;
         state = record { at = a .state .at; pos = p; reported = a .state .reported; full = a .state .full };
         line = 0;
         column = 0;
@@ -80,11 +80,11 @@ valued : {T : List ℕ} {E : List Err} {w x : List ℕ} {n : ℕ} {o o′ r f : 
     → Shows (typed name) T E [] [] w x n o′ r f y
     (after q (λ z S. go d (or-return (λ e. P.declared X (P.bare (e .item .recs) tag []) (e .errors)) z) S))
 unfolding go run
-valued {T} {E} {w} {x} {n} {o} {o′} {r} {f} {c} {y} {tag} {q} name d X nm W v = record { told = one (c .how) refl (W .is) (v .told) }
+valued {T} {E} {w} {x} {n} {o} {o′} {r} {f} {c} {y} {tag} {q} name d X nm W v = record { told = one (c .status) refl (W .is) (v .told) }
   where
-    one : (h : How) → c .how ≡ h → BaredOf h o c tag o′ y
+    one : (h : Status) → c .status ≡ h → BaredOf h o c tag o′ y
         → ShowsOf h node T E (X .item .type) (X .errors) w x n o r f c q
-        → ShowsOf (y .how) (typed name) T E [] [] w x n o′ r f y
+        → ShowsOf (y .status) (typed name) T E [] [] w x n o′ r f y
         (after q (λ z S. go d (or-return (λ e. P.declared X (P.bare (e .item .recs) tag []) (e .errors)) z) S))
     one Done z m g =
         rw (m .0) (record {
@@ -119,7 +119,7 @@ module _ {w x : List ℕ} {n d i j : ℕ} {o r f : List ℕ} {a : Answer} (q : G
     is = λ name T E p li lj v. stops d value-on p nd v;
   }
 
-  module _ {t : Token} (z : a .how ≡ Done) (u : Seen w x n (a .state .at) t) where
+  module _ {t : Token} (z : a .status ≡ Done) (u : Seen w x n (a .state .at) t) where
     -- a value is given, after the token, by m
     module _ {o1 r1 f1 r2 o2 : List ℕ} {b c y : Answer} {m : Act (Ans Node)} {tag : ℕ}
         (B : Reads node w x n d m o r f (fore (a .state) t) o1 r1 f1 b)
@@ -129,11 +129,11 @@ module _ {w x : List ℕ} {n d i j : ℕ} {o r f : List ℕ} {a : Answer} (q : G
           → go d (value-on X) (st-of w x n f rd (a .state))
           ≡ go d (m >>? λ e. P.declared X (P.bare (e .item .recs) tag []) (e .errors))
           (st-of w x n f (past w x n (a .state .at) rd) (fore (a .state) t)))
-          → done-of (y .how) ≤ 1 → ValueOn w x n d i j o r f a o2 r2 f1 y
+          → done-of (y .status) ≤ 1 → ValueOn w x n d i j o r f a o2 r2 f1 y
       given k step le =
           let e : budget w x n (y .state .at) ≡ budget w x n (b .state .at) = ap (λ (k : ℕ). budget w x n k) (G .at ∙ C .at) in
-          let one : done-of (a .how) ≡ 1 = rw z in
-          let three : done-of (c .how) ≤ 1 = done-le (c .how) in
+          let one : done-of (a .status) ≡ 1 = rw z in
+          let three : done-of (c .status) ≤ 1 = done-le (c .status) in
           record {
             moved =
                 record {
@@ -166,7 +166,7 @@ module _ {w x : List ℕ} {n d i j : ℕ} {o r f : List ℕ} {a : Answer} (q : G
     value-assigned {y = y} h B C G =
         given B C G (omega (arith, h)) (λ X rd. rw (run, yes u h) (ap
         (λ (S : St). go d (P.parse-expression >>? λ e. P.declared X (P.bare (e .item .recs) 0x34 []) (e .errors))
-        S) (adv (a .state) u (λ _. plain) f rd))) (done-le (y .how))
+        S) (adv (a .state) u (λ _. plain) f rd))) (done-le (y .status))
 
     pub value-compound : {o1 r1 f1 r2 o2 : List ℕ} {b c y : Answer} → t .kind ≡ 52
         → Reads node w x n d P.parse-compound o r f (fore (a .state) t) o1 r1 f1 b
@@ -176,14 +176,14 @@ module _ {w x : List ℕ} {n d i j : ℕ} {o r f : List ℕ} {a : Answer} (q : G
     value-compound {y = y} h B C G =
         given B C G (omega (arith, h)) (λ X rd. rw (run, no {k = 26} u (λ e. omega (arith, h)), yes u h) (ap
         (λ (S : St). go d (P.parse-compound >>? λ e. P.declared X (P.bare (e .item .recs) 0x35 []) (e .errors)) S)
-        (adv (a .state) u (λ _. plain) f rd))) (done-le (y .how))
+        (adv (a .state) u (λ _. plain) f rd))) (done-le (y .status))
 
     pub value-none : {o2 : List ℕ} {y : Answer} → (t .kind ≡ 26 → ⊥) → (t .kind ≡ 52 → ⊥) → Bared o a 0x33 o2 y
         → ValueOn w x n d i j o r f a o2 r f y
     unfolding go run
     value-none {o2} {y} m26 m52 G =
         let e : budget w x n (y .state .at) ≡ budget w x n (a .state .at) = ap (λ (k : ℕ). budget w x n k) (G .at) in
-        let one : done-of (a .how) ≡ 1 = rw z in
+        let one : done-of (a .status) ≡ 1 = rw z in
         record {
           moved =
               record {
@@ -196,7 +196,7 @@ module _ {w x : List ℕ} {n d i j : ℕ} {o r f : List ℕ} {a : Answer} (q : G
                 full = omega (arith, G .full);
                 few = omega (arith, G .full, q .asked .asks .few);
               };
-          there = omega (arith, one, done-le (y .how));
+          there = omega (arith, one, done-le (y .status));
           is = λ name T E p li lj v.
               let g = good-of z v in
               let X : Fallible P.Typed = record { item = g .item; errors = g .errors } in
@@ -227,7 +227,7 @@ module _ {w x : List ℕ} {n d : ℕ} {o r f o1 r1 f1 o2 r2 f2 : List ℕ} {s : 
   pub declared-reads : ReadsDeclared w x n d o r f s o2 r2 f2 y
   unfolding P.parse-var-like-declaration
   declared-reads =
-      let le : done-of (a .how) ≤ 1 = done-le (a .how) in
+      let le : done-of (a .status) ≤ 1 = done-le (a .status) in
       record {
         moved =
             record {

@@ -17,7 +17,7 @@ use Rattle.definition.proofs.Size as Z
 use Rattle.definition.proofs.Room.{recs-length}
 use Rattle.definition.proofs.Flat.{go-call}
 use Rattle.fallible.specs.declared.State.{State}
-use Rattle.fallible.specs.declared.How.the-variants.{Done}
+use Rattle.fallible.specs.declared.Status.the-variants.{Done}
 use Rattle.fallible.specs.declared.Answer.{Answer}
 use Rattle.steps.specs.Tokens.{rest, spend, budget}
 use Rattle.steps.specs.Shows.{Asked, Good, Reads, Expects, done-of, node}
@@ -36,7 +36,7 @@ spends (t ∷ ts) = omega (arith, spends ts)
 
 module _ {w x : List ℕ} {n d : ℕ} {o r f o′ r′ f′ : List ℕ} {s : State} {a : Answer} (q : Asked w x n o r f s)
     (u : Reads node w x n d P.parse-expression o r f s o′ r′ f′ a) where
-  pub expression-spares : length o′ ≡ length o → a .how ≡ Done
+  pub expression-spares : length o′ ≡ length o → a .status ≡ Done
       → a .state .pos + budget w x n (a .state .at) + 8 ≤ s .pos + budget w x n (s .at)
   expression-spares l z =
       let g : Good node (take (s .pos) o) _ [] [] w x n o′ r′ f′ a _ = good-of z (u .is []) in
@@ -54,8 +54,8 @@ module _ {w x : List ℕ} {n d : ℕ} {o r f o′ r′ f′ : List ℕ} {s : Sta
       )
 
 pub passed : {w x : List ℕ} {n : ℕ} {m : Role → Act (Ans Tok)} {r f r′ f′ : List ℕ} {s : State} {a : Answer}
-    → Expects w x n m r f s r′ f′ a → a .how ≡ Done → s .at < a .state .at
+    → Expects w x n m r f s r′ f′ a → a .status ≡ Done → s .at < a .state .at
 passed {w} {x} {n} {s = s} {a = a} e z =
-    let one : done-of (a .how) ≡ 1 = rw z in
+    let one : done-of (a .status) ≡ 1 = rw z in
     elim (decLe (a .state .at) (s .at))
     [ yes g ↦ let same : a .state .at ≡ s .at = omega (arith, g, e .moved .at) in absurd (omega (arith, e .pays, one, ap (λ (k : ℕ). budget w x n k) same)) | no g ↦ omega (arith, g) ]

@@ -18,8 +18,8 @@ use Rattle.definition.specs.Go.{go}
 use Rattle.definition.proofs.Flat.{go-bind}
 use Rattle.fallible.proofs.Grown.{errs-length}
 use Rattle.fallible.specs.declared.State.{State}
-use Rattle.fallible.specs.declared.How.{How}
-use Rattle.fallible.specs.declared.How.the-variants.{Done, Fatal, Refused}
+use Rattle.fallible.specs.declared.Status.{Status}
+use Rattle.fallible.specs.declared.Status.the-variants.{Done, Fatal, Refused}
 use Rattle.fallible.specs.declared.Answer.{Answer}
 use Rattle.fallible.specs.Lists.{unpack, error-at, errs}
 use Rattle.fallible.specs.Answers.{raised, Raised, Abandoned, Cuts}
@@ -183,9 +183,9 @@ joins : {T : List ℕ} {E : List Err} {w x : List ℕ} {n : ℕ} {o r f : List �
     → Shows node T E (y .item .recs) (y .errors) w x n o r f c q
     → Shows node T E [] [] w x n o r f c (after q (λ z S. go d (or-return (λ b. done (ok (guarding y b))) z) S))
 unfolding go run
-joins {T} {E} {w} {x} {n} {o} {r} {f} {c} {q} d y v = record { told = one (c .how) (v .told) }
+joins {T} {E} {w} {x} {n} {o} {r} {f} {c} {q} d y v = record { told = one (c .status) (v .told) }
   where
-    one : (h : How) → ShowsOf h node T E (y .item .recs) (y .errors) w x n o r f c q
+    one : (h : Status) → ShowsOf h node T E (y .item .recs) (y .errors) w x n o r f c q
         → ShowsOf h node T E [] [] w x n o r f c
         (after q (λ z S. go d (or-return (λ b. done (ok (guarding y b))) z) S))
     one Done g =
@@ -355,7 +355,7 @@ module _ {w x : List ℕ} {n d : ℕ} {o r f : List ℕ} {s : State} {t : Token}
   -- ---- `return`
 
   pub return-none : {t2 : Token} {o2 : List ℕ} {y : Answer} → Starts K.KwReturn w x n o r f s → Seen w x n (t .next) t2 → t2 .kind ≡ 50
-      → Finished x o (record { how = Done; state = fore (fore s t) t2; line = t .line; column = t .column })
+      → Finished x o (record { status = Done; state = fore (fore s t) t2; line = t .line; column = t .column })
       (untexted t 0x45 (Byte 0)) o2 y
       → Reads node w x n d P.statement-rule o r f s o2 r f y
   unfolding go run P.parse-return recs-bytes
@@ -486,7 +486,7 @@ module _ {w x : List ℕ} {n d : ℕ} {o r f : List ℕ} {s : State} {t : Token}
           is = λ rd. say (if-guarded rd) (stops d (else-on (here w x n s)) _ nd (B .is (past w x n (s .at) rd)));
         }
 
-    module _ {t2 : Token} (z : a .how ≡ Done) (v : Seen w x n (a .state .at) t2) where
+    module _ {t2 : Token} (z : a .status ≡ Done) (v : Seen w x n (a .state .at) t2) where
       pub if-two : {o2 : List ℕ} {y : Answer} → (t2 .kind ≡ 11 → ⊥) → Finished x o1 a (untexted t 0x49 (Byte 2)) o2 y
           → Reads node w x n d P.statement-rule o r f s o2 r1 f1 y
       unfolding go run
@@ -561,7 +561,7 @@ module _ {w x : List ℕ} {n d : ℕ} {o r f o1 r1 f1 : List ℕ} {s : State} {a
   pub guarded-stops : Stopped a → Reads node w x n d guarded-rule o r f s o1 r1 f1 a
   guarded-stops nd = then-stops _ B nd
 
-  module _ {o2 r2 f2 r3 : List ℕ} {b c : Answer} (z : a .how ≡ Done)
+  module _ {o2 r2 f2 r3 : List ℕ} {b c : Answer} (z : a .status ≡ Done)
       (D : Reads node w x n d P.parse-statement o1 r1 f1 (a .state) o2 r2 f2 b) (lr : length r1 ≡ length r)
       (C : Abandoned r2 b (s .pos) (s .reported) (a .state .reported) r3 c) where
     pub guarded-reads : Reads node w x n d guarded-rule o r f s o2 r3 f2 c

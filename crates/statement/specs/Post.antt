@@ -13,8 +13,8 @@ use Rattle.definition.specs.Go.{go}
 use Rattle.node.specs.Put.{Wrote, bare-of}
 use Rattle.node.specs.declared.Numbers.the-variants.{None}
 use Rattle.fallible.specs.declared.State.{State}
-use Rattle.fallible.specs.declared.How.{How}
-use Rattle.fallible.specs.declared.How.the-variants.{Done, Fatal, Refused}
+use Rattle.fallible.specs.declared.Status.{Status}
+use Rattle.fallible.specs.declared.Status.the-variants.{Done, Fatal, Refused}
 use Rattle.fallible.specs.declared.Answer.{Answer}
 use Rattle.fallible.specs.Lists.{errs}
 use Rattle.steps.specs.Tokens.{rest, budget}
@@ -34,8 +34,8 @@ up k s = record { at = s .at; pos = s .pos + k; reported = s .reported; full = s
 -- ---- declarations
 
 -- a record with nothing but its tag after an answer
-abbrev pub BaredOf : How → List ℕ → Answer → ℕ → List ℕ → Answer → Type 0
-BaredOf Done o a tag o′ y = (y .how ≡ Done) × Wrote o (a .state .pos) (bare-of tag None []) 3 o′ (y .state .pos)
+abbrev pub BaredOf : Status → List ℕ → Answer → ℕ → List ℕ → Answer → Type 0
+BaredOf Done o a tag o′ y = (y .status ≡ Done) × Wrote o (a .state .pos) (bare-of tag None []) 3 o′ (y .state .pos)
 BaredOf Fatal o a tag o′ y = (y ≡ a) × (o′ ≡ o)
 BaredOf (Refused m) o a tag o′ y = (y ≡ a) × (o′ ≡ o)
 
@@ -44,28 +44,28 @@ pub record Bared (o : List ℕ) (a : Answer) (tag : ℕ) (o′ : List ℕ) (y : 
   pub reported : y .state .reported ≡ a .state .reported
   pub full : y .state .full ≡ a .state .full
   pub low : a .state .pos ≤ y .state .pos
-  pub high : y .state .pos ≤ a .state .pos + 3 * done-of (a .how)
-  pub is : BaredOf (a .how) o a tag o′ y
+  pub high : y .state .pos ≤ a .state .pos + 3 * done-of (a .status)
+  pub is : BaredOf (a .status) o a tag o′ y
 
 -- after a typed identifier, of a construct that began at i and j; where no value is given no token pays for its record
 pub record ValueOn (w x : List ℕ) (n d i j : ℕ) (o r f : List ℕ) (a : Answer) (o′ r′ f′ : List ℕ) (y : Answer) : Type 0 where
-  pub moved : Moved w x n i j (up (3 * done-of (a .how)) (a .state)) (y .state)
-  pub there : done-of (y .how) ≤ done-of (a .how)
+  pub moved : Moved w x n i j (up (3 * done-of (a .status)) (a .state)) (y .state)
+  pub there : done-of (y .status) ≤ done-of (a .status)
   pub is : (name : List ℕ) (T : List ℕ) (E : List Err) (q : Res (Ans P.Typed)) → length T ≡ i → length E ≡ j → Shows (typed name) T E [] [] w x n o r f a q
       → Shows (typed name) T E [] [] w x n o′ r′ f′ y (after q (λ z S. go d (or-return value-on z) S))
 
 pub record ReadsDeclared (w x : List ℕ) (n d : ℕ) (o r f : List ℕ) (s : State) (o′ r′ f′ : List ℕ) (a : Answer) : Type 0 where
   pub moved : Moved w x n (s .pos) (s .reported) s (a .state)
   pub on : s .at + min (next-token (rest w x n (s .at)) .kind) 1 ≤ a .state .at
-  pub spare : a .state .pos + budget w x n (a .state .at) + 16 * done-of (a .how) + length (next-token (rest w x n (s .at)) .text) ≤ s .pos + budget w x n (s .at)
+  pub spare : a .state .pos + budget w x n (a .state .at) + 16 * done-of (a .status) + length (next-token (rest w x n (s .at)) .text) ≤ s .pos + budget w x n (s .at)
   pub is : (rd : List Consumed) → Shows (typed (name-of (next-token (rest w x n (s .at))))) (take (s .pos) o) (errs r (s .reported)) [] [] w x n o′ r′ f′ a (go d P.parse-var-like-declaration (st-of w x n f rd s))
 
 -- a record with a place and a name
 abbrev pub named-of : ℕ → ℕ → ℕ → List ℕ → Rec
 named-of tag line column name = record { tag = tag; place = some (place-at line column); numbers = []; text = name }
 
-abbrev pub NamedOf : How → List ℕ → List ℕ → ℕ → List ℕ → Answer → ℕ → ℕ → ℕ → ℕ → List ℕ → Answer → Type 0
-NamedOf Done w x n o a tag line column at o′ y = (y .how ≡ Done) × (Wrote o (a .state .pos) (named-of tag line column (name-of (next-token (rest w x n at)))) (7 + length (name-of (next-token (rest w x n at)))) o′ (y .state .pos) × ((y .line ≡ line) × (y .column ≡ column)))
+abbrev pub NamedOf : Status → List ℕ → List ℕ → ℕ → List ℕ → Answer → ℕ → ℕ → ℕ → ℕ → List ℕ → Answer → Type 0
+NamedOf Done w x n o a tag line column at o′ y = (y .status ≡ Done) × (Wrote o (a .state .pos) (named-of tag line column (name-of (next-token (rest w x n at)))) (7 + length (name-of (next-token (rest w x n at)))) o′ (y .state .pos) × ((y .line ≡ line) × (y .column ≡ column)))
 NamedOf Fatal w x n o a tag line column at o′ y = (y ≡ a) × (o′ ≡ o)
 NamedOf (Refused m) w x n o a tag line column at o′ y = (y ≡ a) × (o′ ≡ o)
 
@@ -74,8 +74,8 @@ pub record Named (w x : List ℕ) (n : ℕ) (o : List ℕ) (a : Answer) (tag lin
   pub reported : y .state .reported ≡ a .state .reported
   pub full : y .state .full ≡ a .state .full
   pub low : a .state .pos ≤ y .state .pos
-  pub high : y .state .pos ≤ a .state .pos + 10 * done-of (a .how) + length (next-token (rest w x n p) .text)
-  pub is : NamedOf (a .how) w x n o a tag line column p o′ y
+  pub high : y .state .pos ≤ a .state .pos + 10 * done-of (a .status) + length (next-token (rest w x n p) .text)
+  pub is : NamedOf (a .status) w x n o a tag line column p o′ y
 
 -- ---- bodies
 
@@ -83,7 +83,7 @@ pub record ReadsBody (w x : List ℕ) (n d : ℕ) (o r f : List ℕ) (s : State)
   pub moved : Moved w x n (s .pos) (s .reported) s (a .state)
   pub on : s .at + min (next-token (rest w x n (s .at)) .kind) 1 ≤ a .state .at
   pub spare : a .state .pos + budget w x n (a .state .at) + 16 * min (next-token (rest w x n (s .at)) .kind) 1 ≤ s .pos + budget w x n (s .at)
-  pub never : a .how ≡ Fatal → ⊥
+  pub never : a .status ≡ Fatal → ⊥
   pub is : (rd : List Consumed) → Shows items (take (s .pos) o) (errs r (s .reported)) [] [] w x n o′ r′ f′ a (go d (P.parse-body >>= as-answer) (st-of w x n f rd s))
 
 -- the loop of a body

@@ -6,8 +6,8 @@ use expression::expression;
 use expression::list;
 use expression::typed_name;
 use fallible::Answer;
-use fallible::How;
 use fallible::State;
+use fallible::Status;
 use fallible::abandon;
 use fallible::entry;
 use fallible::raise;
@@ -44,8 +44,8 @@ pub fn compound(
     ensures { λ r. ⌜ Parses P.parse-compound tokens text n file rep full st left r ⌝ }
 {
     let a = expect(tokens, text, n, rep, full, st, kind::HASH);
-    let how = a.how;
-    let How::Done = how else {
+    let status = a.status;
+    let Status::Done = status else {
         return a;
     };
     let s = a.state;
@@ -94,14 +94,14 @@ fn bare(file: &mut [u8], text: &[u8], a: Answer, tag: u8) -> Answer
     requires { ⌜ Room file text (a .state .pos) 16 0 0 ⌝ }
     ensures { λ r. ⌜ Bared file a tag r ⌝ }
 {
-    let how = a.how;
-    let How::Done = how else {
+    let status = a.status;
+    let Status::Done = status else {
         return a;
     };
     let s = a.state;
     let pos = write_bare(file, text, s.pos, tag, Numbers::None, 0, 0);
     Answer {
-        how,
+        status,
         state: State { pos, ..s },
         line: 0,
         column: 0,
@@ -123,8 +123,8 @@ fn initial_value(
     requires { ⌜ GoesOn tokens text n file rep full a from ⌝ }
     ensures { λ r. ⌜ ValueOn tokens text n file rep full a from left r ⌝ }
 {
-    let how = a.how;
-    let How::Done = how else {
+    let status = a.status;
+    let Status::Done = status else {
         return a;
     };
     let s = a.state;
@@ -175,8 +175,8 @@ fn named(
     requires { ⌜ NameRoom tokens text n file a at ⌝ }
     ensures { λ r. ⌜ Named tokens text n file a tag lead at r ⌝ }
 {
-    let how = a.how;
-    let How::Done = how else {
+    let status = a.status;
+    let Status::Done = status else {
         return a;
     };
     let t = peek(tokens, text, n, at);

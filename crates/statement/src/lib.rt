@@ -8,8 +8,8 @@ use definition::refusal;
 use definition::tag;
 use expression::expression;
 use fallible::Answer;
-use fallible::How;
 use fallible::State;
+use fallible::Status;
 use fallible::abandon;
 use fallible::entry;
 use fallible::note;
@@ -50,17 +50,17 @@ pub fn body(
     ensures { λ r. ⌜ ReadsBody tokens text n file rep full st left r ⌝ }
 {
     let a = expect(tokens, text, n, rep, full, st, kind::L_BRACE);
-    let how = a.how;
+    let status = a.status;
     let s = a.state;
-    match how {
-        How::Done => body_rest(tokens, text, n, file, rep, full, s, left),
-        How::Fatal => Answer {
-            how: How::Done,
+    match status {
+        Status::Done => body_rest(tokens, text, n, file, rep, full, s, left),
+        Status::Fatal => Answer {
+            status: Status::Done,
             state: s,
             line: 0,
             column: 0,
         },
-        How::Refused(_) => a,
+        Status::Refused(_) => a,
     }
 }
 
@@ -84,7 +84,7 @@ fn body_rest(
         let t = peek(tokens, text, n, st.at);
         if t.kind == kind::R_BRACE {
             return Answer {
-                how: How::Done,
+                status: Status::Done,
                 state: State { at: t.next, ..st },
                 line: count,
                 column: 0,
@@ -93,22 +93,22 @@ fn body_rest(
         if t.kind == kind::END {
             let error = entry(parse_error::BODY_AT_END, 0, 0, 0, 0);
             let b = note(n, rep, full, st, error);
-            let how = b.how;
+            let status = b.status;
             let s = b.state;
             return Answer {
-                how,
+                status,
                 state: s,
                 line: count,
                 column: 0,
             };
         }
         let b = statement(tokens, text, n, file, rep, full, st, left);
-        let how = b.how;
+        let status = b.status;
         let s = b.state;
-        if let How::Refused(_) = how {
+        if let Status::Refused(_) = status {
             return b;
         }
-        count = counted(how, count);
+        count = counted(status, count);
         st = s;
     }
 }
@@ -169,8 +169,8 @@ fn guarded(
     ensures { λ r. ⌜ Parses guarded-rule tokens text n file rep full st left r ⌝ }
 {
     let a = expression(tokens, text, n, file, rep, full, st, left);
-    let how = a.how;
-    let How::Done = how else {
+    let status = a.status;
+    let Status::Done = status else {
         return a;
     };
     let s = a.state;
@@ -215,8 +215,8 @@ fn if_statement(
     let t = peek(tokens, text, n, st.at);
     let on = State { at: t.next, ..st };
     let a = guarded(tokens, text, n, file, rep, full, on, left);
-    let how = a.how;
-    let How::Done = how else {
+    let status = a.status;
+    let Status::Done = status else {
         return a;
     };
     let s = a.state;

@@ -5,8 +5,8 @@ use definition::kind;
 use definition::tag;
 use expression::expression;
 use fallible::Answer;
-use fallible::How;
 use fallible::State;
+use fallible::Status;
 use fallible::abandon;
 use node::Numbers;
 use steps::Token;
@@ -40,7 +40,7 @@ pub fn return_statement(
     let u = peek(tokens, text, n, t.next);
     if u.kind == kind::SEMICOLON {
         let a = Answer {
-            how: How::Done,
+            status: Status::Done,
             state: State { at: u.next, ..st },
             line: t.line,
             column: t.column,
@@ -107,7 +107,7 @@ pub fn assembly_statement(
 {
     let t = peek(tokens, text, n, st.at);
     let a = Answer {
-        how: How::Done,
+        status: Status::Done,
         state: State { at: t.next, ..st },
         line: t.line,
         column: t.column,
@@ -189,7 +189,7 @@ fn after_expression(
         return compound_assignment(tokens, text, n, file, rep, full, lead, i, st, left);
     }
     let a = Answer {
-        how: How::Done,
+        status: Status::Done,
         state: st,
         line: lead.line,
         column: lead.column,
@@ -215,8 +215,8 @@ pub fn expression_statement(
     ensures { λ r. ⌜ Parses (P.expression-statement (place-of lead)) tokens text n file rep full st left r ⌝ }
 {
     let a = expression(tokens, text, n, file, rep, full, st, left);
-    let how = a.how;
-    let How::Done = how else {
+    let status = a.status;
+    let Status::Done = status else {
         return a;
     };
     let s = a.state;

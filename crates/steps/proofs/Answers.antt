@@ -20,11 +20,11 @@ use Rattle.definition.specs.Act.{Act, Node, Consumed, St, Res, gives, after, or
 use Rattle.definition.specs.Parser as P
 use Rattle.definition.specs.Go.{go}
 use Rattle.definition.proofs.Room.{recs-append}
-use Rattle.fallible.proofs.How.{the-type}
+use Rattle.fallible.proofs.Status.{the-type}
 use Rattle.fallible.proofs.Grown.{errs-length}
 use Rattle.fallible.specs.declared.State.{State}
-use Rattle.fallible.specs.declared.How.{How}
-use Rattle.fallible.specs.declared.How.the-variants.{Done, Fatal, Refused}
+use Rattle.fallible.specs.declared.Status.{Status}
+use Rattle.fallible.specs.declared.Status.the-variants.{Done, Fatal, Refused}
 use Rattle.fallible.specs.declared.Answer.{Answer}
 use Rattle.fallible.specs.Lists.{unpack, errs}
 use Rattle.fallible.specs.Answers.{refused-at, one-more, raised, Raised, Cut, AbandonedOf, Abandoned}
@@ -35,7 +35,7 @@ use Rattle.steps.specs.Shows.{st-of, Asks, View, Good, ShowsOf, Shows, d
 
 -- an answer that is not there
 abbrev pub Stopped : Answer → Type 0
-Stopped a = OneOf (1 ∷ 2 ∷ []) (tagOf the-type (a .how))
+Stopped a = OneOf (1 ∷ 2 ∷ []) (tagOf the-type (a .status))
 
 -- ---- what an answer shows
 
@@ -45,18 +45,18 @@ module _ {A : Type 0} {K : View A} {T : List ℕ} {E : List Err} {rs : List Rec}
   pub say : {q′ : Res (Ans A)} → q ≡ q′ → Shows K T E rs es w x n o r f a q′ → Shows K T E rs es w x n o r f a q
   say e v = subst (λ (z : Res (Ans A)). Shows K T E rs es w x n o r f a z) (sym e) v
 
-  pub good-of : a .how ≡ Done → Shows K T E rs es w x n o r f a q → Good K T E rs es w x n o r f a q
-  good-of z v = subst (λ (h : How). ShowsOf h K T E rs es w x n o r f a q) z (v .told)
+  pub good-of : a .status ≡ Done → Shows K T E rs es w x n o r f a q → Good K T E rs es w x n o r f a q
+  good-of z v = subst (λ (h : Status). ShowsOf h K T E rs es w x n o r f a q) z (v .told)
 
-  pub is-good : a .how ≡ Done → Good K T E rs es w x n o r f a q → Shows K T E rs es w x n o r f a q
-  is-good z g = record { told = subst (λ (h : How). ShowsOf h K T E rs es w x n o r f a q) (sym z) g }
+  pub is-good : a .status ≡ Done → Good K T E rs es w x n o r f a q → Shows K T E rs es w x n o r f a q
+  is-good z g = record { told = subst (λ (h : Status). ShowsOf h K T E rs es w x n o r f a q) (sym z) g }
 
-pub not-done : (h : How) → OneOf (1 ∷ 2 ∷ []) (tagOf the-type h) → done-of h ≡ 0
+pub not-done : (h : Status) → OneOf (1 ∷ 2 ∷ []) (tagOf the-type h) → done-of h ≡ 0
 not-done Done nd = absurd (⊎-elim (λ z. omega arith) (λ z. omega arith) nd)
 not-done Fatal nd = refl
 not-done (Refused u) nd = refl
 
-pub done-le : (h : How) → done-of h ≤ 1
+pub done-le : (h : Status) → done-of h ≤ 1
 done-le Done = omega arith
 done-le Fatal = omega arith
 done-le (Refused u) = omega arith
@@ -68,9 +68,9 @@ pub stops : {A B : Type 0} {K : View A} {L : View B} {T : List ℕ} {E : List Er
     → Stopped a → Shows K T E rs es w x n o r f a q → Shows L T E rs′ es′ w x n o r f a (after q (λ z S. go d (or-return k z) S))
 unfolding go run
 stops {K = K} {L = L} {T = T} {E = E} {rs = rs} {rs′ = rs′} {es = es} {es′ = es′} {w = w} {x = x} {n = n} {o = o} {r = r} {f = f} {a = a} d k q nd v =
-    record { told = one (a .how) nd (v .told) }
+    record { told = one (a .status) nd (v .told) }
   where
-    one : (h : How) → OneOf (1 ∷ 2 ∷ []) (tagOf the-type h) → ShowsOf h K T E rs es w x n o r f a q
+    one : (h : Status) → OneOf (1 ∷ 2 ∷ []) (tagOf the-type h) → ShowsOf h K T E rs es w x n o r f a q
         → ShowsOf h L T E rs′ es′ w x n o r f a (after q (λ z S. go d (or-return k z) S))
     one Done nd i = absurd (⊎-elim (λ z. omega arith) (λ z. omega arith) nd)
     one Fatal nd i = record { errors = i .errors; read = i .read; is = rw (i .is); tree = i .tree; rep = i .rep }
@@ -98,9 +98,9 @@ module _ {A : Type 0} (K : View A) {w x : List ℕ} {n : ℕ} {r f r′ f′ : L
 
       one : (b : Bool) → ltb (s .full) 255 ≡ b
           → ShowsOf
-          (pick b (record { how = Fatal; state = one-more s; line = 0; column = 0 }) (refused-at n s 12) .how) K
+          (pick b (record { status = Fatal; state = one-more s; line = 0; column = 0 }) (refused-at n s 12) .status) K
           (take (s .pos) o) (errs r (s .reported)) [] [] w x n o r′ f′
-          (pick b (record { how = Fatal; state = one-more s; line = 0; column = 0 }) (refused-at n s 12))
+          (pick b (record { status = Fatal; state = one-more s; line = 0; column = 0 }) (refused-at n s 12))
           (go d (P.raise {A = A} (unpack e)) (st-of w x n f rd s))
       one true l =
           record {
@@ -167,10 +167,10 @@ cut-errs {r} {r′} {a} {a′} {i} {j} {k} E es bs c le lk h e =
 module _ {A : Type 0} {K : View A} {T T′ : List ℕ} {E E′ : List Err} {rs : List Rec} {es : List Err} {w x : List ℕ} {n : ℕ} {o r r′ f : List ℕ} {b c : Answer} {i j k : ℕ} {q : Res (Ans A)}
     (tree : T′ ≡ T ++ recs-bytes rs) (reps : E′ ≡ E ++ es) (li : length T ≡ i) (lj : length E ≡ j) (lk : length E′ ≡ k) (v : Abandoned r b i j k r′ c) where
   pub abandons : i ≤ b .state .pos → j ≤ b .state .reported → Shows K T′ E′ [] [] w x n o r f b q → Shows K T E rs es w x n o r′ f c q
-  abandons hi hj u = record { told = one (b .how) refl (v .is) (u .told) }
+  abandons hi hj u = record { told = one (b .status) refl (v .is) (u .told) }
     where
-      one : (h : How) → b .how ≡ h → AbandonedOf h r b i j k r′ c → ShowsOf h K T′ E′ [] [] w x n o r f b q
-          → ShowsOf (c .how) K T E rs es w x n o r′ f c q
+      one : (h : Status) → b .status ≡ h → AbandonedOf h r b i j k r′ c → ShowsOf h K T′ E′ [] [] w x n o r f b q
+          → ShowsOf (c .status) K T E rs es w x n o r′ f c q
       one Done z m g =
           rw (m .0, m .1, z) (record {
             item = g .item;
@@ -182,7 +182,7 @@ module _ {A : Type 0} {K : View A} {T T′ : List ℕ} {E E′ : List Err} {rs :
             holds = g .holds;
           })
       one Fatal z m g =
-          rw (m .how) (record {
+          rw (m .status) (record {
             errors = g .errors;
             read = g .read;
             is = g .is ∙ ap (λ (s : St). gives (fatal (g .errors)) s) (sym (rw (v .at, v .full)));
@@ -211,10 +211,10 @@ module _ {A : Type 0} {K : View A} {T : List ℕ} {E : List Err} {rs : List Rec}
       → Shows K T E rs es w x n o r f a q
       → Shows node T E [] [] w x n o′ r f y (after q (λ z S. go d (or-return (wrapped K rs es (v .tag) p ns text) z) S))
   unfolding go run place-of
-  finishes e h = record { told = one (a .how) refl (u .is) (h .told) }
+  finishes e h = record { told = one (a .status) refl (u .is) (h .told) }
     where
-      one : (k : How) → a .how ≡ k → FinishedOf k x o a v o′ y → ShowsOf k K T E rs es w x n o r f a q
-          → ShowsOf (y .how) node T E [] [] w x n o′ r f y
+      one : (k : Status) → a .status ≡ k → FinishedOf k x o a v o′ y → ShowsOf k K T E rs es w x n o r f a q
+          → ShowsOf (y .status) node T E [] [] w x n o′ r f y
           (after q (λ z S. go d (or-return (wrapped K rs es (v .tag) p ns text) z) S))
       one Done z m g =
           rw (m .0) (record {

@@ -12,8 +12,8 @@ use Rattle.definition.specs.Parser as P
 use Rattle.definition.specs.Go.{go}
 use Rattle.definition.proofs.Flat.{go-bind}
 use Rattle.fallible.proofs.Grown.{errs-length}
-use Rattle.fallible.specs.declared.How.{How}
-use Rattle.fallible.specs.declared.How.the-variants.{Done, Fatal, Refused}
+use Rattle.fallible.specs.declared.Status.{Status}
+use Rattle.fallible.specs.declared.Status.the-variants.{Done, Fatal, Refused}
 use Rattle.fallible.specs.declared.Answer.{Answer}
 use Rattle.fallible.specs.Lists.{errs}
 use Rattle.fallible.specs.Answers.{AbandonedOf}
@@ -30,13 +30,13 @@ module _ {A : Type 0} {K : View A} {w x : List ℕ} {n k i j : ℕ} {r f r′ f�
     {E : List Err} {rs : List Rec} {es : List Err} {o : List ℕ} {q : Res (Ans A)} (li : length T ≡ i)
     (lj : length E ≡ j) where
   -- the answer was there
-  there : a .how ≡ Done → Good K T E rs es w x n o r f a q → Followed w x n k i j r f a r′ f′ y
+  there : a .status ≡ Done → Good K T E rs es w x n o r f a q → Followed w x n k i j r f a r′ f′ y
       → Shows K T E rs es w x n o r′ f′ y (after q (λ z S. go d (or-return (expecting role k) z) S))
   unfolding go run
   there z g v =
       subst (λ (a′ : Answer). Shows K T E rs es w x n o r′ f′ a′
       (after q (λ z S. go d (or-return (expecting role k) z) S))) (sym (v .is))
-      (record { told = one (v .b .how) refl (v .abandoned .is) (v .expects .is role d (g .read) o .told) })
+      (record { told = one (v .b .status) refl (v .abandoned .is) (v .expects .is role d (g .read) o .told) })
     where
       S : St
       S = st-of w x n f (g .read) (a .state)
@@ -51,15 +51,15 @@ module _ {A : Type 0} {K : View A} {w x : List ℕ} {n k i j : ℕ} {r f r′ f�
 
       lost : Bad T E w x n o r′ f′ (v .c) (go d (P.expect-as role k) S)
           → Bad T E w x n o r′ f′
-          (record { how = v .c .how; state = v .c .state; line = a .line; column = a .column })
+          (record { status = v .c .status; state = v .c .state; line = a .line; column = a .column })
           (after q (λ z S. go d (or-return (expecting role k) z) S))
       lost c = record { errors = c .errors; read = c .read; is = step ∙ rw (c .is); tree = c .tree; rep = c .rep }
 
-      one : (h : How) → v .b .how ≡ h → AbandonedOf h (v .between) (v .b) i j (a .state .reported) r′ (v .c)
+      one : (h : Status) → v .b .status ≡ h → AbandonedOf h (v .between) (v .b) i j (a .state .reported) r′ (v .c)
           → ShowsOf h (token (next-token (rest w x n (a .state .at)))) (take (a .state .pos) o)
           (errs r (a .state .reported)) [] [] w x n o (v .between) f′ (v .b) (go d (P.expect-as role k) S)
-          → ShowsOf (v .c .how) K T E rs es w x n o r′ f′
-          (record { how = v .c .how; state = v .c .state; line = a .line; column = a .column })
+          → ShowsOf (v .c .status) K T E rs es w x n o r′ f′
+          (record { status = v .c .status; state = v .c .state; line = a .line; column = a .column })
           (after q (λ z S. go d (or-return (expecting role k) z) S))
       one Done h m t =
           rw (m .0, h) (record {
@@ -77,24 +77,24 @@ module _ {A : Type 0} {K : View A} {w x : List ℕ} {n k i j : ℕ} {r f r′ f�
           (v .abandoned) (omega (arith, p .pos, v .expects .pos))
           (omega (arith, p .reported, v .expects .moved .reported)) (record {
             told = subst
-                (λ (h : How). ShowsOf h (token (next-token (rest w x n (a .state .at)))) (take (a .state .pos) o)
+                (λ (h : Status). ShowsOf h (token (next-token (rest w x n (a .state .at)))) (take (a .state .pos) o)
                 (errs r (a .state .reported)) [] [] w x n o (v .between) f′ (v .b) (go d (P.expect-as role k) S))
                 (sym h) t;
           }) in
           let c : Bad T E w x n o r′ f′ (v .c) (go d (P.expect-as role k) S) = subst
-          (λ (h : How). ShowsOf h (token (next-token (rest w x n (a .state .at)))) T E (rs ++ K .recs (g .item))
-          (es ++ g .errors) w x n o r′ f′ (v .c) (go d (P.expect-as role k) S)) (m .how) (b .told) in
-          subst (λ (h : How). ShowsOf h K T E rs es w x n o r′ f′
-          (record { how = v .c .how; state = v .c .state; line = a .line; column = a .column })
-          (after q (λ z S. go d (or-return (expecting role k) z) S))) (sym (m .how)) (lost c)
+          (λ (h : Status). ShowsOf h (token (next-token (rest w x n (a .state .at)))) T E (rs ++ K .recs (g .item))
+          (es ++ g .errors) w x n o r′ f′ (v .c) (go d (P.expect-as role k) S)) (m .status) (b .told) in
+          subst (λ (h : Status). ShowsOf h K T E rs es w x n o r′ f′
+          (record { status = v .c .status; state = v .c .state; line = a .line; column = a .column })
+          (after q (λ z S. go d (or-return (expecting role k) z) S))) (sym (m .status)) (lost c)
       one (Refused u) h m t = rw (m .0, h) (step ∙ rw t)
 
   pub expects-after : Shows K T E rs es w x n o r f a q
       → Shows K T E rs es w x n o r′ f′ y (after q (λ z S. go d (or-return (expecting role k) z) S))
   unfolding go run
-  expects-after v = one (a .how) refl (u .is) (v .told)
+  expects-after v = one (a .status) refl (u .is) (v .told)
     where
-      one : (h : How) → a .how ≡ h → ExpectedOf h w x n k i j r f a r′ f′ y
+      one : (h : Status) → a .status ≡ h → ExpectedOf h w x n k i j r f a r′ f′ y
           → ShowsOf h K T E rs es w x n o r f a q
           → Shows K T E rs es w x n o r′ f′ y (after q (λ z S. go d (or-return (expecting role k) z) S))
       one Done z m g = there z g m

@@ -9,7 +9,7 @@ use lib.Dec.{ltb}
 use borrow.Author.Tests.{ltb-true}
 use Rattle.definition.specs.Choice.{pick}
 use Rattle.fallible.specs.declared.State.{State}
-use Rattle.fallible.specs.declared.How.{How}
+use Rattle.fallible.specs.declared.Status.{Status}
 use Rattle.fallible.specs.declared.Answer.{Answer}
 use Rattle.fallible.specs.Answers.{refused-at, one-more, making, Abandoned}
 use Rattle.steps.specs.declared.Token.{Token}
@@ -50,12 +50,12 @@ module _ {w x : List ℕ} {n : ℕ} {r f : List ℕ} {s : State} (q : Asks w x n
       }
 
   -- an error is made, or one too many
-  pub making-moved : (h : How) → Moved w x n (s .pos) (s .reported) s (making h n s .state)
+  pub making-moved : (h : Status) → Moved w x n (s .pos) (s .reported) s (making h n s .state)
   making-moved h = go (ltb (s .full) 255) (λ e. ltb-true _ _ e) refl
     where
       go : (b : Bool) → (b ≡ true → s .full < 255) → ltb (s .full) 255 ≡ b
           → Moved w x n (s .pos) (s .reported) s
-          (pick b (record { how = h; state = one-more s; line = 0; column = 0 }) (refused-at n s 12) .state)
+          (pick b (record { status = h; state = one-more s; line = 0; column = 0 }) (refused-at n s 12) .state)
       go true g e =
           let l = g refl in
           record {

@@ -17,14 +17,14 @@ use Rattle.definition.specs.Act.{Act, Role, plain, Consumed, now-read, run}
 use Rattle.definition.specs.Parser as P
 use Rattle.definition.specs.Go.{go}
 use Rattle.fallible.specs.declared.State.{State}
-use Rattle.fallible.specs.declared.How.{How}
-use Rattle.fallible.specs.declared.How.the-variants.{Done, Fatal, Refused}
+use Rattle.fallible.specs.declared.Status.{Status}
+use Rattle.fallible.specs.declared.Status.the-variants.{Done, Fatal, Refused}
 use Rattle.fallible.specs.declared.Answer.{Answer}
 use Rattle.fallible.specs.Lists.{unpack, error-at, errs}
 use Rattle.fallible.specs.Answers.{refused-at, one-more, raised, Raised, AbandonedOf, Abandoned}
 use Rattle.node.specs.Put.{Wrote, rec-of, size-of}
 use Rattle.node.specs.declared.Record.{Record}
-use Rattle.fallible.proofs.How.{the-type}
+use Rattle.fallible.proofs.Status.{the-type}
 use Rattle.steps.specs.declared.Token.{Token}
 use Rattle.steps.specs.Tokens.{rest, budget, Seen}
 use Rattle.steps.specs.Shows.{st-of, Asks, Moved, done-of, token, Expects, Follows, ExpectedOf, Expected, FinishedOf, Finished}
@@ -34,17 +34,17 @@ use Rattle.steps.proofs.Answers.{Stopped, say, not-done, raise-same, ra
 
 -- ---- a raised error's answer
 
-raised-how : (n : ℕ) (s : State) → done-of (raised n s .how) ≡ 0
-raised-how n s = go (ltb (s .full) 255)
+raised-status : (n : ℕ) (s : State) → done-of (raised n s .status) ≡ 0
+raised-status n s = go (ltb (s .full) 255)
   where
-    go : (b : Bool) → done-of (pick b (record { how = Fatal; state = one-more s; line = 0; column = 0 }) (refused-at n s 12) .how) ≡ 0
+    go : (b : Bool) → done-of (pick b (record { status = Fatal; state = one-more s; line = 0; column = 0 }) (refused-at n s 12) .status) ≡ 0
     go true = refl
     go false = refl
 
 raised-pos : (n : ℕ) (s : State) → raised n s .state .pos ≡ s .pos
 raised-pos n s = go (ltb (s .full) 255)
   where
-    go : (b : Bool) → pick b (record { how = Fatal; state = one-more s; line = 0; column = 0 }) (refused-at n s 12) .state .pos ≡ s .pos
+    go : (b : Bool) → pick b (record { status = Fatal; state = one-more s; line = 0; column = 0 }) (refused-at n s 12) .state .pos ≡ s .pos
     go true = refl
     go false = refl
 
@@ -55,7 +55,7 @@ module _ {w x : List ℕ} {n : ℕ} {r f : List ℕ} {s : State} {t : Token} (q 
       → go d (m role) (st-of w x n f rd s)
       ≡ go d (P.good (next-token (rest w x n (s .at))) [])
       (st-of w x n f (rd ++ now-read (λ _. of role) (rest w x n (s .at))) (fore s t)))
-      → Expects w x n m r f s r f (record { how = Done; state = fore s t; line = t .line; column = t .column })
+      → Expects w x n m r f s r f (record { status = Done; state = fore s t; line = t .line; column = t .column })
   unfolding go run recs-bytes
   there of g z h = record {
     moved = fore-moved q v;
@@ -88,7 +88,7 @@ module _ {w x : List ℕ} {n : ℕ} {r f : List ℕ} {s : State} {t : Token} (q 
   missing {m} {e} {r′} {f′} {a} of g h =
       let mv : Moved w x n (s .pos) (s .reported) s (a .state) = rw (g .is)
       (moved-trans (fore-moved q v) (making-moved (asks-fore q v) Fatal)) in
-      let nd : done-of (a .how) ≡ 0 = rw (g .is) (raised-how n (fore s t)) in
+      let nd : done-of (a .status) ≡ 0 = rw (g .is) (raised-status n (fore s t)) in
       let ps : a .state .pos ≡ s .pos = rw (g .is) (raised-pos n (fore s t)) in
       let up : t .next ≤ a .state .at = rw (g .is) (making-moved (asks-fore q v) Fatal .at) in
       record {
@@ -107,7 +107,7 @@ module _ {w x : List ℕ} {n : ℕ} {r f : List ℕ} {s : State} {t : Token} (q 
 
   pub expect-there : {k : ℕ} → 0 < k → t .kind ≡ k
       → Expects w x n (λ role. P.expect-as role k) r f s r f
-      (record { how = Done; state = fore s t; line = t .line; column = t .column })
+      (record { status = Done; state = fore s t; line = t .line; column = t .column })
   unfolding go run
   expect-there {k} g z = there (λ role. role) g z (λ role d rd. rw (run, yes v z, v .tail))
 
@@ -127,7 +127,7 @@ module _ {w x : List ℕ} {n : ℕ} {r f : List ℕ} {s : State} {t : Token} (q 
 
   pub identifier-there : t .kind ≡ 1
       → Expects w x n (λ role. P.expect-identifier) r f s r f
-      (record { how = Done; state = fore s t; line = t .line; column = t .column })
+      (record { status = Done; state = fore s t; line = t .line; column = t .column })
   unfolding go run
   identifier-there z = there (λ role. plain) (omega arith) z (λ role d rd. rw (run, yes v z, v .tail))
 
@@ -162,51 +162,51 @@ module _ {w x : List ℕ} {n k i j : ℕ} {r f : List ℕ} {a : Answer} (q : Fol
           few = q .asks .few;
         };
     high = omega arith;
-    pays = omega (arith, not-done (a .how) nd);
-    is = one (a .how) nd;
+    pays = omega (arith, not-done (a .status) nd);
+    is = one (a .status) nd;
   }
     where
-      one : (h : How) → OneOf (1 ∷ 2 ∷ []) (tagOf the-type h) → ExpectedOf h w x n k i j r f a r f a
+      one : (h : Status) → OneOf (1 ∷ 2 ∷ []) (tagOf the-type h) → ExpectedOf h w x n k i j r f a r f a
       one Done nd = absurd (⊎-elim (λ z. omega arith) (λ z. omega arith) nd)
       one Fatal nd = (refl, (refl, refl))
       one (Refused m) nd = (refl, (refl, refl))
 
-  pub expected-on : {r1 r′ f′ : List ℕ} {b c : Answer} → a .how ≡ Done
+  pub expected-on : {r1 r′ f′ : List ℕ} {b c : Answer} → a .status ≡ Done
       → Expects w x n (λ role. P.expect-as role k) r f (a .state) r1 f′ b
       → Abandoned r1 b i j (a .state .reported) r′ c
-      → Expected w x n k i j r f a r′ f′ (record { how = c .how; state = c .state; line = a .line; column = a .column })
+      → Expected w x n k i j r f a r′ f′ (record { status = c .status; state = c .state; line = a .line; column = a .column })
   expected-on {r1} {r′} {f′} {b} {c} z e v =
       let at : budget w x n (c .state .at) ≡ budget w x n (b .state .at) = ap (λ (k : ℕ). budget w x n k) (v .at) in
-      let hw : done-of (c .how) ≤ done-of (b .how) = fewer (b .how) refl (v .is) in
+      let hw : done-of (c .status) ≤ done-of (b .status) = fewer (b .status) refl (v .is) in
       record {
         moved = abandoned-moved (e .moved) v;
         high = omega (arith, e .pos, v .high);
         pays = omega (arith, e .pays);
         is =
-            subst (λ (h : How). ExpectedOf h w x n k i j r f a r′ f′
-            (record { how = c .how; state = c .state; line = a .line; column = a .column })) (sym z)
+            subst (λ (h : Status). ExpectedOf h w x n k i j r f a r′ f′
+            (record { status = c .status; state = c .state; line = a .line; column = a .column })) (sym z)
             (record { b = b; c = c; between = r1; expects = e; abandoned = v; is = refl });
       }
     where
-      fewer : (h : How) → b .how ≡ h → AbandonedOf h r1 b i j (a .state .reported) r′ c → done-of (c .how) ≤ done-of (b .how)
+      fewer : (h : Status) → b .status ≡ h → AbandonedOf h r1 b i j (a .state .reported) r′ c → done-of (c .status) ≤ done-of (b .status)
       fewer Done y m = rw (m .0) (omega arith)
-      fewer Fatal y m = rw (m .how) (omega arith)
+      fewer Fatal y m = rw (m .status) (omega arith)
       fewer (Refused u) y m = rw (m .0) (omega arith)
 
 -- ---- a record after an answer
 
 module _ {x o : List ℕ} {a : Answer} {v : Record} where
   pub finish-stop : Stopped a → Finished x o a v o a
-  finish-stop nd = record { at = refl; reported = refl; full = refl; low = omega arith; high = omega arith; is = one (a .how) nd }
+  finish-stop nd = record { at = refl; reported = refl; full = refl; low = omega arith; high = omega arith; is = one (a .status) nd }
     where
-      one : (h : How) → OneOf (1 ∷ 2 ∷ []) (tagOf the-type h) → FinishedOf h x o a v o a
+      one : (h : Status) → OneOf (1 ∷ 2 ∷ []) (tagOf the-type h) → FinishedOf h x o a v o a
       one Done nd = absurd (⊎-elim (λ z. omega arith) (λ z. omega arith) nd)
       one Fatal nd = (refl, refl)
       one (Refused m) nd = (refl, refl)
 
-  pub finish-on : {o′ : List ℕ} {p : ℕ} → a .how ≡ Done → Wrote o (a .state .pos) (rec-of x v) (size-of v) o′ p
+  pub finish-on : {o′ : List ℕ} {p : ℕ} → a .status ≡ Done → Wrote o (a .state .pos) (rec-of x v) (size-of v) o′ p
       → Finished x o a v o′ (record {
-        how = a .how;
+        status = a .status;
         state = record { at = a .state .at; pos = p; reported = a .state .reported; full = a .state .full };
         line = v .line;
         column = v .column;

@@ -13,8 +13,8 @@ use Rattle.node.specs.Put.{Wrote, rec-of, size-of}
 use Rattle.node.specs.declared.Numbers.{Numbers}
 use Rattle.node.specs.declared.Record.{Record}
 use Rattle.fallible.specs.declared.State.{State}
-use Rattle.fallible.specs.declared.How.{How}
-use Rattle.fallible.specs.declared.How.the-variants.{Done, Fatal, Refused}
+use Rattle.fallible.specs.declared.Status.{Status}
+use Rattle.fallible.specs.declared.Status.the-variants.{Done, Fatal, Refused}
 use Rattle.fallible.specs.declared.Answer.{Answer}
 use Rattle.fallible.specs.Lists.{errs}
 use Rattle.fallible.specs.Answers.{Abandoned}
@@ -75,17 +75,17 @@ pub record Bad {A : Type 0} (T : List ℕ) (E : List Err) (w x : List ℕ) (n : 
   pub tree : take (a .state .pos) o ≡ T
   pub rep : errs r (a .state .reported) ≡ E ++ errors
 
-abbrev pub ShowsOf : How → {A : Type 0} → View A → List ℕ → List Err → List Rec → List Err → List ℕ → List ℕ → ℕ → List ℕ → List ℕ → List ℕ → Answer → Res (Ans A) → Type 0
+abbrev pub ShowsOf : Status → {A : Type 0} → View A → List ℕ → List Err → List Rec → List Err → List ℕ → List ℕ → ℕ → List ℕ → List ℕ → List ℕ → Answer → Res (Ans A) → Type 0
 ShowsOf Done K T E rs es w x n o r f a q = Good K T E rs es w x n o r f a q
 ShowsOf Fatal K T E rs es w x n o r f a q = Bad T E w x n o r f a q
 ShowsOf (Refused m) K T E rs es w x n o r f a q = q ≡ refused m
 
 -- the answer a of the code is the answer q of the definition
 pub record Shows {A : Type 0} (K : View A) (T : List ℕ) (E : List Err) (rs : List Rec) (es : List Err) (w x : List ℕ) (n : ℕ) (o r f : List ℕ) (a : Answer) (q : Res (Ans A)) : Type 0 where
-  pub told : ShowsOf (a .how) K T E rs es w x n o r f a q
+  pub told : ShowsOf (a .status) K T E rs es w x n o r f a q
 
 -- 1 where the answer is there, as a number
-abbrev pub done-of : How → ℕ
+abbrev pub done-of : Status → ℕ
 done-of Done = 1
 done-of Fatal = 0
 done-of (Refused m) = 0
@@ -133,8 +133,8 @@ pub record Expects (w x : List ℕ) (n : ℕ) (m : Role → Act (Ans Tok)) (r f 
   pub moved : Moved w x n (s .pos) (s .reported) s (a .state)
   pub pos : a .state .pos ≡ s .pos
   pub on : s .at + min (next-token (rest w x n (s .at)) .kind) 1 ≤ a .state .at
-  pub pays : budget w x n (a .state .at) + 16 * done-of (a .how) ≤ budget w x n (s .at)
-  pub kept : a .how ≡ Done → (a .state .reported ≡ s .reported) × (errs r′ (a .state .reported) ≡ errs r (s .reported))
+  pub pays : budget w x n (a .state .at) + 16 * done-of (a .status) ≤ budget w x n (s .at)
+  pub kept : a .status ≡ Done → (a .state .reported ≡ s .reported) × (errs r′ (a .state .reported) ≡ errs r (s .reported))
   pub is : (role : Role) (d : ℕ) (rd : List Consumed) (o : List ℕ) → Shows (token (next-token (rest w x n (s .at)))) (take (s .pos) o) (errs r (s .reported)) [] [] w x n o r′ f′ a (go d (m role) (st-of w x n f rd s))
 
 -- what a function asks of an answer, of a construct that began at i and j
@@ -150,9 +150,9 @@ pub record Followed (w x : List ℕ) (n k i j : ℕ) (r f : List ℕ) (a : Answe
   pub between : List ℕ
   pub expects : Expects w x n (λ role. P.expect-as role k) r f (a .state) between f′ b
   pub abandoned : Abandoned between b i j (a .state .reported) r′ c
-  pub is : y ≡ record { how = c .how; state = c .state; line = a .line; column = a .column }
+  pub is : y ≡ record { status = c .status; state = c .state; line = a .line; column = a .column }
 
-abbrev pub ExpectedOf : How → List ℕ → List ℕ → ℕ → ℕ → ℕ → ℕ → List ℕ → List ℕ → Answer → List ℕ → List ℕ → Answer → Type 0
+abbrev pub ExpectedOf : Status → List ℕ → List ℕ → ℕ → ℕ → ℕ → ℕ → List ℕ → List ℕ → Answer → List ℕ → List ℕ → Answer → Type 0
 ExpectedOf Done w x n k i j r f a r′ f′ y = Followed w x n k i j r f a r′ f′ y
 ExpectedOf Fatal w x n k i j r f a r′ f′ y = (y ≡ a) × ((r′ ≡ r) × (f′ ≡ f))
 ExpectedOf (Refused m) w x n k i j r f a r′ f′ y = (y ≡ a) × ((r′ ≡ r) × (f′ ≡ f))
@@ -160,8 +160,8 @@ ExpectedOf (Refused m) w x n k i j r f a r′ f′ y = (y ≡ a) × ((r′ ≡ r
 pub record Expected (w x : List ℕ) (n k i j : ℕ) (r f : List ℕ) (a : Answer) (r′ f′ : List ℕ) (y : Answer) : Type 0 where
   pub moved : Moved w x n i j (a .state) (y .state)
   pub high : y .state .pos ≤ a .state .pos
-  pub pays : budget w x n (y .state .at) + 16 * done-of (y .how) ≤ budget w x n (a .state .at)
-  pub is : ExpectedOf (a .how) w x n k i j r f a r′ f′ y
+  pub pays : budget w x n (y .state .at) + 16 * done-of (y .status) ≤ budget w x n (a .state .at)
+  pub is : ExpectedOf (a .status) w x n k i j r f a r′ f′ y
 
 -- ---- a record after an answer
 
@@ -172,8 +172,8 @@ texted t tag ns name = record { tag = tag; line = t .line; column = t .column; n
 abbrev pub untexted : Token → ℕ → Numbers → Record
 untexted t tag ns = record { tag = tag; line = t .line; column = t .column; numbers = ns; start = 0; len = 0 }
 
-abbrev pub FinishedOf : How → List ℕ → List ℕ → Answer → Record → List ℕ → Answer → Type 0
-FinishedOf Done x o a v o′ y = (y .how ≡ Done) × (Wrote o (a .state .pos) (rec-of x v) (size-of v) o′ (y .state .pos) × ((y .line ≡ v .line) × (y .column ≡ v .column)))
+abbrev pub FinishedOf : Status → List ℕ → List ℕ → Answer → Record → List ℕ → Answer → Type 0
+FinishedOf Done x o a v o′ y = (y .status ≡ Done) × (Wrote o (a .state .pos) (rec-of x v) (size-of v) o′ (y .state .pos) × ((y .line ≡ v .line) × (y .column ≡ v .column)))
 FinishedOf Fatal x o a v o′ y = (y ≡ a) × (o′ ≡ o)
 FinishedOf (Refused m) x o a v o′ y = (y ≡ a) × (o′ ≡ o)
 
@@ -183,4 +183,4 @@ pub record Finished (x o : List ℕ) (a : Answer) (v : Record) (o′ : List ℕ)
   pub full : y .state .full ≡ a .state .full
   pub low : a .state .pos ≤ y .state .pos
   pub high : y .state .pos ≤ a .state .pos + size-of v
-  pub is : FinishedOf (a .how) x o a v o′ y
+  pub is : FinishedOf (a .status) x o a v o′ y

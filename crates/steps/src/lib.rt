@@ -2,8 +2,8 @@
 use definition::kind;
 use definition::parse_error;
 use fallible::Answer;
-use fallible::How;
 use fallible::State;
+use fallible::Status;
 use fallible::abandon;
 use fallible::entry;
 use fallible::raise;
@@ -81,7 +81,7 @@ pub fn expect(
     let on = State { at: t.next, ..st };
     if t.kind == wanted {
         return Answer {
-            how: How::Done,
+            status: Status::Done,
             state: on,
             line: t.line,
             column: t.column,
@@ -111,7 +111,7 @@ pub fn expect_identifier(
     let on = State { at: t.next, ..st };
     if t.kind == kind::IDENTIFIER {
         return Answer {
-            how: How::Done,
+            status: Status::Done,
             state: on,
             line: t.line,
             column: t.column,
@@ -139,17 +139,17 @@ pub fn and_expect(
     requires { ⌜ Follows tokens text n rep full a from × ((0 < wanted) × (wanted < 256)) ⌝ }
     ensures { λ r. ⌜ Expected wanted tokens text n rep full a from r ⌝ }
 {
-    let how = a.how;
-    let How::Done = how else {
+    let status = a.status;
+    let Status::Done = status else {
         return a;
     };
     let s = a.state;
     let b = expect(tokens, text, n, rep, full, s, wanted);
     let c = abandon(rep, b, from, s);
-    let h = c.how;
+    let h = c.status;
     let e = c.state;
     Answer {
-        how: h,
+        status: h,
         state: e,
         line: a.line,
         column: a.column,
@@ -169,8 +169,8 @@ pub fn write_text_node(
     requires { ⌜ Room file text (a .state .pos) (16 + name .len) (name .start) (name .len) ⌝ }
     ensures { λ r. ⌜ Finishes (texted t tag numbers name) file text a r ⌝ }
 {
-    let how = a.how;
-    let How::Done = how else {
+    let status = a.status;
+    let Status::Done = status else {
         return a;
     };
     let s = a.state;
@@ -184,7 +184,7 @@ pub fn write_text_node(
     };
     let pos = write_record(file, text, s.pos, v);
     Answer {
-        how,
+        status,
         state: State { pos, ..s },
         line: t.line,
         column: t.column,

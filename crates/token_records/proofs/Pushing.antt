@@ -12,16 +12,16 @@ use Rattle.scan.proofs.Laws.{wrote-none, wrote-trans}
 use Rattle.token_records.specs.declared.State.{State}
 use Rattle.token_records.specs.Push.{ErrorsPushed, TokenPushed}
 
-pub token-full : {most : ℕ} {T : List ℕ} {f r : State} {ws : List ℕ} → most ≤ f .tokens → r .how ≡ 6 → TokenPushed most T f ws T r
-token-full h e = inr (record { many = h; how = e })
+pub token-full : {most : ℕ} {T : List ℕ} {f r : State} {ws : List ℕ} → most ≤ f .tokens → r .refusal ≡ 6 → TokenPushed most T f ws T r
+token-full h e = inr (record { many = h; refusal = e })
 
 pub token-went : {most : ℕ} {T : List ℕ} {f : State} {ws T′ : List ℕ} {m : ℕ} → f .tokens < most → length ws ≡ 8
     → Wrote T (8 * f .tokens) ws T′ m
     → TokenPushed most T f ws T′
-    (record { cursor = f .cursor; tokens = f .tokens + 1; errors = f .errors; text = f .text; how = f .how })
+    (record { cursor = f .cursor; tokens = f .tokens + 1; errors = f .errors; text = f .text; refusal = f .refusal })
 token-went {f = f} {m = m} h l w =
     let e : 8 * (f .tokens + 1) ≡ m = omega (arith, w .count) in
-    inl (record { few = h; cursor = refl; tokens = refl; errors = refl; text = refl; how = refl; wrote = rw e w })
+    inl (record { few = h; cursor = refl; tokens = refl; errors = refl; text = refl; refusal = refl; wrote = rw e w })
 
 error-words : Err → List ℕ
 error-words e = e .number ∷ e .place .line ∷ e .place .column ∷ 0 ∷ []
@@ -40,8 +40,8 @@ pub record Pushing (E₀ : List ℕ) (f : State) (count : ℕ) (e : Err) (total 
   pub wide : 1024 ≤ length E
   pub wrote : Wrote E₀ (4 * f .errors) (errors-words (replicate (i - f .errors) e)) E (4 * i)
 
-pub errors-full : {E : List ℕ} {f r : State} (n : ℕ) (e : Err) → 255 < f .errors + n → r .how ≡ 7 → ErrorsPushed E f (replicate n e) E r
-errors-full n e h k = inr (record { many = omega (arith, length-replicate n e); how = k })
+pub errors-full : {E : List ℕ} {f r : State} (n : ℕ) (e : Err) → 255 < f .errors + n → r .refusal ≡ 7 → ErrorsPushed E f (replicate n e) E r
+errors-full n e h k = inr (record { many = omega (arith, length-replicate n e); refusal = k })
 
 pub pushing : {E : List ℕ} {f : State} {n : ℕ} {e : Err} {total : ℕ} → total ≡ f .errors + n → total ≤ 255
     → 1024 ≤ length E → Pushing E f n e total E (f .errors)
@@ -69,7 +69,7 @@ module _ {E₀ : List ℕ} {f : State} {n : ℕ} {e : Err} {total : ℕ} {E : Li
 
   pub pushing-end : total ≤ i
       → ErrorsPushed E₀ f (replicate n e) E
-      (record { cursor = f .cursor; tokens = f .tokens; errors = total; text = f .text; how = f .how })
+      (record { cursor = f .cursor; tokens = f .tokens; errors = total; text = f .text; refusal = f .refusal })
   pushing-end h =
       let y : i ≡ total = omega (arith, q .high) in
       let z : i - f .errors ≡ n = omega (arith, q .sum, q .high) in
@@ -79,6 +79,6 @@ module _ {E₀ : List ℕ} {f : State} {n : ℕ} {e : Err} {total : ℕ} {E : Li
         tokens = refl;
         errors = omega (arith, q .sum, length-replicate n e);
         text = refl;
-        how = refl;
+        refusal = refl;
         wrote = rw (z, y) at (q .wrote);
       })

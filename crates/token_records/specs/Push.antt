@@ -16,12 +16,12 @@ pub record ErrorsWent (E : List ℕ) (f : State) (es : List Err) (E′ : List �
   pub tokens : r .tokens ≡ f .tokens
   pub errors : r .errors ≡ f .errors + length es
   pub text : r .text ≡ f .text
-  pub how : r .how ≡ f .how
+  pub refusal : r .refusal ≡ f .refusal
   pub wrote : Wrote E (4 * f .errors) (errors-words es) E′ (4 * r .errors)
 
 pub record ErrorsFull (f : State) (es : List Err) (r : State) : Type 0 where
   pub many : 255 < f .errors + length es
-  pub how : r .how ≡ 7
+  pub refusal : r .refusal ≡ 7
 
 abbrev pub ErrorsPushed : List ℕ → State → List Err → List ℕ → State → Type 0
 ErrorsPushed E f es E′ r = ErrorsWent E f es E′ r ⊎ ErrorsFull f es r
@@ -32,12 +32,12 @@ pub record TokenWent (most : ℕ) (T : List ℕ) (f : State) (ws : List ℕ) (T�
   pub tokens : r .tokens ≡ f .tokens + 1
   pub errors : r .errors ≡ f .errors
   pub text : r .text ≡ f .text
-  pub how : r .how ≡ f .how
+  pub refusal : r .refusal ≡ f .refusal
   pub wrote : Wrote T (8 * f .tokens) ws T′ (8 * r .tokens)
 
 pub record TokenFull (most : ℕ) (f r : State) : Type 0 where
   pub many : most ≤ f .tokens
-  pub how : r .how ≡ 6
+  pub refusal : r .refusal ≡ 6
 
 abbrev pub TokenPushed : ℕ → List ℕ → State → List ℕ → List ℕ → State → Type 0
 TokenPushed most T f ws T′ r = TokenWent most T f ws T′ r ⊎ TokenFull most f r

@@ -27,7 +27,7 @@ pub struct State {
     pub tokens: usize,
     pub errors: usize,
     pub text: usize,
-    pub how: u32,
+    pub refusal: u32,
 }
 
 // Half of a token's record, or an error's.
@@ -76,7 +76,7 @@ pub fn push_token(
     let k = st.tokens;
     if most <= k {
         return State {
-            how: refusal::TOKENS,
+            refusal: refusal::TOKENS,
             ..st
         };
     }
@@ -109,7 +109,7 @@ pub fn push_errors(
     let total = st.errors + count;
     if limit::TOKEN_ERRORS < total {
         return State {
-            how: refusal::TOKEN_ERRORS,
+            refusal: refusal::TOKEN_ERRORS,
             ..st
         };
     }

@@ -87,9 +87,9 @@ pub within-limit : (cs : List Ch) → Z.tokenize cs ≡ Z.tokenize-within 2048 c
 unfolding Z.tokenize
 within-limit cs = refl
 
-pub ran-done : {cs : List Ch} {T E X : List ℕ} {f : State} → Ran 2048 cs T E X f → f .how ≡ 0 → Done 2048 cs T E X f
+pub ran-done : {cs : List Ch} {T E X : List ℕ} {f : State} → Ran 2048 cs T E X f → f .refusal ≡ 0 → Done 2048 cs T E X f
 ran-done (inl d) n = d
-ran-done (inr d) n = absurd (omega (arith, d .how, n))
+ran-done (inr d) n = absurd (omega (arith, d .refusal, n))
 
 answer-eq : {a a′ b b′ c c′ : ℕ} {x x′ y y′ w w′ : List ℕ} → a ≡ a′ → b ≡ b′ → c ≡ c′ → x ≡ x′ → y ≡ y′ → w ≡ w′
     → _≡_ {A = Tokenised} (record { number = 0; tokens = a; errors = b; bytes = c; toks = x; errs = y; text = w })
@@ -103,19 +103,19 @@ module _ (s T E X : List ℕ) {v : Bool} (h : length s ≤ 16384) (e : v ≡ utf
 
   module _ {T₁ E₁ X₁ T₂ E₂ X₂ : List ℕ} {f : State} (g : Ran 2048 (rest s origin) T₁ E₁ X₁ f)
       (lt : length T₁ ≡ length T) (le : length E₁ ≡ length E) (lx : length X₁ ≡ length X) where
-    pub refused-answer : {r : Tokenized} → (f .how ≡ 0 → ⊥) → Cleared T₁ 0 T₂ → Cleared E₁ 0 E₂ → Cleared X₁ 0 X₂
-        → r ≡ refusal-of (f .how) → answer r T₂ E₂ X₂ ≡ tokenise s T E X
+    pub refused-answer : {r : Tokenized} → (f .refusal ≡ 0 → ⊥) → Cleared T₁ 0 T₂ → Cleared E₁ 0 E₂ → Cleared X₁ 0 X₂
+        → r ≡ refusal-of (f .refusal) → answer r T₂ E₂ X₂ ≡ tokenise s T E X
     refused-answer {r} m a b c q = go g
       where
         go : Ran 2048 (rest s origin) T₁ E₁ X₁ f → answer r T₂ E₂ X₂ ≡ tokenise s T E X
-        go (inl d) = absurd (m (d .few .how))
+        go (inl d) = absurd (m (d .few .refusal))
         go (inr d) =
             let x = cleared-filled T 0 [] a refl lt (omega arith) in
             let y = cleared-filled E 0 [] b refl le (omega arith) in
             let z = cleared-filled X 0 [] c refl lx (omega arith) in
             rw (q, x, y, z) (sym (ran ∙ ap (tokenised T E X) (d .is)))
 
-    pub accepted-answer : f .how ≡ 0 → Cleared T₁ (8 * f .tokens) T₂ → Cleared E₁ (4 * f .errors) E₂ → Cleared X₁ (f .text) X₂
+    pub accepted-answer : f .refusal ≡ 0 → Cleared T₁ (8 * f .tokens) T₂ → Cleared E₁ (4 * f .errors) E₂ → Cleared X₁ (f .text) X₂
         → answer (record { number = 0; tokens = f .tokens; errors = f .errors; bytes = f .text }) T₂ E₂ X₂
         ≡ tokenise s T E X
     accepted-answer m a b c =

@@ -95,13 +95,13 @@ pub record Looping (most : ℕ) (s T₀ E₀ X₀ T E X : List ℕ) (f : State) 
 
 pub loop-start : {most : ℕ} {s T E X : List ℕ}
     → Stands s origin × (length s ≤ 16384) × (8 * most ≤ length T) × (1024 ≤ length E) × (16384 ≤ length X)
-    → Looping most s T E X T E X (record { cursor = origin; tokens = 0; errors = 0; text = 0; how = 0 })
+    → Looping most s T E X T E X (record { cursor = origin; tokens = 0; errors = 0; text = 0; refusal = 0 })
 unfolding tokens-words tokens-text errors-words Z.tokenize-within
 loop-start {s = s} p = record {
   ready =
       record {
         asks = record { stands = p .0; small = p .1; room = omega arith; wide = p .4 };
-        few = record { tokens = omega arith; errors = omega arith; how = refl };
+        few = record { tokens = omega arith; errors = omega arith; refusal = refl };
         wide = p .2;
       };
   wide = p .3;
@@ -138,19 +138,19 @@ module _ {most : ℕ} {s T₀ E₀ X₀ T E X : List ℕ} {f : State} (q : Loopi
     at-turn = sym (q .is) ∙ rw (rest-head (q .ready .asks .stands) h) (from-cons most (q .n) (q .ts) (q .es) (char s (f .cursor)) _)
 
     pub loop-stop : {r : State} {T′ E′ X′ : List ℕ} → Taken most (turn-of (rest s (f .cursor))) s f T E X r T′ E′ X′
-        → (r .how ≡ 0 → ⊥) → Ran most (rest s origin) T′ E′ X′ r
-    loop-stop (inl x) z = absurd (z (x .went .few .how))
+        → (r .refusal ≡ 0 → ⊥) → Ran most (rest s origin) T′ E′ X′ r
+    loop-stop (inl x) z = absurd (z (x .went .few .refusal))
     loop-stop (inr x) z =
         inr (record {
           is = at-turn
               ∙ ap (next most (q .n) (q .ts) (q .es)) (rw (q .holds .errors, q .holds .tokens) at (x .is));
-          how = x .how;
+          refusal = x .refusal;
         })
 
     pub onward : {r : State} {T′ E′ X′ : List ℕ} → Taken most (turn-of (rest s (f .cursor))) s f T E X r T′ E′ X′
-        → r .how ≡ 0 → Onward most (turn-of (rest s (f .cursor))) s f T E X r T′ E′ X′
+        → r .refusal ≡ 0 → Onward most (turn-of (rest s (f .cursor))) s f T E X r T′ E′ X′
     onward (inl x) z = x
-    onward (inr x) z = absurd (omega (arith, x .how, z))
+    onward (inr x) z = absurd (omega (arith, x .refusal, z))
 
     loop-next : {r : State} {T′ E′ X′ : List ℕ} → Onward most (turn-of (rest s (f .cursor))) s f T E X r T′ E′ X′
         → (m : ℕ) → m ≡ q .n → Looping most s T₀ E₀ X₀ T′ E′ X′ r
@@ -207,5 +207,5 @@ module _ {most : ℕ} {s T₀ E₀ X₀ T E X : List ℕ} {f : State} (q : Loopi
         }
 
     pub loop-more : {r : State} {T′ E′ X′ : List ℕ} → Taken most (turn-of (rest s (f .cursor))) s f T E X r T′ E′ X′
-        → r .how ≡ 0 → Looping most s T₀ E₀ X₀ T′ E′ X′ r
+        → r .refusal ≡ 0 → Looping most s T₀ E₀ X₀ T′ E′ X′ r
     loop-more g z = loop-next (onward g z) (q .n) refl

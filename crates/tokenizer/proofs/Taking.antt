@@ -76,7 +76,7 @@ module _ {s : List ℕ} (st : State) {c : Cursor} {d : ℕ} {k : Class} (x : Cla
     strict = omega (arith, g .forward, z .wide);
     less = omega (arith, g .shorter, ap length (z .chars));
   })
-  taken {most} (inr g) = inr (record { is = ap (bounded most (st .errors) (st .tokens)) of-turn ∙ g .is; how = g .how })
+  taken {most} (inr g) = inr (record { is = ap (bounded most (st .errors) (st .tokens)) of-turn ∙ g .is; refusal = g .refusal })
 
   module _ {most : ℕ} {T X : List ℕ} (a : Ready most s T X st (st .cursor)) where
     room : st .text ≤ c .at

@@ -51,8 +51,8 @@ pub record Done (most : ℕ) (cs : List Ch) (T E X : List ℕ) (f : State) : Typ
   pub room : f .text ≤ 16384
 
 pub record NotDone (most : ℕ) (cs : List Ch) (f : State) : Type 0 where
-  pub is : Z.tokenize-within most cs ≡ Z.refused (f .how)
-  pub how : 4 ≤ f .how
+  pub is : Z.tokenize-within most cs ≡ Z.refused (f .refusal)
+  pub refusal : 4 ≤ f .refusal
 
 abbrev pub Ran : ℕ → List Ch → List ℕ → List ℕ → List ℕ → State → Type 0
 Ran most cs T E X f = Done most cs T E X f ⊎ NotDone most cs f

@@ -87,7 +87,7 @@ pub fn run(most: usize, s: &[u8], tokens: &mut [u32], errors: &mut [u32], text: 
         tokens: 0,
         errors: 0,
         text: 0,
-        how: 0,
+        refusal: 0,
     };
     loop {
         let c = st.cursor;
@@ -96,7 +96,7 @@ pub fn run(most: usize, s: &[u8], tokens: &mut [u32], errors: &mut [u32], text: 
             return st;
         }
         st = turn(most, s, st, tokens, errors, text);
-        if st.how != 0 {
+        if st.refusal != 0 {
             return st;
         }
     }
@@ -140,11 +140,11 @@ pub fn tokenize(script: &[u8], tokens: &mut [u32], errors: &mut [u32], text: &mu
         return refused(refusal::SLICE_LENGTH);
     }
     let st = run(limit::TOKENS, script, tokens, errors, text);
-    if st.how != 0 {
+    if st.refusal != 0 {
         clear_words(tokens, 0);
         clear_words(errors, 0);
         clear_bytes(text, 0);
-        return refused(st.how);
+        return refused(st.refusal);
     }
     clear_words(tokens, 8 * st.tokens);
     clear_words(errors, 4 * st.errors);

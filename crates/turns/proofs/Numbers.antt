@@ -131,7 +131,7 @@ unfolding Z.dash-turn
 dash-minus p c cs e f = rw (ne-eqb _ _ e, f, Z.dash-turn)
 
 pub end-law : {most : ℕ} {s : List ℕ} {st : State} {c : Cursor} {T X : List ℕ} (p : Place) {r : State} {T′ X′ : List ℕ}
-    → length s ≤ c .at → r .how ≡ 5 → (E : List ℕ)
+    → length s ≤ c .at → r .refusal ≡ 5 → (E : List ℕ)
     → Turned most (Z.dash-turn p (rest s c)) s st c T E X r T′ E X′
 end-law {s = s} {c = c} p h e E = end-refused (ap (Z.dash-turn p) (rest-end s c h) ∙ dash-end _) e (omega arith)
 

@@ -55,33 +55,33 @@ module _ {most : ℕ} {s : List ℕ} {st : State} {c : Cursor} {T E X X₁ E₁ 
       let k : 255 < st .errors + length x = omega (arith, h, length-append (escapes (body s c .unknown) p) (Z.token-error 2 p ∷ [])) in
       ap (bounded most (st .errors) (st .tokens)) (string-open p (body s c) f) ∙ rw (lt-leb (st .errors + length x) 255 k)
 
-  pub string-full-law : {T′ E′ X′ : List ℕ} → (e .how ≡ 0 → ⊥) → Turned most (Z.string-turn p (body s c)) s st c T E X e T′ E′ X′
+  pub string-full-law : {T′ E′ X′ : List ℕ} → (e .refusal ≡ 0 → ⊥) → Turned most (Z.string-turn p (body s c)) s st c T E X e T′ E′ X′
   string-full-law {T′} {E′} {X′} h = go g
     where
       go : ErrorsPushed E (at-cursor st (q .cursor)) (escapes (q .unknown) p) E₁ e
           → Turned most (Z.string-turn p (body s c)) s st c T E X e T′ E′ X′
-      go (inl x) = absurd (h (x .how ∙ a .few .how))
+      go (inl x) = absurd (h (x .refusal ∙ a .few .refusal))
       go (inr x) =
           inr (record {
-            is = too-many (rw (u .unknown) at (x .many)) (body s c .closed) refl ∙ ap refused (sym (x .how));
-            how = omega (arith, x .how);
+            is = too-many (rw (u .unknown) at (x .many)) (body s c .closed) refl ∙ ap refused (sym (x .refusal));
+            refusal = omega (arith, x .refusal);
           })
 
-  module _ (h : e .how ≡ 0) where
+  module _ (h : e .refusal ≡ 0) where
     pub escapes-went : ErrorsWent E (at-cursor st (q .cursor)) (escapes (q .unknown) p) E₁ e
     escapes-went = go g
       where
         go : ErrorsPushed E (at-cursor st (q .cursor)) (escapes (q .unknown) p) E₁ e
             → ErrorsWent E (at-cursor st (q .cursor)) (escapes (q .unknown) p) E₁ e
         go (inl x) = x
-        go (inr x) = absurd (omega (arith, x .how, h))
+        go (inr x) = absurd (omega (arith, x .refusal, h))
 
     pub escapes-few : Few most e
     escapes-few =
         record {
           tokens = omega (arith, escapes-went .tokens, a .few .tokens);
           errors = omega (arith, escapes-went .errors, escapes-went .few);
-          how = h;
+          refusal = h;
         }
 
     pub string-closed-law : {T′ : List ℕ} {r : State} → q .closed ≡ true
@@ -96,7 +96,7 @@ module _ {most : ℕ} {s : List ℕ} {st : State} {c : Cursor} {T E X X₁ E₁ 
           tokens = z .tokens;
           errors = z .errors;
           few = omega (arith, z .errors, z .few);
-          how = h;
+          refusal = h;
           room = u .room;
           errs = z .wrote;
           text = u .wrote;
@@ -116,7 +116,7 @@ module _ {most : ℕ} {s : List ℕ} {st : State} {c : Cursor} {T E X X₁ E₁ 
           tokens = z .tokens;
           errors = z .errors;
           few = omega (arith, z .errors, z .few);
-          how = h;
+          refusal = h;
           room = omega (arith, a .asks .room, u .passed .forward);
           errs = z .wrote;
           text = wrote-back l (u .wrote);

@@ -114,7 +114,7 @@ pub record On (s : List ℕ) (st : State) (c : Cursor) (E X : List ℕ) (cs : Li
   pub tokens : f .tokens ≡ st .tokens
   pub errors : f .errors ≡ st .errors + length es
   pub few : f .errors ≤ 255
-  pub how : f .how ≡ 0
+  pub refusal : f .refusal ≡ 0
   pub room : f .text ≤ f .cursor .at
   pub errs : Wrote E (4 * st .errors) (errors-words es) E′ (4 * f .errors)
   pub text : Wrote X (st .text) t X′ (f .text)
@@ -131,7 +131,7 @@ on-text {st = st} w p x r =
       tokens = refl;
       errors = omega arith;
       few = w .errors;
-      how = w .how;
+      refusal = w .refusal;
       room = r;
       errs = wrote-none;
       text = x;
@@ -164,15 +164,15 @@ module _ {most : ℕ} {t : Turn} {s : List ℕ} {st : State} {c : Cursor} {T E X
             record {
               tokens = omega (arith, p .tokens, p .few, o .tokens);
               errors = omega (arith, p .errors, o .few);
-              how = p .how ∙ o .how;
+              refusal = p .refusal ∙ o .refusal;
             };
       })
   end-token {k} {f} {r = r} o e (inr p) =
       let x : leb (st .errors + length es) 255 ≡ true = le-leb (st .errors + length es) 255 (omega (arith, o .errors, o .few)) in
       let y : leb (st .tokens + 1) most ≡ false = lt-leb (st .tokens + 1) most (omega (arith, p .many, o .tokens)) in
       inr (record {
-        is = ap (bounded most (st .errors) (st .tokens)) e ∙ rw (x, y) (ap refused (sym (p .how)));
-        how = omega (arith, p .how);
+        is = ap (bounded most (st .errors) (st .tokens)) e ∙ rw (x, y) (ap refused (sym (p .refusal)));
+        refusal = omega (arith, p .refusal);
       })
 
   pub end-errors : {fs : List Err} {f : State} {E′ X′ E″ : List ℕ} {r : State} → On s st c E X cs es [] f E′ X′
@@ -199,13 +199,13 @@ module _ {most : ℕ} {t : Turn} {s : List ℕ} {st : State} {c : Cursor} {T E X
             record {
               tokens = omega (arith, p .tokens, o .tokens, w .tokens);
               errors = omega (arith, p .errors, p .few);
-              how = p .how ∙ o .how;
+              refusal = p .refusal ∙ o .refusal;
             };
       })
   end-errors {fs} {f} {r = r} o e (inr p) =
       let x : leb (st .errors + length (es ++ fs)) 255 ≡ false = lt-leb (st .errors + length (es ++ fs)) 255
       (omega (arith, o .errors, p .many, length-append es fs)) in
-      inr (record { is = ap (bounded most (st .errors) (st .tokens)) e ∙ rw x (ap refused (sym (p .how))); how = omega (arith, p .how) })
+      inr (record { is = ap (bounded most (st .errors) (st .tokens)) e ∙ rw x (ap refused (sym (p .refusal))); refusal = omega (arith, p .refusal) })
 
   pub end-nothing : {f : State} {E′ X′ : List ℕ} → On s st c E X cs es [] f E′ X′ → t ≡ goes cs es [] → Turned most t s st c T E X f T E′ X′
   unfolding tokens-words tokens-text
@@ -224,15 +224,15 @@ module _ {most : ℕ} {t : Turn} {s : List ℕ} {st : State} {c : Cursor} {T E X
         tokens = omega (arith, o .tokens);
         errors = o .errors;
         room = o .room;
-        few = record { tokens = omega (arith, o .tokens, w .tokens); errors = o .few; how = o .how };
+        few = record { tokens = omega (arith, o .tokens, w .tokens); errors = o .few; refusal = o .refusal };
       })
 
 pub end-refused : {most : ℕ} {t : Turn} {s : List ℕ} {st : State} {c : Cursor} {T E X : List ℕ} {r : State}
     {T′ E′ X′ : List ℕ} {k : ℕ}
-    → t ≡ refused k → r .how ≡ k → 4 ≤ k → Turned most t s st c T E X r T′ E′ X′
+    → t ≡ refused k → r .refusal ≡ k → 4 ≤ k → Turned most t s st c T E X r T′ E′ X′
 end-refused {most} {st = st} e h l =
     inr
-    (record { is = ap (bounded most (st .errors) (st .tokens)) e ∙ ap refused (sym h); how = omega (arith, h) })
+    (record { is = ap (bounded most (st .errors) (st .tokens)) e ∙ ap refused (sym h); refusal = omega (arith, h) })
 
 -- ---- the words of a token
 
@@ -276,7 +276,7 @@ turned-on e p (inl g) = inl (record {
   room = g .room;
   few = g .few;
 })
-turned-on {most} {st = st} e p (inr g) = inr (record { is = ap (bounded most (st .errors) (st .tokens)) e ∙ g .is; how = g .how })
+turned-on {most} {st = st} e p (inr g) = inr (record { is = ap (bounded most (st .errors) (st .tokens)) e ∙ g .is; refusal = g .refusal })
 
 -- after a text that is taken back
 pub turned-back : {most : ℕ} {t : Turn} {s : List ℕ} {st : State} {c : Cursor} {T E X X₁ : List ℕ} {u : List ℕ} {m : ℕ}

@@ -110,7 +110,7 @@ asm-run s w cs p k t e =
 
 module _ {most : ℕ} {s : List ℕ} {st : State} {c w : Cursor} {b : ℕ} (p : Place)
     (pw : Passed s c (blanks (rest s c)) w) (k : b ≡ Z.look (rest s w)) where
-  pub asm-foreign-law : {T E X : List ℕ} {r : State} {T′ E′ X′ : List ℕ} → 127 < b → r .how ≡ 4
+  pub asm-foreign-law : {T E X : List ℕ} {r : State} {T′ E′ X′ : List ℕ} → 127 < b → r .refusal ≡ 4
       → Turned most (Z.assembly-turn p (Z.white (rest s c))) s st c T E X r T′ E′ X′
   asm-foreign-law h e = end-refused (ap (Z.assembly-turn p) (asm-run s w _ (pw .is) k true (lt-ltb _ _ h)) ∙ asm-foreign p) e (omega arith)
 
@@ -189,7 +189,7 @@ module _ {most : ℕ} {s : List ℕ} {st : State} {c : Cursor} {T X X₁ X₂ : 
   taken-is : taken st w X₂ ≡ first ∷ letters (rest s c) .text
   taken-is = part-of within written (omega (arith, sp .room, sp .passed .stands .inside, a .asks .wide, a .asks .small))
 
-  pub word-foreign-law : {E : List ℕ} {r : State} {T′ E′ X′ : List ℕ} → 127 < b → r .how ≡ 4
+  pub word-foreign-law : {E : List ℕ} {r : State} {T′ E′ X′ : List ℕ} → 127 < b → r .refusal ≡ 4
       → Turned most (turn-at p first (rest s c)) s st c T E X r T′ E′ X′
   word-foreign-law h e =
       end-refused (ap (Z.word-turn p) (word-run s (w .cursor) _ first (sp .passed .is) k true (lt-ltb _ _ h))

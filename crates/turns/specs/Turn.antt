@@ -17,7 +17,7 @@ use Rattle.token_records.specs.declared.State.{State}
 
 -- the state at another place, and with more text
 abbrev pub at-text : State → Cursor → ℕ → State
-at-text f c n = record { cursor = c; tokens = f .tokens; errors = f .errors; text = n; how = f .how }
+at-text f c n = record { cursor = c; tokens = f .tokens; errors = f .errors; text = n; refusal = f .refusal }
 
 abbrev pub at-cursor : State → Cursor → State
 at-cursor f c = at-text f c (f .text)
@@ -30,7 +30,7 @@ token-record c kind start size base = kind ∷ c .line ∷ c .column ∷ start �
 pub record Few (most : ℕ) (f : State) : Type 0 where
   pub tokens : f .tokens ≤ most
   pub errors : f .errors ≤ 255
-  pub how : f .how ≡ 0
+  pub refusal : f .refusal ≡ 0
 
 -- what a turn asks: the state before it, and the place c after what it has read
 pub record Ready (most : ℕ) (s T X : List ℕ) (f : State) (c : Cursor) : Type 0 where
@@ -60,8 +60,8 @@ pub record Went (most : ℕ) (t : Turn) (s : List ℕ) (f : State) (c : Cursor) 
   pub few : Few most r
 
 pub record Stopped (most : ℕ) (t : Turn) (f r : State) : Type 0 where
-  pub is : bounded most (f .errors) (f .tokens) t ≡ refused (r .how)
-  pub how : 4 ≤ r .how
+  pub is : bounded most (f .errors) (f .tokens) t ≡ refused (r .refusal)
+  pub refusal : 4 ≤ r .refusal
 
 abbrev pub Turned : ℕ → Turn → List ℕ → State → Cursor → List ℕ → List ℕ → List ℕ → State → List ℕ → List ℕ → List ℕ → Type 0
 Turned most t s f c T E X r T′ E′ X′ = Went most t s f c T E X r T′ E′ X′ ⊎ Stopped most t f r

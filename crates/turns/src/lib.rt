@@ -31,10 +31,10 @@ ghost use Rattle.turns.specs.Contract.{Ready, Turned, TurnedClean};
 
 // ---- how a turn ends
 
-pub fn refuse(st: State, how: u32) -> State
-    ensures { λ r. ⌜ r .how ≡ how ⌝ }
+pub fn refuse(st: State, refusal: u32) -> State
+    ensures { λ r. ⌜ r .refusal ≡ refusal ⌝ }
 {
-    State { how, ..st }
+    State { refusal, ..st }
 }
 
 // Nothing is pushed.
@@ -310,7 +310,7 @@ pub fn string_turn(
         q.unknown,
         token_error::UNKNOWN_ESCAPE,
     );
-    if e.how != 0 {
+    if e.refusal != 0 {
         return e;
     }
     if q.closed {
