@@ -51,18 +51,18 @@ pub fn expression(
     text: &[u8],
     n: usize,
     file: &mut [u8],
-    rep: &mut [usize],
+    reported: &mut [usize],
     full: &mut [usize],
     st: State,
     left: usize,
 ) -> Answer
-    requires { ⌜ Asked tokens text n file rep full st ⌝ }
-    ensures { λ r. ⌜ Parses P.parse-expression tokens text n file rep full st left r ⌝ }
+    requires { ⌜ Asked tokens text n file reported full st ⌝ }
+    ensures { λ r. ⌜ Parses P.parse-expression tokens text n file reported full st left r ⌝ }
 {
     if left == 0 {
         return refuse(n, st, refusal::NESTING);
     }
-    boolean(tokens, text, n, file, rep, full, st, left - 1)
+    boolean(tokens, text, n, file, reported, full, st, left - 1)
 }
 
 // parse_boolean_combinator: comparison [`&&` comparison]
@@ -71,15 +71,15 @@ fn boolean(
     text: &[u8],
     n: usize,
     file: &mut [u8],
-    rep: &mut [usize],
+    reported: &mut [usize],
     full: &mut [usize],
     st: State,
     left: usize,
 ) -> Answer
-    requires { ⌜ Asked tokens text n file rep full st ⌝ }
-    ensures { λ r. ⌜ Parses P.expression-rule tokens text n file rep full st left r ⌝ }
+    requires { ⌜ Asked tokens text n file reported full st ⌝ }
+    ensures { λ r. ⌜ Parses P.expression-rule tokens text n file reported full st left r ⌝ }
 {
-    let a = comparison(tokens, text, n, file, rep, full, st, left);
+    let a = comparison(tokens, text, n, file, reported, full, st, left);
     let status = a.status;
     let Status::Done = status else {
         return a;
@@ -90,8 +90,8 @@ fn boolean(
         return a;
     }
     let on = State { at: t.next, ..s };
-    let b = comparison(tokens, text, n, file, rep, full, on, left);
-    let c = abandon(rep, b, st, s);
+    let b = comparison(tokens, text, n, file, reported, full, on, left);
+    let c = abandon(reported, b, st, s);
     write_node(file, text, c, t, tag::BOOLEAN_AND, Numbers::None)
 }
 
@@ -101,15 +101,15 @@ fn comparison(
     text: &[u8],
     n: usize,
     file: &mut [u8],
-    rep: &mut [usize],
+    reported: &mut [usize],
     full: &mut [usize],
     st: State,
     left: usize,
 ) -> Answer
-    requires { ⌜ Asked tokens text n file rep full st ⌝ }
-    ensures { λ r. ⌜ Parses P.parse-comparison tokens text n file rep full st left r ⌝ }
+    requires { ⌜ Asked tokens text n file reported full st ⌝ }
+    ensures { λ r. ⌜ Parses P.parse-comparison tokens text n file reported full st left r ⌝ }
 {
-    let a = bit_or(tokens, text, n, file, rep, full, st, left);
+    let a = bit_or(tokens, text, n, file, reported, full, st, left);
     let status = a.status;
     let Status::Done = status else {
         return a;
@@ -121,8 +121,8 @@ fn comparison(
         return a;
     }
     let on = State { at: t.next, ..s };
-    let b = bit_or(tokens, text, n, file, rep, full, on, left);
-    let c = abandon(rep, b, st, s);
+    let b = bit_or(tokens, text, n, file, reported, full, on, left);
+    let c = abandon(reported, b, st, s);
     let numbers = Numbers::Byte(op - 1);
     write_node(file, text, c, t, tag::COMPARISON_BIN_OP, numbers)
 }
@@ -134,15 +134,15 @@ fn bit_or(
     text: &[u8],
     n: usize,
     file: &mut [u8],
-    rep: &mut [usize],
+    reported: &mut [usize],
     full: &mut [usize],
     st: State,
     left: usize,
 ) -> Answer
-    requires { ⌜ Asked tokens text n file rep full st ⌝ }
-    ensures { λ r. ⌜ Parses P.parse-bitwise-or tokens text n file rep full st left r ⌝ }
+    requires { ⌜ Asked tokens text n file reported full st ⌝ }
+    ensures { λ r. ⌜ Parses P.parse-bitwise-or tokens text n file reported full st left r ⌝ }
 {
-    let mut a = cast(tokens, text, n, file, rep, full, st, left);
+    let mut a = cast(tokens, text, n, file, reported, full, st, left);
     let status = a.status;
     let Status::Done = status else {
         return a;
@@ -155,7 +155,7 @@ fn bit_or(
     let mut k = 0;
     while k < LEVELS {
         let level = level_at(k);
-        a = operators(tokens, text, n, file, rep, full, level, a, st, left);
+        a = operators(tokens, text, n, file, reported, full, level, a, st, left);
         k += 1;
     }
     a
@@ -167,17 +167,17 @@ fn bit_xor(
     text: &[u8],
     n: usize,
     file: &mut [u8],
-    rep: &mut [usize],
+    reported: &mut [usize],
     full: &mut [usize],
     st: State,
     left: usize,
 ) -> Answer
-    requires { ⌜ Asked tokens text n file rep full st ⌝ }
-    ensures { λ r. ⌜ Parses P.parse-bitwise-xor tokens text n file rep full st left r ⌝ }
+    requires { ⌜ Asked tokens text n file reported full st ⌝ }
+    ensures { λ r. ⌜ Parses P.parse-bitwise-xor tokens text n file reported full st left r ⌝ }
 {
-    let a = bit_and(tokens, text, n, file, rep, full, st, left);
+    let a = bit_and(tokens, text, n, file, reported, full, st, left);
     let level = Level::BitwiseXor;
-    operators(tokens, text, n, file, rep, full, level, a, st, left)
+    operators(tokens, text, n, file, reported, full, level, a, st, left)
 }
 
 // parse_bitwise_and: shift {`&` shift}
@@ -186,17 +186,17 @@ fn bit_and(
     text: &[u8],
     n: usize,
     file: &mut [u8],
-    rep: &mut [usize],
+    reported: &mut [usize],
     full: &mut [usize],
     st: State,
     left: usize,
 ) -> Answer
-    requires { ⌜ Asked tokens text n file rep full st ⌝ }
-    ensures { λ r. ⌜ Parses P.parse-bitwise-and tokens text n file rep full st left r ⌝ }
+    requires { ⌜ Asked tokens text n file reported full st ⌝ }
+    ensures { λ r. ⌜ Parses P.parse-bitwise-and tokens text n file reported full st left r ⌝ }
 {
-    let a = shift(tokens, text, n, file, rep, full, st, left);
+    let a = shift(tokens, text, n, file, reported, full, st, left);
     let level = Level::BitwiseAnd;
-    operators(tokens, text, n, file, rep, full, level, a, st, left)
+    operators(tokens, text, n, file, reported, full, level, a, st, left)
 }
 
 // parse_bit_shift: add_sub {(`<<` | `>>`) add_sub}
@@ -205,17 +205,17 @@ fn shift(
     text: &[u8],
     n: usize,
     file: &mut [u8],
-    rep: &mut [usize],
+    reported: &mut [usize],
     full: &mut [usize],
     st: State,
     left: usize,
 ) -> Answer
-    requires { ⌜ Asked tokens text n file rep full st ⌝ }
-    ensures { λ r. ⌜ Parses P.parse-bit-shift tokens text n file rep full st left r ⌝ }
+    requires { ⌜ Asked tokens text n file reported full st ⌝ }
+    ensures { λ r. ⌜ Parses P.parse-bit-shift tokens text n file reported full st left r ⌝ }
 {
-    let a = add_sub(tokens, text, n, file, rep, full, st, left);
+    let a = add_sub(tokens, text, n, file, reported, full, st, left);
     let level = Level::BitShift;
-    operators(tokens, text, n, file, rep, full, level, a, st, left)
+    operators(tokens, text, n, file, reported, full, level, a, st, left)
 }
 
 // mul {(`+` | `-`) mul}
@@ -224,16 +224,27 @@ fn add_sub(
     text: &[u8],
     n: usize,
     file: &mut [u8],
-    rep: &mut [usize],
+    reported: &mut [usize],
     full: &mut [usize],
     st: State,
     left: usize,
 ) -> Answer
-    requires { ⌜ Asked tokens text n file rep full st ⌝ }
-    ensures { λ r. ⌜ Parses P.parse-add-sub tokens text n file rep full st left r ⌝ }
+    requires { ⌜ Asked tokens text n file reported full st ⌝ }
+    ensures { λ r. ⌜ Parses P.parse-add-sub tokens text n file reported full st left r ⌝ }
 {
-    let a = mul(tokens, text, n, file, rep, full, st, left);
-    operators(tokens, text, n, file, rep, full, Level::AddSub, a, st, left)
+    let a = mul(tokens, text, n, file, reported, full, st, left);
+    operators(
+        tokens,
+        text,
+        n,
+        file,
+        reported,
+        full,
+        Level::AddSub,
+        a,
+        st,
+        left,
+    )
 }
 
 // cast {`*` cast}
@@ -242,16 +253,27 @@ fn mul(
     text: &[u8],
     n: usize,
     file: &mut [u8],
-    rep: &mut [usize],
+    reported: &mut [usize],
     full: &mut [usize],
     st: State,
     left: usize,
 ) -> Answer
-    requires { ⌜ Asked tokens text n file rep full st ⌝ }
-    ensures { λ r. ⌜ Parses P.parse-mul tokens text n file rep full st left r ⌝ }
+    requires { ⌜ Asked tokens text n file reported full st ⌝ }
+    ensures { λ r. ⌜ Parses P.parse-mul tokens text n file reported full st left r ⌝ }
 {
-    let a = cast(tokens, text, n, file, rep, full, st, left);
-    operators(tokens, text, n, file, rep, full, Level::Mul, a, st, left)
+    let a = cast(tokens, text, n, file, reported, full, st, left);
+    operators(
+        tokens,
+        text,
+        n,
+        file,
+        reported,
+        full,
+        Level::Mul,
+        a,
+        st,
+        left,
+    )
 }
 
 // The operands of a level.
@@ -260,22 +282,22 @@ fn cascade(
     text: &[u8],
     n: usize,
     file: &mut [u8],
-    rep: &mut [usize],
+    reported: &mut [usize],
     full: &mut [usize],
     level: Level,
     st: State,
     left: usize,
 ) -> Answer
-    requires { ⌜ Asked tokens text n file rep full st ⌝ }
-    ensures { λ r. ⌜ Parses (P.cascade (level-of level)) tokens text n file rep full st left r ⌝ }
+    requires { ⌜ Asked tokens text n file reported full st ⌝ }
+    ensures { λ r. ⌜ Parses (P.cascade (level-of level)) tokens text n file reported full st left r ⌝ }
 {
     match level {
-        Level::BitwiseOr => bit_xor(tokens, text, n, file, rep, full, st, left),
-        Level::BitwiseXor => bit_and(tokens, text, n, file, rep, full, st, left),
-        Level::BitwiseAnd => shift(tokens, text, n, file, rep, full, st, left),
-        Level::BitShift => add_sub(tokens, text, n, file, rep, full, st, left),
-        Level::AddSub => mul(tokens, text, n, file, rep, full, st, left),
-        Level::Mul => cast(tokens, text, n, file, rep, full, st, left),
+        Level::BitwiseOr => bit_xor(tokens, text, n, file, reported, full, st, left),
+        Level::BitwiseXor => bit_and(tokens, text, n, file, reported, full, st, left),
+        Level::BitwiseAnd => shift(tokens, text, n, file, reported, full, st, left),
+        Level::BitShift => add_sub(tokens, text, n, file, reported, full, st, left),
+        Level::AddSub => mul(tokens, text, n, file, reported, full, st, left),
+        Level::Mul => cast(tokens, text, n, file, reported, full, st, left),
     }
 }
 
@@ -285,15 +307,15 @@ fn operators(
     text: &[u8],
     n: usize,
     file: &mut [u8],
-    rep: &mut [usize],
+    reported: &mut [usize],
     full: &mut [usize],
     level: Level,
     first: Answer,
     from: State,
     left: usize,
 ) -> Answer
-    requires { ⌜ GoesOn tokens text n file rep full first from ⌝ }
-    ensures { λ r. ⌜ ParsesOn (operators-on (level-of level)) tokens text n file rep full first from left r ⌝ }
+    requires { ⌜ GoesOn tokens text n file reported full first from ⌝ }
+    ensures { λ r. ⌜ ParsesOn (operators-on (level-of level)) tokens text n file reported full first from left r ⌝ }
 {
     let mut a = first;
     loop {
@@ -308,8 +330,8 @@ fn operators(
             return a;
         }
         let on = State { at: t.next, ..s };
-        let b = cascade(tokens, text, n, file, rep, full, level, on, left);
-        let c = abandon(rep, b, from, s);
+        let b = cascade(tokens, text, n, file, reported, full, level, on, left);
+        let c = abandon(reported, b, from, s);
         let numbers = Numbers::Byte(op - 1);
         a = write_node(file, text, c, t, tag::ARITHMETIC_BIN_OP, numbers);
     }
@@ -321,15 +343,15 @@ fn cast(
     text: &[u8],
     n: usize,
     file: &mut [u8],
-    rep: &mut [usize],
+    reported: &mut [usize],
     full: &mut [usize],
     st: State,
     left: usize,
 ) -> Answer
-    requires { ⌜ Asked tokens text n file rep full st ⌝ }
-    ensures { λ r. ⌜ Parses P.parse-cast tokens text n file rep full st left r ⌝ }
+    requires { ⌜ Asked tokens text n file reported full st ⌝ }
+    ensures { λ r. ⌜ Parses P.parse-cast tokens text n file reported full st left r ⌝ }
 {
-    let mut a = operand(tokens, text, n, file, rep, full, st, left);
+    let mut a = operand(tokens, text, n, file, reported, full, st, left);
     loop {
         let status = a.status;
         let Status::Done = status else {
@@ -341,8 +363,8 @@ fn cast(
             return a;
         }
         let on = State { at: t.next, ..s };
-        let b = ty(tokens, text, n, file, rep, full, on, left);
-        let c = abandon(rep, b, st, s);
+        let b = ty(tokens, text, n, file, reported, full, on, left);
+        let c = abandon(reported, b, st, s);
         a = write_node(file, text, c, t, tag::CAST, Numbers::None);
     }
 }
@@ -353,18 +375,18 @@ fn operand(
     text: &[u8],
     n: usize,
     file: &mut [u8],
-    rep: &mut [usize],
+    reported: &mut [usize],
     full: &mut [usize],
     st: State,
     left: usize,
 ) -> Answer
-    requires { ⌜ Asked tokens text n file rep full st ⌝ }
-    ensures { λ r. ⌜ Parses P.parse-unary tokens text n file rep full st left r ⌝ }
+    requires { ⌜ Asked tokens text n file reported full st ⌝ }
+    ensures { λ r. ⌜ Parses P.parse-unary tokens text n file reported full st left r ⌝ }
 {
     let t = peek(tokens, text, n, st.at);
     let u = peek(tokens, text, n, t.next);
     if (left == 0) | !name_alone(t.kind, u.kind) {
-        return unary(tokens, text, n, file, rep, full, st, left);
+        return unary(tokens, text, n, file, reported, full, st, left);
     }
     name(file, text, st, t)
 }
@@ -375,13 +397,13 @@ fn unary(
     text: &[u8],
     n: usize,
     file: &mut [u8],
-    rep: &mut [usize],
+    reported: &mut [usize],
     full: &mut [usize],
     st: State,
     left: usize,
 ) -> Answer
-    requires { ⌜ Asked tokens text n file rep full st ⌝ }
-    ensures { λ r. ⌜ Parses P.parse-unary tokens text n file rep full st left r ⌝ }
+    requires { ⌜ Asked tokens text n file reported full st ⌝ }
+    ensures { λ r. ⌜ Parses P.parse-unary tokens text n file reported full st left r ⌝ }
 {
     if left == 0 {
         return refuse(n, st, refusal::NESTING);
@@ -389,10 +411,10 @@ fn unary(
     let t = peek(tokens, text, n, st.at);
     let tag = prefix(t.kind);
     if tag == 0 {
-        return call(tokens, text, n, file, rep, full, st, left - 1);
+        return call(tokens, text, n, file, reported, full, st, left - 1);
     }
     let on = State { at: t.next, ..st };
-    let a = unary(tokens, text, n, file, rep, full, on, left - 1);
+    let a = unary(tokens, text, n, file, reported, full, on, left - 1);
     let place = Token {
         line: a.line,
         column: a.column,
@@ -407,15 +429,15 @@ fn call(
     text: &[u8],
     n: usize,
     file: &mut [u8],
-    rep: &mut [usize],
+    reported: &mut [usize],
     full: &mut [usize],
     st: State,
     left: usize,
 ) -> Answer
-    requires { ⌜ Asked tokens text n file rep full st ⌝ }
-    ensures { λ r. ⌜ Parses P.parse-call tokens text n file rep full st left r ⌝ }
+    requires { ⌜ Asked tokens text n file reported full st ⌝ }
+    ensures { λ r. ⌜ Parses P.parse-call tokens text n file reported full st left r ⌝ }
 {
-    let a = sizeof(tokens, text, n, file, rep, full, st, left);
+    let a = sizeof(tokens, text, n, file, reported, full, st, left);
     let status = a.status;
     let Status::Done = status else {
         return a;
@@ -425,7 +447,17 @@ fn call(
     if t.kind != kind::L_PAREN {
         return a;
     }
-    let b = list(tokens, text, n, file, rep, full, Listed::Arguments, s, left);
+    let b = list(
+        tokens,
+        text,
+        n,
+        file,
+        reported,
+        full,
+        Listed::Arguments,
+        s,
+        left,
+    );
     let c = silence(b, s.reported);
     let place = Token {
         line: a.line,
@@ -441,27 +473,27 @@ fn sizeof(
     text: &[u8],
     n: usize,
     file: &mut [u8],
-    rep: &mut [usize],
+    reported: &mut [usize],
     full: &mut [usize],
     st: State,
     left: usize,
 ) -> Answer
-    requires { ⌜ Asked tokens text n file rep full st ⌝ }
-    ensures { λ r. ⌜ Parses P.parse-sizeof tokens text n file rep full st left r ⌝ }
+    requires { ⌜ Asked tokens text n file reported full st ⌝ }
+    ensures { λ r. ⌜ Parses P.parse-sizeof tokens text n file reported full st left r ⌝ }
 {
     let t = peek(tokens, text, n, st.at);
     if t.kind != kind::KW_SIZEOF {
-        return access(tokens, text, n, file, rep, full, st, left);
+        return access(tokens, text, n, file, reported, full, st, left);
     }
     let on = State { at: t.next, ..st };
-    let a = expect(tokens, text, n, rep, full, on, kind::L_PAREN);
+    let a = expect(tokens, text, n, reported, full, on, kind::L_PAREN);
     let status = a.status;
     let Status::Done = status else {
         return a;
     };
     let s = a.state;
-    let b = ty(tokens, text, n, file, rep, full, s, left);
-    let c = and_expect(tokens, text, n, rep, full, b, kind::R_PAREN, st);
+    let b = ty(tokens, text, n, file, reported, full, s, left);
+    let c = and_expect(tokens, text, n, reported, full, b, kind::R_PAREN, st);
     write_node(file, text, c, t, tag::SIZEOF, Numbers::None)
 }
 
@@ -471,15 +503,15 @@ fn access(
     text: &[u8],
     n: usize,
     file: &mut [u8],
-    rep: &mut [usize],
+    reported: &mut [usize],
     full: &mut [usize],
     st: State,
     left: usize,
 ) -> Answer
-    requires { ⌜ Asked tokens text n file rep full st ⌝ }
-    ensures { λ r. ⌜ Parses P.parse-field-access-or-index tokens text n file rep full st left r ⌝ }
+    requires { ⌜ Asked tokens text n file reported full st ⌝ }
+    ensures { λ r. ⌜ Parses P.parse-field-access-or-index tokens text n file reported full st left r ⌝ }
 {
-    let mut a = atom(tokens, text, n, file, rep, full, st, left);
+    let mut a = atom(tokens, text, n, file, reported, full, st, left);
     loop {
         let status = a.status;
         let Status::Done = status else {
@@ -495,7 +527,7 @@ fn access(
             }
             if u.kind != kind::IDENTIFIER {
                 let error = entry(parse_error::IDENTIFIER, u.line, u.column, 0, 0);
-                let b = note(n, rep, full, on, error);
+                let b = note(n, reported, full, on, error);
                 let h = b.status;
                 let e = b.state;
                 return Answer {
@@ -528,9 +560,9 @@ fn access(
         if t.kind != kind::L_BRACKET {
             return a;
         }
-        let b = expression(tokens, text, n, file, rep, full, on, left);
-        let c = abandon(rep, b, st, s);
-        let d = and_expect(tokens, text, n, rep, full, c, kind::R_BRACKET, st);
+        let b = expression(tokens, text, n, file, reported, full, on, left);
+        let c = abandon(reported, b, st, s);
+        let d = and_expect(tokens, text, n, reported, full, c, kind::R_BRACKET, st);
         a = write_node(file, text, d, t, tag::INDEX, Numbers::None);
     }
 }
@@ -541,21 +573,21 @@ fn atom(
     text: &[u8],
     n: usize,
     file: &mut [u8],
-    rep: &mut [usize],
+    reported: &mut [usize],
     full: &mut [usize],
     st: State,
     left: usize,
 ) -> Answer
-    requires { ⌜ Asked tokens text n file rep full st ⌝ }
-    ensures { λ r. ⌜ Parses P.parse-atom tokens text n file rep full st left r ⌝ }
+    requires { ⌜ Asked tokens text n file reported full st ⌝ }
+    ensures { λ r. ⌜ Parses P.parse-atom tokens text n file reported full st left r ⌝ }
 {
     let t = peek(tokens, text, n, st.at);
     if t.kind != kind::L_PAREN {
-        return literal(tokens, text, n, file, rep, full, st);
+        return literal(tokens, text, n, file, reported, full, st);
     }
     let on = State { at: t.next, ..st };
-    let a = expression(tokens, text, n, file, rep, full, on, left);
-    close(tokens, text, n, rep, full, a)
+    let a = expression(tokens, text, n, file, reported, full, on, left);
+    close(tokens, text, n, reported, full, a)
 }
 
 // ---- names
@@ -605,13 +637,13 @@ pub fn ty(
     text: &[u8],
     n: usize,
     file: &mut [u8],
-    rep: &mut [usize],
+    reported: &mut [usize],
     full: &mut [usize],
     st: State,
     left: usize,
 ) -> Answer
-    requires { ⌜ Asked tokens text n file rep full st ⌝ }
-    ensures { λ r. ⌜ Parses P.parse-type tokens text n file rep full st left r ⌝ }
+    requires { ⌜ Asked tokens text n file reported full st ⌝ }
+    ensures { λ r. ⌜ Parses P.parse-type tokens text n file reported full st left r ⌝ }
 {
     if left == 0 {
         return refuse(n, st, refusal::NESTING);
@@ -628,24 +660,24 @@ pub fn ty(
         return write_text_node(file, text, a, t, tag::NAME, Numbers::None, t);
     }
     if t.kind == kind::STAR {
-        let a = ty(tokens, text, n, file, rep, full, on, left - 1);
+        let a = ty(tokens, text, n, file, reported, full, on, left - 1);
         return write_node(file, text, a, t, tag::POINTER, Numbers::None);
     }
     if t.kind == kind::L_BRACKET {
-        return array(tokens, text, n, file, rep, full, t, on, left - 1);
+        return array(tokens, text, n, file, reported, full, t, on, left - 1);
     }
     if t.kind == kind::KW_STRUCT {
         let what = Listed::StructFields;
-        let a = list(tokens, text, n, file, rep, full, what, on, left - 1);
+        let a = list(tokens, text, n, file, reported, full, what, on, left - 1);
         let b = silence(a, st.reported);
         return write_node(file, text, b, t, tag::STRUCT, Numbers::Two(a.line));
     }
     if t.kind == kind::END {
         let error = entry(parse_error::TYPE_AT_END, 0, 0, 0, 0);
-        return raise(n, rep, full, on, error);
+        return raise(n, reported, full, on, error);
     }
     let error = entry(parse_error::TYPE, t.line, t.column, 0, t.kind);
-    raise(n, rep, full, on, error)
+    raise(n, reported, full, on, error)
 }
 
 // Behind `[`: the size, `]`, the type.
@@ -654,20 +686,20 @@ fn array(
     text: &[u8],
     n: usize,
     file: &mut [u8],
-    rep: &mut [usize],
+    reported: &mut [usize],
     full: &mut [usize],
     lead: Token,
     st: State,
     left: usize,
 ) -> Answer
-    requires { ⌜ Asked tokens text n file rep full st × ((lead .line < 65536) × (lead .column < 65536)) ⌝ }
-    ensures { λ r. ⌜ Parses (P.parse-array-type (place-of lead)) tokens text n file rep full st left r ⌝ }
+    requires { ⌜ Asked tokens text n file reported full st × ((lead .line < 65536) × (lead .column < 65536)) ⌝ }
+    ensures { λ r. ⌜ Parses (P.parse-array-type (place-of lead)) tokens text n file reported full st left r ⌝ }
 {
     let t = peek(tokens, text, n, st.at);
     let on = State { at: t.next, ..st };
     if t.kind != kind::INTEGER {
         let error = entry(parse_error::ARRAY_SIZE, lead.line, lead.column, 0, 0);
-        return raise(n, rep, full, on, error);
+        return raise(n, reported, full, on, error);
     }
     let size = array_size(text, t.start, t.len, t.base);
     if !size.fits {
@@ -678,15 +710,15 @@ fn array(
             0,
             0,
         );
-        return raise(n, rep, full, on, error);
+        return raise(n, reported, full, on, error);
     }
-    let a = expect(tokens, text, n, rep, full, on, kind::R_BRACKET);
+    let a = expect(tokens, text, n, reported, full, on, kind::R_BRACKET);
     let status = a.status;
     let Status::Done = status else {
         return a;
     };
     let s = a.state;
-    let b = ty(tokens, text, n, file, rep, full, s, left);
+    let b = ty(tokens, text, n, file, reported, full, s, left);
     let numbers = Numbers::Eight(size.number);
     write_node(file, text, b, lead, tag::ARRAY, numbers)
 }
@@ -697,25 +729,25 @@ fn typed(
     text: &[u8],
     n: usize,
     file: &mut [u8],
-    rep: &mut [usize],
+    reported: &mut [usize],
     full: &mut [usize],
     j: usize,
     st: State,
     left: usize,
 ) -> Answer
-    requires { ⌜ Asked tokens text n file rep full st × (j ≤ st .reported) ⌝ }
-    ensures { λ r. ⌜ TypedOn tokens text n file rep full j st left r ⌝ }
+    requires { ⌜ Asked tokens text n file reported full st × (j ≤ st .reported) ⌝ }
+    ensures { λ r. ⌜ TypedOn tokens text n file reported full j st left r ⌝ }
 {
-    let a = expect(tokens, text, n, rep, full, st, kind::COLON);
+    let a = expect(tokens, text, n, reported, full, st, kind::COLON);
     let from = State { reported: j, ..st };
-    let b = abandon(rep, a, from, st);
+    let b = abandon(reported, a, from, st);
     let status = b.status;
     let Status::Done = status else {
         return b;
     };
     let s = b.state;
-    let c = ty(tokens, text, n, file, rep, full, s, left);
-    abandon(rep, c, from, s)
+    let c = ty(tokens, text, n, file, reported, full, s, left);
+    abandon(reported, c, from, s)
 }
 
 // parse_typed_identifier: name `:` type. The name is that of the first token.
@@ -724,31 +756,31 @@ pub fn typed_name(
     text: &[u8],
     n: usize,
     file: &mut [u8],
-    rep: &mut [usize],
+    reported: &mut [usize],
     full: &mut [usize],
     st: State,
     left: usize,
 ) -> Answer
-    requires { ⌜ Asked tokens text n file rep full st ⌝ }
-    ensures { λ r. ⌜ ReadsTyped tokens text n file rep full st left r ⌝ }
+    requires { ⌜ Asked tokens text n file reported full st ⌝ }
+    ensures { λ r. ⌜ ReadsTyped tokens text n file reported full st left r ⌝ }
 {
     let t = peek(tokens, text, n, st.at);
     let on = State { at: t.next, ..st };
     if t.kind == kind::IDENTIFIER {
-        return typed(tokens, text, n, file, rep, full, st.reported, on, left);
+        return typed(tokens, text, n, file, reported, full, st.reported, on, left);
     }
     if t.kind == kind::END {
         let error = entry(parse_error::END_OF_FILE, 0, 0, 0, 0);
-        return raise(n, rep, full, on, error);
+        return raise(n, reported, full, on, error);
     }
     let error = entry(parse_error::IDENTIFIER, t.line, t.column, 0, 0);
-    let b = note(n, rep, full, on, error);
+    let b = note(n, reported, full, on, error);
     let status = b.status;
     let Status::Done = status else {
         return b;
     };
     let s = b.state;
-    typed(tokens, text, n, file, rep, full, st.reported, s, left)
+    typed(tokens, text, n, file, reported, full, st.reported, s, left)
 }
 
 // ---- lists
@@ -759,15 +791,15 @@ fn named(
     text: &[u8],
     n: usize,
     file: &mut [u8],
-    rep: &mut [usize],
+    reported: &mut [usize],
     full: &mut [usize],
     st: State,
     left: usize,
 ) -> Answer
-    requires { ⌜ Asked tokens text n file rep full st ⌝ }
-    ensures { λ r. ⌜ Parses P.parse-named-type tokens text n file rep full st left r ⌝ }
+    requires { ⌜ Asked tokens text n file reported full st ⌝ }
+    ensures { λ r. ⌜ Parses P.parse-named-type tokens text n file reported full st left r ⌝ }
 {
-    let a = typed_name(tokens, text, n, file, rep, full, st, left);
+    let a = typed_name(tokens, text, n, file, reported, full, st, left);
     bare_name(tokens, text, n, file, a, tag::NAMED_TYPE, st.at)
 }
 
@@ -777,23 +809,23 @@ fn field(
     text: &[u8],
     n: usize,
     file: &mut [u8],
-    rep: &mut [usize],
+    reported: &mut [usize],
     full: &mut [usize],
     st: State,
     left: usize,
 ) -> Answer
-    requires { ⌜ Asked tokens text n file rep full st ⌝ }
-    ensures { λ r. ⌜ Parses P.parse-compound-struct-field tokens text n file rep full st left r ⌝ }
+    requires { ⌜ Asked tokens text n file reported full st ⌝ }
+    ensures { λ r. ⌜ Parses P.parse-compound-struct-field tokens text n file reported full st left r ⌝ }
 {
     let t = peek(tokens, text, n, st.at);
-    let a = expect_identifier(tokens, text, n, rep, full, st);
-    let b = and_expect(tokens, text, n, rep, full, a, kind::EQUALS, st);
+    let a = expect_identifier(tokens, text, n, reported, full, st);
+    let b = and_expect(tokens, text, n, reported, full, a, kind::EQUALS, st);
     let status = b.status;
     let Status::Done = status else {
         return b;
     };
     let s = b.state;
-    let c = expression(tokens, text, n, file, rep, full, s, left);
+    let c = expression(tokens, text, n, file, reported, full, s, left);
     let place = Token {
         line: b.line,
         column: b.column,
@@ -808,21 +840,21 @@ fn item(
     text: &[u8],
     n: usize,
     file: &mut [u8],
-    rep: &mut [usize],
+    reported: &mut [usize],
     full: &mut [usize],
     what: Listed,
     st: State,
     left: usize,
 ) -> Answer
-    requires { ⌜ Asked tokens text n file rep full st ⌝ }
-    ensures { λ r. ⌜ Parses (P.item (listed-of what)) tokens text n file rep full st left r ⌝ }
+    requires { ⌜ Asked tokens text n file reported full st ⌝ }
+    ensures { λ r. ⌜ Parses (P.item (listed-of what)) tokens text n file reported full st left r ⌝ }
 {
     match what {
-        Listed::Parameters => named(tokens, text, n, file, rep, full, st, left),
-        Listed::Arguments => expression(tokens, text, n, file, rep, full, st, left),
-        Listed::StructFields => named(tokens, text, n, file, rep, full, st, left),
-        Listed::ArrayValues => expression(tokens, text, n, file, rep, full, st, left),
-        Listed::StructValues => field(tokens, text, n, file, rep, full, st, left),
+        Listed::Parameters => named(tokens, text, n, file, reported, full, st, left),
+        Listed::Arguments => expression(tokens, text, n, file, reported, full, st, left),
+        Listed::StructFields => named(tokens, text, n, file, reported, full, st, left),
+        Listed::ArrayValues => expression(tokens, text, n, file, reported, full, st, left),
+        Listed::StructValues => field(tokens, text, n, file, reported, full, st, left),
     }
 }
 
@@ -832,17 +864,17 @@ pub fn list(
     text: &[u8],
     n: usize,
     file: &mut [u8],
-    rep: &mut [usize],
+    reported: &mut [usize],
     full: &mut [usize],
     what: Listed,
     st: State,
     left: usize,
 ) -> Answer
-    requires { ⌜ Asked tokens text n file rep full st ⌝ }
-    ensures { λ r. ⌜ ReadsList (listed-of what) tokens text n file rep full st left r ⌝ }
+    requires { ⌜ Asked tokens text n file reported full st ⌝ }
+    ensures { λ r. ⌜ ReadsList (listed-of what) tokens text n file reported full st left r ⌝ }
 {
     let open = opener(what);
-    let a = expect(tokens, text, n, rep, full, st, open);
+    let a = expect(tokens, text, n, reported, full, st, open);
     let status = a.status;
     if let Status::Refused(_) = status {
         return a;
@@ -854,7 +886,7 @@ pub fn list(
         let t = peek(tokens, text, n, s.at);
         if t.kind == kind::END {
             let error = entry(parse_error::LIST_AT_END, 0, 0, 0, 0);
-            let b = note(n, rep, full, s, error);
+            let b = note(n, reported, full, s, error);
             let h = b.status;
             let e = b.state;
             return Answer {
@@ -872,13 +904,13 @@ pub fn list(
                 column: 0,
             };
         }
-        let b = item(tokens, text, n, file, rep, full, what, s, left);
+        let b = item(tokens, text, n, file, reported, full, what, s, left);
         let h = b.status;
         let e = b.state;
         if let Status::Refused(_) = h {
             return b;
         }
-        let c = comma(tokens, text, n, rep, full, e, close);
+        let c = comma(tokens, text, n, reported, full, e, close);
         let g = c.status;
         let Status::Done = g else {
             return c;

@@ -118,7 +118,7 @@ module _ {A : Type 0} {K : View A} {w x : List ℕ} {n : ℕ} {o r f : List ℕ}
             read = g .read;
             is = g .is;
             tree = tree-join T rs (K .recs (g .item)) t (g .tree);
-            rep = errs-join E es (g .errors) e (g .rep);
+            reported = errs-join E es (g .errors) e (g .reported);
             holds = g .holds;
           }
       one Fatal z g = absurd (never z)
@@ -158,7 +158,7 @@ module _ {w x : List ℕ} {n d i j : ℕ} {o r f : List ℕ} {a : Answer} {t : T
           (wrapped items (g .item .recs) (g .errors) 0x24 (λ _. g .item .place) (λ i. two (i .count) ∷ []) [])
           (λ i. rw append-nil) (st-of w x n f (g .read) (a .state))))
           (finishes d (λ _. g .item .place) (λ i. two (i .count) ∷ []) [] F (λ i e. rw (e, g .holds))
-          (rebased (B .never) (g .item .recs) (g .errors) (g .tree) (g .rep)
+          (rebased (B .never) (g .item .recs) (g .errors) (g .tree) (g .reported)
           (drops d (B .never) (errs-length r (a .state .reported) (omega arith)) (B .moved .reported) (B .is (g .read)))));
     }
 
@@ -317,7 +317,7 @@ module _ {w x : List ℕ} {n : ℕ} {o r f r1 f1 : List ℕ} {a y : Answer} (d :
 
       more : (es : List Err) → errs r1 (v .b .state .reported) ≡ errs r (a .state .reported) ++ es
           → errs r1 (v .b .state .reported) ≡ E ++ (g .errors ++ es)
-      more es e = errs-join E (g .errors) es (g .rep) e
+      more es e = errs-join E (g .errors) es (g .reported) e
 
       tree : take (v .b .state .pos) o ≡ T ++ recs-bytes (g .item .recs)
       tree = ap (λ (l : ℕ). take l o) (v .expects .pos) ∙ g .tree
@@ -334,7 +334,7 @@ module _ {w x : List ℕ} {n : ℕ} {o r f r1 f1 : List ℕ} {a y : Answer} (d :
               read = t .read;
               is = step ∙ rw (t .is);
               tree = tree;
-              rep = more (t .errors) (t .rep);
+              reported = more (t .errors) (t .reported);
               holds = g .holds;
             });
           })
@@ -346,7 +346,7 @@ module _ {w x : List ℕ} {n : ℕ} {o r f r1 f1 : List ℕ} {a y : Answer} (d :
               read = t .read;
               is = step ∙ rw (t .is);
               tree = tree;
-              rep = more (t .errors) (t .rep);
+              reported = more (t .errors) (t .reported);
               holds = g .holds;
             });
           })
@@ -367,7 +367,7 @@ module _ {w x : List ℕ} {n : ℕ} {o r f r1 f1 : List ℕ} {a y : Answer} (d :
 
       more : (es : List Err) → errs r1 (v .b .state .reported) ≡ errs r (a .state .reported) ++ es
           → errs r1 (v .b .state .reported) ≡ E ++ (g .errors ++ es)
-      more es e = errs-join E (g .errors) es (g .rep) e
+      more es e = errs-join E (g .errors) es (g .reported) e
 
       tree : take (v .b .state .pos) o ≡ T
       tree = ap (λ (l : ℕ). take l o) (v .expects .pos) ∙ g .tree
@@ -383,7 +383,7 @@ module _ {w x : List ℕ} {n : ℕ} {o r f r1 f1 : List ℕ} {a y : Answer} (d :
               read = t .read;
               is = step ∙ rw (t .is);
               tree = tree;
-              rep = more (t .errors) (t .rep);
+              reported = more (t .errors) (t .reported);
             });
           })
       one Fatal h m t =
@@ -393,7 +393,7 @@ module _ {w x : List ℕ} {n : ℕ} {o r f r1 f1 : List ℕ} {a y : Answer} (d :
               read = t .read;
               is = step ∙ rw (t .is);
               tree = tree;
-              rep = more (t .errors) (t .rep);
+              reported = more (t .errors) (t .reported);
             });
           })
       one (Refused k) h m t = rw m (record { told = rw h (step ∙ rw t) })

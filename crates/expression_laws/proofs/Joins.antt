@@ -75,7 +75,7 @@ module _ {w x : List ℕ} {n i j : ℕ} {o r f : List ℕ} {a : Answer} (q : Goe
           read = g .read;
           is = refl;
           tree = g .tree;
-          rep = g .rep;
+          reported = g .reported;
           holds = g .holds;
         }));
   }
@@ -119,7 +119,7 @@ module _ {A : Type 0} {K : View A} {w x : List ℕ} {n d i j : ℕ} {o r f o1 r1
   joined {T} {E} li lj g rd =
       say (go-bind d m (or-return (both (record { item = g .item; errors = g .errors }))) _)
       (finishes d (λ _. p) (λ _. ns) [] F (λ _ _. made)
-      (abandons {T = T} {E = E} (g .tree) (g .rep) li lj (errs-length r (a .state .reported) (omega arith)) C
+      (abandons {T = T} {E = E} (g .tree) (g .reported) li lj (errs-length r (a .state .reported) (omega arith)) C
       (omega (arith, q .pos, B .moved .pos)) (omega (arith, q .reported, B .moved .reported)) (B .is rd)))
 
   module _ {k : Fallible Node → Act (Ans Node)} (past : List Consumed → List Consumed) where

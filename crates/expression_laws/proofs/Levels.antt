@@ -147,7 +147,7 @@ pub record Levelled (w x : List ℕ) (n d : ℕ) (s : State) (o r f : List ℕ) 
   pub few : k ≤ 6
   pub forward : s .at ≤ y .state .at
   pub file : length o1 ≡ length o
-  pub rep : length r1 ≡ length r
+  pub reported : length r1 ≡ length r
   pub full : length f1 ≡ length f
   pub on : GoesOn w x n o1 r1 f1 y (s .pos) (s .reported)
   pub reads : {o0 r0 f0 : List ℕ} → Asked w x n o0 r0 f0 s → Reads node w x n d P.parse-cast o0 r0 f0 s o r f a
@@ -162,7 +162,7 @@ all-levels R = R
 module _ {w x : List ℕ} {n d : ℕ} {s : State} {o r f : List ℕ} {a : Answer} where
   pub levels-start : s .at ≤ a .state .at → GoesOn w x n o r f a (s .pos) (s .reported) → Levelled w x n d s o r f a o r f a 0
   unfolding operand-at
-  levels-start h g = record { few = omega arith; forward = h; file = refl; rep = refl; full = refl; on = g; reads = λ q R. R }
+  levels-start h g = record { few = omega arith; forward = h; file = refl; reported = refl; full = refl; on = g; reads = λ q R. R }
 
   module _ {o1 r1 f1 : List ℕ} {y : Answer} {k : ℕ} (z : Levelled w x n d s o r f a o1 r1 f1 y k) where
     pub levels-more : {l : A.Level} {o2 r2 f2 : List ℕ} {y′ : Answer} → k < 6 → l ≡ level-at k
@@ -174,7 +174,7 @@ module _ {w x : List ℕ} {n d : ℕ} {s : State} {o r f : List ℕ} {a : Answer
       few = omega arith;
       forward = omega (arith, z .forward, g .moved .at);
       file = p ∙ z .file;
-      rep = q ∙ z .rep;
+      reported = q ∙ z .reported;
       full = t ∙ z .full;
       on = goes-further (z .on) g p q t;
       reads = λ asked R. rw (add-one, operand-at) (then-asked (operators-on (level-at k)) asked (z .reads asked R) (rw e at g));

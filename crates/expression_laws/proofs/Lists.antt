@@ -116,11 +116,11 @@ module _ {w x : List ℕ} {n wanted : ℕ} (k : A.Listed) {o r f r1 f1 : List �
           (λ z S. go d (loop (ListOf k (P.no-items (P.errors-of z))) done >>= as-answer) S))
       one rd Done h i =
           rw (i .is)
-          (u .is (i .read) (take (s .pos) o) (errs r (s .reported)) (P.no-items (i .errors)) (i .tree) (i .rep)
+          (u .is (i .read) (take (s .pos) o) (errs r (s .reported)) (P.no-items (i .errors)) (i .tree) (i .reported)
           refl)
       one rd Fatal h i =
           rw (i .is) (u .is (i .read) (take (s .pos) o) (errs r (s .reported)) (P.no-items (i .errors))
-          (i .tree ∙ sym (append-nil (take (s .pos) o))) (i .rep) refl)
+          (i .tree ∙ sym (append-nil (take (s .pos) o))) (i .reported) refl)
       one rd (Refused m) h i = absurd (⊎-elim (λ z. omega arith) (λ z. omega arith) h)
 
 -- ---- its loop
@@ -195,7 +195,7 @@ module _ {w x : List ℕ} {n count : ℕ} (k : A.Listed) {o r f : List ℕ} {s :
               say (j .is ∙ ap (answered d) (i .is) ∙ sym (go-bind d (listed-on k (with-errors (j .list) (i .errors))) as-answer _))
               (h .is (i .read) T E (with-errors (j .list) (i .errors))
               (ap (λ (p : ℕ). take p o1) (g .pos) ∙ j .tree)
-              (errs-join E (j .list .errors) (i .errors) (j .rep) (i .rep)) (j .counts ∙ sym (cm .is)));
+              (errs-join E (j .list .errors) (i .errors) (j .reported) (i .reported)) (j .counts ∙ sym (cm .is)));
         }
 
 -- ---- what their calls ask for

@@ -74,7 +74,7 @@ module _ {w x : List ℕ} {n d count : ℕ} (on : Items → Act Items) {o r f : 
             read = past w x n (s .at) rd;
             is = go-bind d (on l) as-answer _ ∙ ap (answered d) (step rd l);
             tree = et;
-            rep = ee;
+            reported = ee;
             holds = ec;
           };
         };
@@ -105,7 +105,7 @@ module _ {w x : List ℕ} {n d count : ℕ} (on : Items → Act Items) {o r f : 
             read = rd;
             is = made ∙ ap (answered d) (makes (q .0 .asks) g d (done (P.with-error l (unpack e))) rd h);
             tree = et;
-            rep = errs-join E (l .errors) (unpack e ∷ []) ee (g .rep h);
+            reported = errs-join E (l .errors) (unpack e ∷ []) ee (g .reported h);
             holds = ec;
           };
         })
@@ -120,7 +120,7 @@ pub record Joined (w x : List ℕ) (n d : ℕ) (next : Items → Act Items) (T :
   pub read : List Consumed
   pub is : q ≡ answered d (go d (next list) (st-of w x n f read (b .state)))
   pub tree : take (b .state .pos) o ≡ T ++ recs-bytes (list .recs)
-  pub rep : errs r (b .state .reported) ≡ E ++ list .errors
+  pub reported : errs r (b .state .reported) ≡ E ++ list .errors
   pub counts : list .count ≡ count-of (b .status) count
 
 -- Of the loop `on`, where a turn at s reads an item by the act m and goes on with `next`.
@@ -157,7 +157,7 @@ module _ {w x : List ℕ} {n d : ℕ} {o r f o1 r1 f1 : List ℕ} {s : State} {b
             read = i .read;
             is = item-first rd l ∙ rw (i .is);
             tree = tree-join T (l .recs) (i .item .recs) et (i .tree);
-            rep = errs-join E (l .errors) (i .errors) ee (i .rep);
+            reported = errs-join E (l .errors) (i .errors) ee (i .reported);
             counts = rw z (omega (arith, ec));
           }
       one Fatal z h i =
@@ -166,7 +166,7 @@ module _ {w x : List ℕ} {n d : ℕ} {o r f o1 r1 f1 : List ℕ} {s : State} {b
             read = i .read;
             is = item-first rd l ∙ rw (i .is);
             tree = i .tree ∙ et;
-            rep = errs-join E (l .errors) (i .errors) ee (i .rep);
+            reported = errs-join E (l .errors) (i .errors) ee (i .reported);
             counts = rw z ec;
           }
       one (Refused m) z h i = absurd (⊎-elim (λ z. omega arith) (λ z. omega arith) h)
@@ -182,7 +182,7 @@ module _ {w x : List ℕ} {n d : ℕ} {o r f o1 r1 f1 : List ℕ} {s : State} {b
     is =
         λ rd T E l et ee ec. let j = joined on on m step u alive rd T E l et ee ec in
         say (j .is ∙ sym (go-bind d (on (j .list)) as-answer _))
-        (h .is (j .read) T E (j .list) (j .tree) (j .rep) (j .counts ∙ sym (ck .is)));
+        (h .is (j .read) T E (j .list) (j .tree) (j .reported) (j .counts ∙ sym (ck .is)));
   }
 
 -- what the next turn asks for: an item that a token begins passes it

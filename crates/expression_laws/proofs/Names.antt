@@ -145,10 +145,10 @@ typed-shows {T} {E} {es} {w} {x} {n} {o} {r} {f} {a} {q} d name v = record { tol
           read = g .read;
           is = rw (g .is);
           tree = g .tree;
-          rep = g .rep;
+          reported = g .reported;
           holds = refl;
         }
-    one Fatal g = record { errors = g .errors; read = g .read; is = rw (g .is); tree = g .tree; rep = g .rep }
+    one Fatal g = record { errors = g .errors; read = g .read; is = rw (g .is); tree = g .tree; reported = g .reported }
     one (Refused u) g = rw g
 
 module _ {w x : List ℕ} {n : ℕ} {o r f : List ℕ} {s : State} (q : Asked w x n o r f s) where
@@ -156,8 +156,8 @@ module _ {w x : List ℕ} {n : ℕ} {o r f : List ℕ} {s : State} (q : Asked w 
   pub len-pos : length (take (s .pos) o) ≡ s .pos
   len-pos = length-take-le (s .pos) o (omega (arith, q .room))
 
-  pub len-rep : length (errs r (s .reported)) ≡ s .reported
-  len-rep = errs-length r (s .reported) (omega (arith, q .asks))
+  pub len-reported : length (errs r (s .reported)) ≡ s .reported
+  len-reported = errs-length r (s .reported) (omega (arith, q .asks))
 
 module _ {w x : List ℕ} {n d j : ℕ} {o r f r1 f1 r2 : List ℕ} {s : State} {a b : Answer}
     (q : Asked w x n o r f s × (j ≤ s .reported))
@@ -174,7 +174,7 @@ module _ {w x : List ℕ} {n d j : ℕ} {o r f r1 f1 r2 : List ℕ} {s : State} 
             λ rd name E es le h. say (go-bind d (P.expect 49) (or-return (colon-on name es)) _)
             (stops d (colon-on name es) _ nd
             (abandons {T = take (s .pos) o} {E = E} {rs = []} {es = es} (sym (append-nil _)) h (len-pos (q .0))
-            le (len-rep (q .0)) v (e .moved .pos) (omega (arith, q .1, e .moved .reported)) (e .is plain d rd o)));
+            le (len-reported (q .0)) v (e .moved .pos) (omega (arith, q .1, e .moved .reported)) (e .is plain d rd o)));
       }
 
   module _ {o3 r3 f3 r4 : List ℕ} {c y : Answer} where
@@ -197,7 +197,7 @@ module _ {w x : List ℕ} {n d j : ℕ} {o r f r1 f1 r2 : List ℕ} {s : State} 
               ∙ go-bind d P.parse-type (or-return (type-on name es)) _)
               (typed-shows d name (abandons {T = take (s .pos) o} {E = E} {rs = []} {es = es}
               (ap (λ (i : ℕ). take i o) (e .pos) ∙ sym (append-nil _)) (e .kept z .1 ∙ h) (len-pos (q .0)) le
-              (ap length (e .kept z .1) ∙ len-rep (q .0) ∙ sym (e .kept z .0)) k
+              (ap length (e .kept z .1) ∙ len-reported (q .0) ∙ sym (e .kept z .0)) k
               (omega (arith, e .moved .pos, u .moved .pos))
               (omega (arith, q .1, e .moved .reported, u .moved .reported)) (u .is (g rd .read))));
         }
@@ -243,7 +243,7 @@ module _ {w x : List ℕ} {n : ℕ} {o r f : List ℕ} {s : State} {t : Token} (
     is =
         λ rd. renamed (rw (eq-eqb _ _ (v .kind ∙ z))) (say (rw (run, yes v z)
         (ap (λ (S : St). go d (P.typed (next-token (rest w x n (s .at)) .text) []) S) (adv s v (λ _. plain) f rd)))
-        (u .is (past w x n (s .at) rd) (next-token (rest w x n (s .at)) .text) (errs r (s .reported)) [] (len-rep q)
+        (u .is (past w x n (s .at) rd) (next-token (rest w x n (s .at)) .text) (errs r (s .reported)) [] (len-reported q)
         (sym (append-nil _))));
   }
 
@@ -301,8 +301,8 @@ module _ {w x : List ℕ} {n : ℕ} {o r f : List ℕ} {s : State} {t : Token} (
             is =
                 λ rd. renamed {u′ = ascii "<?>"} (rw (ne-eqb _ _ (λ y. m1 (sym (v .kind) ∙ y))))
                 (say (unnamed d rd ∙ makes (asks-fore (q .asks) v) g d _ _ (h .0))
-                (k .is (past w x n (s .at) rd) (ascii "<?>") (errs r (s .reported)) (unpack e ∷ []) (len-rep q)
-                (g .rep (h .0))));
+                (k .is (past w x n (s .at) rd) (ascii "<?>") (errs r (s .reported)) (unpack e ∷ []) (len-reported q)
+                (g .reported (h .0))));
           }
 
 -- ---- `named`
@@ -328,10 +328,10 @@ bare-shows {T} {E} {w} {x} {n} {at} {o} {r} {f} {o′} {a} {y} {q} d u v = recor
           read = g .read;
           is = rw (g .is, u .at, u .full);
           tree = wrote T (g .item .type) (m .1 .0) (g .tree) (rw (g .holds));
-          rep = ap (λ (k : ℕ). errs r k) (u .reported) ∙ g .rep;
+          reported = ap (λ (k : ℕ). errs r k) (u .reported) ∙ g .reported;
           holds = sym (rw (m .1 .1 .0, m .1 .1 .1));
         })
-    one Fatal z m g = rw (m .0, m .1, z) (record { errors = g .errors; read = g .read; is = rw (g .is); tree = g .tree; rep = g .rep })
+    one Fatal z m g = rw (m .0, m .1, z) (record { errors = g .errors; read = g .read; is = rw (g .is); tree = g .tree; reported = g .reported })
     one (Refused k) z m g = rw (m .0, z, g)
 
 module _ {w x : List ℕ} {n d : ℕ} {o r f o1 r1 f1 : List ℕ} {s : State} {a : Answer} (q : Asked w x n o r f s)
@@ -369,7 +369,7 @@ pub record Met (w x : List ℕ) (n k : ℕ) (r f : List ℕ) (a : Answer) (r′ 
   pub there : a .status ≡ Done
   pub pos : y .state .pos ≡ a .state .pos
   pub reported : y .state .reported ≡ a .state .reported
-  pub rep : errs r′ (y .state .reported) ≡ errs r (a .state .reported)
+  pub kept : errs r′ (y .state .reported) ≡ errs r (a .state .reported)
   pub line : y .line ≡ a .line
   pub column : y .column ≡ a .column
   pub item : ℕ → List Consumed → Fallible Tok
@@ -396,7 +396,7 @@ expected-there {w} {x} {n} {k} {i} {j} {r} {f} {r′} {f′} {a} {y} v z = one (
           there = e;
           pos = rw st (F .expects .pos);
           reported = rw st (F .expects .kept zb .0);
-          rep = rw (st, h .1) (F .expects .kept zb .1);
+          kept = rw (st, h .1) (F .expects .kept zb .1);
           line = rw (F .is);
           column = rw (F .is);
           item = λ d rd. record { item = g d rd .item; errors = g d rd .errors };
@@ -422,7 +422,7 @@ relined {A} {K} {T} {E} {w} {x} {n} {l} {m} {o} {r} {f} {a} {q} nd v = record { 
     one : (h : Status) → OneOf (1 ∷ 2 ∷ []) (tagOf the-type h) → ShowsOf h K T E [] [] w x n o r f a q
         → ShowsOf h K T E [] [] w x n o r f (record { status = a .status; state = a .state; line = l; column = m }) q
     one Done nd g = absurd (⊎-elim (λ z. omega arith) (λ z. omega arith) nd)
-    one Fatal nd g = record { errors = g .errors; read = g .read; is = g .is; tree = g .tree; rep = g .rep }
+    one Fatal nd g = record { errors = g .errors; read = g .read; is = g .is; tree = g .tree; reported = g .reported }
     one (Refused u) nd g = g
 
 pub expected-stops : {A B : Type 0} {K : View A} {L : View B} {T : List ℕ} {E : List Err} {w x : List ℕ} {n k i j : ℕ}
@@ -442,7 +442,7 @@ expected-stops {A} {B} {K} {L} {T} {E} {w} {x} {n} {k} {i} {j} {o} {r} {f} {r′
         say (follows d (λ e. P.expect k >>? on e) (g .is)
         ∙ go-bind d (P.expect k) (or-return (on (record { item = g .item; errors = g .errors }))) _)
         (rw (F .is) (relined nc (stops d (on (record { item = g .item; errors = g .errors })) _ nc
-        (abandons {T = T} {E = E} (g .tree) (g .rep) li lj
+        (abandons {T = T} {E = E} (g .tree) (g .reported) li lj
         (errs-length r (a .state .reported) (omega (arith, p .asks))) (F .abandoned)
         (omega (arith, p .pos, F .expects .moved .pos))
         (omega (arith, p .reported, F .expects .moved .reported)) (F .expects .is plain d (g .read) o)))))
@@ -479,7 +479,7 @@ module _ {w x : List ℕ} {n : ℕ} {o r f r1 f1 : List ℕ} {s : State} {t : To
       on = omega (arith, e .on, u .moved .at);
       is =
           λ rd. say (go-bind d P.expect-identifier (or-return field-on) _)
-          (expected-stops d equals-on (field-follows l k) u nd (len-pos q) (len-rep q) (e .is plain d rd o));
+          (expected-stops d equals-on (field-follows l k) u nd (len-pos q) (len-reported q) (e .is plain d rd o));
     }
 
     module _ {d : ℕ} {o3 r3 f3 : List ℕ} {c : Answer} (z : b .status ≡ Done)
@@ -526,7 +526,7 @@ module _ {w x : List ℕ} {n : ℕ} {o r f r1 f1 : List ℕ} {s : State} {t : To
           ∙ go-bind d P.parse-expression (or-return (value-on (id rd))) _
           ∙ ap (λ (k : Tok). after (go d P.parse-expression (st-of w x n f2 (m .read d (g rd .read)) (b .state)))
           (λ z S. go d (or-return (value-on (record { item = k; errors = [] })) z) S)) (g rd .holds .0))
-          (λ rd. shown-from h (m .pos ∙ e .pos) (m .rep ∙ e .kept (m .there) .1) (m .read d (g rd .read)))
+          (λ rd. shown-from h (m .pos ∙ e .pos) (m .kept ∙ e .kept (m .there) .1) (m .read d (g rd .read)))
 
 -- ---- what their calls ask for
 

@@ -83,7 +83,7 @@ module _ {w x : List ℕ} {n d i j : ℕ} {o r f o2 o3 r3 f3 : List ℕ} {a y y�
           read = rd′ (g .read);
           is = refl;
           tree = ap (λ (k : ℕ). take k o) e1 ∙ g .tree;
-          rep = ap (λ (k : ℕ). errs r k) e2 ∙ g .rep;
+          reported = ap (λ (k : ℕ). errs r k) e2 ∙ g .reported;
           holds = g .holds;
         }))));
   }
@@ -239,7 +239,7 @@ module _ {w x : List ℕ} {n d i j : ℕ} {o r f : List ℕ} {a : Answer} {t : T
                   is = makes q2 g d (P.good (h2 .item) (h2 .errors ++ (unpack e ∷ [])))
                       (past-two w x n (a .state .at) (t .next) (h2 .read)) l;
                   tree = h2 .tree;
-                  rep = errs-join E (h2 .errors) (unpack e ∷ []) (h2 .rep) (g .rep l);
+                  reported = errs-join E (h2 .errors) (unpack e ∷ []) (h2 .reported) (g .reported l);
                   holds = h2 .holds;
                 };
               })
@@ -316,7 +316,7 @@ module _ {w x : List ℕ} {n d i j : ℕ} {o r f : List ℕ} {a : Answer} {t : T
           (G .is T E _ li lj
           (finishes d (λ _. pl) (λ _. []) [] F (λ _ _. rw (u .place))
           (expects-after (index-asks B C lr lf) X plain d li lj
-          (abandons {T = T} {E = E} (g .tree) (g .rep) li lj (errs-length r (a .state .reported) (omega arith)) C
+          (abandons {T = T} {E = E} (g .tree) (g .reported) li lj (errs-length r (a .state .reported) (omega arith)) C
           (omega (arith, q .pos, B .moved .pos)) (omega (arith, q .reported, B .moved .reported))
           (B .is (past w x n (a .state .at) (g .read)))))));
     }

@@ -17,13 +17,13 @@ Shown = List ℕ → List ℕ → List ℕ → Answer → Type 0
 -- The slices are as long as they were, no token is read again, and what the rest of the loop shows from here (Q), the whole shows from its start (P).
 pub record Turned (P Q : Shown) (o r f o1 r1 f1 : List ℕ) (from at : ℕ) : Type 0 where
   pub file : length o1 ≡ length o
-  pub rep : length r1 ≡ length r
+  pub reported : length r1 ≡ length r
   pub full : length f1 ≡ length f
   pub on : from ≤ at
   pub rest : {o′ r′ f′ : List ℕ} {y : Answer} → Q o′ r′ f′ y → P o′ r′ f′ y
 
 pub at-start : {P : Shown} {o r f : List ℕ} {k : ℕ} → Turned P P o r f o r f k k
-at-start = record { file = refl; rep = refl; full = refl; on = omega arith; rest = λ g. g }
+at-start = record { file = refl; reported = refl; full = refl; on = omega arith; rest = λ g. g }
 
 pub one-turn : {P Q R : Shown} {o r f o1 r1 f1 o2 r2 f2 : List ℕ} {k m l : ℕ}
     → Turned P Q o r f o1 r1 f1 k m → length o2 ≡ length o1 → length r2 ≡ length r1 → length f2 ≡ length f1
@@ -31,7 +31,7 @@ pub one-turn : {P Q R : Shown} {o r f o1 r1 f1 o2 r2 f2 : List ℕ} {k m l : ℕ
 one-turn t a b c h q =
     record {
       file = omega (arith, t .file, a);
-      rep = omega (arith, t .rep, b);
+      reported = omega (arith, t .reported, b);
       full = omega (arith, t .full, c);
       on = omega (arith, t .on, h);
       rest = λ g. t .rest (q _ _ _ _ g);

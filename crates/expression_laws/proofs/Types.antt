@@ -179,7 +179,7 @@ drops {A} {K} {T} {E} {w} {x} {n} {j} {o} {r} {f} {a} {q} d nf le hj v = record 
           read = g .read;
           is = rw (g .is);
           tree = g .tree;
-          rep = errs-take r j (a .state .reported) hj ∙ ap (λ (l : List Err). take j l) (g .rep)
+          reported = errs-take r j (a .state .reported) hj ∙ ap (λ (l : List Err). take j l) (g .reported)
               ∙ take-at E (g .errors) j le ∙ sym (append-nil E);
           holds = g .holds;
         }

@@ -34,7 +34,7 @@ made h n s l p = record {
         column = 0;
       }) (p .is)
       ∙ sym (rw (lt-ltb (s .full) 255 l));
-  rep = λ _. p .rep;
+  reported = λ _. p .reported;
   full = λ _. p .full;
 }
 
@@ -44,7 +44,7 @@ pub none-made : (h : Status) (n : ℕ) (s : State) {r f : List ℕ} {e : ℕ} {a
 none-made h n s l z =
     record {
       is = z ∙ sym (rw (le-ltb (s .full) 255 l));
-      rep = λ k. absurd (omega (arith, k));
+      reported = λ k. absurd (omega (arith, k));
       full = λ k. absurd (omega (arith, k));
     }
 
@@ -84,5 +84,5 @@ cut {r} {r′} {a} {i} {j} {k} {t} c h p =
       high = omega arith;
       first = omega arith;
       last = omega arith;
-      is = rw h (record { status = refl; pos = refl; reported = m; is = p .rep });
+      is = rw h (record { status = refl; pos = refl; reported = m; is = p .reported });
     }

@@ -32,7 +32,7 @@ noted n s = making Done n s
 -- the error e is made: the answer, and both lists
 pub record Raised (expected : Answer) (r f : List ℕ) (s : State) (e : ℕ) (r′ f′ : List ℕ) (a : Answer) : Type 0 where
   pub is : a ≡ expected
-  pub rep : s .full < 255 → errs r′ (s .reported + 1) ≡ errs r (s .reported) ++ (unpack e ∷ [])
+  pub reported : s .full < 255 → errs r′ (s .reported + 1) ≡ errs r (s .reported) ++ (unpack e ∷ [])
   pub full : s .full < 255 → errs f′ (s .full + 1) ≡ errs f (s .full) ++ (unpack e ∷ [])
 
 -- ---- what `?` drops

@@ -15,29 +15,29 @@ use Rattle.fallible.specs.Orders as O
 -- ---- a tally
 
 abbrev pub Pushed : Tally → Lent → Lent → ℕ → Tally → Type 0
-Pushed t rep full e r = T.Pushed (at-entry rep) (at-entry full) t e (at-exit rep) (at-exit full) r
+Pushed t reported full e r = T.Pushed (at-entry reported) (at-entry full) t e (at-exit reported) (at-exit full) r
 
 abbrev pub Propagated : Tally → Lent → ℕ → ℕ → Tally → Type 0
-Propagated t rep from end r = T.Propagated (at-entry rep) t from end (at-exit rep) r
+Propagated t reported from end r = T.Propagated (at-entry reported) t from end (at-exit reported) r
 
 -- the entries from `from` to `end` stand from `to` on, and end at r
 abbrev pub Shifted : Lent → ℕ → ℕ → ℕ → ℕ → Type 0
-Shifted rep to from end r =
-    (r ≡ to + (end - from)) × (take r (at-exit rep) ≡ take to (at-entry rep) ++ drop from (take end (at-entry rep)))
+Shifted reported to from end r =
+    (r ≡ to + (end - from)) × (take r (at-exit reported) ≡ take to (at-entry reported) ++ drop from (take end (at-entry reported)))
 
 -- ---- an answer
 
 abbrev pub Raised : Answer → Lent → Lent → State → ℕ → Answer → Type 0
-Raised expected rep full st e r =
-    A.Raised expected (at-entry rep) (at-entry full) st e (at-exit rep) (at-exit full) r
+Raised expected reported full st e r =
+    A.Raised expected (at-entry reported) (at-entry full) st e (at-exit reported) (at-exit full) r
 
 -- what `?` drops: what was written since the state `from`, and the errors from its count to that of `before`
 abbrev pub Cuts : Slice → Answer → State → State → Type 0
-Cuts rep a from before = A.Cuts (now rep) a (from .pos) (from .reported) (before .reported)
+Cuts reported a from before = A.Cuts (now reported) a (from .pos) (from .reported) (before .reported)
 
 abbrev pub Abandoned : Lent → Answer → State → State → Answer → Type 0
-Abandoned rep a from before r =
-    A.Abandoned (at-entry rep) a (from .pos) (from .reported) (before .reported) (at-exit rep) r
+Abandoned reported a from before r =
+    A.Abandoned (at-entry reported) a (from .pos) (from .reported) (before .reported) (at-exit reported) r
 
 -- ---- the order
 
@@ -45,4 +45,4 @@ abbrev pub Copied : Lent → ℕ → Lent → ℕ → ℕ → Type 0
 Copied from at to place len = O.Copied (at-entry from) at (at-entry to) place len (at-exit to)
 
 abbrev pub Exchanged : Lent → ℕ → ℕ → ℕ → Type 0
-Exchanged rep j k m = O.Exchanged (at-entry rep) j k m (at-exit rep)
+Exchanged reported j k m = O.Exchanged (at-entry reported) j k m (at-exit reported)

@@ -9,10 +9,10 @@ use Rattle.fallible.specs.Lists.{unpack, errs}
 -- the error e after those that the tally t counts in the lists r and f
 pub record Pushed (r f : List ℕ) (t : Tally) (e : ℕ) (r′ f′ : List ℕ) (t′ : Tally) : Type 0 where
   pub is : t′ ≡ record { reported = t .reported + 1; full = t .full + 1 }
-  pub rep : errs r′ (t .reported + 1) ≡ errs r (t .reported) ++ (unpack e ∷ [])
+  pub reported : errs r′ (t .reported + 1) ≡ errs r (t .reported) ++ (unpack e ∷ [])
   pub full : errs f′ (t .full + 1) ≡ errs f (t .full) ++ (unpack e ∷ [])
 
 -- the reported errors from `from` to `end` after those that the tally t counts in the list r
 pub record Propagated (r : List ℕ) (t : Tally) (from end : ℕ) (r′ : List ℕ) (t′ : Tally) : Type 0 where
   pub is : t′ ≡ record { reported = t .reported + (end - from); full = t .full }
-  pub rep : take (t′ .reported) r′ ≡ take (t .reported) r ++ drop from (take end r)
+  pub reported : take (t′ .reported) r′ ≡ take (t .reported) r ++ drop from (take end r)

@@ -164,7 +164,7 @@ module _ {w x : List ℕ} {n d name i j : ℕ} {o r f : List ℕ} {a : Answer} (
           ∙ body-first d p (next-token (rest w x n name)) (record { item = g .item; errors = g .errors })
           (st-of w x n f (g .read) (a .state)))
           (stops d (bodied p (next-token (rest w x n name)) (record { item = g .item; errors = g .errors })) _ nd
-          (rebased (B .never) (g .item .recs) (g .errors) (g .tree) (g .rep) (B .is (g .read))));
+          (rebased (B .never) (g .item .recs) (g .errors) (g .tree) (g .reported) (B .is (g .read))));
     }
 
     -- what `exchange` asks for
@@ -217,9 +217,9 @@ module _ {w x : List ℕ} {n d name i j line column : ℕ} {o r f : List ℕ} {a
             read = s .read;
             is = refl;
             tree = s .tree;
-            rep = turned E (g .errors) (s .errors) X (q .reported) (B .moved .reported) lj
-                (ap length (sym (g .rep)) ∙ errs-length r (a .state .reported) (omega (arith, q .asked .asks)))
-                (s .rep);
+            reported = turned E (g .errors) (s .errors) X (q .reported) (B .moved .reported) lj
+                (ap length (sym (g .reported)) ∙ errs-length r (a .state .reported) (omega (arith, q .asked .asks)))
+                (s .reported);
             holds = s .holds;
           })
 
@@ -243,7 +243,7 @@ module _ {w x : List ℕ} {n d name i j line column : ℕ} {o r f : List ℕ} {a
       is =
           λ T E k li lj v. let g = good-of z v in
           whole-shown lj g
-          (good-of h (rebased (B .never) (g .item .recs) (g .errors) (g .tree) (g .rep) (B .is (g .read))));
+          (good-of h (rebased (B .never) (g .item .recs) (g .errors) (g .tree) (g .reported) (B .is (g .read))));
     }
 
 -- ---- the signature, and what follows it: two ways to say it

@@ -118,7 +118,7 @@ module _ {w x : List ℕ} {n d count : ℕ} {o r f : List ℕ} {s : State} {t : 
             is = go-bind d (items-on l) as-answer _
                 ∙ ap (λ (z : Res Items). after z (λ i S. go d (as-answer i) S)) step;
             tree = et;
-            rep = ee;
+            reported = ee;
             holds = ec;
           };
         };

@@ -85,7 +85,7 @@ module _ {w x : List ℕ} {n d line column : ℕ} {o r f : List ℕ} {s : State}
                 read = rd;
                 is = refl;
                 tree = sym (append-nil (take (s .pos) o));
-                rep = sym (append-nil (errs r (s .reported)));
+                reported = sym (append-nil (errs r (s .reported)));
                 holds = refl;
               };
             }));
@@ -169,7 +169,7 @@ module _ {w x : List ℕ} {n d : ℕ} {p : Place} {o r f o1 r1 f1 : List ℕ} {s
         typed-after : Shows node (take (s .pos) o) (errs r (s .reported)) (g .item .recs) (g .errors) w x n o2 r3 f2 c
             (go d (return-rule p) (st-of w x n f1 (g .read) (a .state)))
         typed-after =
-            abandons {T = take (s .pos) o} {E = errs r (s .reported)} (g .tree) (g .rep)
+            abandons {T = take (s .pos) o} {E = errs r (s .reported)} (g .tree) (g .reported)
             (length-take-le (s .pos) o (omega (arith, q .room)))
             (errs-length r (s .reported) (omega (arith, q .asks)))
             (errs-length r1 (a .state .reported) (omega (arith, q .asks, B .moved, lr))) C
@@ -213,11 +213,11 @@ module _ {w x : List ℕ} {n d : ℕ} {p : Place} {o r f o1 r1 f1 : List ℕ} {s
                   read = v .read;
                   is = refl;
                   tree = v .tree;
-                  rep =
+                  reported =
                       turned (errs r (s .reported)) (g .errors) (v .errors) X (B .moved .reported)
                       (omega (arith, e, R .moved .reported))
-                      (errs-length r (s .reported) (omega (arith, q .asks))) (ap length (sym (g .rep))
-                      ∙ errs-length r1 (a .state .reported) (omega (arith, q .asks, B .moved, lr))) (v .rep);
+                      (errs-length r (s .reported) (omega (arith, q .asks))) (ap length (sym (g .reported))
+                      ∙ errs-length r1 (a .state .reported) (omega (arith, q .asks, B .moved, lr))) (v .reported);
                   holds = g .holds;
                 }));
           }

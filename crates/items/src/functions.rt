@@ -31,19 +31,19 @@ fn return_type(
     text: &[u8],
     n: usize,
     file: &mut [u8],
-    rep: &mut [usize],
+    reported: &mut [usize],
     full: &mut [usize],
     lead: Token,
     st: State,
     left: usize,
 ) -> Answer
-    requires { ⌜ Asked tokens text n file rep full st ⌝ }
-    ensures { λ r. ⌜ ReadsType (place-of lead) tokens text n file rep full st left r ⌝ }
+    requires { ⌜ Asked tokens text n file reported full st ⌝ }
+    ensures { λ r. ⌜ ReadsType (place-of lead) tokens text n file reported full st left r ⌝ }
 {
     let t = peek(tokens, text, n, st.at);
     if t.kind == kind::R_ARROW {
         let on = State { at: t.next, ..st };
-        return ty(tokens, text, n, file, rep, full, on, left);
+        return ty(tokens, text, n, file, reported, full, on, left);
     }
     let a = Answer {
         status: Status::Done,
@@ -60,30 +60,30 @@ fn signature(
     text: &[u8],
     n: usize,
     file: &mut [u8],
-    rep: &mut [usize],
+    reported: &mut [usize],
     full: &mut [usize],
     lead: Token,
     st: State,
     left: usize,
 ) -> Answer
-    requires { ⌜ Asked tokens text n file rep full st ⌝ }
-    ensures { λ r. ⌜ ReadsSignature (place-of lead) tokens text n file rep full st left r ⌝ }
+    requires { ⌜ Asked tokens text n file reported full st ⌝ }
+    ensures { λ r. ⌜ ReadsSignature (place-of lead) tokens text n file reported full st left r ⌝ }
 {
     let what = Listed::Parameters;
-    let a = list(tokens, text, n, file, rep, full, what, st, left);
+    let a = list(tokens, text, n, file, reported, full, what, st, left);
     let status = a.status;
     let Status::Done = status else {
         return a;
     };
     let s = a.state;
-    let b = return_type(tokens, text, n, file, rep, full, lead, s, left);
-    let c = abandon(rep, b, st, s);
+    let b = return_type(tokens, text, n, file, reported, full, lead, s, left);
+    let c = abandon(reported, b, st, s);
     let h = c.status;
     let Status::Done = h else {
         return c;
     };
     let e = c.state;
-    exchange(rep, st.reported, s.reported, e.reported);
+    exchange(reported, st.reported, s.reported, e.reported);
     Answer {
         status: h,
         state: e,
@@ -98,18 +98,18 @@ fn external_function(
     text: &[u8],
     n: usize,
     file: &mut [u8],
-    rep: &mut [usize],
+    reported: &mut [usize],
     full: &mut [usize],
     lead: Token,
     name: usize,
     a: Answer,
     from: State,
 ) -> Answer
-    requires { ⌜ FunctionAsked tokens text n file rep full name a from ⌝ }
-    ensures { λ r. ⌜ ((d : ℕ) → FunctionOn 1 (place-of lead) tokens text n file rep full name a from d r) ⌝ }
+    requires { ⌜ FunctionAsked tokens text n file reported full name a from ⌝ }
+    ensures { λ r. ⌜ ((d : ℕ) → FunctionOn 1 (place-of lead) tokens text n file reported full name a from d r) ⌝ }
 {
     let t = peek(tokens, text, n, name);
-    let b = and_expect(tokens, text, n, rep, full, a, kind::SEMICOLON, from);
+    let b = and_expect(tokens, text, n, reported, full, a, kind::SEMICOLON, from);
     let numbers = Numbers::ByteTwo(1, a.line);
     write_text_node(file, text, b, lead, tag::FUNCTION_DEFINITION, numbers, t)
 }
@@ -120,7 +120,7 @@ fn whole_function(
     text: &[u8],
     n: usize,
     file: &mut [u8],
-    rep: &mut [usize],
+    reported: &mut [usize],
     full: &mut [usize],
     lead: Token,
     name: usize,
@@ -128,21 +128,21 @@ fn whole_function(
     from: State,
     left: usize,
 ) -> Answer
-    requires { ⌜ FunctionAsked tokens text n file rep full name a from ⌝ }
-    ensures { λ r. ⌜ FunctionOn 0 (place-of lead) tokens text n file rep full name a from left r ⌝ }
+    requires { ⌜ FunctionAsked tokens text n file reported full name a from ⌝ }
+    ensures { λ r. ⌜ FunctionOn 0 (place-of lead) tokens text n file reported full name a from left r ⌝ }
 {
     let status = a.status;
     let Status::Done = status else {
         return a;
     };
     let s = a.state;
-    let b = body(tokens, text, n, file, rep, full, s, left);
+    let b = body(tokens, text, n, file, reported, full, s, left);
     let h = b.status;
     let Status::Done = h else {
         return b;
     };
     let e = b.state;
-    exchange(rep, from.reported, s.reported, e.reported);
+    exchange(reported, from.reported, s.reported, e.reported);
     let c = write_node(file, text, b, lead, tag::BLOCK, Numbers::Two(b.line));
     let t = peek(tokens, text, n, name);
     let numbers = Numbers::ByteTwo(0, a.line);
@@ -155,33 +155,45 @@ fn function(
     text: &[u8],
     n: usize,
     file: &mut [u8],
-    rep: &mut [usize],
+    reported: &mut [usize],
     full: &mut [usize],
     external: bool,
     lead: Token,
     st: State,
     left: usize,
 ) -> Answer
-    requires { ⌜ Asked tokens text n file rep full st ⌝ }
-    ensures { λ r. ⌜ Parses (P.function (place-of lead) (flag external)) tokens text n file rep full st left r ⌝ }
+    requires { ⌜ Asked tokens text n file reported full st ⌝ }
+    ensures { λ r. ⌜ Parses (P.function (place-of lead) (flag external)) tokens text n file reported full st left r ⌝ }
 {
-    let a = expect(tokens, text, n, rep, full, st, kind::KW_FN);
+    let a = expect(tokens, text, n, reported, full, st, kind::KW_FN);
     let status = a.status;
     let Status::Done = status else {
         return a;
     };
     let s = a.state;
-    let b = expect_identifier(tokens, text, n, rep, full, s);
+    let b = expect_identifier(tokens, text, n, reported, full, s);
     let h = b.status;
     let Status::Done = h else {
         return b;
     };
     let e = b.state;
-    let c = signature(tokens, text, n, file, rep, full, lead, e, left);
+    let c = signature(tokens, text, n, file, reported, full, lead, e, left);
     if external {
-        return external_function(tokens, text, n, file, rep, full, lead, s.at, c, st);
+        return external_function(tokens, text, n, file, reported, full, lead, s.at, c, st);
     }
-    whole_function(tokens, text, n, file, rep, full, lead, s.at, c, st, left)
+    whole_function(
+        tokens,
+        text,
+        n,
+        file,
+        reported,
+        full,
+        lead,
+        s.at,
+        c,
+        st,
+        left,
+    )
 }
 
 // parse_function_definition: [`extern`] function
@@ -190,18 +202,18 @@ pub fn function_definition(
     text: &[u8],
     n: usize,
     file: &mut [u8],
-    rep: &mut [usize],
+    reported: &mut [usize],
     full: &mut [usize],
     st: State,
     left: usize,
 ) -> Answer
-    requires { ⌜ Asked tokens text n file rep full st ⌝ }
-    ensures { λ r. ⌜ Parses P.parse-function-definition tokens text n file rep full st left r ⌝ }
+    requires { ⌜ Asked tokens text n file reported full st ⌝ }
+    ensures { λ r. ⌜ Parses P.parse-function-definition tokens text n file reported full st left r ⌝ }
 {
     let t = peek(tokens, text, n, st.at);
     if t.kind == kind::KW_EXTERN {
         let on = State { at: t.next, ..st };
-        return function(tokens, text, n, file, rep, full, true, t, on, left);
+        return function(tokens, text, n, file, reported, full, true, t, on, left);
     }
-    function(tokens, text, n, file, rep, full, false, t, st, left)
+    function(tokens, text, n, file, reported, full, false, t, st, left)
 }

@@ -28,26 +28,26 @@ fn top_level_item(
     text: &[u8],
     n: usize,
     file: &mut [u8],
-    rep: &mut [usize],
+    reported: &mut [usize],
     full: &mut [usize],
     st: State,
     left: usize,
 ) -> Answer
-    requires { ⌜ Asked tokens text n file rep full st ⌝ }
-    ensures { λ r. ⌜ Parses P.parse-top-level-item tokens text n file rep full st left r ⌝ }
+    requires { ⌜ Asked tokens text n file reported full st ⌝ }
+    ensures { λ r. ⌜ Parses P.parse-top-level-item tokens text n file reported full st left r ⌝ }
 {
     let t = peek(tokens, text, n, st.at);
     if (t.kind == kind::KW_FN) | (t.kind == kind::KW_EXTERN) {
-        return function_definition(tokens, text, n, file, rep, full, st, left);
+        return function_definition(tokens, text, n, file, reported, full, st, left);
     }
     if (t.kind == kind::KW_TYPE) | (t.kind == kind::KW_DISTINCT) | (t.kind == kind::KW_INTERNAL) {
-        return type_alias(tokens, text, n, file, rep, full, st, left);
+        return type_alias(tokens, text, n, file, reported, full, st, left);
     }
     if t.kind == kind::KW_USE {
-        return use_path(tokens, text, n, file, rep, full, st);
+        return use_path(tokens, text, n, file, reported, full, st);
     }
     if t.kind == kind::KW_VAR {
-        return top_level_var_declaration(tokens, text, n, file, rep, full, st, left);
+        return top_level_var_declaration(tokens, text, n, file, reported, full, st, left);
     }
     let on = State { at: t.next, ..st };
     if t.kind == kind::INLINE_ASSEMBLY_FRAGMENT {
@@ -60,7 +60,7 @@ fn top_level_item(
         return write_text_node(file, text, a, t, tag::TOP_LEVEL_ASSEMBLY, Numbers::None, t);
     }
     let error = entry(parse_error::TOP_LEVEL, t.line, t.column, 0, t.kind);
-    raise(n, rep, full, on, error)
+    raise(n, reported, full, on, error)
 }
 
 // ---- the module
@@ -71,12 +71,12 @@ pub fn module(
     text: &[u8],
     n: usize,
     file: &mut [u8],
-    rep: &mut [usize],
+    reported: &mut [usize],
     full: &mut [usize],
     left: usize,
 ) -> Answer
-    requires { ⌜ Asked tokens text n file rep full (record { at = 0; pos = 0; reported = 0; full = 0 }) ⌝ }
-    ensures { λ r. ⌜ ReadsModule tokens text n file rep full left r ⌝ }
+    requires { ⌜ Asked tokens text n file reported full (record { at = 0; pos = 0; reported = 0; full = 0 }) ⌝ }
+    ensures { λ r. ⌜ ReadsModule tokens text n file reported full left r ⌝ }
 {
     let mut count = 0;
     let mut st = State {
@@ -95,7 +95,7 @@ pub fn module(
                 column: 0,
             };
         }
-        let b = top_level_item(tokens, text, n, file, rep, full, st, left);
+        let b = top_level_item(tokens, text, n, file, reported, full, st, left);
         let status = b.status;
         let s = b.state;
         if let Status::Refused(_) = status {

@@ -64,15 +64,15 @@ fn alias(
     text: &[u8],
     n: usize,
     file: &mut [u8],
-    rep: &mut [usize],
+    reported: &mut [usize],
     full: &mut [usize],
     words: u8,
     lead: Token,
     st: State,
     left: usize,
 ) -> Answer
-    requires { ⌜ Asked tokens text n file rep full st ⌝ }
-    ensures { λ r. ⌜ Parses (alias-rule words (place-of lead)) tokens text n file rep full st left r ⌝ }
+    requires { ⌜ Asked tokens text n file reported full st ⌝ }
+    ensures { λ r. ⌜ Parses (alias-rule words (place-of lead)) tokens text n file reported full st left r ⌝ }
 {
     let t = peek(tokens, text, n, st.at);
     let on = State { at: t.next, ..st };
@@ -81,16 +81,16 @@ fn alias(
     }
     if t.kind != kind::IDENTIFIER {
         let error = entry(parse_error::NAME_AFTER_TYPE, t.line, t.column, 0, 0);
-        return raise(n, rep, full, on, error);
+        return raise(n, reported, full, on, error);
     }
-    let a = expect(tokens, text, n, rep, full, on, kind::EQUALS);
+    let a = expect(tokens, text, n, reported, full, on, kind::EQUALS);
     let status = a.status;
     let Status::Done = status else {
         return a;
     };
     let s = a.state;
-    let b = ty(tokens, text, n, file, rep, full, s, left);
-    let c = and_expect(tokens, text, n, rep, full, b, kind::SEMICOLON, st);
+    let b = ty(tokens, text, n, file, reported, full, s, left);
+    let c = and_expect(tokens, text, n, reported, full, b, kind::SEMICOLON, st);
     let numbers = Numbers::Byte(words);
     write_text_node(file, text, c, lead, tag::TYPE_ALIAS, numbers, t)
 }
@@ -101,25 +101,25 @@ pub fn type_alias(
     text: &[u8],
     n: usize,
     file: &mut [u8],
-    rep: &mut [usize],
+    reported: &mut [usize],
     full: &mut [usize],
     st: State,
     left: usize,
 ) -> Answer
-    requires { ⌜ Asked tokens text n file rep full st ⌝ }
-    ensures { λ r. ⌜ Parses P.parse-type-alias tokens text n file rep full st left r ⌝ }
+    requires { ⌜ Asked tokens text n file reported full st ⌝ }
+    ensures { λ r. ⌜ Parses P.parse-type-alias tokens text n file reported full st left r ⌝ }
 {
     let at = st.at;
     let t = peek(tokens, text, n, at);
     let m = modifiers(tokens, text, n, at);
     let on = State { at: m.next, ..st };
-    let a = expect(tokens, text, n, rep, full, on, kind::KW_TYPE);
+    let a = expect(tokens, text, n, reported, full, on, kind::KW_TYPE);
     let status = a.status;
     let Status::Done = status else {
         return a;
     };
     let s = a.state;
-    alias(tokens, text, n, file, rep, full, m.words, t, s, left)
+    alias(tokens, text, n, file, reported, full, m.words, t, s, left)
 }
 
 // Behind `use`: string `;`. The end instead of the string is refused.
@@ -128,13 +128,13 @@ fn path(
     text: &[u8],
     n: usize,
     file: &mut [u8],
-    rep: &mut [usize],
+    reported: &mut [usize],
     full: &mut [usize],
     lead: Token,
     st: State,
 ) -> Answer
-    requires { ⌜ Asked tokens text n file rep full st ⌝ }
-    ensures { λ r. ⌜ ((d : ℕ) → Parses (path-rule (place-of lead)) tokens text n file rep full st d r) ⌝ }
+    requires { ⌜ Asked tokens text n file reported full st ⌝ }
+    ensures { λ r. ⌜ ((d : ℕ) → Parses (path-rule (place-of lead)) tokens text n file reported full st d r) ⌝ }
 {
     let t = peek(tokens, text, n, st.at);
     let on = State { at: t.next, ..st };
@@ -143,9 +143,9 @@ fn path(
     }
     if t.kind != kind::STRING {
         let error = entry(parse_error::PATH_AFTER_USE, t.line, t.column, 0, 0);
-        return raise(n, rep, full, on, error);
+        return raise(n, reported, full, on, error);
     }
-    let a = expect(tokens, text, n, rep, full, on, kind::SEMICOLON);
+    let a = expect(tokens, text, n, reported, full, on, kind::SEMICOLON);
     write_text_node(file, text, a, lead, tag::USE, Numbers::None, t)
 }
 
@@ -155,21 +155,21 @@ pub fn use_path(
     text: &[u8],
     n: usize,
     file: &mut [u8],
-    rep: &mut [usize],
+    reported: &mut [usize],
     full: &mut [usize],
     st: State,
 ) -> Answer
-    requires { ⌜ Asked tokens text n file rep full st ⌝ }
-    ensures { λ r. ⌜ ((d : ℕ) → Parses P.parse-use tokens text n file rep full st d r) ⌝ }
+    requires { ⌜ Asked tokens text n file reported full st ⌝ }
+    ensures { λ r. ⌜ ((d : ℕ) → Parses P.parse-use tokens text n file reported full st d r) ⌝ }
 {
     let t = peek(tokens, text, n, st.at);
-    let a = expect(tokens, text, n, rep, full, st, kind::KW_USE);
+    let a = expect(tokens, text, n, reported, full, st, kind::KW_USE);
     let status = a.status;
     let Status::Done = status else {
         return a;
     };
     let s = a.state;
-    path(tokens, text, n, file, rep, full, t, s)
+    path(tokens, text, n, file, reported, full, t, s)
 }
 
 // parse_top_level_var_declaration: `var` declaration
@@ -178,21 +178,21 @@ pub fn top_level_var_declaration(
     text: &[u8],
     n: usize,
     file: &mut [u8],
-    rep: &mut [usize],
+    reported: &mut [usize],
     full: &mut [usize],
     st: State,
     left: usize,
 ) -> Answer
-    requires { ⌜ Asked tokens text n file rep full st ⌝ }
-    ensures { λ r. ⌜ Parses P.parse-top-level-var-declaration tokens text n file rep full st left r ⌝ }
+    requires { ⌜ Asked tokens text n file reported full st ⌝ }
+    ensures { λ r. ⌜ Parses P.parse-top-level-var-declaration tokens text n file reported full st left r ⌝ }
 {
     let t = peek(tokens, text, n, st.at);
-    let a = expect(tokens, text, n, rep, full, st, kind::KW_VAR);
+    let a = expect(tokens, text, n, reported, full, st, kind::KW_VAR);
     let status = a.status;
     let Status::Done = status else {
         return a;
     };
     let s = a.state;
     let tag = tag::TOP_LEVEL_VARIABLE;
-    declaration(tokens, text, n, file, rep, full, tag, t, s, left)
+    declaration(tokens, text, n, file, reported, full, tag, t, s, left)
 }

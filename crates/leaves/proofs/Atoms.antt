@@ -74,7 +74,7 @@ module _ {w x : List ℕ} {n : ℕ} {o o′ r f : List ℕ} {s : State} {t : Tok
             read = rd ++ now-read (λ _. plain) (rest w x n (s .at));
             is = refl;
             tree = sym (append-nil (take (s .pos) o));
-            rep = sym (append-nil (errs r (s .reported)));
+            reported = sym (append-nil (errs r (s .reported)));
             holds = (refl, v .place);
           };
         }));

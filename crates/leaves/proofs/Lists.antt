@@ -42,7 +42,7 @@ module _ {w x : List ℕ} {n : ℕ} {r f : List ℕ} {s : State} {close : ℕ} {
         moved = m;
         pos = p;
         is = λ k ck d rd i.
-            record { errors = []; read = read k rd; is = h k ck d rd i ∙ rw append-nil; rep = rw (e, append-nil) };
+            record { errors = []; read = read k rd; is = h k ck d rd i ∙ rw append-nil; reported = rw (e, append-nil) };
       }
 
   pub comma-there : t .kind ≡ 53 → Commas w x n r f s close r f (record { status = Done; state = fore s t; line = 0; column = 0 })
@@ -85,7 +85,7 @@ module _ {w x : List ℕ} {n : ℕ} {r f : List ℕ} {s : State} {close : ℕ} {
                 is = passed k ck d rd i
                     ∙ makes (asks-fore q v) g d (loop (ListOf k (P.with-error i (unpack e))) done)
                     (rd ++ now-read (λ _. plain) (rest w x n (s .at))) l;
-                rep = g .rep l;
+                reported = g .reported l;
               })
               (λ l. passed k ck d rd i ∙ makes-none (asks-fore q v) g d
               (loop (ListOf k (P.with-error i (unpack e))) done)

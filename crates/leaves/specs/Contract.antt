@@ -7,12 +7,12 @@ use Rattle.fallible.specs.declared.Answer.{Answer}
 use Rattle.leaves.specs.Leaves as L
 
 abbrev pub Literal : Slice → Slice → ℕ → Slice → Slice → Slice → State → Type 0
-Literal tokens text n file rep full st = L.Literal (now tokens) (now text) n (now file) (now rep) (now full) st
+Literal tokens text n file reported full st = L.Literal (now tokens) (now text) n (now file) (now reported) (now full) st
 
 abbrev pub Commas : ℕ → Lent → Lent → ℕ → Lent → Lent → State → Answer → Type 0
-Commas close tokens text n rep full st r =
-    L.Commas (at-entry tokens) (at-entry text) n (at-entry rep) (at-entry full) st close (at-exit rep) (at-exit full) r
+Commas close tokens text n reported full st r =
+    L.Commas (at-entry tokens) (at-entry text) n (at-entry reported) (at-entry full) st close (at-exit reported) (at-exit full) r
 
 abbrev pub Closed : Lent → Lent → ℕ → Lent → Lent → Answer → Answer → Type 0
-Closed tokens text n rep full a r =
-    L.Closed (at-entry tokens) (at-entry text) n (at-entry rep) (at-entry full) a (at-exit rep) (at-exit full) r
+Closed tokens text n reported full a r =
+    L.Closed (at-entry tokens) (at-entry text) n (at-entry reported) (at-entry full) a (at-exit reported) (at-exit full) r

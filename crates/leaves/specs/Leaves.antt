@@ -56,7 +56,7 @@ pub record Next (w x : List ℕ) (n : ℕ) (k : A.Listed) (r f : List ℕ) (s : 
   pub errors : List Err
   pub read : List Consumed
   pub is : go d (P.after-item k i) (st-of w x n f rd s) ≡ go d (loop (ListOf k (with-errors i errors)) done) (st-of w x n f′ read s′)
-  pub rep : errs r′ (s′ .reported) ≡ errs r (s .reported) ++ errors
+  pub reported : errs r′ (s′ .reported) ≡ errs r (s .reported) ++ errors
 
 abbrev pub CommasOf : Status → List ℕ → List ℕ → ℕ → A.Listed → List ℕ → List ℕ → State → List ℕ → List ℕ → State → ℕ → List Consumed → Items → Type 0
 CommasOf Done w x n k r f s r′ f′ s′ d rd i = Next w x n k r f s r′ f′ s′ d rd i

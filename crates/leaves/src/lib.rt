@@ -87,13 +87,13 @@ pub fn comma(
     tokens: &[u32],
     text: &[u8],
     n: usize,
-    rep: &mut [usize],
+    reported: &mut [usize],
     full: &mut [usize],
     st: State,
     close: u32,
 ) -> Answer
-    requires { ⌜ Asks tokens text n rep full st ⌝ }
-    ensures { λ r. ⌜ Commas close tokens text n rep full st r ⌝ }
+    requires { ⌜ Asks tokens text n reported full st ⌝ }
+    ensures { λ r. ⌜ Commas close tokens text n reported full st r ⌝ }
 {
     let t = peek(tokens, text, n, st.at);
     let on = State { at: t.next, ..st };
@@ -122,7 +122,7 @@ pub fn comma(
         };
     }
     let error = entry(parse_error::IN_LIST, t.line, t.column, 0, t.kind);
-    note(n, rep, full, on, error)
+    note(n, reported, full, on, error)
 }
 
 // The value of a digit.
@@ -328,12 +328,12 @@ pub fn literal(
     text: &[u8],
     n: usize,
     file: &mut [u8],
-    rep: &mut [usize],
+    reported: &mut [usize],
     full: &mut [usize],
     st: State,
 ) -> Answer
-    requires { ⌜ Literal tokens text n file rep full st ⌝ }
-    ensures { λ r. ⌜ ((d : ℕ) → Parses P.parse-atom tokens text n file rep full st d r) ⌝ }
+    requires { ⌜ Literal tokens text n file reported full st ⌝ }
+    ensures { λ r. ⌜ ((d : ℕ) → Parses P.parse-atom tokens text n file reported full st d r) ⌝ }
 {
     let t = peek(tokens, text, n, st.at);
     if t.kind == kind::INTEGER {
@@ -360,10 +360,10 @@ pub fn literal(
     let on = State { at: t.next, ..st };
     if t.kind == kind::END {
         let error = entry(parse_error::EXPRESSION_AT_END, 0, 0, 0, 0);
-        return raise(n, rep, full, on, error);
+        return raise(n, reported, full, on, error);
     }
     let error = entry(parse_error::EXPRESSION, t.line, t.column, 0, t.kind);
-    raise(n, rep, full, on, error)
+    raise(n, reported, full, on, error)
 }
 
 // The closing parenthesis of a group: the errors of both stay, and the item of the first, also where it is fatal.
@@ -371,19 +371,19 @@ pub fn close(
     tokens: &[u32],
     text: &[u8],
     n: usize,
-    rep: &mut [usize],
+    reported: &mut [usize],
     full: &mut [usize],
     a: Answer,
 ) -> Answer
-    requires { ⌜ Asks tokens text n rep full (a .state) ⌝ }
-    ensures { λ r. ⌜ Closed tokens text n rep full a r ⌝ }
+    requires { ⌜ Asks tokens text n reported full (a .state) ⌝ }
+    ensures { λ r. ⌜ Closed tokens text n reported full a r ⌝ }
 {
     let status = a.status;
     if let Status::Refused(_) = status {
         return a;
     }
     let s = a.state;
-    let b = expect(tokens, text, n, rep, full, s, kind::R_PAREN);
+    let b = expect(tokens, text, n, reported, full, s, kind::R_PAREN);
     let h = b.status;
     if let Status::Refused(_) = h {
         return b;

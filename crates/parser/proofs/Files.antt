@@ -38,22 +38,22 @@ module-field : (count : ℕ) → rec-bytes (bare-of 0x5F (Two count) []) ≡ fie
 unfolding rec-bytes
 module-field count = simp append-nil refl
 
-module _ {o o1 o2 o3 o4 E r f : List ℕ} {p p1 p2 p3 p4 count m reported made : ℕ} (q : RestRoom o p E m r reported f made) (W : Wrote o p (bare-of 0x5F (Two count) []) 5 o1 p1) (A : TokenFields o1 p1 E m o2 p2)
-    (B : Fielded o2 p2 0x60 (errs r reported) o3 p3) (C : Fielded o3 p3 0x61 (errs f made) o4 p4) where
+module _ {o o1 o2 o3 o4 E r f : List ℕ} {p p1 p2 p3 p4 count m reported-count full-count : ℕ} (q : RestRoom o p E m r reported-count f full-count) (W : Wrote o p (bare-of 0x5F (Two count) []) 5 o1 p1) (A : TokenFields o1 p1 E m o2 p2)
+    (B : Fielded o2 p2 0x60 (errs r reported-count) o3 p3) (C : Fielded o3 p3 0x61 (errs f full-count) o4 p4) where
   -- what stands up to the end
-  front : (es : List Err) → errors-of E 0 m ≡ some es → take p4 o4 ≡ file-of (take p o) count es (errs r reported) (errs f made)
+  front : (es : List Err) → errors-of E 0 m ≡ some es → take p4 o4 ≡ file-of (take p o) count es (errs r reported-count) (errs f full-count)
   front es e =
       C .is
-      ∙ ap (λ (v : List ℕ). v ++ errs-bytes 0x61 (errs f made)) (B .is
-      ∙ ap (λ (v : List ℕ). v ++ errs-bytes 0x60 (errs r reported)) (A es e .is
+      ∙ ap (λ (v : List ℕ). v ++ errs-bytes 0x61 (errs f full-count)) (B .is
+      ∙ ap (λ (v : List ℕ). v ++ errs-bytes 0x60 (errs r reported-count)) (A es e .is
       ∙ ap (λ (v : List ℕ). v ++ errs-bytes 0x62 es)
       (W .is ∙ ap (λ (v : List ℕ). take p o ++ v) (module-field count))))
 
   pub end-room : length o4 ≡ length o → p4 ≤ length o4
-  end-room l = omega (arith, q .room, W .end, token-end E m (q .good) A, list-end r reported B (q .reps), list-end f made C (q .fulls), l)
+  end-room l = omega (arith, q .room, W .end, token-end E m (q .good) A, list-end r reported-count B (q .reps), list-end f full-count C (q .fulls), l)
 
-  pub ended : {o5 : List ℕ} → Cleared o4 p4 o5 → length o4 ≡ length o → RestWritten o p count E m r reported f made o5 p4
+  pub ended : {o5 : List ℕ} → Cleared o4 p4 o5 → length o4 ≡ length o → RestWritten o p count E m r reported-count f full-count o5 p4
   ended Z l = record {
     end = λ es e. sym (length-take-le p4 o4 (end-room l)) ∙ ap length (front es e);
-    is = λ es e. cleared-filled o p4 (file-of (take p o) count es (errs r reported) (errs f made)) Z (front es e) l (end-room l);
+    is = λ es e. cleared-filled o p4 (file-of (take p o) count es (errs r reported-count) (errs f full-count)) Z (front es e) l (end-room l);
   }

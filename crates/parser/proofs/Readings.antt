@@ -91,7 +91,7 @@ module _ {w x : List ℕ} {n : ℕ} {o r f : List ℕ} {a : Answer} (B : ReadsMo
     pub is : parse-module (rest w x n 0) ≡ gives tree state
     pub full : state .full ≡ errs f (a .state .full)
     pub recs : take (a .state .pos) o ≡ recs-bytes (tree .recs)
-    pub rep : errs r (a .state .reported) ≡ tree .errors
+    pub reported : errs r (a .state .reported) ≡ tree .errors
     pub count : tree .count ≡ a .line
 
   pub tree-of : a .status ≡ Done → Tree
@@ -104,7 +104,7 @@ module _ {w x : List ℕ} {n : ℕ} {o r f : List ℕ} {a : Answer} (B : ReadsMo
         is = e .0;
         full = refl;
         recs = g .tree;
-        rep = g .rep ∙ sym (e .1);
+        reported = g .reported ∙ sym (e .1);
         count = g .holds;
       }
 
@@ -233,7 +233,7 @@ module _ (T : List ℕ) (n : ℕ) (E : List ℕ) (m : ℕ) (X o : List ℕ) {o1 
       let p : parse-module (h .tokens) ≡ gives (g .tree) (g .state) = ap parse-module (sym (t .tokens)) ∙ g .is in
       let s : 0 < length (h .tokens) = subst (λ (ts : List Tok). 0 < length ts) (t .tokens) (some-tokens T X n some-n) in
       let ws : file-of (take (a .state .pos) o1) (a .line) (h .errors) (errs r1 (a .state .reported)) (errs f1 (a .state .full)) ≡ file-bytes (h .errors) (g .tree) (g .state .full) =
-      same-file (h .errors) (g .recs) (sym (g .count)) (g .rep) (sym (g .full)) in
+      same-file (h .errors) (g .recs) (sym (g .count)) (g .reported) (sym (g .full)) in
       let bytes : b ≡ length (file-bytes (h .errors) (g .tree) (g .state .full)) = C .end (h .errors) (t .errors) ∙ ap length ws in
       let file : o2 ≡ filled (length o) (file-bytes (h .errors) (g .tree) (g .state .full)) = C .is (h .errors)
       (t .errors) ∙ ap (λ (v : List ℕ). filled (length o1) v) ws ∙ ap

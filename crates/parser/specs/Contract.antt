@@ -10,12 +10,12 @@ use Rattle.parser.specs.declared.Written.{Written}
 use Rattle.parser.specs.Answer as A
 
 abbrev pub RestRoom : Slice → ℕ → Slice → ℕ → Slice → ℕ → Slice → ℕ → Type 0
-RestRoom file pos errors m rep reported full made =
-    A.RestRoom (now file) pos (now errors) m (now rep) reported (now full) made
+RestRoom file pos errors m reported reported-count full full-count =
+    A.RestRoom (now file) pos (now errors) m (now reported) reported-count (now full) full-count
 
 abbrev pub RestWritten : Lent → ℕ → ℕ → Lent → ℕ → Lent → ℕ → Lent → ℕ → ℕ → Type 0
-RestWritten file pos count errors m rep reported full made r =
-    A.RestWritten (at-entry file) pos count (at-entry errors) m (at-entry rep) reported (at-entry full) made
+RestWritten file pos count errors m reported reported-count full full-count r =
+    A.RestWritten (at-entry file) pos count (at-entry errors) m (at-entry reported) reported-count (at-entry full) full-count
     (at-exit file) r
 
 -- the records that Read is given are good

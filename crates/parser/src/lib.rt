@@ -47,18 +47,18 @@ fn end_file(
     count: usize,
     errors: &[u32],
     error_count: usize,
-    rep: &[usize],
-    reported: usize,
+    reported: &[usize],
+    reported_count: usize,
     full: &[usize],
-    made: usize,
+    full_count: usize,
 ) -> usize
-    requires { ⌜ RestRoom file pos errors «error_count» rep reported full made ⌝ }
-    ensures { λ r. ⌜ RestWritten file pos count errors «error_count» rep reported full made r ⌝ }
+    requires { ⌜ RestRoom file pos errors «error_count» reported «reported_count» full «full_count» ⌝ }
+    ensures { λ r. ⌜ RestWritten file pos count errors «error_count» reported «reported_count» full «full_count» r ⌝ }
 {
     let p = write_bare(file, b"", pos, tag::MODULE, Numbers::Two(count), 0, 0);
     let q = token_error_fields(file, p, errors, error_count);
-    let r = error_fields(file, q, tag::REPORTED_ERROR, rep, reported);
-    let end = error_fields(file, r, tag::FULL_ERROR, full, made);
+    let r = error_fields(file, q, tag::REPORTED_ERROR, reported, reported_count);
+    let end = error_fields(file, r, tag::FULL_ERROR, full, full_count);
     clear_bytes(file, end);
     end
 }
@@ -75,14 +75,14 @@ pub fn read_tokens(
     requires { ⌜ (65536 ≤ length (now file)) × ((0 < count) × Accepted tokens count errors «error_count» text) ⌝ }
     ensures { λ r. ⌜ ReadValidated tokens count errors «error_count» text file r ⌝ }
 {
-    let mut rep: [usize; 256] = [0; 256];
+    let mut reported: [usize; 256] = [0; 256];
     let mut full: [usize; 256] = [0; 256];
     let a = module(
         tokens,
         text,
         count,
         file,
-        &mut rep,
+        &mut reported,
         &mut full,
         limit::NESTING,
     );
@@ -98,7 +98,7 @@ pub fn read_tokens(
         a.line,
         errors,
         error_count,
-        &rep,
+        &reported,
         s.reported,
         &full,
         s.full,

@@ -169,7 +169,7 @@ module _ {w x : List ℕ} {n d : ℕ} {o r f : List ℕ} {t : Token} {i line col
               read = rd;
               is = refl;
               tree = tree;
-              rep = sym (append-nil (errs r (a .state .reported)));
+              reported = sym (append-nil (errs r (a .state .reported)));
               holds = tt;
             }) in
             say (rw (run, no u m26, no u m52) (expect-seam d plain 50 v
@@ -232,7 +232,7 @@ module _ {w x : List ℕ} {n d : ℕ} {o r f o1 r1 f1 : List ℕ} {s : State} {a
             is = λ rd.
                 let g = good-of z (B .is rd) in
                 let y : Fallible Node = record { item = g .item; errors = g .errors } in
-                let m : P.is-empty (g .errors) ≡ false = is-filled (g .errors) (omega (arith, own lr (g .errors) (g .rep), h)) in
+                let m : P.is-empty (g .errors) ≡ false = is-filled (g .errors) (omega (arith, own lr (g .errors) (g .reported), h)) in
                 let step : go d (on (place-at line column) y) (st-of w x n f1 (g .read) (a .state)) ≡ go d (k y) (st-of w x n f1 (g .read) (a .state)) =
                 rw (run, m) in
                 say (go-bind d P.parse-expression (or-return (on (place-at line column))) (st-of w x n f rd s)
@@ -259,8 +259,8 @@ module _ {w x : List ℕ} {n d : ℕ} {o r f o1 r1 f1 : List ℕ} {s : State} {a
         on = omega (arith, G .moved .at, B .on);
         is = λ rd.
             let g = good-of z (B .is rd) in
-            let m : g .errors ≡ [] = is-none (g .errors) (omega (arith, own lr (g .errors) (g .rep), h)) in
-            let E : errs r1 (a .state .reported) ≡ errs r (s .reported) = g .rep ∙ ap
+            let m : g .errors ≡ [] = is-none (g .errors) (omega (arith, own lr (g .errors) (g .reported), h)) in
+            let E : errs r1 (a .state .reported) ≡ errs r (s .reported) = g .reported ∙ ap
             (λ (es : List Err). errs r (s .reported) ++ es) m ∙ append-nil (errs r (s .reported)) in
             let step : go d (on (place-at line column) (record { item = g .item; errors = g .errors })) (st-of w x n f1 (g .read) (a .state)) ≡ go d (P.after-expression (place-at line column) (g .item)) (st-of w x n f1 (g .read) (a .state)) =
             rw (m, run) in

@@ -85,7 +85,7 @@ module _ {w x : List ℕ} {n d : ℕ} {o r f r1 f1 : List ℕ} {s : State} {a : 
               read = i .read;
               is = opening d _ ∙ rw (i .is);
               tree = i .tree ∙ sym (append-nil (take (s .pos) o));
-              rep = i .rep;
+              reported = i .reported;
               holds = refl;
             };
           }

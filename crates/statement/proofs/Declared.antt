@@ -259,10 +259,10 @@ names {T} {E} {w} {x} {n} {o} {o′} {r} {f} {b} {y} {tag} {line} {column} {at} 
           read = g .read;
           is = rw (g .is, N .at, N .full);
           tree = wrote T (g .item .type) (m .1 .0) (g .tree) (ap (named-of tag line column) (g .holds));
-          rep = ap (λ (k : ℕ). errs r k) (N .reported) ∙ g .rep;
+          reported = ap (λ (k : ℕ). errs r k) (N .reported) ∙ g .reported;
           holds = sym (rw (m .1 .1 .0, m .1 .1 .1));
         })
-    one Fatal z m g = rw (m .0, m .1, z) (record { errors = g .errors; read = g .read; is = rw (g .is); tree = g .tree; rep = g .rep })
+    one Fatal z m g = rw (m .0, m .1, z) (record { errors = g .errors; read = g .read; is = rw (g .is); tree = g .tree; reported = g .reported })
     one (Refused k) z m g = rw (m .0, z, g)
 
 pub declaration-room : {w x : List ℕ} {n d i j : ℕ} {o r f o1 r1 f1 r2 f2 : List ℕ} {s : State} {a b : Answer}

@@ -95,10 +95,10 @@ valued {T} {E} {w} {x} {n} {o} {o′} {r} {f} {c} {y} {tag} {q} name d X nm W v 
           tree = wrote T (X .item .type ++ g .item .recs) (m .1) (g .tree) refl
               ∙ ap (λ (l : List Rec). T ++ recs-bytes l)
               (append-assoc (X .item .type) (g .item .recs) (bare-of tag None [] ∷ []));
-          rep = ap (λ (k : ℕ). errs r k) (W .reported) ∙ g .rep;
+          reported = ap (λ (k : ℕ). errs r k) (W .reported) ∙ g .reported;
           holds = nm;
         })
-    one Fatal z m g = rw (m .0, m .1, z) (record { errors = g .errors; read = g .read; is = rw (g .is); tree = g .tree; rep = g .rep })
+    one Fatal z m g = rw (m .0, m .1, z) (record { errors = g .errors; read = g .read; is = rw (g .is); tree = g .tree; reported = g .reported })
     one (Refused k) z m g = rw (m .0, z, g)
 
 module _ {w x : List ℕ} {n d i j : ℕ} {o r f : List ℕ} {a : Answer} (q : GoesOn w x n o r f a i j) where
@@ -152,7 +152,7 @@ module _ {w x : List ℕ} {n d i j : ℕ} {o r f : List ℕ} {a : Answer} (q : G
                 let X : Fallible P.Typed = record { item = g .item; errors = g .errors } in
                 say (follows d value-on (g .is) ∙ step X (g .read)
                 ∙ go-bind d m (or-return (λ e. P.declared X (P.bare (e .item .recs) tag []) (e .errors))) _)
-                (valued name d X (g .holds) G (abandons {T = T} {E = E} (g .tree) (g .rep) li lj
+                (valued name d X (g .holds) G (abandons {T = T} {E = E} (g .tree) (g .reported) li lj
                 (errs-length r (a .state .reported) (omega (arith, q .asked .asks))) C
                 (omega (arith, q .pos, B .moved .pos)) (omega (arith, q .reported, B .moved .reported))
                 (B .is (past w x n (a .state .at) (g .read)))));
@@ -211,7 +211,7 @@ module _ {w x : List ℕ} {n d i j : ℕ} {o r f : List ℕ} {a : Answer} (q : G
                 read = g .read;
                 is = refl;
                 tree = g .tree ∙ ap (λ (l : List Rec). T ++ recs-bytes l) (sym (append-nil (X .item .type)));
-                rep = g .rep ∙ ap (λ (l : List Err). E ++ l) (sym (append-nil (X .errors)));
+                reported = g .reported ∙ ap (λ (l : List Err). E ++ l) (sym (append-nil (X .errors)));
                 holds = refl;
               }) in
               let step : go d (value-on X) (st-of w x n f (g .read) (a .state)) ≡ go d (P.declared X (P.bare [] 0x33 []) []) (st-of w x n f (g .read) (a .state)) =

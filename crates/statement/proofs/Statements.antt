@@ -195,10 +195,10 @@ joins {T} {E} {w} {x} {n} {o} {r} {f} {c} {q} d y v = record { told = one (c .st
           read = g .read;
           is = rw (g .is);
           tree = g .tree;
-          rep = g .rep;
+          reported = g .reported;
           holds = g .holds;
         }
-    one Fatal g = record { errors = g .errors; read = g .read; is = rw (g .is); tree = g .tree; rep = g .rep }
+    one Fatal g = record { errors = g .errors; read = g .read; is = rw (g .is); tree = g .tree; reported = g .reported }
     one (Refused m) g = rw g
 
 -- ---- `if`, after its first branch
@@ -388,7 +388,7 @@ module _ {w x : List ℕ} {n d : ℕ} {o r f : List ℕ} {s : State} {t : Token}
                 read = past w x n (t .next) (past w x n (s .at) rd);
                 is = refl;
                 tree = sym (append-nil (take (s .pos) o));
-                rep = sym (append-nil (errs r (s .reported)));
+                reported = sym (append-nil (errs r (s .reported)));
                 holds = (refl, u .place);
               };
             }));
@@ -545,7 +545,7 @@ module _ {w x : List ℕ} {n d : ℕ} {o r f : List ℕ} {s : State} {t : Token}
                 (ap (λ (S : St). go d (P.parse-statement >>? k) S) (adv (a .state) v (λ _. plain) f1 (g .read))) in
                 say (if-guarded rd ∙ follows d (else-on (here w x n s)) (g .is) ∙ step ∙ go-bind d P.parse-statement (or-return k) _)
                 (finishes d (λ _. here w x n s) (λ _. byte 3 ∷ []) [] F (λ i _. rw (u .place))
-                (abandons {T = take (s .pos) o} {E = errs r (s .reported)} (g .tree) (g .rep)
+                (abandons {T = take (s .pos) o} {E = errs r (s .reported)} (g .tree) (g .reported)
                 (length-take-le (s .pos) o (omega (arith, q .asked .room)))
                 (errs-length r (s .reported) (omega (arith, q .asked .asks)))
                 (errs-length r1 (a .state .reported) (omega (arith, q .asked .asks, B .moved, lr))) C
@@ -587,7 +587,7 @@ module _ {w x : List ℕ} {n d : ℕ} {o r f o1 r1 f1 : List ℕ} {s : State} {a
               (or-return (λ c. P.parse-statement >>? λ b. done (ok (guarding c b)))) _
               ∙ follows d (λ c. P.parse-statement >>? λ b. done (ok (guarding c b))) (g .is)
               ∙ go-bind d P.parse-statement (or-return (λ b. done (ok (guarding y b)))) _)
-              (joins d y (abandons {T = take (s .pos) o} {E = errs r (s .reported)} (g .tree) (g .rep)
+              (joins d y (abandons {T = take (s .pos) o} {E = errs r (s .reported)} (g .tree) (g .reported)
               (length-take-le (s .pos) o (omega (arith, q .room)))
               (errs-length r (s .reported) (omega (arith, q .asks)))
               (errs-length r1 (a .state .reported) (omega (arith, q .asks, B .moved, lr))) C

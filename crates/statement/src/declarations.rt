@@ -35,15 +35,15 @@ pub fn compound(
     text: &[u8],
     n: usize,
     file: &mut [u8],
-    rep: &mut [usize],
+    reported: &mut [usize],
     full: &mut [usize],
     st: State,
     left: usize,
 ) -> Answer
-    requires { ⌜ Asked tokens text n file rep full st ⌝ }
-    ensures { λ r. ⌜ Parses P.parse-compound tokens text n file rep full st left r ⌝ }
+    requires { ⌜ Asked tokens text n file reported full st ⌝ }
+    ensures { λ r. ⌜ Parses P.parse-compound tokens text n file reported full st left r ⌝ }
 {
-    let a = expect(tokens, text, n, rep, full, st, kind::HASH);
+    let a = expect(tokens, text, n, reported, full, st, kind::HASH);
     let status = a.status;
     let Status::Done = status else {
         return a;
@@ -52,20 +52,20 @@ pub fn compound(
     let t = peek(tokens, text, n, s.at);
     if t.kind == kind::END {
         let error = entry(parse_error::COMPOUND_AT_END, 0, 0, 0, 0);
-        return raise(n, rep, full, s, error);
+        return raise(n, reported, full, s, error);
     }
     if t.kind == kind::L_BRACKET {
         let what = Listed::ArrayValues;
         let tag = tag::COMPOUND_ARRAY;
-        return values(tokens, text, n, file, rep, full, what, tag, t, s, left);
+        return values(tokens, text, n, file, reported, full, what, tag, t, s, left);
     }
     if t.kind == kind::L_BRACE {
         let what = Listed::StructValues;
         let tag = tag::COMPOUND_STRUCT;
-        return values(tokens, text, n, file, rep, full, what, tag, t, s, left);
+        return values(tokens, text, n, file, reported, full, what, tag, t, s, left);
     }
     let error = entry(parse_error::COMPOUND, t.line, t.column, 0, t.kind);
-    raise(n, rep, full, s, error)
+    raise(n, reported, full, s, error)
 }
 
 // The values of a compound that opens with `[` or `{`.
@@ -74,7 +74,7 @@ fn values(
     text: &[u8],
     n: usize,
     file: &mut [u8],
-    rep: &mut [usize],
+    reported: &mut [usize],
     full: &mut [usize],
     what: Listed,
     tag: u8,
@@ -82,10 +82,10 @@ fn values(
     st: State,
     left: usize,
 ) -> Answer
-    requires { ⌜ Starts (P.opener (listed-of what)) tokens text n file rep full st ⌝ }
-    ensures { λ r. ⌜ Parses (values-rule (listed-of what) tag (place-of lead)) tokens text n file rep full st left r ⌝ }
+    requires { ⌜ Starts (P.opener (listed-of what)) tokens text n file reported full st ⌝ }
+    ensures { λ r. ⌜ Parses (values-rule (listed-of what) tag (place-of lead)) tokens text n file reported full st left r ⌝ }
 {
-    let a = list(tokens, text, n, file, rep, full, what, st, left);
+    let a = list(tokens, text, n, file, reported, full, what, st, left);
     write_node(file, text, a, lead, tag, Numbers::Two(a.line))
 }
 
@@ -114,14 +114,14 @@ fn initial_value(
     text: &[u8],
     n: usize,
     file: &mut [u8],
-    rep: &mut [usize],
+    reported: &mut [usize],
     full: &mut [usize],
     a: Answer,
     from: State,
     left: usize,
 ) -> Answer
-    requires { ⌜ GoesOn tokens text n file rep full a from ⌝ }
-    ensures { λ r. ⌜ ValueOn tokens text n file rep full a from left r ⌝ }
+    requires { ⌜ GoesOn tokens text n file reported full a from ⌝ }
+    ensures { λ r. ⌜ ValueOn tokens text n file reported full a from left r ⌝ }
 {
     let status = a.status;
     let Status::Done = status else {
@@ -131,13 +131,13 @@ fn initial_value(
     let t = peek(tokens, text, n, s.at);
     let on = State { at: t.next, ..s };
     if t.kind == kind::EQUALS {
-        let b = expression(tokens, text, n, file, rep, full, on, left);
-        let c = abandon(rep, b, from, s);
+        let b = expression(tokens, text, n, file, reported, full, on, left);
+        let c = abandon(reported, b, from, s);
         return bare(file, text, c, tag::ASSIGNED_VALUE);
     }
     if t.kind == kind::L_ARROW {
-        let b = compound(tokens, text, n, file, rep, full, on, left);
-        let c = abandon(rep, b, from, s);
+        let b = compound(tokens, text, n, file, reported, full, on, left);
+        let c = abandon(reported, b, from, s);
         return bare(file, text, c, tag::COMPOUND_VALUE);
     }
     bare(file, text, a, tag::NO_VALUE)
@@ -149,16 +149,16 @@ fn var_like_declaration(
     text: &[u8],
     n: usize,
     file: &mut [u8],
-    rep: &mut [usize],
+    reported: &mut [usize],
     full: &mut [usize],
     st: State,
     left: usize,
 ) -> Answer
-    requires { ⌜ Asked tokens text n file rep full st ⌝ }
-    ensures { λ r. ⌜ ReadsDeclared tokens text n file rep full st left r ⌝ }
+    requires { ⌜ Asked tokens text n file reported full st ⌝ }
+    ensures { λ r. ⌜ ReadsDeclared tokens text n file reported full st left r ⌝ }
 {
-    let a = typed_name(tokens, text, n, file, rep, full, st, left);
-    initial_value(tokens, text, n, file, rep, full, a, st, left)
+    let a = typed_name(tokens, text, n, file, reported, full, st, left);
+    initial_value(tokens, text, n, file, reported, full, a, st, left)
 }
 
 // A record with a place after an answer, if it is there; its text is the name at the place `at`, or `<?>` where none stands there.
@@ -197,17 +197,17 @@ pub fn declaration(
     text: &[u8],
     n: usize,
     file: &mut [u8],
-    rep: &mut [usize],
+    reported: &mut [usize],
     full: &mut [usize],
     tag: u8,
     lead: Token,
     st: State,
     left: usize,
 ) -> Answer
-    requires { ⌜ Asked tokens text n file rep full st ⌝ }
-    ensures { λ r. ⌜ Parses (P.declaration tag (place-of lead)) tokens text n file rep full st left r ⌝ }
+    requires { ⌜ Asked tokens text n file reported full st ⌝ }
+    ensures { λ r. ⌜ Parses (P.declaration tag (place-of lead)) tokens text n file reported full st left r ⌝ }
 {
-    let a = var_like_declaration(tokens, text, n, file, rep, full, st, left);
-    let b = and_expect(tokens, text, n, rep, full, a, kind::SEMICOLON, st);
+    let a = var_like_declaration(tokens, text, n, file, reported, full, st, left);
+    let b = and_expect(tokens, text, n, reported, full, a, kind::SEMICOLON, st);
     named(tokens, text, n, file, b, tag, lead, st.at)
 }

@@ -41,19 +41,19 @@ pub fn body(
     text: &[u8],
     n: usize,
     file: &mut [u8],
-    rep: &mut [usize],
+    reported: &mut [usize],
     full: &mut [usize],
     st: State,
     left: usize,
 ) -> Answer
-    requires { ⌜ Asked tokens text n file rep full st ⌝ }
-    ensures { λ r. ⌜ ReadsBody tokens text n file rep full st left r ⌝ }
+    requires { ⌜ Asked tokens text n file reported full st ⌝ }
+    ensures { λ r. ⌜ ReadsBody tokens text n file reported full st left r ⌝ }
 {
-    let a = expect(tokens, text, n, rep, full, st, kind::L_BRACE);
+    let a = expect(tokens, text, n, reported, full, st, kind::L_BRACE);
     let status = a.status;
     let s = a.state;
     match status {
-        Status::Done => body_rest(tokens, text, n, file, rep, full, s, left),
+        Status::Done => body_rest(tokens, text, n, file, reported, full, s, left),
         Status::Fatal => Answer {
             status: Status::Done,
             state: s,
@@ -70,13 +70,13 @@ fn body_rest(
     text: &[u8],
     n: usize,
     file: &mut [u8],
-    rep: &mut [usize],
+    reported: &mut [usize],
     full: &mut [usize],
     from: State,
     left: usize,
 ) -> Answer
-    requires { ⌜ Asked tokens text n file rep full from ⌝ }
-    ensures { λ r. ⌜ LoopOn statements-on 0 tokens text n file rep full from left r ⌝ }
+    requires { ⌜ Asked tokens text n file reported full from ⌝ }
+    ensures { λ r. ⌜ LoopOn statements-on 0 tokens text n file reported full from left r ⌝ }
 {
     let mut count = 0;
     let mut st = from;
@@ -92,7 +92,7 @@ fn body_rest(
         }
         if t.kind == kind::END {
             let error = entry(parse_error::BODY_AT_END, 0, 0, 0, 0);
-            let b = note(n, rep, full, st, error);
+            let b = note(n, reported, full, st, error);
             let status = b.status;
             let s = b.state;
             return Answer {
@@ -102,7 +102,7 @@ fn body_rest(
                 column: 0,
             };
         }
-        let b = statement(tokens, text, n, file, rep, full, st, left);
+        let b = statement(tokens, text, n, file, reported, full, st, left);
         let status = b.status;
         let s = b.state;
         if let Status::Refused(_) = status {
@@ -121,16 +121,16 @@ fn block(
     text: &[u8],
     n: usize,
     file: &mut [u8],
-    rep: &mut [usize],
+    reported: &mut [usize],
     full: &mut [usize],
     st: State,
     left: usize,
 ) -> Answer
-    requires { ⌜ Starts K.LBrace tokens text n file rep full st ⌝ }
-    ensures { λ r. ⌜ Parses P.statement-rule tokens text n file rep full st left r ⌝ }
+    requires { ⌜ Starts K.LBrace tokens text n file reported full st ⌝ }
+    ensures { λ r. ⌜ Parses P.statement-rule tokens text n file reported full st left r ⌝ }
 {
     let t = peek(tokens, text, n, st.at);
-    let a = body(tokens, text, n, file, rep, full, st, left);
+    let a = body(tokens, text, n, file, reported, full, st, left);
     write_node(file, text, a, t, tag::BLOCK, Numbers::Two(a.line))
 }
 
@@ -140,17 +140,17 @@ fn loop_statement(
     text: &[u8],
     n: usize,
     file: &mut [u8],
-    rep: &mut [usize],
+    reported: &mut [usize],
     full: &mut [usize],
     st: State,
     left: usize,
 ) -> Answer
-    requires { ⌜ Starts K.KwLoop tokens text n file rep full st ⌝ }
-    ensures { λ r. ⌜ Parses P.statement-rule tokens text n file rep full st left r ⌝ }
+    requires { ⌜ Starts K.KwLoop tokens text n file reported full st ⌝ }
+    ensures { λ r. ⌜ Parses P.statement-rule tokens text n file reported full st left r ⌝ }
 {
     let t = peek(tokens, text, n, st.at);
     let on = State { at: t.next, ..st };
-    let a = statement(tokens, text, n, file, rep, full, on, left);
+    let a = statement(tokens, text, n, file, reported, full, on, left);
     write_node(file, text, a, t, tag::LOOP, Numbers::None)
 }
 
@@ -160,22 +160,22 @@ fn guarded(
     text: &[u8],
     n: usize,
     file: &mut [u8],
-    rep: &mut [usize],
+    reported: &mut [usize],
     full: &mut [usize],
     st: State,
     left: usize,
 ) -> Answer
-    requires { ⌜ Asked tokens text n file rep full st ⌝ }
-    ensures { λ r. ⌜ Parses guarded-rule tokens text n file rep full st left r ⌝ }
+    requires { ⌜ Asked tokens text n file reported full st ⌝ }
+    ensures { λ r. ⌜ Parses guarded-rule tokens text n file reported full st left r ⌝ }
 {
-    let a = expression(tokens, text, n, file, rep, full, st, left);
+    let a = expression(tokens, text, n, file, reported, full, st, left);
     let status = a.status;
     let Status::Done = status else {
         return a;
     };
     let s = a.state;
-    let b = statement(tokens, text, n, file, rep, full, s, left);
-    abandon(rep, b, st, s)
+    let b = statement(tokens, text, n, file, reported, full, s, left);
+    abandon(reported, b, st, s)
 }
 
 // `while` guarded
@@ -184,17 +184,17 @@ fn while_statement(
     text: &[u8],
     n: usize,
     file: &mut [u8],
-    rep: &mut [usize],
+    reported: &mut [usize],
     full: &mut [usize],
     st: State,
     left: usize,
 ) -> Answer
-    requires { ⌜ Starts K.KwWhile tokens text n file rep full st ⌝ }
-    ensures { λ r. ⌜ Parses P.statement-rule tokens text n file rep full st left r ⌝ }
+    requires { ⌜ Starts K.KwWhile tokens text n file reported full st ⌝ }
+    ensures { λ r. ⌜ Parses P.statement-rule tokens text n file reported full st left r ⌝ }
 {
     let t = peek(tokens, text, n, st.at);
     let on = State { at: t.next, ..st };
-    let a = guarded(tokens, text, n, file, rep, full, on, left);
+    let a = guarded(tokens, text, n, file, reported, full, on, left);
     write_node(file, text, a, t, tag::WHILE, Numbers::None)
 }
 
@@ -204,17 +204,17 @@ fn if_statement(
     text: &[u8],
     n: usize,
     file: &mut [u8],
-    rep: &mut [usize],
+    reported: &mut [usize],
     full: &mut [usize],
     st: State,
     left: usize,
 ) -> Answer
-    requires { ⌜ Starts K.KwIf tokens text n file rep full st ⌝ }
-    ensures { λ r. ⌜ Parses P.statement-rule tokens text n file rep full st left r ⌝ }
+    requires { ⌜ Starts K.KwIf tokens text n file reported full st ⌝ }
+    ensures { λ r. ⌜ Parses P.statement-rule tokens text n file reported full st left r ⌝ }
 {
     let t = peek(tokens, text, n, st.at);
     let on = State { at: t.next, ..st };
-    let a = guarded(tokens, text, n, file, rep, full, on, left);
+    let a = guarded(tokens, text, n, file, reported, full, on, left);
     let status = a.status;
     let Status::Done = status else {
         return a;
@@ -225,8 +225,8 @@ fn if_statement(
         return write_node(file, text, a, t, tag::IF, Numbers::Byte(2));
     }
     let on = State { at: u.next, ..s };
-    let b = statement(tokens, text, n, file, rep, full, on, left);
-    let c = abandon(rep, b, st, s);
+    let b = statement(tokens, text, n, file, reported, full, on, left);
+    let c = abandon(reported, b, st, s);
     write_node(file, text, c, t, tag::IF, Numbers::Byte(3))
 }
 
@@ -236,44 +236,44 @@ fn statement_rule(
     text: &[u8],
     n: usize,
     file: &mut [u8],
-    rep: &mut [usize],
+    reported: &mut [usize],
     full: &mut [usize],
     st: State,
     left: usize,
 ) -> Answer
-    requires { ⌜ Asked tokens text n file rep full st ⌝ }
-    ensures { λ r. ⌜ Parses P.statement-rule tokens text n file rep full st left r ⌝ }
+    requires { ⌜ Asked tokens text n file reported full st ⌝ }
+    ensures { λ r. ⌜ Parses P.statement-rule tokens text n file reported full st left r ⌝ }
 {
     let t = peek(tokens, text, n, st.at);
     if t.kind == kind::KW_RETURN {
-        return return_statement(tokens, text, n, file, rep, full, st, left);
+        return return_statement(tokens, text, n, file, reported, full, st, left);
     }
     if t.kind == kind::KW_VAR {
-        return var_statement(tokens, text, n, file, rep, full, st, left);
+        return var_statement(tokens, text, n, file, reported, full, st, left);
     }
     if t.kind == kind::L_BRACE {
-        return block(tokens, text, n, file, rep, full, st, left);
+        return block(tokens, text, n, file, reported, full, st, left);
     }
     if t.kind == kind::KW_LOOP {
-        return loop_statement(tokens, text, n, file, rep, full, st, left);
+        return loop_statement(tokens, text, n, file, reported, full, st, left);
     }
     if t.kind == kind::KW_WHILE {
-        return while_statement(tokens, text, n, file, rep, full, st, left);
+        return while_statement(tokens, text, n, file, reported, full, st, left);
     }
     if t.kind == kind::KW_BREAK {
-        return break_statement(tokens, text, n, file, rep, full, st);
+        return break_statement(tokens, text, n, file, reported, full, st);
     }
     if t.kind == kind::KW_IF {
-        return if_statement(tokens, text, n, file, rep, full, st, left);
+        return if_statement(tokens, text, n, file, reported, full, st, left);
     }
     if t.kind == kind::INLINE_ASSEMBLY_FRAGMENT {
-        return assembly_statement(tokens, text, n, file, rep, full, st);
+        return assembly_statement(tokens, text, n, file, reported, full, st);
     }
     if t.kind == kind::END {
         let error = entry(parse_error::STATEMENT_AT_END, 0, 0, 0, 0);
-        return raise(n, rep, full, st, error);
+        return raise(n, reported, full, st, error);
     }
-    expression_statement(tokens, text, n, file, rep, full, t, st, left)
+    expression_statement(tokens, text, n, file, reported, full, t, st, left)
 }
 
 // parse_statement, one of the four functions whose open calls are counted.
@@ -282,16 +282,16 @@ pub fn statement(
     text: &[u8],
     n: usize,
     file: &mut [u8],
-    rep: &mut [usize],
+    reported: &mut [usize],
     full: &mut [usize],
     st: State,
     left: usize,
 ) -> Answer
-    requires { ⌜ Asked tokens text n file rep full st ⌝ }
-    ensures { λ r. ⌜ Parses P.parse-statement tokens text n file rep full st left r ⌝ }
+    requires { ⌜ Asked tokens text n file reported full st ⌝ }
+    ensures { λ r. ⌜ Parses P.parse-statement tokens text n file reported full st left r ⌝ }
 {
     if left == 0 {
         return refuse(n, st, refusal::NESTING);
     }
-    statement_rule(tokens, text, n, file, rep, full, st, left - 1)
+    statement_rule(tokens, text, n, file, reported, full, st, left - 1)
 }

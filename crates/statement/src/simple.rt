@@ -28,13 +28,13 @@ pub fn return_statement(
     text: &[u8],
     n: usize,
     file: &mut [u8],
-    rep: &mut [usize],
+    reported: &mut [usize],
     full: &mut [usize],
     st: State,
     left: usize,
 ) -> Answer
-    requires { ⌜ Starts K.KwReturn tokens text n file rep full st ⌝ }
-    ensures { λ r. ⌜ Parses P.statement-rule tokens text n file rep full st left r ⌝ }
+    requires { ⌜ Starts K.KwReturn tokens text n file reported full st ⌝ }
+    ensures { λ r. ⌜ Parses P.statement-rule tokens text n file reported full st left r ⌝ }
 {
     let t = peek(tokens, text, n, st.at);
     let u = peek(tokens, text, n, t.next);
@@ -48,8 +48,8 @@ pub fn return_statement(
         return write_node(file, text, a, t, tag::RETURN, Numbers::Byte(0));
     }
     let on = State { at: t.next, ..st };
-    let a = expression(tokens, text, n, file, rep, full, on, left);
-    let b = and_expect(tokens, text, n, rep, full, a, kind::SEMICOLON, st);
+    let a = expression(tokens, text, n, file, reported, full, on, left);
+    let b = and_expect(tokens, text, n, reported, full, a, kind::SEMICOLON, st);
     write_node(file, text, b, t, tag::RETURN, Numbers::Byte(1))
 }
 
@@ -59,18 +59,18 @@ pub fn var_statement(
     text: &[u8],
     n: usize,
     file: &mut [u8],
-    rep: &mut [usize],
+    reported: &mut [usize],
     full: &mut [usize],
     st: State,
     left: usize,
 ) -> Answer
-    requires { ⌜ Starts K.KwVar tokens text n file rep full st ⌝ }
-    ensures { λ r. ⌜ Parses P.statement-rule tokens text n file rep full st left r ⌝ }
+    requires { ⌜ Starts K.KwVar tokens text n file reported full st ⌝ }
+    ensures { λ r. ⌜ Parses P.statement-rule tokens text n file reported full st left r ⌝ }
 {
     let t = peek(tokens, text, n, st.at);
     let on = State { at: t.next, ..st };
     let tag = tag::VARIABLE_DECLARATION;
-    declaration(tokens, text, n, file, rep, full, tag, t, on, left)
+    declaration(tokens, text, n, file, reported, full, tag, t, on, left)
 }
 
 // `break` `;`
@@ -79,16 +79,16 @@ pub fn break_statement(
     text: &[u8],
     n: usize,
     file: &mut [u8],
-    rep: &mut [usize],
+    reported: &mut [usize],
     full: &mut [usize],
     st: State,
 ) -> Answer
-    requires { ⌜ Starts K.KwBreak tokens text n file rep full st ⌝ }
-    ensures { λ r. ⌜ ((d : ℕ) → Parses P.statement-rule tokens text n file rep full st d r) ⌝ }
+    requires { ⌜ Starts K.KwBreak tokens text n file reported full st ⌝ }
+    ensures { λ r. ⌜ ((d : ℕ) → Parses P.statement-rule tokens text n file reported full st d r) ⌝ }
 {
     let t = peek(tokens, text, n, st.at);
     let on = State { at: t.next, ..st };
-    let a = expect(tokens, text, n, rep, full, on, kind::SEMICOLON);
+    let a = expect(tokens, text, n, reported, full, on, kind::SEMICOLON);
     write_node(file, text, a, t, tag::BREAK, Numbers::None)
 }
 
@@ -98,12 +98,12 @@ pub fn assembly_statement(
     text: &[u8],
     n: usize,
     file: &mut [u8],
-    rep: &mut [usize],
+    reported: &mut [usize],
     full: &mut [usize],
     st: State,
 ) -> Answer
-    requires { ⌜ Starts K.InlineAssemblyFragment tokens text n file rep full st ⌝ }
-    ensures { λ r. ⌜ ((d : ℕ) → Parses P.statement-rule tokens text n file rep full st d r) ⌝ }
+    requires { ⌜ Starts K.InlineAssemblyFragment tokens text n file reported full st ⌝ }
+    ensures { λ r. ⌜ ((d : ℕ) → Parses P.statement-rule tokens text n file reported full st d r) ⌝ }
 {
     let t = peek(tokens, text, n, st.at);
     let a = Answer {
@@ -121,22 +121,22 @@ fn assignment(
     text: &[u8],
     n: usize,
     file: &mut [u8],
-    rep: &mut [usize],
+    reported: &mut [usize],
     full: &mut [usize],
     lead: Token,
     i: usize,
     st: State,
     left: usize,
 ) -> Answer
-    requires { ⌜ Starts K.Equals tokens text n file rep full st × (i ≤ st .pos) ⌝ }
-    ensures { λ r. ⌜ ReadsAfter (P.after-expression (place-of lead)) tokens text n file rep full i st left r ⌝ }
+    requires { ⌜ Starts K.Equals tokens text n file reported full st × (i ≤ st .pos) ⌝ }
+    ensures { λ r. ⌜ ReadsAfter (P.after-expression (place-of lead)) tokens text n file reported full i st left r ⌝ }
 {
     let t = peek(tokens, text, n, st.at);
     let on = State { at: t.next, ..st };
-    let a = expression(tokens, text, n, file, rep, full, on, left);
+    let a = expression(tokens, text, n, file, reported, full, on, left);
     let from = State { pos: i, ..st };
-    let b = abandon(rep, a, from, st);
-    let c = and_expect(tokens, text, n, rep, full, b, kind::SEMICOLON, from);
+    let b = abandon(reported, a, from, st);
+    let c = and_expect(tokens, text, n, reported, full, b, kind::SEMICOLON, from);
     write_node(file, text, c, lead, tag::ASSIGNMENT, Numbers::None)
 }
 
@@ -146,22 +146,22 @@ fn compound_assignment(
     text: &[u8],
     n: usize,
     file: &mut [u8],
-    rep: &mut [usize],
+    reported: &mut [usize],
     full: &mut [usize],
     lead: Token,
     i: usize,
     st: State,
     left: usize,
 ) -> Answer
-    requires { ⌜ Starts K.LArrow tokens text n file rep full st × (i ≤ st .pos) ⌝ }
-    ensures { λ r. ⌜ ReadsAfter (P.after-expression (place-of lead)) tokens text n file rep full i st left r ⌝ }
+    requires { ⌜ Starts K.LArrow tokens text n file reported full st × (i ≤ st .pos) ⌝ }
+    ensures { λ r. ⌜ ReadsAfter (P.after-expression (place-of lead)) tokens text n file reported full i st left r ⌝ }
 {
     let t = peek(tokens, text, n, st.at);
     let on = State { at: t.next, ..st };
-    let a = compound(tokens, text, n, file, rep, full, on, left);
+    let a = compound(tokens, text, n, file, reported, full, on, left);
     let from = State { pos: i, ..st };
-    let b = abandon(rep, a, from, st);
-    let c = and_expect(tokens, text, n, rep, full, b, kind::SEMICOLON, from);
+    let b = abandon(reported, a, from, st);
+    let c = and_expect(tokens, text, n, reported, full, b, kind::SEMICOLON, from);
     write_node(file, text, c, lead, tag::COMPOUND_ASSIGNMENT, Numbers::None)
 }
 
@@ -171,22 +171,22 @@ fn after_expression(
     text: &[u8],
     n: usize,
     file: &mut [u8],
-    rep: &mut [usize],
+    reported: &mut [usize],
     full: &mut [usize],
     lead: Token,
     i: usize,
     st: State,
     left: usize,
 ) -> Answer
-    requires { ⌜ Asked tokens text n file rep full st × (i ≤ st .pos) ⌝ }
-    ensures { λ r. ⌜ ReadsAfter (P.after-expression (place-of lead)) tokens text n file rep full i st left r ⌝ }
+    requires { ⌜ Asked tokens text n file reported full st × (i ≤ st .pos) ⌝ }
+    ensures { λ r. ⌜ ReadsAfter (P.after-expression (place-of lead)) tokens text n file reported full i st left r ⌝ }
 {
     let t = peek(tokens, text, n, st.at);
     if t.kind == kind::EQUALS {
-        return assignment(tokens, text, n, file, rep, full, lead, i, st, left);
+        return assignment(tokens, text, n, file, reported, full, lead, i, st, left);
     }
     if t.kind == kind::L_ARROW {
-        return compound_assignment(tokens, text, n, file, rep, full, lead, i, st, left);
+        return compound_assignment(tokens, text, n, file, reported, full, lead, i, st, left);
     }
     let a = Answer {
         status: Status::Done,
@@ -195,7 +195,7 @@ fn after_expression(
         column: lead.column,
     };
     let from = State { pos: i, ..st };
-    let b = and_expect(tokens, text, n, rep, full, a, kind::SEMICOLON, from);
+    let b = and_expect(tokens, text, n, reported, full, a, kind::SEMICOLON, from);
     write_node(file, text, b, lead, tag::EXPRESSION, Numbers::None)
 }
 
@@ -205,16 +205,16 @@ pub fn expression_statement(
     text: &[u8],
     n: usize,
     file: &mut [u8],
-    rep: &mut [usize],
+    reported: &mut [usize],
     full: &mut [usize],
     lead: Token,
     st: State,
     left: usize,
 ) -> Answer
-    requires { ⌜ Asked tokens text n file rep full st ⌝ }
-    ensures { λ r. ⌜ Parses (P.expression-statement (place-of lead)) tokens text n file rep full st left r ⌝ }
+    requires { ⌜ Asked tokens text n file reported full st ⌝ }
+    ensures { λ r. ⌜ Parses (P.expression-statement (place-of lead)) tokens text n file reported full st left r ⌝ }
 {
-    let a = expression(tokens, text, n, file, rep, full, st, left);
+    let a = expression(tokens, text, n, file, reported, full, st, left);
     let status = a.status;
     let Status::Done = status else {
         return a;
@@ -223,5 +223,5 @@ pub fn expression_statement(
     if st.reported < s.reported {
         return write_node(file, text, a, lead, tag::EXPRESSION, Numbers::None);
     }
-    after_expression(tokens, text, n, file, rep, full, lead, st.pos, s, left)
+    after_expression(tokens, text, n, file, reported, full, lead, st.pos, s, left)
 }

@@ -73,7 +73,7 @@ stops {K = K} {L = L} {T = T} {E = E} {rs = rs} {rs′ = rs′} {es = es} {es′
     one : (h : Status) → OneOf (1 ∷ 2 ∷ []) (tagOf the-type h) → ShowsOf h K T E rs es w x n o r f a q
         → ShowsOf h L T E rs′ es′ w x n o r f a (after q (λ z S. go d (or-return k z) S))
     one Done nd i = absurd (⊎-elim (λ z. omega arith) (λ z. omega arith) nd)
-    one Fatal nd i = record { errors = i .errors; read = i .read; is = rw (i .is); tree = i .tree; rep = i .rep }
+    one Fatal nd i = record { errors = i .errors; read = i .read; is = rw (i .is); tree = i .tree; reported = i .reported }
     one (Refused u) nd i = rw i
 
 -- one that is there is followed
@@ -109,7 +109,7 @@ module _ {A : Type 0} (K : View A) {w x : List ℕ} {n : ℕ} {r f r′ f′ : L
             is = rw (few, l, run) (ap (λ (z : List Err). gives (fatal (unpack e ∷ []))
                 (record { tokens = rest w x n (s .at); read = rd; full = z })) (sym (v .full (ltb-true _ _ l))));
             tree = refl;
-            rep = v .rep (ltb-true _ _ l);
+            reported = v .reported (ltb-true _ _ l);
           }
       one false l = rw (few, l, run)
 
@@ -178,7 +178,7 @@ module _ {A : Type 0} {K : View A} {T T′ : List ℕ} {E E′ : List Err} {rs :
             read = g .read;
             is = g .is;
             tree = tree-join T rs (K .recs (g .item)) tree (g .tree);
-            rep = errs-join E es (g .errors) reps (g .rep);
+            reported = errs-join E es (g .errors) reps (g .reported);
             holds = g .holds;
           })
       one Fatal z m g =
@@ -188,8 +188,8 @@ module _ {A : Type 0} {K : View A} {T T′ : List ℕ} {E E′ : List Err} {rs :
             is = g .is ∙ ap (λ (s : St). gives (fatal (g .errors)) s) (sym (rw (v .at, v .full)));
             tree = ap (λ (z : ℕ). take z o) (m .pos) ∙ sym (take-take i (b .state .pos) o hi)
                 ∙ ap (λ (z : List ℕ). take i z) (g .tree ∙ tree) ∙ take-at T (recs-bytes rs) i li;
-            rep = cut-errs E es (g .errors) m lj (ap length (sym reps) ∙ lk) hj
-                (g .rep ∙ ap (λ (z : List Err). z ++ g .errors) reps);
+            reported = cut-errs E es (g .errors) m lj (ap length (sym reps) ∙ lk) hj
+                (g .reported ∙ ap (λ (z : List Err). z ++ g .errors) reps);
           })
       one (Refused u) z m g = rw (m .0, z) g
 
@@ -223,8 +223,8 @@ module _ {A : Type 0} {K : View A} {T : List ℕ} {E : List Err} {rs : List Rec}
             read = g .read;
             is = rw (g .is, u .at, u .full);
             tree = wrote T (rs ++ K .recs (g .item)) (m .1 .0) (g .tree) (sym (e (g .item) (g .holds)));
-            rep = ap (λ (k : ℕ). errs r k) (u .reported) ∙ g .rep;
+            reported = ap (λ (k : ℕ). errs r k) (u .reported) ∙ g .reported;
             holds = ap place-of (sym (e (g .item) (g .holds))) ∙ sym (rw (m .1 .1 .0, m .1 .1 .1));
           })
-      one Fatal z m g = rw (m .0, m .1, z) (record { errors = g .errors; read = g .read; is = rw (g .is); tree = g .tree; rep = g .rep })
+      one Fatal z m g = rw (m .0, m .1, z) (record { errors = g .errors; read = g .read; is = rw (g .is); tree = g .tree; reported = g .reported })
       one (Refused k) z m g = rw (m .0, z, g)

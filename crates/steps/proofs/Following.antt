@@ -53,7 +53,7 @@ module _ {A : Type 0} {K : View A} {w x : List ℕ} {n k i j : ℕ} {r f r′ f�
           → Bad T E w x n o r′ f′
           (record { status = v .c .status; state = v .c .state; line = a .line; column = a .column })
           (after q (λ z S. go d (or-return (expecting role k) z) S))
-      lost c = record { errors = c .errors; read = c .read; is = step ∙ rw (c .is); tree = c .tree; rep = c .rep }
+      lost c = record { errors = c .errors; read = c .read; is = step ∙ rw (c .is); tree = c .tree; reported = c .reported }
 
       one : (h : Status) → v .b .status ≡ h → AbandonedOf h (v .between) (v .b) i j (a .state .reported) r′ (v .c)
           → ShowsOf h (token (next-token (rest w x n (a .state .at)))) (take (a .state .pos) o)
@@ -68,12 +68,12 @@ module _ {A : Type 0} {K : View A} {w x : List ℕ} {n k i j : ℕ} {r f r′ f�
             read = t .read;
             is = step ∙ rw (t .is);
             tree = ap (λ (l : ℕ). take l o) (v .expects .pos) ∙ g .tree;
-            rep = rw (m .1) (v .expects .kept h .1) ∙ g .rep;
+            reported = rw (m .1) (v .expects .kept h .1) ∙ g .reported;
             holds = g .holds;
           })
       one Fatal h m t =
           let b : Shows (token (next-token (rest w x n (a .state .at)))) T E (rs ++ K .recs (g .item)) (es ++ g .errors) w x n o r′ f′ (v .c) (go d (P.expect-as role k) S) =
-          abandons {T = T} {E = E} (g .tree) (g .rep) li lj (errs-length r (a .state .reported) (omega arith))
+          abandons {T = T} {E = E} (g .tree) (g .reported) li lj (errs-length r (a .state .reported) (omega arith))
           (v .abandoned) (omega (arith, p .pos, v .expects .pos))
           (omega (arith, p .reported, v .expects .moved .reported)) (record {
             told = subst
@@ -101,6 +101,6 @@ module _ {A : Type 0} {K : View A} {w x : List ℕ} {n k i j : ℕ} {r f r′ f�
       one Fatal z m g =
           rw (m .0, m .1 .0, m .1 .1) (record {
             told = rw z
-                (record { errors = g .errors; read = g .read; is = rw (g .is); tree = g .tree; rep = g .rep });
+                (record { errors = g .errors; read = g .read; is = rw (g .is); tree = g .tree; reported = g .reported });
           })
       one (Refused u) z m g = rw (m .0, m .1 .0, m .1 .1) (record { told = rw (z, g) })

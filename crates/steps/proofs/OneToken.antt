@@ -71,7 +71,7 @@ module _ {w x : List ℕ} {n : ℕ} {r f : List ℕ} {s : State} {t : Token} (q 
             read = rd ++ now-read (λ _. of role) (rest w x n (s .at));
             is = refl;
             tree = sym (append-nil (take (s .pos) o));
-            rep = sym (append-nil (errs r (s .reported)));
+            reported = sym (append-nil (errs r (s .reported)));
             holds = (refl, v .place);
           };
         });

@@ -14,45 +14,45 @@ use Rattle.steps.specs.Shows as S
 -- ---- asked
 
 abbrev pub Asks : Slice → Slice → ℕ → Slice → Slice → State → Type 0
-Asks tokens text n rep full st = S.Asks (now tokens) (now text) n (now rep) (now full) st
+Asks tokens text n reported full st = S.Asks (now tokens) (now text) n (now reported) (now full) st
 
 -- and room in the file
 abbrev pub Asked : Slice → Slice → ℕ → Slice → Slice → Slice → State → Type 0
-Asked tokens text n file rep full st = S.Asked (now tokens) (now text) n (now file) (now rep) (now full) st
+Asked tokens text n file reported full st = S.Asked (now tokens) (now text) n (now file) (now reported) (now full) st
 
 -- after an answer, in a construct that began in the state `from`
 abbrev pub Follows : Slice → Slice → ℕ → Slice → Slice → Answer → State → Type 0
-Follows tokens text n rep full a from =
-    S.Follows (now tokens) (now text) n (now rep) (now full) a (from .pos) (from .reported)
+Follows tokens text n reported full a from =
+    S.Follows (now tokens) (now text) n (now reported) (now full) a (from .pos) (from .reported)
 
 abbrev pub GoesOn : Slice → Slice → ℕ → Slice → Slice → Slice → Answer → State → Type 0
-GoesOn tokens text n file rep full a from =
-    S.GoesOn (now tokens) (now text) n (now file) (now rep) (now full) a (from .pos) (from .reported)
+GoesOn tokens text n file reported full a from =
+    S.GoesOn (now tokens) (now text) n (now file) (now reported) (now full) a (from .pos) (from .reported)
 
 -- ---- ensured
 
 -- a function that reads one token
 abbrev pub Expects : (Role → Act (Ans Tok)) → Lent → Lent → ℕ → Lent → Lent → State → Answer → Type 0
-Expects m tokens text n rep full st r =
-    S.Expects (at-entry tokens) (at-entry text) n m (at-entry rep) (at-entry full) st (at-exit rep) (at-exit full) r
+Expects m tokens text n reported full st r =
+    S.Expects (at-entry tokens) (at-entry text) n m (at-entry reported) (at-entry full) st (at-exit reported) (at-exit full) r
 
 abbrev pub Expected : ℕ → Lent → Lent → ℕ → Lent → Lent → Answer → State → Answer → Type 0
-Expected wanted tokens text n rep full a from r =
-    S.Expected (at-entry tokens) (at-entry text) n wanted (from .pos) (from .reported) (at-entry rep) (at-entry full) a
-    (at-exit rep) (at-exit full) r
+Expected wanted tokens text n reported full a from r =
+    S.Expected (at-entry tokens) (at-entry text) n wanted (from .pos) (from .reported) (at-entry reported) (at-entry full) a
+    (at-exit reported) (at-exit full) r
 
 -- a function that is the rule m: a node, where `left` more calls may be opened
 abbrev pub Parses : Act (Ans Node) → Lent → Lent → ℕ → Lent → Lent → Lent → State → ℕ → Answer → Type 0
-Parses m tokens text n file rep full st left r =
-    S.Reads S.node (at-entry tokens) (at-entry text) n left m (at-entry file) (at-entry rep) (at-entry full) st
-    (at-exit file) (at-exit rep) (at-exit full) r
+Parses m tokens text n file reported full st left r =
+    S.Reads S.node (at-entry tokens) (at-entry text) n left m (at-entry file) (at-entry reported) (at-entry full) st
+    (at-exit file) (at-exit reported) (at-exit full) r
 
 -- after a node
 abbrev pub ParsesOn :
     (Fallible Node → Act (Ans Node)) → Lent → Lent → ℕ → Lent → Lent → Lent → Answer → State → ℕ → Answer → Type 0
-ParsesOn k tokens text n file rep full a from left r =
+ParsesOn k tokens text n file reported full a from left r =
     S.Goes S.node S.node (at-entry tokens) (at-entry text) n left k (from .pos) (from .reported) (at-entry file)
-    (at-entry rep) (at-entry full) a (at-exit file) (at-exit rep) (at-exit full) r
+    (at-entry reported) (at-entry full) a (at-exit file) (at-exit reported) (at-exit full) r
 
 -- a record after an answer
 abbrev pub Finishes : Record → Lent → Lent → Answer → Answer → Type 0

@@ -64,7 +64,7 @@ pub record Good {A : Type 0} (K : View A) (T : List ℕ) (E : List Err) (rs : Li
   pub read : List Consumed
   pub is : q ≡ gives (ok (record { item = item; errors = errors })) (st-of w x n f read (a .state))
   pub tree : take (a .state .pos) o ≡ T ++ recs-bytes (rs ++ K .recs item)
-  pub rep : errs r (a .state .reported) ≡ E ++ (es ++ errors)
+  pub reported : errs r (a .state .reported) ≡ E ++ (es ++ errors)
   pub holds : K .fine (a .line) (a .column) item
 
 -- a fatal one: only its errors stand, after E
@@ -73,7 +73,7 @@ pub record Bad {A : Type 0} (T : List ℕ) (E : List Err) (w x : List ℕ) (n : 
   pub read : List Consumed
   pub is : q ≡ gives (fatal errors) (st-of w x n f read (a .state))
   pub tree : take (a .state .pos) o ≡ T
-  pub rep : errs r (a .state .reported) ≡ E ++ errors
+  pub reported : errs r (a .state .reported) ≡ E ++ errors
 
 abbrev pub ShowsOf : Status → {A : Type 0} → View A → List ℕ → List Err → List Rec → List Err → List ℕ → List ℕ → ℕ → List ℕ → List ℕ → List ℕ → Answer → Res (Ans A) → Type 0
 ShowsOf Done K T E rs es w x n o r f a q = Good K T E rs es w x n o r f a q

@@ -69,13 +69,13 @@ pub fn expect(
     tokens: &[u32],
     text: &[u8],
     n: usize,
-    rep: &mut [usize],
+    reported: &mut [usize],
     full: &mut [usize],
     st: State,
     wanted: u32,
 ) -> Answer
-    requires { ⌜ Asks tokens text n rep full st × ((0 < wanted) × (wanted < 256)) ⌝ }
-    ensures { λ r. ⌜ Expects (λ role. P.expect-as role wanted) tokens text n rep full st r ⌝ }
+    requires { ⌜ Asks tokens text n reported full st × ((0 < wanted) × (wanted < 256)) ⌝ }
+    ensures { λ r. ⌜ Expects (λ role. P.expect-as role wanted) tokens text n reported full st r ⌝ }
 {
     let t = peek(tokens, text, n, st.at);
     let on = State { at: t.next, ..st };
@@ -89,10 +89,10 @@ pub fn expect(
     }
     if t.kind == kind::END {
         let error = entry(parse_error::EXPECTED_AT_END, 0, 0, wanted, 0);
-        return raise(n, rep, full, on, error);
+        return raise(n, reported, full, on, error);
     }
     let error = entry(parse_error::EXPECTED, t.line, t.column, wanted, t.kind);
-    raise(n, rep, full, on, error)
+    raise(n, reported, full, on, error)
 }
 
 // `expect_identifier`.
@@ -100,12 +100,12 @@ pub fn expect_identifier(
     tokens: &[u32],
     text: &[u8],
     n: usize,
-    rep: &mut [usize],
+    reported: &mut [usize],
     full: &mut [usize],
     st: State,
 ) -> Answer
-    requires { ⌜ Asks tokens text n rep full st ⌝ }
-    ensures { λ r. ⌜ Expects (λ role. P.expect-identifier) tokens text n rep full st r ⌝ }
+    requires { ⌜ Asks tokens text n reported full st ⌝ }
+    ensures { λ r. ⌜ Expects (λ role. P.expect-identifier) tokens text n reported full st r ⌝ }
 {
     let t = peek(tokens, text, n, st.at);
     let on = State { at: t.next, ..st };
@@ -119,10 +119,10 @@ pub fn expect_identifier(
     }
     if t.kind == kind::END {
         let error = entry(parse_error::END_OF_FILE, 0, 0, 0, 0);
-        return raise(n, rep, full, on, error);
+        return raise(n, reported, full, on, error);
     }
     let error = entry(parse_error::IDENTIFIER, t.line, t.column, 0, 0);
-    raise(n, rep, full, on, error)
+    raise(n, reported, full, on, error)
 }
 
 // `expect(..)?` after an answer, in a construct that began in the state `from`; the answer's item stays.
@@ -130,22 +130,22 @@ pub fn and_expect(
     tokens: &[u32],
     text: &[u8],
     n: usize,
-    rep: &mut [usize],
+    reported: &mut [usize],
     full: &mut [usize],
     a: Answer,
     wanted: u32,
     from: State,
 ) -> Answer
-    requires { ⌜ Follows tokens text n rep full a from × ((0 < wanted) × (wanted < 256)) ⌝ }
-    ensures { λ r. ⌜ Expected wanted tokens text n rep full a from r ⌝ }
+    requires { ⌜ Follows tokens text n reported full a from × ((0 < wanted) × (wanted < 256)) ⌝ }
+    ensures { λ r. ⌜ Expected wanted tokens text n reported full a from r ⌝ }
 {
     let status = a.status;
     let Status::Done = status else {
         return a;
     };
     let s = a.state;
-    let b = expect(tokens, text, n, rep, full, s, wanted);
-    let c = abandon(rep, b, from, s);
+    let b = expect(tokens, text, n, reported, full, s, wanted);
+    let c = abandon(reported, b, from, s);
     let h = c.status;
     let e = c.state;
     Answer {

@@ -15,7 +15,7 @@ returns c =
     let start = at-shift .before .before .before in
     record {
       is = ap (λ k. record { reported = k; full = start .args .t .full }) (at-shift .shift .ensures .0);
-      rep = at-shift .shift .ensures .1;
+      reported = at-shift .shift .ensures .1;
     }
 
 pub propagated-spec : {M : Type 1} → statement M

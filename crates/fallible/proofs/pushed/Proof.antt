@@ -25,7 +25,7 @@ returns : tie.Need-returns
 returns c =
     let at-push2 = c .before .before .before .before in
     let at-push = at-push2 .before .before .before .before in
-    record { is = refl; rep = at-push .push .ensures; full = at-push2 .push2 .ensures }
+    record { is = refl; reported = at-push .push .ensures; full = at-push2 .push2 .ensures }
 
 pub pushed-spec : {M : Type 1} → statement M
 pushed-spec =

@@ -147,7 +147,7 @@ module _ (t : ℕ) where
   pub same-length-8 : lts.Need-same-length-8 given (bit-or-at t) bit-or.Post Inv-loop μ-loop
   same-length-8 c =
       let at-cast = c .before .before .before .before .before .before .before .before .before .before .before .before .before .before in
-      omega (arith, c .before .loop .inv .rep, at-cast .cast .kept)
+      omega (arith, c .before .loop .inv .reported, at-cast .cast .kept)
 
   pub same-length-9 : lts.Need-same-length-9 given (bit-or-at t) bit-or.Post Inv-loop μ-loop
   same-length-9 c =
