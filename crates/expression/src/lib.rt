@@ -54,15 +54,15 @@ pub fn expression(
     reported: &mut [usize],
     full: &mut [usize],
     st: State,
-    left: usize,
+    nesting: usize,
 ) -> Answer
     requires { ⌜ Asked tokens text n file reported full st ⌝ }
-    ensures { λ r. ⌜ Parses P.parse-expression tokens text n file reported full st left r ⌝ }
+    ensures { λ r. ⌜ Parses P.parse-expression tokens text n file reported full st nesting r ⌝ }
 {
-    if left == 0 {
+    if nesting == 0 {
         return refuse(n, st, refusal::NESTING);
     }
-    boolean(tokens, text, n, file, reported, full, st, left - 1)
+    boolean(tokens, text, n, file, reported, full, st, nesting - 1)
 }
 
 // parse_boolean_combinator: comparison [`&&` comparison]
@@ -74,12 +74,12 @@ fn boolean(
     reported: &mut [usize],
     full: &mut [usize],
     st: State,
-    left: usize,
+    nesting: usize,
 ) -> Answer
     requires { ⌜ Asked tokens text n file reported full st ⌝ }
-    ensures { λ r. ⌜ Parses P.expression-rule tokens text n file reported full st left r ⌝ }
+    ensures { λ r. ⌜ Parses P.expression-rule tokens text n file reported full st nesting r ⌝ }
 {
-    let a = comparison(tokens, text, n, file, reported, full, st, left);
+    let a = comparison(tokens, text, n, file, reported, full, st, nesting);
     let status = a.status;
     let Status::Done = status else {
         return a;
@@ -90,7 +90,7 @@ fn boolean(
         return a;
     }
     let on = State { at: t.next, ..s };
-    let b = comparison(tokens, text, n, file, reported, full, on, left);
+    let b = comparison(tokens, text, n, file, reported, full, on, nesting);
     let c = abandon(reported, b, st, s);
     write_node(file, text, c, t, tag::BOOLEAN_AND, Numbers::None)
 }
@@ -104,12 +104,12 @@ fn comparison(
     reported: &mut [usize],
     full: &mut [usize],
     st: State,
-    left: usize,
+    nesting: usize,
 ) -> Answer
     requires { ⌜ Asked tokens text n file reported full st ⌝ }
-    ensures { λ r. ⌜ Parses P.parse-comparison tokens text n file reported full st left r ⌝ }
+    ensures { λ r. ⌜ Parses P.parse-comparison tokens text n file reported full st nesting r ⌝ }
 {
-    let a = bit_or(tokens, text, n, file, reported, full, st, left);
+    let a = bit_or(tokens, text, n, file, reported, full, st, nesting);
     let status = a.status;
     let Status::Done = status else {
         return a;
@@ -121,7 +121,7 @@ fn comparison(
         return a;
     }
     let on = State { at: t.next, ..s };
-    let b = bit_or(tokens, text, n, file, reported, full, on, left);
+    let b = bit_or(tokens, text, n, file, reported, full, on, nesting);
     let c = abandon(reported, b, st, s);
     let numbers = Numbers::Byte(op - 1);
     write_node(file, text, c, t, tag::COMPARISON_BIN_OP, numbers)
@@ -137,12 +137,12 @@ fn bit_or(
     reported: &mut [usize],
     full: &mut [usize],
     st: State,
-    left: usize,
+    nesting: usize,
 ) -> Answer
     requires { ⌜ Asked tokens text n file reported full st ⌝ }
-    ensures { λ r. ⌜ Parses P.parse-bitwise-or tokens text n file reported full st left r ⌝ }
+    ensures { λ r. ⌜ Parses P.parse-bitwise-or tokens text n file reported full st nesting r ⌝ }
 {
-    let mut a = cast(tokens, text, n, file, reported, full, st, left);
+    let mut a = cast(tokens, text, n, file, reported, full, st, nesting);
     let status = a.status;
     let Status::Done = status else {
         return a;
@@ -155,7 +155,7 @@ fn bit_or(
     let mut k = 0;
     while k < LEVELS {
         let level = level_at(k);
-        a = operators(tokens, text, n, file, reported, full, level, a, st, left);
+        a = operators(tokens, text, n, file, reported, full, level, a, st, nesting);
         k += 1;
     }
     a
@@ -170,14 +170,14 @@ fn bit_xor(
     reported: &mut [usize],
     full: &mut [usize],
     st: State,
-    left: usize,
+    nesting: usize,
 ) -> Answer
     requires { ⌜ Asked tokens text n file reported full st ⌝ }
-    ensures { λ r. ⌜ Parses P.parse-bitwise-xor tokens text n file reported full st left r ⌝ }
+    ensures { λ r. ⌜ Parses P.parse-bitwise-xor tokens text n file reported full st nesting r ⌝ }
 {
-    let a = bit_and(tokens, text, n, file, reported, full, st, left);
+    let a = bit_and(tokens, text, n, file, reported, full, st, nesting);
     let level = Level::BitwiseXor;
-    operators(tokens, text, n, file, reported, full, level, a, st, left)
+    operators(tokens, text, n, file, reported, full, level, a, st, nesting)
 }
 
 // parse_bitwise_and: shift {`&` shift}
@@ -189,14 +189,14 @@ fn bit_and(
     reported: &mut [usize],
     full: &mut [usize],
     st: State,
-    left: usize,
+    nesting: usize,
 ) -> Answer
     requires { ⌜ Asked tokens text n file reported full st ⌝ }
-    ensures { λ r. ⌜ Parses P.parse-bitwise-and tokens text n file reported full st left r ⌝ }
+    ensures { λ r. ⌜ Parses P.parse-bitwise-and tokens text n file reported full st nesting r ⌝ }
 {
-    let a = shift(tokens, text, n, file, reported, full, st, left);
+    let a = shift(tokens, text, n, file, reported, full, st, nesting);
     let level = Level::BitwiseAnd;
-    operators(tokens, text, n, file, reported, full, level, a, st, left)
+    operators(tokens, text, n, file, reported, full, level, a, st, nesting)
 }
 
 // parse_bit_shift: add_sub {(`<<` | `>>`) add_sub}
@@ -208,14 +208,14 @@ fn shift(
     reported: &mut [usize],
     full: &mut [usize],
     st: State,
-    left: usize,
+    nesting: usize,
 ) -> Answer
     requires { ⌜ Asked tokens text n file reported full st ⌝ }
-    ensures { λ r. ⌜ Parses P.parse-bit-shift tokens text n file reported full st left r ⌝ }
+    ensures { λ r. ⌜ Parses P.parse-bit-shift tokens text n file reported full st nesting r ⌝ }
 {
-    let a = add_sub(tokens, text, n, file, reported, full, st, left);
+    let a = add_sub(tokens, text, n, file, reported, full, st, nesting);
     let level = Level::BitShift;
-    operators(tokens, text, n, file, reported, full, level, a, st, left)
+    operators(tokens, text, n, file, reported, full, level, a, st, nesting)
 }
 
 // mul {(`+` | `-`) mul}
@@ -227,12 +227,12 @@ fn add_sub(
     reported: &mut [usize],
     full: &mut [usize],
     st: State,
-    left: usize,
+    nesting: usize,
 ) -> Answer
     requires { ⌜ Asked tokens text n file reported full st ⌝ }
-    ensures { λ r. ⌜ Parses P.parse-add-sub tokens text n file reported full st left r ⌝ }
+    ensures { λ r. ⌜ Parses P.parse-add-sub tokens text n file reported full st nesting r ⌝ }
 {
-    let a = mul(tokens, text, n, file, reported, full, st, left);
+    let a = mul(tokens, text, n, file, reported, full, st, nesting);
     operators(
         tokens,
         text,
@@ -243,7 +243,7 @@ fn add_sub(
         Level::AddSub,
         a,
         st,
-        left,
+        nesting,
     )
 }
 
@@ -256,12 +256,12 @@ fn mul(
     reported: &mut [usize],
     full: &mut [usize],
     st: State,
-    left: usize,
+    nesting: usize,
 ) -> Answer
     requires { ⌜ Asked tokens text n file reported full st ⌝ }
-    ensures { λ r. ⌜ Parses P.parse-mul tokens text n file reported full st left r ⌝ }
+    ensures { λ r. ⌜ Parses P.parse-mul tokens text n file reported full st nesting r ⌝ }
 {
-    let a = cast(tokens, text, n, file, reported, full, st, left);
+    let a = cast(tokens, text, n, file, reported, full, st, nesting);
     operators(
         tokens,
         text,
@@ -272,7 +272,7 @@ fn mul(
         Level::Mul,
         a,
         st,
-        left,
+        nesting,
     )
 }
 
@@ -286,18 +286,18 @@ fn cascade(
     full: &mut [usize],
     level: Level,
     st: State,
-    left: usize,
+    nesting: usize,
 ) -> Answer
     requires { ⌜ Asked tokens text n file reported full st ⌝ }
-    ensures { λ r. ⌜ Parses (P.cascade (level-of level)) tokens text n file reported full st left r ⌝ }
+    ensures { λ r. ⌜ Parses (P.cascade (level-of level)) tokens text n file reported full st nesting r ⌝ }
 {
     match level {
-        Level::BitwiseOr => bit_xor(tokens, text, n, file, reported, full, st, left),
-        Level::BitwiseXor => bit_and(tokens, text, n, file, reported, full, st, left),
-        Level::BitwiseAnd => shift(tokens, text, n, file, reported, full, st, left),
-        Level::BitShift => add_sub(tokens, text, n, file, reported, full, st, left),
-        Level::AddSub => mul(tokens, text, n, file, reported, full, st, left),
-        Level::Mul => cast(tokens, text, n, file, reported, full, st, left),
+        Level::BitwiseOr => bit_xor(tokens, text, n, file, reported, full, st, nesting),
+        Level::BitwiseXor => bit_and(tokens, text, n, file, reported, full, st, nesting),
+        Level::BitwiseAnd => shift(tokens, text, n, file, reported, full, st, nesting),
+        Level::BitShift => add_sub(tokens, text, n, file, reported, full, st, nesting),
+        Level::AddSub => mul(tokens, text, n, file, reported, full, st, nesting),
+        Level::Mul => cast(tokens, text, n, file, reported, full, st, nesting),
     }
 }
 
@@ -312,10 +312,10 @@ fn operators(
     level: Level,
     first: Answer,
     from: State,
-    left: usize,
+    nesting: usize,
 ) -> Answer
     requires { ⌜ GoesOn tokens text n file reported full first from ⌝ }
-    ensures { λ r. ⌜ ParsesOn (operators-on (level-of level)) tokens text n file reported full first from left r ⌝ }
+    ensures { λ r. ⌜ ParsesOn (operators-on (level-of level)) tokens text n file reported full first from nesting r ⌝ }
 {
     let mut a = first;
     loop {
@@ -330,7 +330,7 @@ fn operators(
             return a;
         }
         let on = State { at: t.next, ..s };
-        let b = cascade(tokens, text, n, file, reported, full, level, on, left);
+        let b = cascade(tokens, text, n, file, reported, full, level, on, nesting);
         let c = abandon(reported, b, from, s);
         let numbers = Numbers::Byte(op - 1);
         a = write_node(file, text, c, t, tag::ARITHMETIC_BIN_OP, numbers);
@@ -346,12 +346,12 @@ fn cast(
     reported: &mut [usize],
     full: &mut [usize],
     st: State,
-    left: usize,
+    nesting: usize,
 ) -> Answer
     requires { ⌜ Asked tokens text n file reported full st ⌝ }
-    ensures { λ r. ⌜ Parses P.parse-cast tokens text n file reported full st left r ⌝ }
+    ensures { λ r. ⌜ Parses P.parse-cast tokens text n file reported full st nesting r ⌝ }
 {
-    let mut a = operand(tokens, text, n, file, reported, full, st, left);
+    let mut a = operand(tokens, text, n, file, reported, full, st, nesting);
     loop {
         let status = a.status;
         let Status::Done = status else {
@@ -363,7 +363,7 @@ fn cast(
             return a;
         }
         let on = State { at: t.next, ..s };
-        let b = ty(tokens, text, n, file, reported, full, on, left);
+        let b = ty(tokens, text, n, file, reported, full, on, nesting);
         let c = abandon(reported, b, st, s);
         a = write_node(file, text, c, t, tag::CAST, Numbers::None);
     }
@@ -378,15 +378,15 @@ fn operand(
     reported: &mut [usize],
     full: &mut [usize],
     st: State,
-    left: usize,
+    nesting: usize,
 ) -> Answer
     requires { ⌜ Asked tokens text n file reported full st ⌝ }
-    ensures { λ r. ⌜ Parses P.parse-unary tokens text n file reported full st left r ⌝ }
+    ensures { λ r. ⌜ Parses P.parse-unary tokens text n file reported full st nesting r ⌝ }
 {
     let t = peek(tokens, text, n, st.at);
     let u = peek(tokens, text, n, t.next);
-    if (left == 0) | !name_alone(t.kind, u.kind) {
-        return unary(tokens, text, n, file, reported, full, st, left);
+    if (nesting == 0) | !name_alone(t.kind, u.kind) {
+        return unary(tokens, text, n, file, reported, full, st, nesting);
     }
     name(file, text, st, t)
 }
@@ -400,21 +400,21 @@ fn unary(
     reported: &mut [usize],
     full: &mut [usize],
     st: State,
-    left: usize,
+    nesting: usize,
 ) -> Answer
     requires { ⌜ Asked tokens text n file reported full st ⌝ }
-    ensures { λ r. ⌜ Parses P.parse-unary tokens text n file reported full st left r ⌝ }
+    ensures { λ r. ⌜ Parses P.parse-unary tokens text n file reported full st nesting r ⌝ }
 {
-    if left == 0 {
+    if nesting == 0 {
         return refuse(n, st, refusal::NESTING);
     }
     let t = peek(tokens, text, n, st.at);
     let tag = prefix(t.kind);
     if tag == 0 {
-        return call(tokens, text, n, file, reported, full, st, left - 1);
+        return call(tokens, text, n, file, reported, full, st, nesting - 1);
     }
     let on = State { at: t.next, ..st };
-    let a = unary(tokens, text, n, file, reported, full, on, left - 1);
+    let a = unary(tokens, text, n, file, reported, full, on, nesting - 1);
     let place = Token {
         line: a.line,
         column: a.column,
@@ -432,12 +432,12 @@ fn call(
     reported: &mut [usize],
     full: &mut [usize],
     st: State,
-    left: usize,
+    nesting: usize,
 ) -> Answer
     requires { ⌜ Asked tokens text n file reported full st ⌝ }
-    ensures { λ r. ⌜ Parses P.parse-call tokens text n file reported full st left r ⌝ }
+    ensures { λ r. ⌜ Parses P.parse-call tokens text n file reported full st nesting r ⌝ }
 {
-    let a = sizeof(tokens, text, n, file, reported, full, st, left);
+    let a = sizeof(tokens, text, n, file, reported, full, st, nesting);
     let status = a.status;
     let Status::Done = status else {
         return a;
@@ -456,7 +456,7 @@ fn call(
         full,
         Listed::Arguments,
         s,
-        left,
+        nesting,
     );
     let c = silence(b, s.reported);
     let place = Token {
@@ -476,14 +476,14 @@ fn sizeof(
     reported: &mut [usize],
     full: &mut [usize],
     st: State,
-    left: usize,
+    nesting: usize,
 ) -> Answer
     requires { ⌜ Asked tokens text n file reported full st ⌝ }
-    ensures { λ r. ⌜ Parses P.parse-sizeof tokens text n file reported full st left r ⌝ }
+    ensures { λ r. ⌜ Parses P.parse-sizeof tokens text n file reported full st nesting r ⌝ }
 {
     let t = peek(tokens, text, n, st.at);
     if t.kind != kind::KW_SIZEOF {
-        return access(tokens, text, n, file, reported, full, st, left);
+        return access(tokens, text, n, file, reported, full, st, nesting);
     }
     let on = State { at: t.next, ..st };
     let a = expect(tokens, text, n, reported, full, on, kind::L_PAREN);
@@ -492,7 +492,7 @@ fn sizeof(
         return a;
     };
     let s = a.state;
-    let b = ty(tokens, text, n, file, reported, full, s, left);
+    let b = ty(tokens, text, n, file, reported, full, s, nesting);
     let c = and_expect(tokens, text, n, reported, full, b, kind::R_PAREN, st);
     write_node(file, text, c, t, tag::SIZEOF, Numbers::None)
 }
@@ -506,12 +506,12 @@ fn access(
     reported: &mut [usize],
     full: &mut [usize],
     st: State,
-    left: usize,
+    nesting: usize,
 ) -> Answer
     requires { ⌜ Asked tokens text n file reported full st ⌝ }
-    ensures { λ r. ⌜ Parses P.parse-field-access-or-index tokens text n file reported full st left r ⌝ }
+    ensures { λ r. ⌜ Parses P.parse-field-access-or-index tokens text n file reported full st nesting r ⌝ }
 {
-    let mut a = atom(tokens, text, n, file, reported, full, st, left);
+    let mut a = atom(tokens, text, n, file, reported, full, st, nesting);
     loop {
         let status = a.status;
         let Status::Done = status else {
@@ -560,7 +560,7 @@ fn access(
         if t.kind != kind::L_BRACKET {
             return a;
         }
-        let b = expression(tokens, text, n, file, reported, full, on, left);
+        let b = expression(tokens, text, n, file, reported, full, on, nesting);
         let c = abandon(reported, b, st, s);
         let d = and_expect(tokens, text, n, reported, full, c, kind::R_BRACKET, st);
         a = write_node(file, text, d, t, tag::INDEX, Numbers::None);
@@ -576,17 +576,17 @@ fn atom(
     reported: &mut [usize],
     full: &mut [usize],
     st: State,
-    left: usize,
+    nesting: usize,
 ) -> Answer
     requires { ⌜ Asked tokens text n file reported full st ⌝ }
-    ensures { λ r. ⌜ Parses P.parse-atom tokens text n file reported full st left r ⌝ }
+    ensures { λ r. ⌜ Parses P.parse-atom tokens text n file reported full st nesting r ⌝ }
 {
     let t = peek(tokens, text, n, st.at);
     if t.kind != kind::L_PAREN {
         return literal(tokens, text, n, file, reported, full, st);
     }
     let on = State { at: t.next, ..st };
-    let a = expression(tokens, text, n, file, reported, full, on, left);
+    let a = expression(tokens, text, n, file, reported, full, on, nesting);
     close(tokens, text, n, reported, full, a)
 }
 
@@ -640,12 +640,12 @@ pub fn ty(
     reported: &mut [usize],
     full: &mut [usize],
     st: State,
-    left: usize,
+    nesting: usize,
 ) -> Answer
     requires { ⌜ Asked tokens text n file reported full st ⌝ }
-    ensures { λ r. ⌜ Parses P.parse-type tokens text n file reported full st left r ⌝ }
+    ensures { λ r. ⌜ Parses P.parse-type tokens text n file reported full st nesting r ⌝ }
 {
-    if left == 0 {
+    if nesting == 0 {
         return refuse(n, st, refusal::NESTING);
     }
     let t = peek(tokens, text, n, st.at);
@@ -660,15 +660,15 @@ pub fn ty(
         return write_text_node(file, text, a, t, tag::NAME, Numbers::None, t);
     }
     if t.kind == kind::STAR {
-        let a = ty(tokens, text, n, file, reported, full, on, left - 1);
+        let a = ty(tokens, text, n, file, reported, full, on, nesting - 1);
         return write_node(file, text, a, t, tag::POINTER, Numbers::None);
     }
     if t.kind == kind::L_BRACKET {
-        return array(tokens, text, n, file, reported, full, t, on, left - 1);
+        return array(tokens, text, n, file, reported, full, t, on, nesting - 1);
     }
     if t.kind == kind::KW_STRUCT {
         let what = Listed::StructFields;
-        let a = list(tokens, text, n, file, reported, full, what, on, left - 1);
+        let a = list(tokens, text, n, file, reported, full, what, on, nesting - 1);
         let b = silence(a, st.reported);
         return write_node(file, text, b, t, tag::STRUCT, Numbers::Two(a.line));
     }
@@ -690,10 +690,10 @@ fn array(
     full: &mut [usize],
     lead: Token,
     st: State,
-    left: usize,
+    nesting: usize,
 ) -> Answer
     requires { ⌜ Asked tokens text n file reported full st × ((lead .line < 65536) × (lead .column < 65536)) ⌝ }
-    ensures { λ r. ⌜ Parses (P.parse-array-type (place-of lead)) tokens text n file reported full st left r ⌝ }
+    ensures { λ r. ⌜ Parses (P.parse-array-type (place-of lead)) tokens text n file reported full st nesting r ⌝ }
 {
     let t = peek(tokens, text, n, st.at);
     let on = State { at: t.next, ..st };
@@ -718,7 +718,7 @@ fn array(
         return a;
     };
     let s = a.state;
-    let b = ty(tokens, text, n, file, reported, full, s, left);
+    let b = ty(tokens, text, n, file, reported, full, s, nesting);
     let numbers = Numbers::Eight(size.number);
     write_node(file, text, b, lead, tag::ARRAY, numbers)
 }
@@ -733,10 +733,10 @@ fn typed(
     full: &mut [usize],
     j: usize,
     st: State,
-    left: usize,
+    nesting: usize,
 ) -> Answer
     requires { ⌜ Asked tokens text n file reported full st × (j ≤ st .reported) ⌝ }
-    ensures { λ r. ⌜ TypedOn tokens text n file reported full j st left r ⌝ }
+    ensures { λ r. ⌜ TypedOn tokens text n file reported full j st nesting r ⌝ }
 {
     let a = expect(tokens, text, n, reported, full, st, kind::COLON);
     let from = State { reported: j, ..st };
@@ -746,7 +746,7 @@ fn typed(
         return b;
     };
     let s = b.state;
-    let c = ty(tokens, text, n, file, reported, full, s, left);
+    let c = ty(tokens, text, n, file, reported, full, s, nesting);
     abandon(reported, c, from, s)
 }
 
@@ -759,15 +759,25 @@ pub fn typed_name(
     reported: &mut [usize],
     full: &mut [usize],
     st: State,
-    left: usize,
+    nesting: usize,
 ) -> Answer
     requires { ⌜ Asked tokens text n file reported full st ⌝ }
-    ensures { λ r. ⌜ ReadsTyped tokens text n file reported full st left r ⌝ }
+    ensures { λ r. ⌜ ReadsTyped tokens text n file reported full st nesting r ⌝ }
 {
     let t = peek(tokens, text, n, st.at);
     let on = State { at: t.next, ..st };
     if t.kind == kind::IDENTIFIER {
-        return typed(tokens, text, n, file, reported, full, st.reported, on, left);
+        return typed(
+            tokens,
+            text,
+            n,
+            file,
+            reported,
+            full,
+            st.reported,
+            on,
+            nesting,
+        );
     }
     if t.kind == kind::END {
         let error = entry(parse_error::END_OF_FILE, 0, 0, 0, 0);
@@ -780,7 +790,17 @@ pub fn typed_name(
         return b;
     };
     let s = b.state;
-    typed(tokens, text, n, file, reported, full, st.reported, s, left)
+    typed(
+        tokens,
+        text,
+        n,
+        file,
+        reported,
+        full,
+        st.reported,
+        s,
+        nesting,
+    )
 }
 
 // ---- lists
@@ -794,12 +814,12 @@ fn named(
     reported: &mut [usize],
     full: &mut [usize],
     st: State,
-    left: usize,
+    nesting: usize,
 ) -> Answer
     requires { ⌜ Asked tokens text n file reported full st ⌝ }
-    ensures { λ r. ⌜ Parses P.parse-named-type tokens text n file reported full st left r ⌝ }
+    ensures { λ r. ⌜ Parses P.parse-named-type tokens text n file reported full st nesting r ⌝ }
 {
-    let a = typed_name(tokens, text, n, file, reported, full, st, left);
+    let a = typed_name(tokens, text, n, file, reported, full, st, nesting);
     bare_name(tokens, text, n, file, a, tag::NAMED_TYPE, st.at)
 }
 
@@ -812,10 +832,10 @@ fn field(
     reported: &mut [usize],
     full: &mut [usize],
     st: State,
-    left: usize,
+    nesting: usize,
 ) -> Answer
     requires { ⌜ Asked tokens text n file reported full st ⌝ }
-    ensures { λ r. ⌜ Parses P.parse-compound-struct-field tokens text n file reported full st left r ⌝ }
+    ensures { λ r. ⌜ Parses P.parse-compound-struct-field tokens text n file reported full st nesting r ⌝ }
 {
     let t = peek(tokens, text, n, st.at);
     let a = expect_identifier(tokens, text, n, reported, full, st);
@@ -825,7 +845,7 @@ fn field(
         return b;
     };
     let s = b.state;
-    let c = expression(tokens, text, n, file, reported, full, s, left);
+    let c = expression(tokens, text, n, file, reported, full, s, nesting);
     let place = Token {
         line: b.line,
         column: b.column,
@@ -844,17 +864,17 @@ fn item(
     full: &mut [usize],
     what: Listed,
     st: State,
-    left: usize,
+    nesting: usize,
 ) -> Answer
     requires { ⌜ Asked tokens text n file reported full st ⌝ }
-    ensures { λ r. ⌜ Parses (P.item (listed-of what)) tokens text n file reported full st left r ⌝ }
+    ensures { λ r. ⌜ Parses (P.item (listed-of what)) tokens text n file reported full st nesting r ⌝ }
 {
     match what {
-        Listed::Parameters => named(tokens, text, n, file, reported, full, st, left),
-        Listed::Arguments => expression(tokens, text, n, file, reported, full, st, left),
-        Listed::StructFields => named(tokens, text, n, file, reported, full, st, left),
-        Listed::ArrayValues => expression(tokens, text, n, file, reported, full, st, left),
-        Listed::StructValues => field(tokens, text, n, file, reported, full, st, left),
+        Listed::Parameters => named(tokens, text, n, file, reported, full, st, nesting),
+        Listed::Arguments => expression(tokens, text, n, file, reported, full, st, nesting),
+        Listed::StructFields => named(tokens, text, n, file, reported, full, st, nesting),
+        Listed::ArrayValues => expression(tokens, text, n, file, reported, full, st, nesting),
+        Listed::StructValues => field(tokens, text, n, file, reported, full, st, nesting),
     }
 }
 
@@ -868,10 +888,10 @@ pub fn list(
     full: &mut [usize],
     what: Listed,
     st: State,
-    left: usize,
+    nesting: usize,
 ) -> Answer
     requires { ⌜ Asked tokens text n file reported full st ⌝ }
-    ensures { λ r. ⌜ ReadsList (listed-of what) tokens text n file reported full st left r ⌝ }
+    ensures { λ r. ⌜ ReadsList (listed-of what) tokens text n file reported full st nesting r ⌝ }
 {
     let open = opener(what);
     let a = expect(tokens, text, n, reported, full, st, open);
@@ -904,7 +924,7 @@ pub fn list(
                 column: 0,
             };
         }
-        let b = item(tokens, text, n, file, reported, full, what, s, left);
+        let b = item(tokens, text, n, file, reported, full, what, s, nesting);
         let h = b.status;
         let e = b.state;
         if let Status::Refused(_) = h {

@@ -16,21 +16,21 @@ BareNamed tokens text n file a tag at r =
     G.BareNamed (at-entry tokens) (at-entry text) n (at-entry file) a tag at (at-exit file) r
 
 abbrev pub ReadsTyped : Lent → Lent → ℕ → Lent → Lent → Lent → State → ℕ → Answer → Type 0
-ReadsTyped tokens text n file reported full st left r =
-    G.ReadsTyped (at-entry tokens) (at-entry text) n left (at-entry file) (at-entry reported) (at-entry full) st
+ReadsTyped tokens text n file reported full st nesting r =
+    G.ReadsTyped (at-entry tokens) (at-entry text) n nesting (at-entry file) (at-entry reported) (at-entry full) st
     (at-exit file) (at-exit reported) (at-exit full) r
 
 abbrev pub TypedOn : Lent → Lent → ℕ → Lent → Lent → Lent → ℕ → State → ℕ → Answer → Type 0
-TypedOn tokens text n file reported full j st left r =
-    G.TypedOn (at-entry tokens) (at-entry text) n left j (at-entry file) (at-entry reported) (at-entry full) st
+TypedOn tokens text n file reported full j st nesting r =
+    G.TypedOn (at-entry tokens) (at-entry text) n nesting j (at-entry file) (at-entry reported) (at-entry full) st
     (at-exit file) (at-exit reported) (at-exit full) r
 
 abbrev pub ReadsList : A.Listed → Lent → Lent → ℕ → Lent → Lent → Lent → State → ℕ → Answer → Type 0
-ReadsList k tokens text n file reported full st left r =
-    G.ReadsList (at-entry tokens) (at-entry text) n left k (at-entry file) (at-entry reported) (at-entry full) st
+ReadsList k tokens text n file reported full st nesting r =
+    G.ReadsList (at-entry tokens) (at-entry text) n nesting k (at-entry file) (at-entry reported) (at-entry full) st
     (at-exit file) (at-exit reported) (at-exit full) r
 
 abbrev pub LoopOn : (Items → Act Items) → ℕ → Lent → Lent → ℕ → Lent → Lent → Lent → State → ℕ → Answer → Type 0
-LoopOn on count tokens text n file reported full st left r =
-    G.LoopOn on (at-entry tokens) (at-entry text) n left count (at-entry file) (at-entry reported) (at-entry full) st
+LoopOn on count tokens text n file reported full st nesting r =
+    G.LoopOn on (at-entry tokens) (at-entry text) n nesting count (at-entry file) (at-entry reported) (at-entry full) st
     (at-exit file) (at-exit reported) (at-exit full) r

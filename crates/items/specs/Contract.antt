@@ -8,13 +8,13 @@ use Rattle.fallible.specs.declared.Answer.{Answer}
 use Rattle.items.specs.Items as I
 
 abbrev pub ReadsType : Place → Lent → Lent → ℕ → Lent → Lent → Lent → State → ℕ → Answer → Type 0
-ReadsType p tokens text n file reported full st left r =
-    I.ReadsType (at-entry tokens) (at-entry text) n left p (at-entry file) (at-entry reported) (at-entry full) st
+ReadsType p tokens text n file reported full st nesting r =
+    I.ReadsType (at-entry tokens) (at-entry text) n nesting p (at-entry file) (at-entry reported) (at-entry full) st
     (at-exit file) (at-exit reported) (at-exit full) r
 
 abbrev pub ReadsSignature : Place → Lent → Lent → ℕ → Lent → Lent → Lent → State → ℕ → Answer → Type 0
-ReadsSignature p tokens text n file reported full st left r =
-    I.ReadsSignature (at-entry tokens) (at-entry text) n left p (at-entry file) (at-entry reported) (at-entry full) st
+ReadsSignature p tokens text n file reported full st nesting r =
+    I.ReadsSignature (at-entry tokens) (at-entry text) n nesting p (at-entry file) (at-entry reported) (at-entry full) st
     (at-exit file) (at-exit reported) (at-exit full) r
 
 abbrev pub FunctionAsked : Slice → Slice → ℕ → Slice → Slice → Slice → ℕ → Answer → State → Type 0
@@ -22,10 +22,10 @@ FunctionAsked tokens text n file reported full name a from =
     I.FunctionAsked (now tokens) (now text) n (now file) (now reported) (now full) name a (from .pos) (from .reported)
 
 abbrev pub FunctionOn : ℕ → Place → Lent → Lent → ℕ → Lent → Lent → Lent → ℕ → Answer → State → ℕ → Answer → Type 0
-FunctionOn external p tokens text n file reported full name a from left r =
-    I.FunctionOn (at-entry tokens) (at-entry text) n left external p name (from .pos) (from .reported) (at-entry file)
+FunctionOn external p tokens text n file reported full name a from nesting r =
+    I.FunctionOn (at-entry tokens) (at-entry text) n nesting external p name (from .pos) (from .reported) (at-entry file)
     (at-entry reported) (at-entry full) a (at-exit file) (at-exit reported) (at-exit full) r
 
 abbrev pub ReadsModule : Lent → Lent → ℕ → Lent → Lent → Lent → ℕ → Answer → Type 0
-ReadsModule tokens text n file reported full left r =
-    I.ReadsModule (at-entry tokens) (at-entry text) n left (at-exit file) (at-exit reported) (at-exit full) r
+ReadsModule tokens text n file reported full nesting r =
+    I.ReadsModule (at-entry tokens) (at-entry text) n nesting (at-exit file) (at-exit reported) (at-exit full) r

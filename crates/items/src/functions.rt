@@ -35,15 +35,15 @@ fn return_type(
     full: &mut [usize],
     lead: Token,
     st: State,
-    left: usize,
+    nesting: usize,
 ) -> Answer
     requires { ⌜ Asked tokens text n file reported full st ⌝ }
-    ensures { λ r. ⌜ ReadsType (place-of lead) tokens text n file reported full st left r ⌝ }
+    ensures { λ r. ⌜ ReadsType (place-of lead) tokens text n file reported full st nesting r ⌝ }
 {
     let t = peek(tokens, text, n, st.at);
     if t.kind == kind::R_ARROW {
         let on = State { at: t.next, ..st };
-        return ty(tokens, text, n, file, reported, full, on, left);
+        return ty(tokens, text, n, file, reported, full, on, nesting);
     }
     let a = Answer {
         status: Status::Done,
@@ -64,19 +64,19 @@ fn signature(
     full: &mut [usize],
     lead: Token,
     st: State,
-    left: usize,
+    nesting: usize,
 ) -> Answer
     requires { ⌜ Asked tokens text n file reported full st ⌝ }
-    ensures { λ r. ⌜ ReadsSignature (place-of lead) tokens text n file reported full st left r ⌝ }
+    ensures { λ r. ⌜ ReadsSignature (place-of lead) tokens text n file reported full st nesting r ⌝ }
 {
     let what = Listed::Parameters;
-    let a = list(tokens, text, n, file, reported, full, what, st, left);
+    let a = list(tokens, text, n, file, reported, full, what, st, nesting);
     let status = a.status;
     let Status::Done = status else {
         return a;
     };
     let s = a.state;
-    let b = return_type(tokens, text, n, file, reported, full, lead, s, left);
+    let b = return_type(tokens, text, n, file, reported, full, lead, s, nesting);
     let c = abandon(reported, b, st, s);
     let h = c.status;
     let Status::Done = h else {
@@ -126,17 +126,17 @@ fn whole_function(
     name: usize,
     a: Answer,
     from: State,
-    left: usize,
+    nesting: usize,
 ) -> Answer
     requires { ⌜ FunctionAsked tokens text n file reported full name a from ⌝ }
-    ensures { λ r. ⌜ FunctionOn 0 (place-of lead) tokens text n file reported full name a from left r ⌝ }
+    ensures { λ r. ⌜ FunctionOn 0 (place-of lead) tokens text n file reported full name a from nesting r ⌝ }
 {
     let status = a.status;
     let Status::Done = status else {
         return a;
     };
     let s = a.state;
-    let b = body(tokens, text, n, file, reported, full, s, left);
+    let b = body(tokens, text, n, file, reported, full, s, nesting);
     let h = b.status;
     let Status::Done = h else {
         return b;
@@ -160,10 +160,10 @@ fn function(
     external: bool,
     lead: Token,
     st: State,
-    left: usize,
+    nesting: usize,
 ) -> Answer
     requires { ⌜ Asked tokens text n file reported full st ⌝ }
-    ensures { λ r. ⌜ Parses (P.function (place-of lead) (flag external)) tokens text n file reported full st left r ⌝ }
+    ensures { λ r. ⌜ Parses (P.function (place-of lead) (flag external)) tokens text n file reported full st nesting r ⌝ }
 {
     let a = expect(tokens, text, n, reported, full, st, kind::KW_FN);
     let status = a.status;
@@ -177,7 +177,7 @@ fn function(
         return b;
     };
     let e = b.state;
-    let c = signature(tokens, text, n, file, reported, full, lead, e, left);
+    let c = signature(tokens, text, n, file, reported, full, lead, e, nesting);
     if external {
         return external_function(tokens, text, n, file, reported, full, lead, s.at, c, st);
     }
@@ -192,7 +192,7 @@ fn function(
         s.at,
         c,
         st,
-        left,
+        nesting,
     )
 }
 
@@ -205,15 +205,15 @@ pub fn function_definition(
     reported: &mut [usize],
     full: &mut [usize],
     st: State,
-    left: usize,
+    nesting: usize,
 ) -> Answer
     requires { ⌜ Asked tokens text n file reported full st ⌝ }
-    ensures { λ r. ⌜ Parses P.parse-function-definition tokens text n file reported full st left r ⌝ }
+    ensures { λ r. ⌜ Parses P.parse-function-definition tokens text n file reported full st nesting r ⌝ }
 {
     let t = peek(tokens, text, n, st.at);
     if t.kind == kind::KW_EXTERN {
         let on = State { at: t.next, ..st };
-        return function(tokens, text, n, file, reported, full, true, t, on, left);
+        return function(tokens, text, n, file, reported, full, true, t, on, nesting);
     }
-    function(tokens, text, n, file, reported, full, false, t, st, left)
+    function(tokens, text, n, file, reported, full, false, t, st, nesting)
 }

@@ -31,23 +31,23 @@ fn top_level_item(
     reported: &mut [usize],
     full: &mut [usize],
     st: State,
-    left: usize,
+    nesting: usize,
 ) -> Answer
     requires { ⌜ Asked tokens text n file reported full st ⌝ }
-    ensures { λ r. ⌜ Parses P.parse-top-level-item tokens text n file reported full st left r ⌝ }
+    ensures { λ r. ⌜ Parses P.parse-top-level-item tokens text n file reported full st nesting r ⌝ }
 {
     let t = peek(tokens, text, n, st.at);
     if (t.kind == kind::KW_FN) | (t.kind == kind::KW_EXTERN) {
-        return function_definition(tokens, text, n, file, reported, full, st, left);
+        return function_definition(tokens, text, n, file, reported, full, st, nesting);
     }
     if (t.kind == kind::KW_TYPE) | (t.kind == kind::KW_DISTINCT) | (t.kind == kind::KW_INTERNAL) {
-        return type_alias(tokens, text, n, file, reported, full, st, left);
+        return type_alias(tokens, text, n, file, reported, full, st, nesting);
     }
     if t.kind == kind::KW_USE {
         return use_path(tokens, text, n, file, reported, full, st);
     }
     if t.kind == kind::KW_VAR {
-        return top_level_var_declaration(tokens, text, n, file, reported, full, st, left);
+        return top_level_var_declaration(tokens, text, n, file, reported, full, st, nesting);
     }
     let on = State { at: t.next, ..st };
     if t.kind == kind::INLINE_ASSEMBLY_FRAGMENT {
@@ -73,10 +73,10 @@ pub fn module(
     file: &mut [u8],
     reported: &mut [usize],
     full: &mut [usize],
-    left: usize,
+    nesting: usize,
 ) -> Answer
     requires { ⌜ Asked tokens text n file reported full (record { at = 0; pos = 0; reported = 0; full = 0 }) ⌝ }
-    ensures { λ r. ⌜ ReadsModule tokens text n file reported full left r ⌝ }
+    ensures { λ r. ⌜ ReadsModule tokens text n file reported full nesting r ⌝ }
 {
     let mut count = 0;
     let mut st = State {
@@ -95,7 +95,7 @@ pub fn module(
                 column: 0,
             };
         }
-        let b = top_level_item(tokens, text, n, file, reported, full, st, left);
+        let b = top_level_item(tokens, text, n, file, reported, full, st, nesting);
         let status = b.status;
         let s = b.state;
         if let Status::Refused(_) = status {

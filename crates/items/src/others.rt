@@ -69,10 +69,10 @@ fn alias(
     words: u8,
     lead: Token,
     st: State,
-    left: usize,
+    nesting: usize,
 ) -> Answer
     requires { ⌜ Asked tokens text n file reported full st ⌝ }
-    ensures { λ r. ⌜ Parses (alias-rule words (place-of lead)) tokens text n file reported full st left r ⌝ }
+    ensures { λ r. ⌜ Parses (alias-rule words (place-of lead)) tokens text n file reported full st nesting r ⌝ }
 {
     let t = peek(tokens, text, n, st.at);
     let on = State { at: t.next, ..st };
@@ -89,7 +89,7 @@ fn alias(
         return a;
     };
     let s = a.state;
-    let b = ty(tokens, text, n, file, reported, full, s, left);
+    let b = ty(tokens, text, n, file, reported, full, s, nesting);
     let c = and_expect(tokens, text, n, reported, full, b, kind::SEMICOLON, st);
     let numbers = Numbers::Byte(words);
     write_text_node(file, text, c, lead, tag::TYPE_ALIAS, numbers, t)
@@ -104,10 +104,10 @@ pub fn type_alias(
     reported: &mut [usize],
     full: &mut [usize],
     st: State,
-    left: usize,
+    nesting: usize,
 ) -> Answer
     requires { ⌜ Asked tokens text n file reported full st ⌝ }
-    ensures { λ r. ⌜ Parses P.parse-type-alias tokens text n file reported full st left r ⌝ }
+    ensures { λ r. ⌜ Parses P.parse-type-alias tokens text n file reported full st nesting r ⌝ }
 {
     let at = st.at;
     let t = peek(tokens, text, n, at);
@@ -119,7 +119,18 @@ pub fn type_alias(
         return a;
     };
     let s = a.state;
-    alias(tokens, text, n, file, reported, full, m.words, t, s, left)
+    alias(
+        tokens,
+        text,
+        n,
+        file,
+        reported,
+        full,
+        m.words,
+        t,
+        s,
+        nesting,
+    )
 }
 
 // Behind `use`: string `;`. The end instead of the string is refused.
@@ -181,10 +192,10 @@ pub fn top_level_var_declaration(
     reported: &mut [usize],
     full: &mut [usize],
     st: State,
-    left: usize,
+    nesting: usize,
 ) -> Answer
     requires { ⌜ Asked tokens text n file reported full st ⌝ }
-    ensures { λ r. ⌜ Parses P.parse-top-level-var-declaration tokens text n file reported full st left r ⌝ }
+    ensures { λ r. ⌜ Parses P.parse-top-level-var-declaration tokens text n file reported full st nesting r ⌝ }
 {
     let t = peek(tokens, text, n, st.at);
     let a = expect(tokens, text, n, reported, full, st, kind::KW_VAR);
@@ -194,5 +205,5 @@ pub fn top_level_var_declaration(
     };
     let s = a.state;
     let tag = tag::TOP_LEVEL_VARIABLE;
-    declaration(tokens, text, n, file, reported, full, tag, t, s, left)
+    declaration(tokens, text, n, file, reported, full, tag, t, s, nesting)
 }

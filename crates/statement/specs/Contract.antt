@@ -16,13 +16,13 @@ abbrev pub Bared : Lent → Answer → ℕ → Answer → Type 0
 Bared file a tag r = B.Bared (at-entry file) a tag (at-exit file) r
 
 abbrev pub ValueOn : Lent → Lent → ℕ → Lent → Lent → Lent → Answer → State → ℕ → Answer → Type 0
-ValueOn tokens text n file reported full a from left r =
-    B.ValueOn (at-entry tokens) (at-entry text) n left (from .pos) (from .reported) (at-entry file) (at-entry reported)
+ValueOn tokens text n file reported full a from nesting r =
+    B.ValueOn (at-entry tokens) (at-entry text) n nesting (from .pos) (from .reported) (at-entry file) (at-entry reported)
     (at-entry full) a (at-exit file) (at-exit reported) (at-exit full) r
 
 abbrev pub ReadsDeclared : Lent → Lent → ℕ → Lent → Lent → Lent → State → ℕ → Answer → Type 0
-ReadsDeclared tokens text n file reported full st left r =
-    B.ReadsDeclared (at-entry tokens) (at-entry text) n left (at-entry file) (at-entry reported) (at-entry full) st
+ReadsDeclared tokens text n file reported full st nesting r =
+    B.ReadsDeclared (at-entry tokens) (at-entry text) n nesting (at-entry file) (at-entry reported) (at-entry full) st
     (at-exit file) (at-exit reported) (at-exit full) r
 
 abbrev pub Named : Lent → Lent → ℕ → Lent → Answer → ℕ → Token → ℕ → Answer → Type 0
@@ -30,11 +30,11 @@ Named tokens text n file a tag lead at r =
     B.Named (at-entry tokens) (at-entry text) n (at-entry file) a tag (lead .line) (lead .column) at (at-exit file) r
 
 abbrev pub ReadsBody : Lent → Lent → ℕ → Lent → Lent → Lent → State → ℕ → Answer → Type 0
-ReadsBody tokens text n file reported full st left r =
-    B.ReadsBody (at-entry tokens) (at-entry text) n left (at-entry file) (at-entry reported) (at-entry full) st
+ReadsBody tokens text n file reported full st nesting r =
+    B.ReadsBody (at-entry tokens) (at-entry text) n nesting (at-entry file) (at-entry reported) (at-entry full) st
     (at-exit file) (at-exit reported) (at-exit full) r
 
 abbrev pub ReadsAfter : (Node → Act (Ans Node)) → Lent → Lent → ℕ → Lent → Lent → Lent → ℕ → State → ℕ → Answer → Type 0
-ReadsAfter k tokens text n file reported full i st left r =
-    B.ReadsAfter (at-entry tokens) (at-entry text) n left k i (at-entry file) (at-entry reported) (at-entry full) st
+ReadsAfter k tokens text n file reported full i st nesting r =
+    B.ReadsAfter (at-entry tokens) (at-entry text) n nesting k i (at-entry file) (at-entry reported) (at-entry full) st
     (at-exit file) (at-exit reported) (at-exit full) r

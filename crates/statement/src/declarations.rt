@@ -38,10 +38,10 @@ pub fn compound(
     reported: &mut [usize],
     full: &mut [usize],
     st: State,
-    left: usize,
+    nesting: usize,
 ) -> Answer
     requires { ⌜ Asked tokens text n file reported full st ⌝ }
-    ensures { λ r. ⌜ Parses P.parse-compound tokens text n file reported full st left r ⌝ }
+    ensures { λ r. ⌜ Parses P.parse-compound tokens text n file reported full st nesting r ⌝ }
 {
     let a = expect(tokens, text, n, reported, full, st, kind::HASH);
     let status = a.status;
@@ -57,12 +57,36 @@ pub fn compound(
     if t.kind == kind::L_BRACKET {
         let what = Listed::ArrayValues;
         let tag = tag::COMPOUND_ARRAY;
-        return values(tokens, text, n, file, reported, full, what, tag, t, s, left);
+        return values(
+            tokens,
+            text,
+            n,
+            file,
+            reported,
+            full,
+            what,
+            tag,
+            t,
+            s,
+            nesting,
+        );
     }
     if t.kind == kind::L_BRACE {
         let what = Listed::StructValues;
         let tag = tag::COMPOUND_STRUCT;
-        return values(tokens, text, n, file, reported, full, what, tag, t, s, left);
+        return values(
+            tokens,
+            text,
+            n,
+            file,
+            reported,
+            full,
+            what,
+            tag,
+            t,
+            s,
+            nesting,
+        );
     }
     let error = entry(parse_error::COMPOUND, t.line, t.column, 0, t.kind);
     raise(n, reported, full, s, error)
@@ -80,12 +104,12 @@ fn values(
     tag: u8,
     lead: Token,
     st: State,
-    left: usize,
+    nesting: usize,
 ) -> Answer
     requires { ⌜ Starts (P.opener (listed-of what)) tokens text n file reported full st ⌝ }
-    ensures { λ r. ⌜ Parses (values-rule (listed-of what) tag (place-of lead)) tokens text n file reported full st left r ⌝ }
+    ensures { λ r. ⌜ Parses (values-rule (listed-of what) tag (place-of lead)) tokens text n file reported full st nesting r ⌝ }
 {
-    let a = list(tokens, text, n, file, reported, full, what, st, left);
+    let a = list(tokens, text, n, file, reported, full, what, st, nesting);
     write_node(file, text, a, lead, tag, Numbers::Two(a.line))
 }
 
@@ -118,10 +142,10 @@ fn initial_value(
     full: &mut [usize],
     a: Answer,
     from: State,
-    left: usize,
+    nesting: usize,
 ) -> Answer
     requires { ⌜ GoesOn tokens text n file reported full a from ⌝ }
-    ensures { λ r. ⌜ ValueOn tokens text n file reported full a from left r ⌝ }
+    ensures { λ r. ⌜ ValueOn tokens text n file reported full a from nesting r ⌝ }
 {
     let status = a.status;
     let Status::Done = status else {
@@ -131,12 +155,12 @@ fn initial_value(
     let t = peek(tokens, text, n, s.at);
     let on = State { at: t.next, ..s };
     if t.kind == kind::EQUALS {
-        let b = expression(tokens, text, n, file, reported, full, on, left);
+        let b = expression(tokens, text, n, file, reported, full, on, nesting);
         let c = abandon(reported, b, from, s);
         return bare(file, text, c, tag::ASSIGNED_VALUE);
     }
     if t.kind == kind::L_ARROW {
-        let b = compound(tokens, text, n, file, reported, full, on, left);
+        let b = compound(tokens, text, n, file, reported, full, on, nesting);
         let c = abandon(reported, b, from, s);
         return bare(file, text, c, tag::COMPOUND_VALUE);
     }
@@ -152,13 +176,13 @@ fn var_like_declaration(
     reported: &mut [usize],
     full: &mut [usize],
     st: State,
-    left: usize,
+    nesting: usize,
 ) -> Answer
     requires { ⌜ Asked tokens text n file reported full st ⌝ }
-    ensures { λ r. ⌜ ReadsDeclared tokens text n file reported full st left r ⌝ }
+    ensures { λ r. ⌜ ReadsDeclared tokens text n file reported full st nesting r ⌝ }
 {
-    let a = typed_name(tokens, text, n, file, reported, full, st, left);
-    initial_value(tokens, text, n, file, reported, full, a, st, left)
+    let a = typed_name(tokens, text, n, file, reported, full, st, nesting);
+    initial_value(tokens, text, n, file, reported, full, a, st, nesting)
 }
 
 // A record with a place after an answer, if it is there; its text is the name at the place `at`, or `<?>` where none stands there.
@@ -202,12 +226,12 @@ pub fn declaration(
     tag: u8,
     lead: Token,
     st: State,
-    left: usize,
+    nesting: usize,
 ) -> Answer
     requires { ⌜ Asked tokens text n file reported full st ⌝ }
-    ensures { λ r. ⌜ Parses (P.declaration tag (place-of lead)) tokens text n file reported full st left r ⌝ }
+    ensures { λ r. ⌜ Parses (P.declaration tag (place-of lead)) tokens text n file reported full st nesting r ⌝ }
 {
-    let a = var_like_declaration(tokens, text, n, file, reported, full, st, left);
+    let a = var_like_declaration(tokens, text, n, file, reported, full, st, nesting);
     let b = and_expect(tokens, text, n, reported, full, a, kind::SEMICOLON, st);
     named(tokens, text, n, file, b, tag, lead, st.at)
 }

@@ -44,16 +44,16 @@ pub fn body(
     reported: &mut [usize],
     full: &mut [usize],
     st: State,
-    left: usize,
+    nesting: usize,
 ) -> Answer
     requires { ⌜ Asked tokens text n file reported full st ⌝ }
-    ensures { λ r. ⌜ ReadsBody tokens text n file reported full st left r ⌝ }
+    ensures { λ r. ⌜ ReadsBody tokens text n file reported full st nesting r ⌝ }
 {
     let a = expect(tokens, text, n, reported, full, st, kind::L_BRACE);
     let status = a.status;
     let s = a.state;
     match status {
-        Status::Done => body_rest(tokens, text, n, file, reported, full, s, left),
+        Status::Done => body_rest(tokens, text, n, file, reported, full, s, nesting),
         Status::Fatal => Answer {
             status: Status::Done,
             state: s,
@@ -73,10 +73,10 @@ fn body_rest(
     reported: &mut [usize],
     full: &mut [usize],
     from: State,
-    left: usize,
+    nesting: usize,
 ) -> Answer
     requires { ⌜ Asked tokens text n file reported full from ⌝ }
-    ensures { λ r. ⌜ LoopOn statements-on 0 tokens text n file reported full from left r ⌝ }
+    ensures { λ r. ⌜ LoopOn statements-on 0 tokens text n file reported full from nesting r ⌝ }
 {
     let mut count = 0;
     let mut st = from;
@@ -102,7 +102,7 @@ fn body_rest(
                 column: 0,
             };
         }
-        let b = statement(tokens, text, n, file, reported, full, st, left);
+        let b = statement(tokens, text, n, file, reported, full, st, nesting);
         let status = b.status;
         let s = b.state;
         if let Status::Refused(_) = status {
@@ -124,13 +124,13 @@ fn block(
     reported: &mut [usize],
     full: &mut [usize],
     st: State,
-    left: usize,
+    nesting: usize,
 ) -> Answer
     requires { ⌜ Starts K.LBrace tokens text n file reported full st ⌝ }
-    ensures { λ r. ⌜ Parses P.statement-rule tokens text n file reported full st left r ⌝ }
+    ensures { λ r. ⌜ Parses P.statement-rule tokens text n file reported full st nesting r ⌝ }
 {
     let t = peek(tokens, text, n, st.at);
-    let a = body(tokens, text, n, file, reported, full, st, left);
+    let a = body(tokens, text, n, file, reported, full, st, nesting);
     write_node(file, text, a, t, tag::BLOCK, Numbers::Two(a.line))
 }
 
@@ -143,14 +143,14 @@ fn loop_statement(
     reported: &mut [usize],
     full: &mut [usize],
     st: State,
-    left: usize,
+    nesting: usize,
 ) -> Answer
     requires { ⌜ Starts K.KwLoop tokens text n file reported full st ⌝ }
-    ensures { λ r. ⌜ Parses P.statement-rule tokens text n file reported full st left r ⌝ }
+    ensures { λ r. ⌜ Parses P.statement-rule tokens text n file reported full st nesting r ⌝ }
 {
     let t = peek(tokens, text, n, st.at);
     let on = State { at: t.next, ..st };
-    let a = statement(tokens, text, n, file, reported, full, on, left);
+    let a = statement(tokens, text, n, file, reported, full, on, nesting);
     write_node(file, text, a, t, tag::LOOP, Numbers::None)
 }
 
@@ -163,18 +163,18 @@ fn guarded(
     reported: &mut [usize],
     full: &mut [usize],
     st: State,
-    left: usize,
+    nesting: usize,
 ) -> Answer
     requires { ⌜ Asked tokens text n file reported full st ⌝ }
-    ensures { λ r. ⌜ Parses guarded-rule tokens text n file reported full st left r ⌝ }
+    ensures { λ r. ⌜ Parses guarded-rule tokens text n file reported full st nesting r ⌝ }
 {
-    let a = expression(tokens, text, n, file, reported, full, st, left);
+    let a = expression(tokens, text, n, file, reported, full, st, nesting);
     let status = a.status;
     let Status::Done = status else {
         return a;
     };
     let s = a.state;
-    let b = statement(tokens, text, n, file, reported, full, s, left);
+    let b = statement(tokens, text, n, file, reported, full, s, nesting);
     abandon(reported, b, st, s)
 }
 
@@ -187,14 +187,14 @@ fn while_statement(
     reported: &mut [usize],
     full: &mut [usize],
     st: State,
-    left: usize,
+    nesting: usize,
 ) -> Answer
     requires { ⌜ Starts K.KwWhile tokens text n file reported full st ⌝ }
-    ensures { λ r. ⌜ Parses P.statement-rule tokens text n file reported full st left r ⌝ }
+    ensures { λ r. ⌜ Parses P.statement-rule tokens text n file reported full st nesting r ⌝ }
 {
     let t = peek(tokens, text, n, st.at);
     let on = State { at: t.next, ..st };
-    let a = guarded(tokens, text, n, file, reported, full, on, left);
+    let a = guarded(tokens, text, n, file, reported, full, on, nesting);
     write_node(file, text, a, t, tag::WHILE, Numbers::None)
 }
 
@@ -207,14 +207,14 @@ fn if_statement(
     reported: &mut [usize],
     full: &mut [usize],
     st: State,
-    left: usize,
+    nesting: usize,
 ) -> Answer
     requires { ⌜ Starts K.KwIf tokens text n file reported full st ⌝ }
-    ensures { λ r. ⌜ Parses P.statement-rule tokens text n file reported full st left r ⌝ }
+    ensures { λ r. ⌜ Parses P.statement-rule tokens text n file reported full st nesting r ⌝ }
 {
     let t = peek(tokens, text, n, st.at);
     let on = State { at: t.next, ..st };
-    let a = guarded(tokens, text, n, file, reported, full, on, left);
+    let a = guarded(tokens, text, n, file, reported, full, on, nesting);
     let status = a.status;
     let Status::Done = status else {
         return a;
@@ -225,7 +225,7 @@ fn if_statement(
         return write_node(file, text, a, t, tag::IF, Numbers::Byte(2));
     }
     let on = State { at: u.next, ..s };
-    let b = statement(tokens, text, n, file, reported, full, on, left);
+    let b = statement(tokens, text, n, file, reported, full, on, nesting);
     let c = abandon(reported, b, st, s);
     write_node(file, text, c, t, tag::IF, Numbers::Byte(3))
 }
@@ -239,32 +239,32 @@ fn statement_rule(
     reported: &mut [usize],
     full: &mut [usize],
     st: State,
-    left: usize,
+    nesting: usize,
 ) -> Answer
     requires { ⌜ Asked tokens text n file reported full st ⌝ }
-    ensures { λ r. ⌜ Parses P.statement-rule tokens text n file reported full st left r ⌝ }
+    ensures { λ r. ⌜ Parses P.statement-rule tokens text n file reported full st nesting r ⌝ }
 {
     let t = peek(tokens, text, n, st.at);
     if t.kind == kind::KW_RETURN {
-        return return_statement(tokens, text, n, file, reported, full, st, left);
+        return return_statement(tokens, text, n, file, reported, full, st, nesting);
     }
     if t.kind == kind::KW_VAR {
-        return var_statement(tokens, text, n, file, reported, full, st, left);
+        return var_statement(tokens, text, n, file, reported, full, st, nesting);
     }
     if t.kind == kind::L_BRACE {
-        return block(tokens, text, n, file, reported, full, st, left);
+        return block(tokens, text, n, file, reported, full, st, nesting);
     }
     if t.kind == kind::KW_LOOP {
-        return loop_statement(tokens, text, n, file, reported, full, st, left);
+        return loop_statement(tokens, text, n, file, reported, full, st, nesting);
     }
     if t.kind == kind::KW_WHILE {
-        return while_statement(tokens, text, n, file, reported, full, st, left);
+        return while_statement(tokens, text, n, file, reported, full, st, nesting);
     }
     if t.kind == kind::KW_BREAK {
         return break_statement(tokens, text, n, file, reported, full, st);
     }
     if t.kind == kind::KW_IF {
-        return if_statement(tokens, text, n, file, reported, full, st, left);
+        return if_statement(tokens, text, n, file, reported, full, st, nesting);
     }
     if t.kind == kind::INLINE_ASSEMBLY_FRAGMENT {
         return assembly_statement(tokens, text, n, file, reported, full, st);
@@ -273,7 +273,7 @@ fn statement_rule(
         let error = entry(parse_error::STATEMENT_AT_END, 0, 0, 0, 0);
         return raise(n, reported, full, st, error);
     }
-    expression_statement(tokens, text, n, file, reported, full, t, st, left)
+    expression_statement(tokens, text, n, file, reported, full, t, st, nesting)
 }
 
 // parse_statement, one of the four functions whose open calls are counted.
@@ -285,13 +285,13 @@ pub fn statement(
     reported: &mut [usize],
     full: &mut [usize],
     st: State,
-    left: usize,
+    nesting: usize,
 ) -> Answer
     requires { ⌜ Asked tokens text n file reported full st ⌝ }
-    ensures { λ r. ⌜ Parses P.parse-statement tokens text n file reported full st left r ⌝ }
+    ensures { λ r. ⌜ Parses P.parse-statement tokens text n file reported full st nesting r ⌝ }
 {
-    if left == 0 {
+    if nesting == 0 {
         return refuse(n, st, refusal::NESTING);
     }
-    statement_rule(tokens, text, n, file, reported, full, st, left - 1)
+    statement_rule(tokens, text, n, file, reported, full, st, nesting - 1)
 }

@@ -31,10 +31,10 @@ pub fn return_statement(
     reported: &mut [usize],
     full: &mut [usize],
     st: State,
-    left: usize,
+    nesting: usize,
 ) -> Answer
     requires { ⌜ Starts K.KwReturn tokens text n file reported full st ⌝ }
-    ensures { λ r. ⌜ Parses P.statement-rule tokens text n file reported full st left r ⌝ }
+    ensures { λ r. ⌜ Parses P.statement-rule tokens text n file reported full st nesting r ⌝ }
 {
     let t = peek(tokens, text, n, st.at);
     let u = peek(tokens, text, n, t.next);
@@ -48,7 +48,7 @@ pub fn return_statement(
         return write_node(file, text, a, t, tag::RETURN, Numbers::Byte(0));
     }
     let on = State { at: t.next, ..st };
-    let a = expression(tokens, text, n, file, reported, full, on, left);
+    let a = expression(tokens, text, n, file, reported, full, on, nesting);
     let b = and_expect(tokens, text, n, reported, full, a, kind::SEMICOLON, st);
     write_node(file, text, b, t, tag::RETURN, Numbers::Byte(1))
 }
@@ -62,15 +62,15 @@ pub fn var_statement(
     reported: &mut [usize],
     full: &mut [usize],
     st: State,
-    left: usize,
+    nesting: usize,
 ) -> Answer
     requires { ⌜ Starts K.KwVar tokens text n file reported full st ⌝ }
-    ensures { λ r. ⌜ Parses P.statement-rule tokens text n file reported full st left r ⌝ }
+    ensures { λ r. ⌜ Parses P.statement-rule tokens text n file reported full st nesting r ⌝ }
 {
     let t = peek(tokens, text, n, st.at);
     let on = State { at: t.next, ..st };
     let tag = tag::VARIABLE_DECLARATION;
-    declaration(tokens, text, n, file, reported, full, tag, t, on, left)
+    declaration(tokens, text, n, file, reported, full, tag, t, on, nesting)
 }
 
 // `break` `;`
@@ -126,14 +126,14 @@ fn assignment(
     lead: Token,
     i: usize,
     st: State,
-    left: usize,
+    nesting: usize,
 ) -> Answer
     requires { ⌜ Starts K.Equals tokens text n file reported full st × (i ≤ st .pos) ⌝ }
-    ensures { λ r. ⌜ ReadsAfter (P.after-expression (place-of lead)) tokens text n file reported full i st left r ⌝ }
+    ensures { λ r. ⌜ ReadsAfter (P.after-expression (place-of lead)) tokens text n file reported full i st nesting r ⌝ }
 {
     let t = peek(tokens, text, n, st.at);
     let on = State { at: t.next, ..st };
-    let a = expression(tokens, text, n, file, reported, full, on, left);
+    let a = expression(tokens, text, n, file, reported, full, on, nesting);
     let from = State { pos: i, ..st };
     let b = abandon(reported, a, from, st);
     let c = and_expect(tokens, text, n, reported, full, b, kind::SEMICOLON, from);
@@ -151,14 +151,14 @@ fn compound_assignment(
     lead: Token,
     i: usize,
     st: State,
-    left: usize,
+    nesting: usize,
 ) -> Answer
     requires { ⌜ Starts K.LArrow tokens text n file reported full st × (i ≤ st .pos) ⌝ }
-    ensures { λ r. ⌜ ReadsAfter (P.after-expression (place-of lead)) tokens text n file reported full i st left r ⌝ }
+    ensures { λ r. ⌜ ReadsAfter (P.after-expression (place-of lead)) tokens text n file reported full i st nesting r ⌝ }
 {
     let t = peek(tokens, text, n, st.at);
     let on = State { at: t.next, ..st };
-    let a = compound(tokens, text, n, file, reported, full, on, left);
+    let a = compound(tokens, text, n, file, reported, full, on, nesting);
     let from = State { pos: i, ..st };
     let b = abandon(reported, a, from, st);
     let c = and_expect(tokens, text, n, reported, full, b, kind::SEMICOLON, from);
@@ -176,17 +176,17 @@ fn after_expression(
     lead: Token,
     i: usize,
     st: State,
-    left: usize,
+    nesting: usize,
 ) -> Answer
     requires { ⌜ Asked tokens text n file reported full st × (i ≤ st .pos) ⌝ }
-    ensures { λ r. ⌜ ReadsAfter (P.after-expression (place-of lead)) tokens text n file reported full i st left r ⌝ }
+    ensures { λ r. ⌜ ReadsAfter (P.after-expression (place-of lead)) tokens text n file reported full i st nesting r ⌝ }
 {
     let t = peek(tokens, text, n, st.at);
     if t.kind == kind::EQUALS {
-        return assignment(tokens, text, n, file, reported, full, lead, i, st, left);
+        return assignment(tokens, text, n, file, reported, full, lead, i, st, nesting);
     }
     if t.kind == kind::L_ARROW {
-        return compound_assignment(tokens, text, n, file, reported, full, lead, i, st, left);
+        return compound_assignment(tokens, text, n, file, reported, full, lead, i, st, nesting);
     }
     let a = Answer {
         status: Status::Done,
@@ -209,12 +209,12 @@ pub fn expression_statement(
     full: &mut [usize],
     lead: Token,
     st: State,
-    left: usize,
+    nesting: usize,
 ) -> Answer
     requires { ⌜ Asked tokens text n file reported full st ⌝ }
-    ensures { λ r. ⌜ Parses (P.expression-statement (place-of lead)) tokens text n file reported full st left r ⌝ }
+    ensures { λ r. ⌜ Parses (P.expression-statement (place-of lead)) tokens text n file reported full st nesting r ⌝ }
 {
-    let a = expression(tokens, text, n, file, reported, full, st, left);
+    let a = expression(tokens, text, n, file, reported, full, st, nesting);
     let status = a.status;
     let Status::Done = status else {
         return a;
@@ -223,5 +223,16 @@ pub fn expression_statement(
     if st.reported < s.reported {
         return write_node(file, text, a, lead, tag::EXPRESSION, Numbers::None);
     }
-    after_expression(tokens, text, n, file, reported, full, lead, st.pos, s, left)
+    after_expression(
+        tokens,
+        text,
+        n,
+        file,
+        reported,
+        full,
+        lead,
+        st.pos,
+        s,
+        nesting,
+    )
 }

@@ -43,15 +43,15 @@ Expected wanted tokens text n reported full a from r =
 
 -- a function that is the rule m: a node, where `left` more calls may be opened
 abbrev pub Parses : Act (Ans Node) → Lent → Lent → ℕ → Lent → Lent → Lent → State → ℕ → Answer → Type 0
-Parses m tokens text n file reported full st left r =
-    S.Reads S.node (at-entry tokens) (at-entry text) n left m (at-entry file) (at-entry reported) (at-entry full) st
+Parses m tokens text n file reported full st nesting r =
+    S.Reads S.node (at-entry tokens) (at-entry text) n nesting m (at-entry file) (at-entry reported) (at-entry full) st
     (at-exit file) (at-exit reported) (at-exit full) r
 
 -- after a node
 abbrev pub ParsesOn :
     (Fallible Node → Act (Ans Node)) → Lent → Lent → ℕ → Lent → Lent → Lent → Answer → State → ℕ → Answer → Type 0
-ParsesOn k tokens text n file reported full a from left r =
-    S.Goes S.node S.node (at-entry tokens) (at-entry text) n left k (from .pos) (from .reported) (at-entry file)
+ParsesOn k tokens text n file reported full a from nesting r =
+    S.Goes S.node S.node (at-entry tokens) (at-entry text) n nesting k (from .pos) (from .reported) (at-entry file)
     (at-entry reported) (at-entry full) a (at-exit file) (at-exit reported) (at-exit full) r
 
 -- a record after an answer
