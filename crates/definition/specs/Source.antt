@@ -13,8 +13,8 @@ pub record Place : Type 0 where
   pub line : ℕ
   pub column : ℕ
 
-abbrev pub spot : ℕ → ℕ → Place
-spot line column = record { line = line; column = column }
+abbrev pub place-at : ℕ → ℕ → Place
+place-at line column = record { line = line; column = column }
 
 -- `SourceLocation::stub()`, the place of an error at the end of the input
 abbrev pub nowhere : Place

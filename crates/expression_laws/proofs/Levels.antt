@@ -26,7 +26,7 @@ use Rattle.steps.specs.Shows.{st-of, Asked, Reads, Goes, GoesOn, node, Finished
 pub use Rattle.steps.specs.Shows.{untexted as at-operator}
 use Rattle.steps.proofs.Tokens.{yes, no, fore, adv}
 use Rattle.leaves.specs.Leaves.{level-at, Operator}
-use Rattle.expression_laws.specs.Post.{operators-on, operand-at, casts-on}
+use Rattle.expression_laws.specs.Post.{operators-on, levels-at, casts-on}
 use Rattle.expression_laws.proofs.Types.{past}
 use Rattle.expression_laws.proofs.Joins.{then-asked, goes-none, goes-joined, goes-turn, goes-further}
 
@@ -151,17 +151,17 @@ pub record Levelled (w x : List ℕ) (n d : ℕ) (s : State) (o r f : List ℕ) 
   pub full : length f1 ≡ length f
   pub on : GoesOn w x n o1 r1 f1 y (s .pos) (s .reported)
   pub reads : {o0 r0 f0 : List ℕ} → Asked w x n o0 r0 f0 s → Reads node w x n d P.parse-cast o0 r0 f0 s o r f a
-      → Reads node w x n d (operand-at k) o0 r0 f0 s o1 r1 f1 y
+      → Reads node w x n d (levels-at k) o0 r0 f0 s o1 r1 f1 y
 
 all-levels : {w x : List ℕ} {n d : ℕ} {o r f o1 r1 f1 : List ℕ} {s : State} {a : Answer}
-    → Reads node w x n d (operand-at 6) o r f s o1 r1 f1 a
+    → Reads node w x n d (levels-at 6) o r f s o1 r1 f1 a
     → Reads node w x n d P.parse-bitwise-or o r f s o1 r1 f1 a
-unfolding operand-at P.parse-mul P.parse-add-sub P.parse-bit-shift P.parse-bitwise-and P.parse-bitwise-xor P.parse-bitwise-or
+unfolding levels-at P.parse-mul P.parse-add-sub P.parse-bit-shift P.parse-bitwise-and P.parse-bitwise-xor P.parse-bitwise-or
 all-levels R = R
 
 module _ {w x : List ℕ} {n d : ℕ} {s : State} {o r f : List ℕ} {a : Answer} where
   pub levels-start : s .at ≤ a .state .at → GoesOn w x n o r f a (s .pos) (s .reported) → Levelled w x n d s o r f a o r f a 0
-  unfolding operand-at
+  unfolding levels-at
   levels-start h g = record { few = omega arith; forward = h; file = refl; reported = refl; full = refl; on = g; reads = λ q R. R }
 
   module _ {o1 r1 f1 : List ℕ} {y : Answer} {k : ℕ} (z : Levelled w x n d s o r f a o1 r1 f1 y k) where
@@ -169,7 +169,7 @@ module _ {w x : List ℕ} {n d : ℕ} {s : State} {o r f : List ℕ} {a : Answer
         → Goes node node w x n d (operators-on l) (s .pos) (s .reported) o1 r1 f1 y o2 r2 f2 y′
         → length o2 ≡ length o1 → length r2 ≡ length r1 → length f2 ≡ length f1
         → Levelled w x n d s o r f a o2 r2 f2 y′ (k + 1)
-    unfolding operand-at
+    unfolding levels-at
     levels-more h e g p q t = record {
       few = omega arith;
       forward = omega (arith, z .forward, g .moved .at);
@@ -177,7 +177,7 @@ module _ {w x : List ℕ} {n d : ℕ} {s : State} {o r f : List ℕ} {a : Answer
       reported = q ∙ z .reported;
       full = t ∙ z .full;
       on = goes-further (z .on) g p q t;
-      reads = λ asked R. rw (add-one, operand-at) (then-asked (operators-on (level-at k)) asked (z .reads asked R) (rw e at g));
+      reads = λ asked R. rw (add-one, levels-at) (then-asked (operators-on (level-at k)) asked (z .reads asked R) (rw e at g));
     }
 
     pub levels-end : {o0 r0 f0 : List ℕ} → 6 ≤ k → Asked w x n o0 r0 f0 s
@@ -190,9 +190,9 @@ module _ {w x : List ℕ} {n d : ℕ} {o r f o1 r1 f1 : List ℕ} {s : State} {a
     (R : Reads node w x n d P.parse-cast o r f s o1 r1 f1 a) where
   pub levels-pass : ((l : A.Level) → Goes node node w x n d (operators-on l) (s .pos) (s .reported) o1 r1 f1 a o1 r1 f1 a)
       → Reads node w x n d P.parse-bitwise-or o r f s o1 r1 f1 a
-  unfolding operand-at
+  unfolding levels-at
   levels-pass g = all-levels (go 6)
     where
-      go : (k : ℕ) → Reads node w x n d (operand-at k) o r f s o1 r1 f1 a
+      go : (k : ℕ) → Reads node w x n d (levels-at k) o r f s o1 r1 f1 a
       go zero = R
       go (suc k) = then-asked (operators-on (level-at k)) q (go k) (g (level-at k))

@@ -7,7 +7,7 @@ use lib.ListN.{length, take}
 use Rattle.definition.specs.Ascii.{ascii}
 use Rattle.definition.specs.Choice.{pick}
 use Rattle.definition.specs.Source.{Place}
-pub use Rattle.definition.specs.Source.{spot as place-at}
+pub use Rattle.definition.specs.Source.{place-at}
 use Rattle.definition.specs.Node.{recs-bytes}
 use Rattle.definition.specs.Fallible.{Err, Fallible, Ans, ok}
 use Rattle.definition.specs.Kind as K
@@ -37,9 +37,9 @@ abbrev pub operators-on : A.Level → Fallible Node → Act (Ans Node)
 operators-on l e = loop (Operators l e) done
 
 -- an operand of the k tightest levels
-unfoldable pub operand-at : ℕ → Act (Ans Node)
-operand-at zero = P.parse-cast
-operand-at (suc k) = operand-at k >>? operators-on (level-at k)
+unfoldable pub levels-at : ℕ → Act (Ans Node)
+levels-at zero = P.parse-cast
+levels-at (suc k) = levels-at k >>? operators-on (level-at k)
 
 abbrev pub casts-on : Fallible Node → Act (Ans Node)
 casts-on e = loop (Casts e) done

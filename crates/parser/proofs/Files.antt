@@ -20,7 +20,7 @@ use Rattle.zeros.specs.Cleared.{Cleared}
 use Rattle.zeros.proofs.Clearing.{cleared-filled}
 use Rattle.definition.proofs.Validated.{errors-many}
 use Rattle.validate.proofs.Accepted.{there}
-use Rattle.parser.specs.Answer.{file-of, RestRoom, RestWritten}
+use Rattle.parser.specs.Answer.{tree-file, RestRoom, RestWritten}
 
 -- ---- where the fields end
 
@@ -41,7 +41,7 @@ module-field count = simp append-nil refl
 module _ {o o1 o2 o3 o4 E r f : List ℕ} {p p1 p2 p3 p4 count m reported-count full-count : ℕ} (q : RestRoom o p E m r reported-count f full-count) (W : Wrote o p (bare-of 0x5F (Two count) []) 5 o1 p1) (A : TokenFields o1 p1 E m o2 p2)
     (B : Fielded o2 p2 0x60 (errs r reported-count) o3 p3) (C : Fielded o3 p3 0x61 (errs f full-count) o4 p4) where
   -- what stands up to the end
-  front : (es : List Err) → errors-of E 0 m ≡ some es → take p4 o4 ≡ file-of (take p o) count es (errs r reported-count) (errs f full-count)
+  front : (es : List Err) → errors-of E 0 m ≡ some es → take p4 o4 ≡ tree-file (take p o) count es (errs r reported-count) (errs f full-count)
   front es e =
       C .is
       ∙ ap (λ (v : List ℕ). v ++ errs-bytes 0x61 (errs f full-count)) (B .is
@@ -55,5 +55,5 @@ module _ {o o1 o2 o3 o4 E r f : List ℕ} {p p1 p2 p3 p4 count m reported-count 
   pub ended : {o5 : List ℕ} → Cleared o4 p4 o5 → length o4 ≡ length o → RestWritten o p count E m r reported-count f full-count o5 p4
   ended Z l = record {
     end = λ es e. sym (length-take-le p4 o4 (end-room l)) ∙ ap length (front es e);
-    is = λ es e. cleared-filled o p4 (file-of (take p o) count es (errs r reported-count) (errs f full-count)) Z (front es e) l (end-room l);
+    is = λ es e. cleared-filled o p4 (tree-file (take p o) count es (errs r reported-count) (errs f full-count)) Z (front es e) l (end-room l);
   }

@@ -38,7 +38,7 @@ use Rattle.validate.proofs.Accepted.{There, there, absent, tested}
 use Rattle.items.specs.Rules.{items-on}
 use Rattle.items.specs.Items.{ReadsModule}
 use Rattle.parser.specs.declared.Written.{Written}
-use Rattle.parser.specs.Answer.{refusal-of, refusal-number, answer, file-of, RestRoom, RestWritten, ReadValidated}
+use Rattle.parser.specs.Answer.{refusal-of, refusal-number, answer, tree-file, RestRoom, RestWritten, ReadValidated}
 
 -- ---- the module's answer
 
@@ -174,7 +174,7 @@ some-tokens w x n h = rw (rest-cons w x n 0 h) (omega arith)
 
 -- the file of equal parts
 same-file : {A A′ : List ℕ} {c c′ : ℕ} {r r′ f f′ : List Err} (es : List Err) → A ≡ A′ → c ≡ c′ → r ≡ r′ → f ≡ f′
-    → file-of A c es r f ≡ file-of A′ c′ es r′ f′
+    → tree-file A c es r f ≡ tree-file A′ c′ es r′ f′
 same-file es p q s t = rw (p, q, s, t)
 
 -- ---- `read_tokens`
@@ -232,7 +232,7 @@ module _ (T : List ℕ) (n : ℕ) (E : List ℕ) (m : ℕ) (X o : List ℕ) {o1 
       let g = tree-of B (done-of-module B z) in
       let p : parse-module (h .tokens) ≡ gives (g .tree) (g .state) = ap parse-module (sym (t .tokens)) ∙ g .is in
       let s : 0 < length (h .tokens) = subst (λ (ts : List Tok). 0 < length ts) (t .tokens) (some-tokens T X n some-n) in
-      let ws : file-of (take (a .state .pos) o1) (a .line) (h .errors) (errs r1 (a .state .reported)) (errs f1 (a .state .full)) ≡ file-bytes (h .errors) (g .tree) (g .state .full) =
+      let ws : tree-file (take (a .state .pos) o1) (a .line) (h .errors) (errs r1 (a .state .reported)) (errs f1 (a .state .full)) ≡ file-bytes (h .errors) (g .tree) (g .state .full) =
       same-file (h .errors) (g .recs) (sym (g .count)) (g .reported) (sym (g .full)) in
       let bytes : b ≡ length (file-bytes (h .errors) (g .tree) (g .state .full)) = C .end (h .errors) (t .errors) ∙ ap length ws in
       let file : o2 ≡ filled (length o) (file-bytes (h .errors) (g .tree) (g .state .full)) = C .is (h .errors)

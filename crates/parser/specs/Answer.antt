@@ -30,8 +30,8 @@ answer r o = record { number = r .number; bytes = r .bytes; file = o }
 -- ---- after the tree
 
 -- the module's field of so many items, the token errors, the reported errors, the full list
-abbrev pub file-of : List ℕ → ℕ → List Err → List Err → List Err → List ℕ
-file-of tree count es reported full = tree ++ field 0x5F (u16 count) ++ errs-bytes 0x62 es ++ errs-bytes 0x60 reported ++ errs-bytes 0x61 full
+abbrev pub tree-file : List ℕ → ℕ → List Err → List Err → List Err → List ℕ
+tree-file tree count es reported full = tree ++ field 0x5F (u16 count) ++ errs-bytes 0x62 es ++ errs-bytes 0x60 reported ++ errs-bytes 0x61 full
 
 -- there is room for them after p, and m token errors are good
 pub record RestRoom (o : List ℕ) (p : ℕ) (E : List ℕ) (m : ℕ) (r : List ℕ) (reported-count : ℕ) (f : List ℕ) (full-count : ℕ) : Type 0 where
@@ -43,8 +43,8 @@ pub record RestRoom (o : List ℕ) (p : ℕ) (E : List ℕ) (m : ℕ) (r : List 
 
 -- they stand there, with zeros after them, and end at q
 pub record RestWritten (o : List ℕ) (p count : ℕ) (E : List ℕ) (m : ℕ) (r : List ℕ) (reported-count : ℕ) (f : List ℕ) (full-count : ℕ) (o′ : List ℕ) (q : ℕ) : Type 0 where
-  pub end : (es : List Err) → errors-of E 0 m ≡ some es → q ≡ length (file-of (take p o) count es (errs r reported-count) (errs f full-count))
-  pub is : (es : List Err) → errors-of E 0 m ≡ some es → o′ ≡ filled (length o) (file-of (take p o) count es (errs r reported-count) (errs f full-count))
+  pub end : (es : List Err) → errors-of E 0 m ≡ some es → q ≡ length (tree-file (take p o) count es (errs r reported-count) (errs f full-count))
+  pub is : (es : List Err) → errors-of E 0 m ≡ some es → o′ ≡ filled (length o) (tree-file (take p o) count es (errs r reported-count) (errs f full-count))
 
 -- ---- good records
 

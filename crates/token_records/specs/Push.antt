@@ -4,7 +4,7 @@ use mathlib.Core.Logic.{_⊎_}
 use mathlib.Core.List.{List}
 use Prim.Native.Nat.{ℕ, _+_, _*_, _<_, _≤_}
 use lib.ListN.{length}
-pub use Rattle.definition.specs.Source.{spot}
+pub use Rattle.definition.specs.Source.{place-at}
 use Rattle.definition.specs.Fallible.{Err}
 use Rattle.definition.specs.Records.{errors-words}
 use Rattle.scan.specs.Scan.{Wrote}

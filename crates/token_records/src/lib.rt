@@ -15,7 +15,7 @@ ghost use Rattle.definition.specs.Records as R;
 ghost use Rattle.definition.specs.Token as T;
 ghost use Rattle.definition.specs.Tokenizer as Z;
 ghost use Rattle.scan.specs.Contract.{Wrote};
-ghost use Rattle.token_records.specs.Push.{spot};
+ghost use Rattle.token_records.specs.Push.{place-at};
 ghost use Rattle.token_records.specs.Tested.{fields-fit, part-fits, words-of};
 ghost use Rattle.token_records.specs.Contract.{TokenPushed, ErrorsPushed};
 
@@ -104,7 +104,7 @@ pub fn push_errors(
     column: u32,
 ) -> State
     requires { ⌜ (1024 ≤ length (now errors)) × (st .errors ≤ 255) × (count ≤ 16384) ⌝ }
-    ensures { λ r. ⌜ ErrorsPushed (replicate count (Z.token-error number (spot line column))) errors st r ⌝ }
+    ensures { λ r. ⌜ ErrorsPushed (replicate count (Z.token-error number (place-at line column))) errors st r ⌝ }
 {
     let total = st.errors + count;
     if limit::TOKEN_ERRORS < total {

@@ -16,7 +16,7 @@ use Rattle.definition.specs.Token.{Tok}
 use Rattle.definition.specs.Records.{TokenWords, words-at, has-text, valid-alone, comes-after, valid-after, place-of, text-end, token-of, token-before, tokens-of, error-at, valid-error, error-of, error-before, errors-of}
 use Rattle.definition.specs.Operations.{both, validate}
 use Rattle.definition.proofs.Tests.{clash}
-use Rattle.token_records.specs.Push.{spot}
+use Rattle.token_records.specs.Push.{place-at}
 use Rattle.validate.specs.declared.Previous.{Previous}
 
 -- an answer that is there if a test passes
@@ -60,27 +60,27 @@ token-turn T X p e i m w q =
 -- all n are good if those from the i-th on are
 pub record Tokens (T X : List ℕ) (n : ℕ) (f : Previous) (i : ℕ) : Type 0 where
   pub high : i ≤ n
-  pub is : is-some (tokens-of T X (spot (f .line) (f .column)) (f .end) i (n - i)) ≡ is-some (tokens-of T X nowhere 0 0 n)
+  pub is : is-some (tokens-of T X (place-at (f .line) (f .column)) (f .end) i (n - i)) ≡ is-some (tokens-of T X nowhere 0 0 n)
 
 pub tokens-start : (T X : List ℕ) (n : ℕ) → Tokens T X n (record { line = 0; column = 0; end = 0 }) 0
 tokens-start T X n = let l : n - 0 ≡ n = omega arith in record { high = omega arith; is = rw l }
 
 module _ {T X : List ℕ} {n : ℕ} {f : Previous} {i : ℕ} (q : Tokens T X n f i) where
   module _ {w : TokenWords} {a b : Bool} (h : i < n) (e : w ≡ words-at T i) (g : a ≡ valid-alone X w)
-      (k : b ≡ valid-after (spot (f .line) (f .column)) (f .end) w) where
+      (k : b ≡ valid-after (place-at (f .line) (f .column)) (f .end) w) where
     turn : (t : Bool) → (a && b) ≡ t
         → t && is-some (tokens-of T X (place-of w) (text-end (f .end) w) (i + 1) (n - (i + 1)))
         ≡ is-some (tokens-of T X nowhere 0 0 n)
     turn t z =
         let l : suc (n - (i + 1)) ≡ n - i = omega arith in
         ap (λ (t : Bool). t && is-some (tokens-of T X (place-of w) (text-end (f .end) w) (i + 1) (n - (i + 1)))) (sym z ∙ ap₂ _&&_ g k)
-        ∙ ap (λ (j : ℕ). (valid-alone X w && valid-after (spot (f .line) (f .column)) (f .end) w) && is-some
+        ∙ ap (λ (j : ℕ). (valid-alone X w && valid-after (place-at (f .line) (f .column)) (f .end) w) && is-some
         (tokens-of T X (place-of w) (text-end (f .end) w) j (n - (i + 1)))) (add-one i)
-        ∙ sym (token-turn T X (spot (f .line) (f .column)) (f .end) i (n - (i + 1)) w e)
-        ∙ ap (λ (m : ℕ). is-some (tokens-of T X (spot (f .line) (f .column)) (f .end) i m)) l ∙ q .is
+        ∙ sym (token-turn T X (place-at (f .line) (f .column)) (f .end) i (n - (i + 1)) w e)
+        ∙ ap (λ (m : ℕ). is-some (tokens-of T X (place-at (f .line) (f .column)) (f .end) i m)) l ∙ q .is
 
     pub token-more : {r : Previous} → (a && b) ≡ true
-        → (spot (r .line) (r .column) ≡ place-of w) × (r .end ≡ text-end (f .end) w) → Tokens T X n r (i + 1)
+        → (place-at (r .line) (r .column) ≡ place-of w) × (r .end ≡ text-end (f .end) w) → Tokens T X n r (i + 1)
     token-more z m =
         record {
           high = omega arith;

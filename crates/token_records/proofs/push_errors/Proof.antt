@@ -1,7 +1,7 @@
 use mathlib.Core.Path.{refl}
 use Prim.Native.Nat.{_-_}
 use Rattle.definition.specs.Tokenizer as Z
-use Rattle.token_records.specs.Push.{spot}
+use Rattle.token_records.specs.Push.{place-at}
 use Rattle.token_records.proofs.Pushing.{Pushing, errors-full, pushing, pushing-more, pushing-end}
 use borrow.Author.Needs.{needs}
 use Rattle.token_records.proofs.push_errors.Statement.{statement}
@@ -9,7 +9,7 @@ use Rattle.token_records.proofs.push_errors.Tie as tie
 
 abbrev Inv-loop : tie.InvT-loop
 Inv-loop errors₀ st count number line column total i₀ errors i =
-    Pushing errors₀ st count (Z.token-error number (spot line column)) total errors i
+    Pushing errors₀ st count (Z.token-error number (place-at line column)) total errors i
 
 abbrev μ-loop : tie.MeasureT-loop
 μ-loop errors₀ st count number line column total i₀ errors i = total - i

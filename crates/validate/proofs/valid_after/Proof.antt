@@ -1,5 +1,5 @@
 use Rattle.validate.proofs.Turns.{early, behind}
-use Rattle.token_records.specs.Push.{spot}
+use Rattle.token_records.specs.Push.{place-at}
 use Rattle.token_records.specs.Tested.{words-of}
 use mathlib.Core.Bool.{true, false}
 use borrow.Author.Needs.{needs}
@@ -12,7 +12,7 @@ comes-after-requires c κs = search needs
 returns : tie.Need-returns
 returns c =
     let start = c .before .before in
-    early (spot (start .args .f .line) (start .args .f .column)) (start .args .f .end)
+    early (place-at (start .args .f .line) (start .args .f .column)) (start .args .f .end)
     (words-of (start .args .w)) (c .before .comes-after .ensures) (c .if1 .taken)
 
 has-text-requires : tie.Need-has-text-requires
@@ -28,7 +28,7 @@ returns-2 c =
     let at-if1 = at-has-text .before in
     let at-comes-after = at-if1 .before in
     let start = at-comes-after .before in
-    behind (spot (start .args .f .line) (start .args .f .column)) (start .args .f .end)
+    behind (place-at (start .args .f .line) (start .args .f .column)) (start .args .f .end)
     (words-of (start .args .w)) (at-comes-after .comes-after .ensures) (at-if1 .if1 .left)
     (at-has-text .has-text .ensures) true (at-if2 .if2 .taken)
 
@@ -37,7 +37,7 @@ returns-3 c =
     let at-if1 = c .before .before in
     let at-comes-after = at-if1 .before in
     let start = at-comes-after .before in
-    behind (spot (start .args .f .line) (start .args .f .column)) (start .args .f .end)
+    behind (place-at (start .args .f .line) (start .args .f .column)) (start .args .f .end)
     (words-of (start .args .w)) (at-comes-after .comes-after .ensures) (at-if1 .if1 .left)
     (c .before .has-text .ensures) false (c .if2 .left)
 
