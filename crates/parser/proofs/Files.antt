@@ -16,8 +16,8 @@ use Rattle.node.specs.declared.Numbers.the-variants.{Two}
 use Rattle.fallible.specs.Lists.{errs}
 use Rattle.fallible.proofs.Grown.{errs-length}
 use Rattle.error_fields.specs.Errors.{Fielded, TokenFields}
-use Rattle.zeros.specs.Cleared.{Cleared}
-use Rattle.zeros.proofs.Clearing.{cleared-filled}
+use Rattle.slices.specs.Cleared.{Cleared}
+use Rattle.slices.proofs.Clearing.{cleared-filled}
 use Rattle.definition.proofs.Validated.{errors-many}
 use Rattle.validate.proofs.Accepted.{there}
 use Rattle.parser.specs.Answer.{tree-file, RestRoom, RestWritten}

@@ -23,8 +23,8 @@ use Rattle.fallible.specs.declared.Status.{Status}
 use Rattle.fallible.specs.declared.Status.the-variants.{Done, Fatal, Refused}
 use Rattle.fallible.specs.declared.Answer.{Answer}
 use Rattle.fallible.specs.Lists.{errs}
-use Rattle.zeros.specs.Cleared.{Cleared}
-use Rattle.zeros.proofs.Clearing.{cleared-filled}
+use Rattle.slices.specs.Cleared.{Cleared}
+use Rattle.slices.proofs.Clearing.{cleared-filled}
 use Rattle.steps.specs.Tokens.{rest}
 use Rattle.steps.specs.Shows.{st-of, Asked, ShowsOf, items}
 use Rattle.steps.proofs.Tokens.{rest-cons, rest-nil}

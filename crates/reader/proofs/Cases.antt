@@ -19,8 +19,8 @@ use Rattle.definition.specs.Operations.{validate, kept, written, read-tokens, r
 use Rattle.definition.proofs.ReadBack.{read-back}
 use Rattle.source.specs.Place.{Stands, rest, origin}
 use Rattle.token_records.specs.declared.State.{State}
-use Rattle.zeros.specs.Cleared.{Cleared}
-use Rattle.zeros.proofs.Clearing.{cleared-filled}
+use Rattle.slices.specs.Cleared.{Cleared}
+use Rattle.slices.proofs.Clearing.{cleared-filled}
 use Rattle.tokenizer.specs.Run.{Done, Ran}
 use Rattle.tokenizer.proofs.Answer.{no-characters, the-characters, within-limit, ran-done}
 use Rattle.parser.specs.declared.Written.{Written}

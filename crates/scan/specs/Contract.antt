@@ -22,9 +22,6 @@ Asks s c text n = S.Asks (now s) c (now text) n
 
 -- ---- ensured
 
-abbrev pub Wrote : List ℕ → Lent → ℕ → ℕ → Type 0
-Wrote t text n r = S.Wrote (at-entry text) n t (at-exit text) r
-
 -- f is the function of the definition, on the characters from c on
 abbrev pub Passed : (List Ch → List Ch) → Lent → Cursor → Cursor → Type 0
 Passed f s c r = S.Passed (at-entry s) c (f (rest (at-entry s) c)) r

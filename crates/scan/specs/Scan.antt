@@ -8,16 +8,11 @@ use Rattle.definition.specs.Source.{Ch}
 use Rattle.definition.specs.Classes.{is-word, is-white}
 use Rattle.definition.specs.Tokenizer.{Span, ahead}
 use Rattle.definition.specs.Tokenizer as Z
+use Rattle.slices.specs.Written.{Wrote}
 use Rattle.source.specs.Place.{Stands, rest}
 use Rattle.source.specs.declared.Cursor.{Cursor}
 use Rattle.scan.specs.declared.Scan.{Scan}
 use Rattle.scan.specs.declared.Body.{Body}
-
--- from n on the words t are written, up to m; what stood before n stays
-pub record Wrote (x : List ℕ) (n : ℕ) (t x′ : List ℕ) (m : ℕ) : Type 0 where
-  pub put : take m x′ ≡ take n x ++ t
-  pub count : m ≡ n + length t
-  pub size : length x′ ≡ length x
 
 pub record Passes (s : List ℕ) (c : Cursor) : Type 0 where
   pub stands : Stands s c

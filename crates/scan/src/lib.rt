@@ -3,6 +3,8 @@ use classes::character::is_digit_of;
 use classes::character::is_white;
 use classes::character::is_word;
 use classes::spelling::escape;
+use slices::copy;
+use slices::put8;
 use source::Cursor;
 use source::along;
 use source::step;
@@ -14,41 +16,7 @@ ghost use lib.ListN.{length, take, drop};
 ghost use Rattle.definition.specs.Tokenizer as Z;
 ghost use Rattle.source.specs.Place.{Stands, rest};
 ghost use Rattle.scan.specs.Scan.{letters, blanks};
-ghost use Rattle.scan.specs.Contract.{Passes, Asks, Wrote, Passed, Spanned, QuotedAs};
-
-// ---- what is written
-
-// One byte.
-pub fn put8(text: &mut [u8], at: usize, b: u8) -> usize
-    requires { ⌜ at < length (now text) ⌝ }
-    ensures { λ r. ⌜ Wrote (b ∷ []) text at r ⌝ }
-{
-    text[at] = b;
-    at + 1
-}
-
-// One word.
-pub fn put32(words: &mut [u32], at: usize, v: u32) -> usize
-    requires { ⌜ at < length (now words) ⌝ }
-    ensures { λ r. ⌜ Wrote (v ∷ []) words at r ⌝ }
-{
-    words[at] = v;
-    at + 1
-}
-
-// The bytes of `s` from `from` to `to`, written at `at`.
-pub fn copy(s: &[u8], from: usize, to: usize, text: &mut [u8], at: usize) -> usize
-    requires { ⌜ (from ≤ to) × (to ≤ length (now s)) × (at + (to - from) ≤ length (now text)) ⌝ }
-    ensures { λ r. ⌜ Wrote (take (to - from) (drop from (now (s .entry)))) text at r ⌝ }
-{
-    let mut i = from;
-    let mut n = at;
-    while i < to {
-        n = put8(text, n, s[i]);
-        i += 1;
-    }
-    n
-}
+ghost use Rattle.scan.specs.Contract.{Passes, Asks, Passed, Spanned, QuotedAs};
 
 // ---- looking and skipping
 

@@ -7,8 +7,8 @@ use native.Mathlib.Omega.{arith}
 use lib.ListN.{length, replicate, length-replicate}
 use Rattle.definition.specs.Fallible.{Err}
 use Rattle.definition.specs.Records.{errors-words}
-use Rattle.scan.specs.Scan.{Wrote}
-use Rattle.scan.proofs.Laws.{wrote-none, wrote-trans}
+use Rattle.slices.specs.Written.{Wrote}
+use Rattle.slices.proofs.Writing.{wrote-none, wrote-trans}
 use Rattle.token_records.specs.declared.State.{State}
 use Rattle.token_records.specs.Push.{ErrorsPushed, TokenPushed}
 

@@ -7,7 +7,7 @@ use lib.ListN.{length}
 pub use Rattle.definition.specs.Source.{place-at}
 use Rattle.definition.specs.Fallible.{Err}
 use Rattle.definition.specs.Records.{errors-words}
-use Rattle.scan.specs.Scan.{Wrote}
+use Rattle.slices.specs.Written.{Wrote}
 use Rattle.token_records.specs.declared.State.{State}
 
 pub record ErrorsWent (E : List ℕ) (f : State) (es : List Err) (E′ : List ℕ) (r : State) : Type 0 where

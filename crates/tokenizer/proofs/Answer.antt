@@ -17,8 +17,8 @@ use Rattle.definition.proofs.Tests.{left-true, right-true}
 use Rattle.source.specs.Place.{Stands, rest, origin}
 use Rattle.source.proofs.Laws.{stands-start}
 use Rattle.token_records.specs.declared.State.{State}
-use Rattle.zeros.specs.Cleared.{Cleared}
-use Rattle.zeros.proofs.Clearing.{cleared-filled}
+use Rattle.slices.specs.Cleared.{Cleared}
+use Rattle.slices.proofs.Clearing.{cleared-filled}
 use Rattle.tokenizer.specs.declared.Tokenized.{Tokenized}
 use Rattle.tokenizer.specs.Run.{Done, Ran, answer, refusal-of}
 

@@ -15,7 +15,7 @@ use Rattle.source.specs.Place.{Stepped, rest, char, placed}
 use Rattle.classes.specs.declared.character.Class.{Class}
 use Rattle.classes.specs.Begins.{class-of}
 use Rattle.scan.specs.Scan.{Passed}
-use Rattle.scan.proofs.Laws.{wrote-none}
+use Rattle.slices.proofs.Writing.{wrote-none}
 use Rattle.token_records.specs.declared.State.{State}
 use Rattle.token_records.specs.Push.{ErrorsPushed, TokenPushed}
 use Rattle.turns.specs.Turn.{at-cursor, Ready, bounded, Turned}

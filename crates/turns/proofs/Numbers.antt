@@ -16,8 +16,9 @@ use Rattle.source.specs.declared.Cursor.{Cursor}
 use Rattle.source.specs.Place.{Stepped, rest}
 use Rattle.source.proofs.Laws.{rest-end}
 use Rattle.scan.specs.declared.Scan.{Scan}
-use Rattle.scan.specs.Scan.{Wrote, Passed, Spanned}
-use Rattle.scan.proofs.Laws.{wrote-trans}
+use Rattle.slices.specs.Written.{Wrote}
+use Rattle.scan.specs.Scan.{Passed, Spanned}
+use Rattle.slices.proofs.Writing.{wrote-trans}
 use Rattle.token_records.specs.declared.State.{State}
 use Rattle.token_records.specs.Push.{TokenPushed}
 use Rattle.turns.specs.Turn.{at-text, at-cursor, Ready, Turned}

@@ -17,8 +17,9 @@ use Rattle.definition.specs.Tokenizer.{Turn, goes, refused}
 use Rattle.definition.specs.Tokenizer as Z
 use Rattle.source.specs.declared.Cursor.{Cursor}
 use Rattle.source.specs.Place.{Stands, Stepped, rest}
-use Rattle.scan.specs.Scan.{Wrote, Passed}
-use Rattle.scan.proofs.Laws.{wrote-none, wrote-trans}
+use Rattle.slices.specs.Written.{Wrote}
+use Rattle.scan.specs.Scan.{Passed}
+use Rattle.slices.proofs.Writing.{wrote-none, wrote-trans}
 use Rattle.token_records.specs.declared.State.{State}
 use Rattle.token_records.specs.Push.{ErrorsPushed, TokenPushed}
 use Rattle.turns.specs.Turn.{at-text, at-cursor, Few, Ready, bounded, Turned}

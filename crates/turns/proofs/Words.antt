@@ -18,8 +18,9 @@ use Rattle.definition.proofs.Formed.{keyword-plain, plain-textless}
 use Rattle.source.specs.declared.Cursor.{Cursor}
 use Rattle.source.specs.Place.{rest}
 use Rattle.scan.specs.declared.Scan.{Scan}
-use Rattle.scan.specs.Scan.{Wrote, Passed, Spanned, letters, blanks}
-use Rattle.scan.proofs.Laws.{wrote-none, wrote-trans}
+use Rattle.slices.specs.Written.{Wrote}
+use Rattle.scan.specs.Scan.{Passed, Spanned, letters, blanks}
+use Rattle.slices.proofs.Writing.{wrote-none, wrote-trans}
 use Rattle.token_records.specs.declared.State.{State}
 use Rattle.token_records.specs.Push.{ErrorsPushed, TokenPushed}
 use Rattle.turns.specs.Turn.{at-text, at-cursor, Ready, Turned}

@@ -12,7 +12,8 @@ use Rattle.definition.specs.Records.{tokens-words, tokens-text, errors-words}
 use Rattle.definition.specs.Tokenizer.{Turn, goes, refused}
 use Rattle.source.specs.Place.{Stands, rest}
 use Rattle.source.specs.declared.Cursor.{Cursor}
-use Rattle.scan.specs.Scan.{Wrote, Asks}
+use Rattle.slices.specs.Written.{Wrote}
+use Rattle.scan.specs.Scan.{Asks}
 use Rattle.token_records.specs.declared.State.{State}
 
 -- the state at another place, and with more text

@@ -1,4 +1,4 @@
-use Rattle.scan.proofs.Laws.{wrote-cons}
+use Rattle.slices.proofs.Writing.{wrote-cons}
 use borrow.Author.Needs.{needs}
 use Rattle.token_records.proofs.put_four.Statement.{statement}
 use Rattle.token_records.proofs.put_four.Tie as tie

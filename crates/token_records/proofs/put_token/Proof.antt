@@ -1,4 +1,4 @@
-use Rattle.scan.proofs.Laws.{wrote-trans}
+use Rattle.slices.proofs.Writing.{wrote-trans}
 use borrow.Author.Needs.{needs}
 use Rattle.token_records.proofs.put_token.Statement.{statement}
 use Rattle.token_records.proofs.put_token.Tie as tie

@@ -1,7 +1,7 @@
-use Rattle.scan.proofs.Laws.{wrote-one}
+use Rattle.slices.proofs.Writing.{wrote-one}
 use borrow.Author.Needs.{needs}
-use Rattle.scan.proofs.put8.Statement.{statement}
-use Rattle.scan.proofs.put8.Tie as tie
+use Rattle.slices.proofs.put8.Statement.{statement}
+use Rattle.slices.proofs.put8.Tie as tie
 
 slice-write-text : tie.Need-slice-write-text
 slice-write-text c = search needs

@@ -1,7 +1,7 @@
-use Rattle.scan.proofs.Laws.{wrote-one}
+use Rattle.slices.proofs.Writing.{wrote-one}
 use borrow.Author.Needs.{needs}
-use Rattle.scan.proofs.put32.Statement.{statement}
-use Rattle.scan.proofs.put32.Tie as tie
+use Rattle.slices.proofs.put32.Statement.{statement}
+use Rattle.slices.proofs.put32.Tie as tie
 
 mul-words : tie.Need-mul-words
 mul-words c = search needs

@@ -1,8 +1,8 @@
 use borrow.Author.Needs.{needs}
 use Prim.Native.Nat.{_-_}
-use Rattle.scan.proofs.Laws.{Copying, copying-start, copying-more, copying-end}
-use Rattle.scan.proofs.copy.Statement.{statement}
-use Rattle.scan.proofs.copy.Tie as tie
+use Rattle.slices.proofs.Writing.{Copying, copying-start, copying-more, copying-end}
+use Rattle.slices.proofs.copy.Statement.{statement}
+use Rattle.slices.proofs.copy.Tie as tie
 
 abbrev Inv-loop : tie.InvT-loop
 Inv-loop s from to text₀ at i₀ n₀ text i n = Copying s from to text₀ at text n i

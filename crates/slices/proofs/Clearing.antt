@@ -7,7 +7,7 @@ use native.Mathlib.Omega.{arith}
 use lib.ListN.{length, getD, take, drop, set, replicate, length-append, length-set, length-replicate, replicate-append-replicate, drop-of-length-le, take-append-drop}
 use lib.Seq.{drop-cons, set-at, length-take-le}
 use Rattle.definition.specs.Operations.{filled}
-use Rattle.zeros.specs.Cleared.{Cleared}
+use Rattle.slices.specs.Cleared.{Cleared}
 
 pub record Clearing (x₀ : List ℕ) (from : ℕ) (x : List ℕ) (i : ℕ) : Type 0 where
   pub low : from ≤ i

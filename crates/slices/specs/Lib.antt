@@ -1,0 +1,3 @@
+pub mod Cleared
+pub mod Written
+pub mod Contract
