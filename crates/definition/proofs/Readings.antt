@@ -24,7 +24,7 @@ pub second-zero : (p : Place) (c : Ch) (cs : List Ch) → c .byte ≡ 48
     → zero-turn p (c ∷ cs) ≡ token-text (digits 10 cs .rest) K.Integer p (48 ∷ digits 10 cs .text) 10
 unfolding zero-turn digits
 second-zero p c cs e =
-    subst (λ (b : ℕ). zero-turn p (record { byte = b; more = c .more; place = c .place } ∷ cs) ≡ token-text
+    subst (λ (b : ℕ). zero-turn p (record { byte = b; more = c .more; offset = c .offset; place = c .place } ∷ cs) ≡ token-text
     (digits 10 cs .rest) K.Integer p (48 ∷ digits 10 cs .text) 10) (sym e) refl
 
 -- a character of two bytes takes one column: in `"é"a` the `a` is at 1:4

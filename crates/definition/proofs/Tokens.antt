@@ -12,7 +12,7 @@ use Rattle.definition.specs.Ascii.{ascii}
 use Rattle.definition.specs.Choice.{pick}
 use Rattle.definition.specs.Classes as C
 use Rattle.definition.specs.Kind as K
-use Rattle.definition.specs.Source.{Place, Ch, after, nowhere, start, characters}
+use Rattle.definition.specs.Source.{Place, At, Ch, after, nowhere, start, characters}
 use Rattle.definition.specs.Fallible.{Err}
 use Rattle.definition.specs.Token.{Tok, tok}
 use Rattle.definition.specs.Records.{base-fits, comes-after}
@@ -21,7 +21,7 @@ use Rattle.definition.specs.Tokenizer.{Turn, goes, refused, Span, Quoted
 use Rattle.definition.proofs.Unparse.{same-place}
 use Rattle.definition.proofs.Shown.{Apart, Distinct}
 use Rattle.definition.proofs.Tests.{both-true, chosen, picked, counted, All, all-append, all-replicate, all-map}
-use Rattle.definition.proofs.Characters.{spelling, Whole, Spelt, spelt, Utf8, utf8-none, utf8-char, utf8-byte}
+use Rattle.definition.proofs.Characters.{spelling, beyond, Whole, Spelt, spelt, Utf8, utf8-none, utf8-char, utf8-byte}
 use Rattle.definition.proofs.Formed.{Formed, Plain, plain-formed, pair-plain, symbol-plain, keyword-plain, Classed, is-foreign, is-white, is-comment, is-pair, is-symbol, is-quote, is-word, is-dash, is-zero, is-digit, is-unknown, classed, text-formed, letter-bounds, Numeral, dash-numeral, numeral, or-zero-numeral, integer-formed, digits-all, digit-first}
 
 -- ---- a script's characters
@@ -62,22 +62,22 @@ further b p h = picked (λ (q : Place). key p < key q) (eqb b 10) _ _ (λ _. ome
 placed-after : (b n : ℕ) (p : Place) → Placed (suc n) p → Placed n (after b p)
 placed-after b n p h = picked (Placed n) (eqb b 10) _ _ (λ _. omega arith) (omega arith)
 
-spelt-bytes : (cs : List Ch) (p : Place) (bs : List ℕ) → Spelt p bs cs → bytes cs ≡ length bs
+spelt-bytes : (cs : List Ch) (p : At) (bs : List ℕ) → Spelt p bs cs → bytes cs ≡ length bs
 spelt-bytes [] p bs s = omega (arith, ap length s)
-spelt-bytes (c ∷ cs) p bs s = omega (arith, simp length-append at (ap length (s .2)), spelt-bytes cs (after (c .byte) p) (s .0) (s .4))
+spelt-bytes (c ∷ cs) p bs s = omega (arith, simp length-append at (ap length (s .2)), spelt-bytes cs (beyond p c) (s .0) (s .4))
 
-spelt-chars : (cs : List Ch) (p : Place) (bs : List ℕ) (k : ℕ) → k < key p → Placed (length bs) p → Spelt p bs cs → Chars k cs
+spelt-chars : (cs : List Ch) (p : At) (bs : List ℕ) (k : ℕ) → k < key (p .place) → Placed (length bs) (p .place) → Spelt p bs cs → Chars k cs
 spelt-chars [] p bs k h r s = tt
 spelt-chars (c ∷ cs) p bs k h r s =
     let n : length bs ≡ 1 + length (c .more) + length (s .0) = omega (arith, simp length-append at (ap length (s .2))) in
-    let r′ : Placed (suc (length (s .0))) p = placed-less (suc (length (s .0))) (length bs) p (omega arith) r in
-    let o : Placed 1 p = placed-less 1 (length bs) p (omega arith) r in
-    subst (λ (q : Place). (k < key q) × Placed 1 q × Whole c × Chars (key q) cs) (sym (s .1)) (
+    let r′ : Placed (suc (length (s .0))) (p .place) = placed-less (suc (length (s .0))) (length bs) (p .place) (omega arith) r in
+    let o : Placed 1 (p .place) = placed-less 1 (length bs) (p .place) (omega arith) r in
+    subst (λ (q : Place). (k < key q) × Placed 1 q × Whole c × Chars (key q) cs) (sym (ap (λ (x : Ch). x .place) (s .1))) (
       h,
       o,
       s .3,
-      spelt-chars cs (after (c .byte) p) (s .0) (key p) (further (c .byte) p o)
-          (placed-after (c .byte) (length (s .0)) p r′) (s .4),
+      spelt-chars cs (beyond p c) (s .0) (key (p .place)) (further (c .byte) (p .place) o)
+          (placed-after (c .byte) (length (s .0)) (p .place) r′) (s .4),
     )
 
 record Script (cs : List Ch) : Type 0 where

@@ -2,8 +2,9 @@
 use mathlib.Core.Bool.{Bool, true, false, _&&_}
 use mathlib.Core.List.{List, [], _∷_, _++_}
 use mathlib.Core.Option.{Option, none, some}
-use Prim.Native.Nat.{ℕ, suc, pred}
+use Prim.Native.Nat.{ℕ, suc, pred, _+_}
 use lib.Dec.{eqb, ltb, leb}
+use lib.ListN.{length}
 use Rattle.definition.specs.Choice.{_⇒_, pick, first}
 
 -- ---- places
@@ -26,11 +27,24 @@ after b p = pick (eqb b 10) (record { line = suc (p .line); column = 1 }) (recor
 
 -- ---- characters
 
--- A character: its first byte, which is above 127 just where the character is, its other bytes, its place
+-- A character: its first byte, which is above 127 just where the character is, its other bytes, the offset of the first in the script, its place
 pub record Ch : Type 0 where
   pub byte : ℕ
   pub more : List ℕ
+  pub offset : ℕ
   pub place : Place
+
+-- where a character stands
+pub record At : Type 0 where
+  pub offset : ℕ
+  pub place : Place
+
+-- there, the character with the first byte b and the others m; and where the next one stands
+abbrev pub char-at : At → ℕ → List ℕ → Ch
+char-at p b m = record { byte = b; more = m; offset = p .offset; place = p .place }
+
+abbrev pub past : At → ℕ → List ℕ → At
+past p b m = record { offset = suc (length m) + p .offset; place = after b (p .place) }
 
 -- What a first byte asks for: how many more bytes, and the bounds of the next of them; those after that are 128 to 191
 pub data Lead : Type 0 where
@@ -55,29 +69,29 @@ abbrev pub and-then : Ch → Option (List Ch) → Option (List Ch)
 and-then c none = none
 and-then c (some cs) = some (c ∷ cs)
 
--- the characters that the bytes are, the next one at the place p
-unfoldable pub decode : Pending → Place → List ℕ → Option (List Ch)
+-- the characters that the bytes are, the next one at p
+unfoldable pub decode : Pending → At → List ℕ → Option (List Ch)
 unfolding lead
 decode fresh p [] = some []
 decode (within l m n lo hi) p [] = none
 decode fresh p (b ∷ bs) =
     elim (lead b) [
-      | single ↦ and-then (record { byte = b; more = []; place = p }) (decode fresh (after b p) bs)
+      | single ↦ and-then (char-at p b []) (decode fresh (past p b []) bs)
       | with-more n lo hi ↦ decode (within b [] n lo hi) p bs
       | wrong ↦ none
     ]
 decode (within l m n lo hi) p (b ∷ bs) =
     elim (leb lo b && leb b hi) [
       | true ↦ elim (leb n 1) [
-        | true ↦ and-then (record { byte = l; more = m ++ (b ∷ []); place = p }) (decode fresh (after l p) bs)
+        | true ↦ and-then (char-at p l (m ++ (b ∷ []))) (decode fresh (past p l (m ++ (b ∷ []))) bs)
         | false ↦ decode (within l (m ++ (b ∷ [])) (pred n) 0x80 0xBF) p bs
       ]
       | false ↦ none
     ]
 
 -- where a script starts
-abbrev pub start : Place
-start = record { line = 1; column = 1 }
+abbrev pub start : At
+start = record { offset = 0; place = place-at 1 1 }
 
 -- `add_locations` of a script's characters, if the script is UTF-8
 unfoldable pub characters : List ℕ → Option (List Ch)

@@ -9,12 +9,12 @@ use native.Mathlib.Omega.{arith}
 use borrow.Author.Tests.{eqb-true, eqb-false, ltb-true, ltb-false, leb-true, leb-false, le-leb, lt-leb, lt-ltb, ne-eqb}
 use lib.Dec.{eqb, ltb, leb}
 use lib.ListN.{length, getD, take, drop, length-drop, drop-of-length-le}
-use lib.Seq.{drop-cons, drop-drop}
-use Rattle.definition.specs.Source.{Place, Ch, Lead, single, with-more, wrong, lead, after, fresh, within, and-then, decode, characters, is-some, utf8}
+use lib.Seq.{drop-cons, drop-drop, length-take-le}
+use Rattle.definition.specs.Source.{At, Ch, Lead, single, with-more, wrong, lead, after, char-at, past, fresh, within, and-then, decode, characters, is-some, utf8}
 use Rattle.definition.specs.Choice.{pick, first}
 use Rattle.source.specs.declared.Need.{Need}
 use Rattle.source.specs.declared.Cursor.{Cursor}
-use Rattle.source.specs.Place.{needed, start, bad, need-of, next-need, ran-need, more, placed, or-none, rest, Stands, Stepped, char, along-line}
+use Rattle.source.specs.Place.{needed, start, bad, need-of, next-need, ran-need, more, placed, at-of, or-none, rest, Stands, Stepped, char, along-line}
 
 abbrev Small : Lead → Type 0
 Small single = Unit {0}
@@ -44,16 +44,16 @@ unfolding ran-need
 ok-bad [] = refl
 ok-bad (b ∷ bs) = ok-bad bs
 
-abbrev after-lead : Place → ℕ → List ℕ → Lead → Option (List Ch)
+abbrev after-lead : At → ℕ → List ℕ → Lead → Option (List Ch)
 after-lead p b bs x =
     elim x
-    [ single ↦ and-then (record { byte = b; more = []; place = p }) (decode fresh (after b p) bs) | with-more n lo hi ↦ decode (within b [] n lo hi) p bs | wrong ↦ none ]
+    [ single ↦ and-then (char-at p b []) (decode fresh (past p b []) bs) | with-more n lo hi ↦ decode (within b [] n lo hi) p bs | wrong ↦ none ]
 
-abbrev after-more : ℕ → List ℕ → ℕ → Place → ℕ → List ℕ → Bool → Bool → Option (List Ch)
+abbrev after-more : ℕ → List ℕ → ℕ → At → ℕ → List ℕ → Bool → Bool → Option (List Ch)
 after-more l m n p b bs t u =
     elim t [
       | true ↦ elim u [
-        | true ↦ and-then (record { byte = l; more = m ++ (b ∷ []); place = p }) (decode fresh (after l p) bs)
+        | true ↦ and-then (char-at p l (m ++ (b ∷ []))) (decode fresh (past p l (m ++ (b ∷ []))) bs)
         | false ↦ decode (within l (m ++ (b ∷ [])) (pred n) 128 191) p bs
       ]
       | false ↦ none
@@ -67,17 +67,17 @@ more-need : (n lo hi b : ℕ) → 1 ≤ n → n ≤ 3 → next-need (needed n lo
 more-need n lo hi b h k = rw (ne-eqb n 9 (λ e. omega arith), ne-eqb n 0 (λ e. omega arith))
 
 record Ok (bs : List ℕ) : Type 0 where
-  fr : (p : Place) → eqb (ran-need start bs .missing) 0 ≡ is-some (decode fresh p bs)
-  wi : (l : ℕ) (m : List ℕ) (n lo hi : ℕ) (p : Place) → 1 ≤ n → n ≤ 3
+  fr : (p : At) → eqb (ran-need start bs .missing) 0 ≡ is-some (decode fresh p bs)
+  wi : (l : ℕ) (m : List ℕ) (n lo hi : ℕ) (p : At) → 1 ≤ n → n ≤ 3
       → eqb (ran-need (needed n lo hi) bs .missing) 0 ≡ is-some (decode (within l m n lo hi) p bs)
 
 module _ (bs : List ℕ) (ok : Ok bs) where
-  ok-lead : (p : Place) (b : ℕ) (x : Lead) → Small x → eqb (ran-need (need-of x) bs .missing) 0 ≡ is-some (after-lead p b bs x)
-  ok-lead p b single h = ok .fr (after b p) ∙ sym (and-some (record { byte = b; more = []; place = p }) (decode fresh (after b p) bs))
+  ok-lead : (p : At) (b : ℕ) (x : Lead) → Small x → eqb (ran-need (need-of x) bs .missing) 0 ≡ is-some (after-lead p b bs x)
+  ok-lead p b single h = ok .fr (past p b []) ∙ sym (and-some (char-at p b []) (decode fresh (past p b []) bs))
   ok-lead p b (with-more n lo hi) h = ok .wi b [] n lo hi p (h .0) (h .1)
   ok-lead p b wrong h = ok-bad bs
 
-  ok-tests : (l : ℕ) (m : List ℕ) (n lo hi : ℕ) (p : Place) (b : ℕ) → 1 ≤ n → n ≤ 3 → (t : Bool) → ltb b lo ≡ t
+  ok-tests : (l : ℕ) (m : List ℕ) (n lo hi : ℕ) (p : At) (b : ℕ) → 1 ≤ n → n ≤ 3 → (t : Bool) → ltb b lo ≡ t
       → (u : Bool) → ltb hi b ≡ u → (v : Bool) → eqb n 1 ≡ v →
       eqb (ran-need (need-more n t u) bs .missing) 0 ≡ is-some (after-more l m n p b bs (leb lo b && leb b hi) (leb n 1))
   ok-tests l m n lo hi p b h k true e u f v g = ok-bad bs ∙ rw (lt-leb lo b (ltb-true _ _ e))
@@ -89,8 +89,8 @@ module _ (bs : List ℕ) (ok : Ok bs) where
         le-leb lo b (ltb-false _ _ e),
         le-leb b hi (ltb-false _ _ f),
         le-leb n 1 (omega (arith, eqb-true n 1 g)),
-      ) (ok .fr (after l p)
-      ∙ sym (and-some (record { byte = l; more = m ++ (b ∷ []); place = p }) (decode fresh (after l p) bs)))
+      ) (ok .fr (past p l (m ++ (b ∷ [])))
+      ∙ sym (and-some (char-at p l (m ++ (b ∷ []))) (decode fresh (past p l (m ++ (b ∷ []))) bs)))
   ok-tests l m n lo hi p b h k false e false f false g =
       let q : 1 < n = omega (arith, eqb-false n 1 g) in
       rw (le-leb lo b (ltb-false _ _ e), le-leb b hi (ltb-false _ _ f), lt-leb n 1 q, sub-one)
@@ -128,7 +128,7 @@ ran-end {s} {n} {i} e h = ap (λ (x : Need). eqb (x .missing) 0) (sym (ap (ran-n
 
 -- ---- one step of a cursor
 
-pub record Ended (bs : List ℕ) (n : ℕ) (ch : Ch) (p : Place) (cs : List Ch) : Type 0 where
+pub record Ended (bs : List ℕ) (n : ℕ) (ch : Ch) (p : At) (cs : List Ch) : Type 0 where
   pub fits : n ≤ length bs
   pub next-token : cs ≡ ch ∷ or-none (decode fresh p (drop n bs))
   pub tail : decode fresh p (drop n bs) ≡ some (or-none (decode fresh p (drop n bs)))
@@ -146,26 +146,26 @@ and-then-tail c (some xs) cs e = refl
 
 Within : List ℕ → Type 0
 Within bs =
-    (l : ℕ) (m : List ℕ) (n lo hi : ℕ) (p : Place) (cs : List Ch) → 1 ≤ n
+    (l : ℕ) (m : List ℕ) (n lo hi : ℕ) (p : At) (cs : List Ch) → 1 ≤ n
     → decode (within l m n lo hi) p bs ≡ some cs
-    → Ended bs n (record { byte = l; more = m ++ take n bs; place = p }) (after l p) cs
+    → Ended bs n (char-at p l (m ++ take n bs)) (past p l (m ++ take n bs)) cs
 
-within-tests : (b : ℕ) (bs : List ℕ) → Within bs → (l : ℕ) (m : List ℕ) (k : ℕ) (p : Place) (cs : List Ch) (t u : Bool)
+within-tests : (b : ℕ) (bs : List ℕ) → Within bs → (l : ℕ) (m : List ℕ) (k : ℕ) (p : At) (cs : List Ch) (t u : Bool)
     → leb (suc k) 1 ≡ u → after-more l m (suc k) p b bs t u ≡ some cs →
-    Ended (b ∷ bs) (suc k) (record { byte = l; more = m ++ take (suc k) (b ∷ bs); place = p }) (after l p) cs
+    Ended (b ∷ bs) (suc k) (char-at p l (m ++ take (suc k) (b ∷ bs))) (past p l (m ++ take (suc k) (b ∷ bs))) cs
 unfolding Within
 within-tests b bs ih l m k p cs false u e f = none-some {x = none} refl f
 within-tests b bs ih l m zero p cs true true e f =
     record {
       fits = omega arith;
-      next-token = and-then-head _ (decode fresh (after l p) bs) _ f;
-      tail = and-then-tail (record { byte = l; more = m ++ (b ∷ []); place = p }) (decode fresh (after l p) bs)
+      next-token = and-then-head _ (decode fresh (past p l (m ++ (b ∷ []))) bs) _ f;
+      tail = and-then-tail (char-at p l (m ++ (b ∷ []))) (decode fresh (past p l (m ++ (b ∷ []))) bs)
           _ f;
     }
 within-tests b bs ih l m (suc j) p cs true true e f = absurd (omega (arith, leb-true (suc (suc j)) 1 e))
 within-tests b bs ih l m k p cs true false e f =
     let g = ih l (m ++ (b ∷ [])) k 128 191 p cs (omega (arith, leb-false (suc k) 1 e)) f in
-    record { fits = omega (arith, g .fits); next-token = rw append-assoc at (g .next-token); tail = g .tail }
+    record { fits = omega (arith, g .fits); next-token = rw append-assoc at (g .next-token); tail = rw append-assoc at (g .tail) }
 
 within-law : (bs : List ℕ) → Within bs
 unfolding Within decode
@@ -173,31 +173,33 @@ within-law [] l m n lo hi p cs h e = none-some {x = none} refl e
 within-law (b ∷ bs) l m zero lo hi p cs h e = absurd (omega arith)
 within-law (b ∷ bs) l m (suc k) lo hi p cs h e = within-tests b bs (within-law bs) l m k p cs (leb lo b && leb b hi) (leb (suc k) 1) refl e
 
-fresh-lead : (b : ℕ) (bs : List ℕ) (p : Place) (cs : List Ch) (x : Lead) → Small x → after-lead p b bs x ≡ some cs
-    → Ended bs (more x) (record { byte = b; more = take (more x) bs; place = p }) (after b p) cs
+fresh-lead : (b : ℕ) (bs : List ℕ) (p : At) (cs : List Ch) (x : Lead) → Small x → after-lead p b bs x ≡ some cs
+    → Ended bs (more x) (char-at p b (take (more x) bs)) (past p b (take (more x) bs)) cs
 unfolding Within
 fresh-lead b bs p cs single h e =
     record {
       fits = omega arith;
-      next-token = and-then-head _ (decode fresh (after b p) bs) _ e;
-      tail = and-then-tail (record { byte = b; more = []; place = p }) (decode fresh (after b p) bs) _ e;
+      next-token = and-then-head _ (decode fresh (past p b []) bs) _ e;
+      tail = and-then-tail (char-at p b []) (decode fresh (past p b []) bs) _ e;
     }
 fresh-lead b bs p cs (with-more n lo hi) h e = within-law bs b [] n lo hi p cs (h .0) e
 fresh-lead b bs p cs wrong h e = none-some {x = none} refl e
 
-decode-step : (b : ℕ) (bs : List ℕ) (p : Place) (cs : List Ch) → decode fresh p (b ∷ bs) ≡ some cs
-    → Ended bs (more (lead b)) (record { byte = b; more = take (more (lead b)) bs; place = p }) (after b p) cs
+decode-step : (b : ℕ) (bs : List ℕ) (p : At) (cs : List Ch) → decode fresh p (b ∷ bs) ≡ some cs
+    → Ended bs (more (lead b)) (char-at p b (take (more (lead b)) bs)) (past p b (take (more (lead b)) bs)) cs
 unfolding decode
 decode-step b bs p cs e = fresh-lead b bs p cs (lead b) (lead-small b) e
 
 module _ {s : List ℕ} {c : Cursor} (z : Stands s c) (h : c .at < length s) where
-  here : Ended (drop (c .at + 1) s) (more (lead (getD s (c .at) 0))) (char s c) (after (getD s (c .at) 0) (placed c)) (rest s c)
+  -- where the next character stands
+  abbrev next : At
+  next = past (at-of c) (getD s (c .at) 0) (take (more (lead (getD s (c .at) 0))) (drop (c .at + 1) s))
+
+  here : Ended (drop (c .at + 1) s) (more (lead (getD s (c .at) 0))) (char s c) next (rest s c)
   here = rw add-one (decode-step _ _ _ _ (rw (drop-cons s (c .at) 0 h) at (z .is)))
 
   -- what stands here begins with the character here
-  pub rest-head : rest s c
-      ≡ char s c ∷ or-none (decode fresh (after (getD s (c .at) 0) (placed c))
-      (drop (more (lead (getD s (c .at) 0))) (drop (c .at + 1) s)))
+  pub rest-head : rest s c ≡ char s c ∷ or-none (decode fresh next (drop (more (lead (getD s (c .at) 0))) (drop (c .at + 1) s)))
   rest-head = here .next-token
 
   pub step-inside : c .at + (more (lead (getD s (c .at) 0)) + 1) ≤ length s
@@ -211,11 +213,13 @@ module _ {s : List ℕ} {c : Cursor} (z : Stands s c) (h : c .at < length s) whe
       let q : c .at + 1 + more (lead (getD s (c .at) 0)) ≡ r .at = omega arith in
       let d : drop (more (lead (getD s (c .at) 0))) (drop (c .at + 1) s) ≡ drop (r .at) s = drop-drop
       (more (lead (getD s (c .at) 0))) (c .at + 1) s ∙ ap (λ (n : ℕ). drop n s) q in
+      let o : suc (length (take (more (lead (getD s (c .at) 0))) (drop (c .at + 1) s))) + c .at ≡ r .at =
+      omega (arith, length-take-le (more (lead (getD s (c .at) 0))) (drop (c .at + 1) s) (here .fits)) in
       record {
-        chars = rw (d, sym f) at (here .next-token);
+        chars = rw (d, sym f, o) at (here .next-token);
         stands =
             record {
-              is = rw (d, sym f) at (here .tail);
+              is = rw (d, sym f, o) at (here .tail);
               inside = omega (arith, step-inside);
               lined = omega (arith, z .lined);
               columned = omega (arith, z .columned);

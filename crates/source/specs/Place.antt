@@ -5,7 +5,7 @@ use mathlib.Core.Option.{Option, none, some}
 use Prim.Native.Nat.{ℕ, max, _+_, _-_, _≤_}
 use lib.Dec.{eqb, ltb}
 use lib.ListN.{length, getD, take, drop}
-use Rattle.definition.specs.Source.{Place, Ch, Lead, single, with-more, wrong, lead, decode, fresh}
+use Rattle.definition.specs.Source.{Place, At, Ch, Lead, single, with-more, wrong, lead, decode, fresh}
 use Rattle.definition.specs.Choice.{pick}
 use Rattle.source.specs.declared.Need.{Need}
 use Rattle.source.specs.declared.Cursor.{Cursor}
@@ -52,6 +52,10 @@ more wrong = 0
 abbrev pub placed : Cursor → Place
 placed c = record { line = c .line; column = c .column }
 
+-- where the character at the cursor stands
+abbrev pub at-of : Cursor → At
+at-of c = record { offset = c .at; place = placed c }
+
 abbrev pub or-none : Option (List Ch) → List Ch
 or-none none = []
 or-none (some cs) = cs
@@ -59,17 +63,17 @@ or-none (some cs) = cs
 -- the characters from the cursor on
 unfoldable pub rest : List ℕ → Cursor → List Ch
 unfolding decode
-rest s c = or-none (decode fresh (placed c) (drop (c .at) s))
+rest s c = or-none (decode fresh (at-of c) (drop (c .at) s))
 
 pub record Stands (s : List ℕ) (c : Cursor) : Type 0 where
-  pub is : decode fresh (placed c) (drop (c .at) s) ≡ some (rest s c)
+  pub is : decode fresh (at-of c) (drop (c .at) s) ≡ some (rest s c)
   pub inside : c .at ≤ length s
   pub lined : c .line ≤ c .at + 1
   pub columned : c .column ≤ c .at + 1
 
 -- the character at the cursor
 abbrev pub char : List ℕ → Cursor → Ch
-char s c = record { byte = getD s (c .at) 0; more = take (more (lead (getD s (c .at) 0))) (drop (c .at + 1) s); place = placed c }
+char s c = record { byte = getD s (c .at) 0; more = take (more (lead (getD s (c .at) 0))) (drop (c .at + 1) s); offset = c .at; place = placed c }
 
 pub record Stepped (s : List ℕ) (c r : Cursor) : Type 0 where
   pub chars : rest s c ≡ char s c ∷ rest s r
