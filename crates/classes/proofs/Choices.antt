@@ -10,7 +10,7 @@ use lib.Dec.{eqb, leb, ltb}
 use lib.ListN.{getD}
 use Rattle.definition.specs.Ascii.{char}
 use Rattle.definition.specs.Choice.{pick}
-use Rattle.definition.specs.Classes.{between, is-white, is-letter, is-digit}
+use Rattle.definition.specs.Classes.{between, is-foreign, is-white, is-letter, is-digit}
 use Rattle.definition.specs.Tokenizer as Z
 use Rattle.definition.proofs.Tests.{clash, left-true, right-true, and-false, either-true, between-bounds}
 use Rattle.definition.proofs.Formed.{letter-bounds}
@@ -100,17 +100,17 @@ alone c = pick (eqb c (char "\"")) Z.Quote (no-word c)
 
 pub class-is : (c d : ℕ) →
     Z.class c d ≡
-    pick (ltb 127 c) Z.Foreign (pick (is-white c) Z.White (pick (eqb c (char "/") && eqb d (char "/")) Z.Comment
+    pick (is-foreign c) Z.Foreign (pick (is-white c) Z.White (pick (eqb c (char "/") && eqb d (char "/")) Z.Comment
     (pick (ltb 0 (Z.pair c d)) Z.Pair (pick (ltb 0 (Z.symbol c)) Z.Symbol
     (pick (eqb c (char "\"")) Z.Quote (pick (is-letter c) Z.Word (no-word c)))))))
 unfolding Z.class
 class-is c d = refl
 
-pub no-symbol : (c d : ℕ) {p y : ℕ} {v w : Bool} {r : Z.Class} → v ≡ is-letter c → v ≡ false → w ≡ is-white c → w ≡ false
-    → c ≤ 127 → (eqb c (char "/") && eqb d (char "/")) ≡ false → p ≡ Z.pair c d → p ≤ 0 → y ≡ Z.symbol c → y ≤ 0
+pub no-symbol : (c d : ℕ) {p y : ℕ} {u v w : Bool} {r : Z.Class} → v ≡ is-letter c → v ≡ false → w ≡ is-white c → w ≡ false
+    → u ≡ is-foreign c → u ≡ false → (eqb c (char "/") && eqb d (char "/")) ≡ false → p ≡ Z.pair c d → p ≤ 0 → y ≡ Z.symbol c → y ≤ 0
     → r ≡ alone c → r ≡ Z.class c d
-no-symbol c d a b e f h g i j k l m =
-    rw (class-is, le-ltb 127 c h, sym e ∙ f, g, no-kind (Z.pair c d) i j, no-kind (Z.symbol c) k l, sym a ∙ b) m
+no-symbol c d a b e f h n g i j k l m =
+    rw (class-is, sym h ∙ n, sym e ∙ f, g, no-kind (Z.pair c d) i j, no-kind (Z.symbol c) k l, sym a ∙ b) m
 
 -- a letter is none of what is tested before it
 module _ (c : ℕ) (h : is-letter c ≡ true) where

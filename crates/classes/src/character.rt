@@ -1,4 +1,4 @@
-// The classes of characters. None holds of a byte above 127.
+// The classes of characters, by their first bytes. Above 127 none but `is_foreign` holds.
 ghost use mathlib.Core.Path.{_≡_};
 ghost use Rattle.definition.specs.Classes as C;
 
@@ -15,6 +15,13 @@ pub enum Class {
     Zero,
     Digit,
     Unknown,
+}
+
+// What is refused where a class is asked for.
+pub fn is_foreign(c: u8) -> bool
+    ensures { λ r. ⌜ r ≡ C.is-foreign c ⌝ }
+{
+    127 < c
 }
 
 pub fn between(lo: u8, hi: u8, c: u8) -> bool

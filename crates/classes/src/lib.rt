@@ -4,6 +4,7 @@ pub mod spelling;
 
 use character::Class;
 use character::is_digit;
+use character::is_foreign;
 use character::is_letter;
 use character::is_white;
 use spelling::pair;
@@ -22,7 +23,7 @@ pub fn class(c: u8, d: u8) -> Class
     if is_white(c) {
         return Class::White;
     }
-    if 127 < c {
+    if is_foreign(c) {
         return Class::Foreign;
     }
     if (c == b'/') & (d == b'/') {

@@ -3,13 +3,15 @@ use mathlib.Core.Path.{_≡_, refl, sym, ap, ap₂, _∙_, subst}
 use mathlib.Core.Bool.{Bool, true, false, _&&_}
 use mathlib.Core.Option.{Option, none, some}
 use mathlib.Core.List.{List, [], _∷_, _++_, map}
-use Prim.Native.Nat.{ℕ, suc, _+_, _<_, pred}
-use borrow.Author.Tests.{lt-ltb}
+use Prim.Native.Nat.{ℕ, suc, _+_, _<_, _≤_, pred}
+use borrow.Author.Tests.{lt-ltb, leb-true}
 use lib.Dec.{eqb, leb}
 use lib.ListN.{length}
 use lib.Seq.{append-snoc}
 use Rattle.definition.specs.Choice.{pick}
 use Rattle.definition.specs.Source.{Place, At, Ch, Lead, single, with-more, wrong, lead, char-at, past, place-at, Pending, fresh, within, and-then, decode, start, characters, is-some, utf8}
+use Rattle.definition.proofs.Tests.{left-true, All}
+use Rattle.definition.proofs.Codes.{Coded, coded-single, Completes, completes-end, completes-more, LeadCompletes, lead-completes}
 
 -- ---- the bytes of a character
 
@@ -27,10 +29,14 @@ beyond p c = past p (c .byte) (c .more)
 abbrev pub Whole : Ch → Type 0
 Whole c = (p : At) (bs : List ℕ) → decode fresh p (spelling c ++ bs) ≡ and-then (at p c) (decode fresh (beyond p c) bs)
 
+-- what holds of each character that the decoder gives
+abbrev pub Sound : Ch → Type 0
+Sound c = Whole c × Coded c
+
 -- the bytes are those of the characters, the first of them at p
 abbrev pub Spelt : At → List ℕ → List Ch → Type 0
 Spelt p bs [] = bs ≡ []
-Spelt p bs (c ∷ cs) = (rest : List ℕ) × (c ≡ at p c) × (bs ≡ spelling c ++ rest) × Whole c × Spelt (beyond p c) rest cs
+Spelt p bs (c ∷ cs) = (rest : List ℕ) × (c ≡ at p c) × (bs ≡ spelling c ++ rest) × Sound c × Spelt (beyond p c) rest cs
 
 abbrev SpeltOf : At → List ℕ → Option (List Ch) → Type 0
 SpeltOf p bs none = Unit {0}
@@ -44,30 +50,37 @@ held (within l m n lo hi) = l ∷ m
 abbrev Reached : Pending → Type 0
 Reached w = (p : At) (bs : List ℕ) → decode fresh p (held w ++ bs) ≡ decode w p bs
 
-spelt-char : (p : At) (c : Ch) (bs rest : List ℕ) (o : Option (List Ch)) → bs ≡ spelling c ++ rest → Whole c
+-- whatever bytes complete it, its number will be as its first byte says
+abbrev Going : Pending → Type 0
+Going fresh = Unit {0}
+Going (within l m n lo hi) = Completes l m n lo
+
+spelt-char : (p : At) (c : Ch) (bs rest : List ℕ) (o : Option (List Ch)) → bs ≡ spelling c ++ rest → Sound c
     → SpeltOf (beyond p c) rest o → SpeltOf p bs (and-then (at p c) o)
 spelt-char p c bs rest none e w s = tt
 spelt-char p c bs rest (some cs) e w s = (rest, refl, e, w, s)
 
-spelt-from : (bs : List ℕ) (w : Pending) (p : At) → Reached w → SpeltOf p (held w ++ bs) (decode w p bs)
+spelt-from : (bs : List ℕ) (w : Pending) (p : At) → Reached w → Going w → SpeltOf p (held w ++ bs) (decode w p bs)
 unfolding decode
-spelt-from [] fresh p r = refl
-spelt-from [] (within l m n lo hi) p r = tt
-spelt-from (b ∷ bs) fresh p r = go (lead b) refl (λ w q. spelt-from bs w p q) (spelt-from bs fresh (past p b []) (λ _ _. refl))
+spelt-from [] fresh p r g = refl
+spelt-from [] (within l m n lo hi) p r g = tt
+spelt-from (b ∷ bs) fresh p r g =
+    go (lead b) refl (lead-completes b) (λ w q i. spelt-from bs w p q i) (spelt-from bs fresh (past p b []) (λ _ _. refl) tt)
   where
-    go : (x : Lead) → lead b ≡ x → ((w : Pending) → Reached w → SpeltOf p (held w ++ bs) (decode w p bs))
+    go : (x : Lead) → lead b ≡ x → LeadCompletes b x
+        → ((w : Pending) → Reached w → Going w → SpeltOf p (held w ++ bs) (decode w p bs))
         → SpeltOf (past p b []) bs (decode fresh (past p b []) bs)
         → SpeltOf p (b ∷ bs) (elim x as (λ _. Option (List Ch))
         [ single ↦ and-then (char-at p b []) (decode fresh (past p b []) bs) | with-more n lo hi ↦ decode (within b [] n lo hi) p bs | wrong ↦ none ])
-    go single e f s =
+    go single e i f s =
         spelt-char p (char-at p b []) (b ∷ bs) bs (decode fresh (past p b []) bs) refl
-        (λ q cs. rw (decode, e)) s
-    go (with-more n lo hi) e f s = f (within b [] n lo hi) (λ q cs. rw (decode, e))
-    go wrong e f s = tt
-spelt-from (b ∷ bs) (within l m n lo hi) p r =
+        (λ q cs. rw (decode, e), coded-single b) s
+    go (with-more n lo hi) e i f s = f (within b [] n lo hi) (λ q cs. rw (decode, e)) i
+    go wrong e i f s = tt
+spelt-from (b ∷ bs) (within l m n lo hi) p r g =
     go (leb lo b && leb b hi) refl (leb n 1) refl
     (spelt-from bs (within l (m ++ (b ∷ [])) (pred n) 0x80 0xBF) p)
-    (spelt-from bs fresh (past p l (m ++ (b ∷ []))) (λ _ _. refl))
+    (spelt-from bs fresh (beyond p c) (λ _ _. refl) tt)
   where
     c : Ch
     c = char-at p l (m ++ (b ∷ []))
@@ -76,26 +89,42 @@ spelt-from (b ∷ bs) (within l m n lo hi) p r =
     more : (bs′ : List ℕ) → (l ∷ m ++ (b ∷ [])) ++ bs′ ≡ (l ∷ m) ++ (b ∷ bs′)
     more bs′ = ap (λ (x : List ℕ). l ∷ x) (append-snoc m b bs′)
 
+    least : leb lo b && leb b hi ≡ true → lo ≤ b
+    least e = leb-true lo b (left-true (leb lo b) (leb b hi) e)
+
     go : (x : Bool) → leb lo b && leb b hi ≡ x → (y : Bool) → leb n 1 ≡ y
-        → (Reached (within l (m ++ (b ∷ [])) (pred n) 0x80 0xBF)
+        → (Reached (within l (m ++ (b ∷ [])) (pred n) 0x80 0xBF) → Completes l (m ++ (b ∷ [])) (pred n) 0x80
         → SpeltOf p ((l ∷ m ++ (b ∷ [])) ++ bs) (decode (within l (m ++ (b ∷ [])) (pred n) 0x80 0xBF) p bs))
-        → SpeltOf (past p l (m ++ (b ∷ []))) bs (decode fresh (past p l (m ++ (b ∷ []))) bs)
+        → SpeltOf (beyond p c) bs (decode fresh (beyond p c) bs)
         → SpeltOf p ((l ∷ m) ++ (b ∷ bs)) (elim x as (λ _. Option (List Ch)) [
           | true ↦ elim y as (λ _. Option (List Ch))
-              [ true ↦ and-then c (decode fresh (past p l (m ++ (b ∷ []))) bs) | false ↦ decode (within l (m ++ (b ∷ [])) (pred n) 0x80 0xBF) p bs ]
+              [ true ↦ and-then c (decode fresh (beyond p c) bs) | false ↦ decode (within l (m ++ (b ∷ [])) (pred n) 0x80 0xBF) p bs ]
           | false ↦ none
         ])
     go true e true d f s =
-        spelt-char p c ((l ∷ m) ++ (b ∷ bs)) bs (decode fresh (past p l (m ++ (b ∷ []))) bs) (sym (more bs))
-        (λ q bs′. ap (decode fresh q) (more bs′) ∙ r q (b ∷ bs′) ∙ rw (decode, e, d)) s
+        spelt-char p c ((l ∷ m) ++ (b ∷ bs)) bs (decode fresh (beyond p c) bs) (sym (more bs))
+        (λ q bs′. ap (decode fresh q) (more bs′) ∙ r q (b ∷ bs′) ∙ rw (decode, e, d), completes-end l m n lo b g (least e) d)
+        s
     go true e false d f s =
         subst (λ (x : List ℕ). SpeltOf p x (decode (within l (m ++ (b ∷ [])) (pred n) 0x80 0xBF) p bs))
-        (more bs) (f (λ q bs′. ap (decode fresh q) (more bs′) ∙ r q (b ∷ bs′) ∙ rw (decode, e, d)))
+        (more bs) (f (λ q bs′. ap (decode fresh q) (more bs′) ∙ r q (b ∷ bs′) ∙ rw (decode, e, d))
+        (completes-more l m n lo b g (least e) d))
     go false e y d f s = tt
+
+spelt-at : (p : At) (bs : List ℕ) (cs : List Ch) → decode fresh p bs ≡ some cs → Spelt p bs cs
+spelt-at p bs cs e = subst (SpeltOf p bs) e (spelt-from bs fresh p (λ _ _. refl) tt)
 
 pub spelt : (bs : List ℕ) (cs : List Ch) → characters bs ≡ some cs → Spelt start bs cs
 unfolding characters
-spelt bs cs e = subst (SpeltOf start bs) e (spelt-from bs fresh start (λ _ _. refl))
+spelt bs cs e = spelt-at start bs cs e
+
+spelt-coded : (cs : List Ch) (p : At) (bs : List ℕ) → Spelt p bs cs → All Coded cs
+spelt-coded [] p bs s = tt
+spelt-coded (c ∷ cs) p bs s = (s .3 .1, spelt-coded cs (beyond p c) (s .0) (s .4))
+
+-- each character that the decoder gives is coded
+pub decode-coded : (p : At) (bs : List ℕ) (cs : List Ch) → decode fresh p bs ≡ some cs → All Coded cs
+decode-coded p bs cs e = spelt-coded cs p bs (spelt-at p bs cs e)
 
 -- ---- UTF-8, wherever the bytes stand
 

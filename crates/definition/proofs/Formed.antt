@@ -11,12 +11,13 @@ use Rattle.definition.specs.Choice.{pick}
 use Rattle.definition.specs.Classes as C
 use Rattle.definition.specs.Classes.{between}
 use Rattle.definition.specs.Kind as K
-use Rattle.definition.specs.Source.{Place, Ch, utf8}
+use Rattle.definition.specs.Source.{Place, Ch, code-of, utf8}
 use Rattle.definition.specs.Token.{Tok, tok}
 use Rattle.definition.specs.Records.{has-text, base-fits, all-digits, integer-text}
 use Rattle.definition.specs.Tokenizer as Z
 use Rattle.definition.specs.Tokenizer.{Class, Foreign, White, Comment, Pair, Symbol, Quote, Word, Dash, Zero, Digit, Unknown, digits, Span}
 use Rattle.definition.proofs.Tests.{clash, both-true, parts-true, and-false, either-true, between-bounds, chosen, picked}
+use Rattle.definition.proofs.Codes.{CodedAs, coded-same}
 use Rattle.definition.proofs.Characters.{Utf8, utf8-none, utf8-byte, utf8-true}
 
 -- a kind with no text has none
@@ -112,6 +113,11 @@ classed c d =
       is-unknown,
       ltb-true,
     ) depth 30
+
+-- the number of a character begins what its first byte does
+pub coded-class : {b : ℕ} {m : List ℕ} → CodedAs b m → (d : ℕ) → Z.class (code-of b m) d ≡ Z.class b d
+unfolding Z.class
+coded-class q d = coded-same q (λ n. Z.class n d) Foreign (λ n e. rw (Z.class, e))
 
 -- ---- texts
 

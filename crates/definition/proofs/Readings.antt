@@ -3,10 +3,11 @@
 use mathlib.Core.Path.{_≡_, refl, sym, subst}
 use mathlib.Core.Bool.{true, false}
 use mathlib.Core.List.{List, [], _∷_, map}
+use mathlib.Core.Option.{Option, none, some}
 use Prim.Native.Nat.{ℕ}
 use borrow.Author.Tests.{ne-eqb}
 use Rattle.definition.specs.Ascii.{ascii}
-use Rattle.definition.specs.Source.{Place, Ch}
+use Rattle.definition.specs.Source.{Place, Ch, code, characters}
 use Rattle.definition.specs.Kind as K
 use Rattle.definition.specs.Tokenizer.{quoted, one-unknown, digits, zero-turn, token-text}
 use Rattle.definition.specs.Act.{Items, Res, gives, refused}
@@ -31,6 +32,15 @@ second-zero p c cs e =
 pub columns : map (λ t. t .place .column) (tokens-of-script (34 ∷ 195 ∷ 169 ∷ 34 ∷ 97 ∷ [])) ≡ 1 ∷ 4 ∷ []
 unfolding tokens-of-script
 columns = refl
+
+-- the examples of RFC 3629, 7, of one to four bytes: the mark of a first byte is no part of the number
+abbrev codes : Option (List Ch) → List ℕ
+codes none = []
+codes (some cs) = map code cs
+
+pub numbers : codes (characters (0x41 ∷ 0xE2 ∷ 0x89 ∷ 0xA2 ∷ 0xCE ∷ 0x91 ∷ 0xF0 ∷ 0xA3 ∷ 0x8E ∷ 0xB4 ∷ [])) ≡ 0x41 ∷ 0x2262 ∷ 0x391 ∷ 0x233B4 ∷ []
+unfolding characters
+numbers = refl
 
 -- the columns of the errors reported
 abbrev reported : Res Items → List ℕ

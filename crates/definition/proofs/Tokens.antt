@@ -12,7 +12,7 @@ use Rattle.definition.specs.Ascii.{ascii}
 use Rattle.definition.specs.Choice.{pick}
 use Rattle.definition.specs.Classes as C
 use Rattle.definition.specs.Kind as K
-use Rattle.definition.specs.Source.{Place, At, Ch, after, nowhere, start, characters}
+use Rattle.definition.specs.Source.{Place, At, Ch, code, after, nowhere, start, characters}
 use Rattle.definition.specs.Fallible.{Err}
 use Rattle.definition.specs.Token.{Tok, tok}
 use Rattle.definition.specs.Records.{base-fits, comes-after}
@@ -21,8 +21,9 @@ use Rattle.definition.specs.Tokenizer.{Turn, goes, refused, Span, Quoted
 use Rattle.definition.proofs.Unparse.{same-place}
 use Rattle.definition.proofs.Shown.{Apart, Distinct}
 use Rattle.definition.proofs.Tests.{both-true, chosen, picked, counted, All, all-append, all-replicate, all-map}
-use Rattle.definition.proofs.Characters.{spelling, beyond, Whole, Spelt, spelt, Utf8, utf8-none, utf8-char, utf8-byte}
-use Rattle.definition.proofs.Formed.{Formed, Plain, plain-formed, pair-plain, symbol-plain, keyword-plain, Classed, is-foreign, is-white, is-comment, is-pair, is-symbol, is-quote, is-word, is-dash, is-zero, is-digit, is-unknown, classed, text-formed, letter-bounds, Numeral, dash-numeral, numeral, or-zero-numeral, integer-formed, digits-all, digit-first}
+use Rattle.definition.proofs.Characters.{spelling, beyond, Sound, Spelt, spelt, Utf8, utf8-none, utf8-char, utf8-byte}
+use Rattle.definition.proofs.Codes.{Coded, coded-below}
+use Rattle.definition.proofs.Formed.{Formed, Plain, plain-formed, pair-plain, symbol-plain, keyword-plain, Classed, is-foreign, is-white, is-comment, is-pair, is-symbol, is-quote, is-word, is-dash, is-zero, is-digit, is-unknown, classed, coded-class, text-formed, letter-bounds, Numeral, dash-numeral, numeral, or-zero-numeral, integer-formed, digits-all, digit-first}
 
 -- ---- a script's characters
 
@@ -40,10 +41,10 @@ pub record Placed (n : ℕ) (p : Place) : Type 0 where
 placed-less : (m n : ℕ) (p : Place) → m ≤ n → Placed n p → Placed m p
 placed-less m n p h r = omega arith
 
--- each after the previous, the first after the key k, at places that records may have, and whole
+-- each after the previous, the first after the key k, at places that records may have, and sound
 abbrev Chars : ℕ → List Ch → Type 0
 Chars k [] = Unit {0}
-Chars k (c ∷ cs) = (k < key (c .place)) × Placed 1 (c .place) × Whole c × Chars (key (c .place)) cs
+Chars k (c ∷ cs) = (k < key (c .place)) × Placed 1 (c .place) × Sound c × Chars (key (c .place)) cs
 
 abbrev bytes : List Ch → ℕ
 bytes [] = 0
@@ -72,7 +73,7 @@ spelt-chars (c ∷ cs) p bs k h r s =
     let n : length bs ≡ 1 + length (c .more) + length (s .0) = omega (arith, simp length-append at (ap length (s .2))) in
     let r′ : Placed (suc (length (s .0))) (p .place) = placed-less (suc (length (s .0))) (length bs) (p .place) (omega arith) r in
     let o : Placed 1 (p .place) = placed-less 1 (length bs) (p .place) (omega arith) r in
-    subst (λ (q : Place). (k < key q) × Placed 1 q × Whole c × Chars (key q) cs) (sym (ap (λ (x : Ch). x .place) (s .1))) (
+    subst (λ (q : Place). (k < key q) × Placed 1 q × Sound c × Chars (key q) cs) (sym (ap (λ (x : Ch). x .place) (s .1))) (
       h,
       o,
       s .3,
@@ -161,15 +162,15 @@ spans-char c cs text rest s = record {
   ran =
       ran-char c cs rest (length text) (1 + length (c .more)) (length (spelling c ++ text)) (omega arith)
       (omega (arith, length-append (c .more) text)) (s .ran);
-  utf8 = λ k h. utf8-char c text (h .2) (s .utf8 (key (c .place)) (h .3));
+  utf8 = λ k h. utf8-char c text (h .2 .0) (s .utf8 (key (c .place)) (h .3));
 }
 
-spans-byte : (b : ℕ) (c : Ch) (cs : List Ch) (text : List ℕ) (rest : List Ch) → b < 128 → Spans cs text rest
+spans-byte : (b : ℕ) (c : Ch) (cs : List Ch) (text : List ℕ) (rest : List Ch) → (Coded c → b < 128) → Spans cs text rest
     → Spans (c ∷ cs) (b ∷ text) rest
 spans-byte b c cs text rest l s =
     record {
       ran = ran-char c cs rest (length text) 1 (length (b ∷ text)) (omega arith) (omega arith) (s .ran);
-      utf8 = λ k h. utf8-byte b text l (s .utf8 (key (c .place)) (h .3));
+      utf8 = λ k h. utf8-byte b text (l (h .2 .1)) (s .utf8 (key (c .place)) (h .3));
     }
 
 digits-ran : (base : ℕ) (cs : List Ch) → Ran cs (digits base cs .rest) (length (digits base cs .text))
@@ -209,13 +210,13 @@ quoted-spans false (c ∷ cs) =
     (λ _. spans-char c cs _ _ (quoted-spans false cs)))
 quoted-spans true (c ∷ cs) =
     counted (QuotedOf (c ∷ cs)) (Z.escape (c .byte)) _ _ (spans-skip c cs _ _ (quoted-spans false cs))
-    (λ e z. spans-byte (suc e) c cs _ _ (omega (arith, escape-low (c .byte))) (quoted-spans false cs))
+    (λ e z. spans-byte (suc e) c cs _ _ (λ _. omega (arith, escape-low (c .byte))) (quoted-spans false cs))
 
 abbrev RunOf : List Ch → Run → Type 0
 RunOf cs (ends s) = SpanOf cs s
 RunOf cs foreign = Unit {0}
 
-run-byte : (c : Ch) (cs : List Ch) (r : Run) → c .byte < 128 → RunOf cs r → RunOf (c ∷ cs) (Z.run-ahead (c .byte ∷ []) r)
+run-byte : (c : Ch) (cs : List Ch) (r : Run) → (Coded c → c .byte < 128) → RunOf cs r → RunOf (c ∷ cs) (Z.run-ahead (c .byte ∷ []) r)
 run-byte c cs (ends s) l p = spans-byte (c .byte) c cs (s .text) (s .rest) l p
 run-byte c cs foreign l p = tt
 
@@ -232,17 +233,17 @@ word-spans : (cs : List Ch) → RunOf cs (word cs)
 unfolding word
 word-spans [] = spans-none [] [] (ran-none [])
 word-spans (c ∷ cs) =
-    chosen (RunOf (c ∷ cs)) (ltb 127 (c .byte)) _ _ (λ _. tt)
-    (λ l. chosen (RunOf (c ∷ cs)) (C.is-word (c .byte)) _ _
-    (λ _. run-byte c cs (word cs) (omega (arith, ltb-false 127 (c .byte) l)) (word-spans cs))
+    chosen (RunOf (c ∷ cs)) (C.is-foreign (code c)) _ _ (λ _. tt)
+    (λ l. chosen (RunOf (c ∷ cs)) (C.is-word (code c)) _ _
+    (λ _. run-byte c cs (word cs) (λ q. coded-below q (omega (arith, ltb-false 127 (code c) l))) (word-spans cs))
     (λ _. spans-none (c ∷ cs) (c ∷ cs) (ran-none (c ∷ cs))))
 
 white-spans : (cs : List Ch) → RunOf cs (white cs)
 unfolding white
 white-spans [] = spans-none [] [] (ran-none [])
 white-spans (c ∷ cs) =
-    chosen (RunOf (c ∷ cs)) (ltb 127 (c .byte)) _ _ (λ _. tt)
-    (λ _. chosen (RunOf (c ∷ cs)) (C.is-white (c .byte)) _ _ (λ _. run-skip c cs (white cs) (white-spans cs))
+    chosen (RunOf (c ∷ cs)) (C.is-foreign (code c)) _ _ (λ _. tt)
+    (λ _. chosen (RunOf (c ∷ cs)) (C.is-white (code c)) _ _ (λ _. run-skip c cs (white cs) (white-spans cs))
     (λ _. spans-none (c ∷ cs) (c ∷ cs) (ran-none (c ∷ cs))))
 
 -- ---- one turn: at most one token, and errors, at the place of its first character
@@ -375,9 +376,10 @@ dash-turned c (d ∷ cs) =
     (λ _. chosen (TurnOf c (d ∷ cs)) (C.is-digit (d .byte)) _ _ (λ e. integer-turned c (d ∷ cs) 10 (45 ∷ digits 10 (d ∷ cs) .text) (digits 10 (d ∷ cs) .rest) _ refl (digits-ran 10 (d ∷ cs)) (omega arith) (dash-numeral (digits 10 (d ∷ cs) .text) (digits-all 10 (d ∷ cs)) (digits-some d cs e)))
     (λ _. plain-turned c (d ∷ cs) cs 0 K.Minus (ran-one d cs) (plain-formed K.Minus (c .place) (record { plain = refl }) (omega arith))))
 
-turned : (c : Ch) (cs : List Ch) (k : ℕ) → Chars k cs → TurnOf c cs (turn c cs)
+turned : (c : Ch) (cs : List Ch) (k : ℕ) → Coded c → Chars k cs → TurnOf c cs (turn c cs)
 unfolding turn
-turned c cs k h = go (Z.class (c .byte) (look cs)) (classed (c .byte) (look cs))
+turned c cs k q h =
+    go (Z.class (code c) (look cs)) (subst (Classed (c .byte) (look cs)) (sym (coded-class q (look cs))) (classed (c .byte) (look cs)))
   where
     go : (x : Class) → Classed (c .byte) (look cs) x → TurnOf c cs (elim x as (λ _. Turn) [
       | Foreign ↦ refused 4
@@ -560,7 +562,7 @@ tokens-from (suc n) [] ts es k f c b h m w = record {
   errors = w;
 }
 tokens-from (suc n) (x ∷ cs) ts es k f c b h m w =
-    go (turn x cs) (turned x cs (key (x .place)) (c .3))
+    go (turn x cs) (turned x cs (key (x .place)) (c .2 .1) (c .3))
     (λ cs′ ts′ es′ t z y. tokens-from n cs′ (ts ++ ts′) (es ++ es′) (key (x .place))
     (omega (arith, t .ran .fewer)) (t .ran .keeps (key (x .place)) (c .3)) (fits cs′ ts′ es′ t)
     (more cs′ ts′ es′ t) (rw length-append z) (rw length-append y))

@@ -1,12 +1,16 @@
--- The classes of characters. All are asked of bytes below 128 alone: a character above 127 is refused before. Assumes nothing.
+-- The classes of characters, by their numbers. Below 128 a character's number is its first byte; from 128 on, neither is in a class but `is-foreign`. Assumes nothing.
 use mathlib.Core.Bool.{Bool, _&&_, _||_}
 use Prim.Native.Nat.{ℕ}
-use lib.Dec.{eqb, leb}
+use lib.Dec.{eqb, ltb, leb}
 use Rattle.definition.specs.Ascii.{char}
 use Rattle.definition.specs.Choice.{pick}
 
 abbrev pub between : ℕ → ℕ → ℕ → Bool
 between lo hi c = leb lo c && leb c hi
+
+-- what is refused where a class is asked for
+abbrev pub is-foreign : ℕ → Bool
+is-foreign c = ltb 127 c
 
 abbrev pub is-white : ℕ → Bool
 is-white c = between 9 13 c || eqb c 32

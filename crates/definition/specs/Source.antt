@@ -2,7 +2,7 @@
 use mathlib.Core.Bool.{Bool, true, false, _&&_}
 use mathlib.Core.List.{List, [], _∷_, _++_}
 use mathlib.Core.Option.{Option, none, some}
-use Prim.Native.Nat.{ℕ, suc, pred, _+_}
+use Prim.Native.Nat.{ℕ, suc, pred, _+_, _-_, _*_}
 use lib.Dec.{eqb, ltb, leb}
 use lib.ListN.{length}
 use Rattle.definition.specs.Choice.{_⇒_, pick, first}
@@ -27,12 +27,25 @@ after b p = pick (eqb b 10) (record { line = suc (p .line); column = 1 }) (recor
 
 -- ---- characters
 
--- A character: its first byte, which is above 127 just where the character is, its other bytes, the offset of the first in the script, its place
+-- A character: its first byte, its other bytes, the offset of the first in the script, its place
 pub record Ch : Type 0 where
   pub byte : ℕ
   pub more : List ℕ
   pub offset : ℕ
   pub place : Place
+
+-- its number: the bits of the first byte after its mark, then six bits of each other byte
+abbrev pub six-more : ℕ → ℕ → ℕ
+six-more n b = n * 64 + (b - 0x80)
+
+abbrev pub code-of : ℕ → List ℕ → ℕ
+code-of b [] = b
+code-of b (x ∷ []) = six-more (b - 0xC0) x
+code-of b (x ∷ y ∷ []) = six-more (six-more (b - 0xE0) x) y
+code-of b (x ∷ y ∷ z ∷ more) = six-more (six-more (six-more (b - 0xF0) x) y) z
+
+abbrev pub code : Ch → ℕ
+code c = code-of (c .byte) (c .more)
 
 -- where a character stands
 pub record At : Type 0 where

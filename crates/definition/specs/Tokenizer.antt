@@ -7,9 +7,9 @@ use lib.Dec.{eqb, ltb, leb}
 use lib.ListN.{length, replicate}
 use Rattle.definition.specs.Ascii.{ascii, char}
 use Rattle.definition.specs.Choice.{_⇒_, pick, first}
-use Rattle.definition.specs.Classes.{is-white, is-digit, is-letter, is-word, is-digit-of}
+use Rattle.definition.specs.Classes.{is-foreign, is-white, is-digit, is-letter, is-word, is-digit-of}
 use Rattle.definition.specs.TokenError as E
-use Rattle.definition.specs.Source.{Place, Ch}
+use Rattle.definition.specs.Source.{Place, Ch, code}
 use Rattle.definition.specs.Fallible.{Err}
 use Rattle.definition.specs.Kind as K
 use Rattle.definition.specs.Token.{Tok, tok}
@@ -176,7 +176,7 @@ string-turn p q =
 
 -- ---- words
 
--- what runs over characters and may meet one above 127
+-- what runs over characters and may meet one that is foreign
 pub data Run : Type 0 where
   ends : Span → Run
   foreign : Run
@@ -189,15 +189,15 @@ run-ahead bs foreign = foreign
 unfoldable pub word : List Ch → Run
 word [] = ends (record { text = []; rest = [] })
 word (c ∷ cs) =
-    elim (ltb 127 (c .byte)) [
+    elim (is-foreign (code c)) [
       | true ↦ foreign
-      | false ↦ elim (is-word (c .byte)) [ true ↦ run-ahead (c .byte ∷ []) (word cs) | false ↦ ends (record { text = []; rest = c ∷ cs }) ]
+      | false ↦ elim (is-word (code c)) [ true ↦ run-ahead (c .byte ∷ []) (word cs) | false ↦ ends (record { text = []; rest = c ∷ cs }) ]
     ]
 
 -- white space after `asm`
 unfoldable pub white : List Ch → Run
 white [] = ends (record { text = []; rest = [] })
-white (c ∷ cs) = elim (ltb 127 (c .byte)) [ true ↦ foreign | false ↦ elim (is-white (c .byte)) [ true ↦ white cs | false ↦ ends (record { text = []; rest = c ∷ cs }) ] ]
+white (c ∷ cs) = elim (is-foreign (code c)) [ true ↦ foreign | false ↦ elim (is-white (code c)) [ true ↦ white cs | false ↦ ends (record { text = []; rest = c ∷ cs }) ] ]
 
 -- the text of inline assembly, up to `}` or the end
 unfoldable pub assembly : List Ch → Span
@@ -225,7 +225,7 @@ word-turn p (ends s) =
 
 -- ---- the turn
 
--- what a character begins, by the one after it
+-- what a character begins, by its number and the first byte after it
 pub data Class : Type 0 where
   Foreign White Comment Pair Symbol Quote Word Dash Zero Digit Unknown : Class
 
@@ -233,14 +233,14 @@ unfoldable pub class : ℕ → ℕ → Class
 unfolding first pair symbol
 class c d =
     first
-    ((ltb 127 c ⇒ Foreign) ∷ (is-white c ⇒ White) ∷ ((eqb c (char "/") && eqb d (char "/")) ⇒ Comment) ∷ (ltb 0 (pair c d) ⇒ Pair) ∷ (ltb 0 (symbol c) ⇒ Symbol) ∷
+    ((is-foreign c ⇒ Foreign) ∷ (is-white c ⇒ White) ∷ ((eqb c (char "/") && eqb d (char "/")) ⇒ Comment) ∷ (ltb 0 (pair c d) ⇒ Pair) ∷ (ltb 0 (symbol c) ⇒ Symbol) ∷
     (eqb c (char "\"") ⇒ Quote) ∷ (is-letter c ⇒ Word) ∷ (eqb c (char "-") ⇒ Dash) ∷ (eqb c (char "0") ⇒ Zero) ∷ (is-digit c ⇒ Digit) ∷ [])
     Unknown
 
 unfoldable pub turn : Ch → List Ch → Turn
 unfolding class pair symbol comment quoted string-turn word word-turn dash-turn zero-turn digits
 turn c cs =
-    elim (class (c .byte) (look cs)) [
+    elim (class (code c) (look cs)) [
       | Foreign ↦ refused 4
       | White ↦ nothing cs
       | Comment ↦ nothing (comment (drop-one cs))

@@ -12,6 +12,9 @@ use lib.ListN.{length, getD, take, drop, length-drop, drop-of-length-le}
 use lib.Seq.{drop-cons, drop-drop, length-take-le}
 use Rattle.definition.specs.Source.{At, Ch, Lead, single, with-more, wrong, lead, after, char-at, past, fresh, within, and-then, decode, characters, is-some, utf8}
 use Rattle.definition.specs.Choice.{pick, first}
+use Rattle.definition.proofs.Tests.{All}
+use Rattle.definition.proofs.Codes.{Coded}
+use Rattle.definition.proofs.Characters.{decode-coded}
 use Rattle.source.specs.declared.Need.{Need}
 use Rattle.source.specs.declared.Cursor.{Cursor}
 use Rattle.source.specs.Place.{needed, start, bad, need-of, next-need, ran-need, more, placed, at-of, or-none, rest, Stands, Stepped, char, along-line}
@@ -259,6 +262,10 @@ stands-start s c e x y w = rw (x, y, w) (record { is = go _ e; inside = omega ar
     go : (o : Option (List Ch)) → is-some o ≡ true → o ≡ some (or-none o)
     go none f = absurd (let z : _≡_ {A = ℕ} 0 1 = cc in omega arith)
     go (some cs) f = refl
+
+-- each character from there on is coded
+pub stands-coded : {s : List ℕ} {c : Cursor} → Stands s c → All Coded (rest s c)
+stands-coded {s} {c} z = decode-coded (at-of c) (drop (c .at) s) (rest s c) (z .is)
 
 pub rest-end : (s : List ℕ) (c : Cursor) → length s ≤ c .at → rest s c ≡ []
 unfolding rest decode

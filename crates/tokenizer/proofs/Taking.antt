@@ -1,17 +1,21 @@
 -- The turn: by what its character begins. Assumes nothing.
-use mathlib.Core.Path.{_≡_, refl, sym, ap, _∙_}
+use mathlib.Core.Path.{_≡_, refl, sym, ap, _∙_, subst}
 use mathlib.Core.Logic.{inl, inr}
 use mathlib.Core.Bool.{false}
 use mathlib.Core.List.{List, [], _∷_}
 use Prim.Native.Nat.{ℕ, _≤_}
 use native.Mathlib.Omega.{arith}
 use lib.ListN.{length, getD, replicate}
-use Rattle.definition.specs.Source.{Ch}
+use Rattle.definition.specs.Source.{Ch, code}
 use Rattle.definition.specs.Records.{has-text}
 use Rattle.definition.specs.Tokenizer.{Turn, goes, refused, Foreign, White, Comment, Pair, Symbol, Quote, Word, Dash, Zero, Digit, Unknown}
 use Rattle.definition.specs.Tokenizer as Z
+use Rattle.definition.proofs.Tests.{All}
+use Rattle.definition.proofs.Codes.{Coded}
+use Rattle.definition.proofs.Formed.{coded-class}
 use Rattle.source.specs.declared.Cursor.{Cursor}
 use Rattle.source.specs.Place.{Stepped, rest, char, placed}
+use Rattle.source.proofs.Laws.{stands-coded}
 use Rattle.classes.specs.declared.character.Class.{Class}
 use Rattle.classes.specs.Begins.{class-of}
 use Rattle.scan.specs.Scan.{Passed}
@@ -38,24 +42,28 @@ of-class c cs x =
       | Unknown ↦ goes cs (Z.token-error 4 (c .place) ∷ []) []
     ]
 
-turn-class : (c : Ch) (cs : List Ch) → Z.turn c cs ≡ of-class c cs (Z.class (c .byte) (Z.look cs))
+turn-class : (c : Ch) (cs : List Ch) → Z.turn c cs ≡ of-class c cs (Z.class (code c) (Z.look cs))
 unfolding Z.turn
 turn-class c cs = refl
 
 -- the character is passed, the byte after it is d, and the two begin x
 module _ {s : List ℕ} (st : State) {c : Cursor} {d : ℕ} {k : Class} (x : Class) (told : k ≡ x)
     (z : Stepped s (st .cursor) c) (h : d ≡ Z.look (rest s c))
-    (e : class-of k ≡ Z.class (getD s (st .cursor .at) 0) d) where
+    (e : class-of k ≡ Z.class (getD s (st .cursor .at) 0) d)
+    {most : ℕ} {T X : List ℕ} (a : Ready most s T X st (st .cursor)) where
   abbrev begun : Turn
   begun = of-class (char s (st .cursor)) (rest s c) (class-of x)
+
+  here-coded : Coded (char s (st .cursor))
+  here-coded = subst (All Coded) (z .chars) (stands-coded (a .asks .stands)) .0
 
   of-turn : turn-of (rest s (st .cursor)) ≡ begun
   of-turn =
       ap turn-of (z .chars) ∙ turn-class (char s (st .cursor)) (rest s c)
       ∙ ap (of-class (char s (st .cursor)) (rest s c))
-      (ap (Z.class (getD s (st .cursor .at) 0)) (sym h) ∙ sym e ∙ ap class-of told)
+      (coded-class here-coded (Z.look (rest s c)) ∙ ap (Z.class (getD s (st .cursor .at) 0)) (sym h) ∙ sym e ∙ ap class-of told)
 
-  pub taken : {most : ℕ} {T E X : List ℕ} {r : State} {T′ E′ X′ : List ℕ} → Turned most begun s st c T E X r T′ E′ X′
+  pub taken : {E : List ℕ} {r : State} {T′ E′ X′ : List ℕ} → Turned most begun s st c T E X r T′ E′ X′
       → Taken most (turn-of (rest s (st .cursor))) s st T E X r T′ E′ X′
   taken (inl g) = inl (record {
     went = record {
@@ -76,24 +84,23 @@ module _ {s : List ℕ} (st : State) {c : Cursor} {d : ℕ} {k : Class} (x : Cla
     strict = omega (arith, g .forward, z .wide);
     less = omega (arith, g .shorter, ap length (z .chars));
   })
-  taken {most} (inr g) = inr (record { is = ap (bounded most (st .errors) (st .tokens)) of-turn ∙ g .is; refusal = g .refusal })
+  taken (inr g) = inr (record { is = ap (bounded most (st .errors) (st .tokens)) of-turn ∙ g .is; refusal = g .refusal })
 
-  module _ {most : ℕ} {T X : List ℕ} (a : Ready most s T X st (st .cursor)) where
-    room : st .text ≤ c .at
-    room = omega (arith, a .asks .room, z .wide)
+  room : st .text ≤ c .at
+  room = omega (arith, a .asks .room, z .wide)
 
-    pub taken-nothing : {E : List ℕ} {cs : List Ch} {q : Cursor} {r : State} → r ≡ at-cursor st q → Passed s c cs q
-        → begun ≡ Z.nothing cs → Taken most (turn-of (rest s (st .cursor))) s st T E X r T E X
-    taken-nothing f p g = rw f (taken (end-nothing (a .few) (on-text (a .few) p wrote-none (omega (arith, room, p .forward))) g))
+  pub taken-nothing : {E : List ℕ} {cs : List Ch} {q : Cursor} {r : State} → r ≡ at-cursor st q → Passed s c cs q
+      → begun ≡ Z.nothing cs → Taken most (turn-of (rest s (st .cursor))) s st T E X r T E X
+  taken-nothing f p g = rw f (taken (end-nothing (a .few) (on-text (a .few) p wrote-none (omega (arith, room, p .forward))) g))
 
-    pub taken-plain : {E : List ℕ} {cs : List Ch} {q : Cursor} {y : ℕ} {r : State} {T′ : List ℕ} → Passed s c cs q
-        → begun ≡ Z.token cs y (placed (st .cursor)) → has-text y ≡ false
-        → TokenPushed most T (at-cursor st q) (y ∷ st .cursor .line ∷ st .cursor .column ∷ 0 ∷ 0 ∷ 0 ∷ 0 ∷ 0 ∷ [])
-        T′ r
-        → Taken most (turn-of (rest s (st .cursor))) s st T E X r T′ E X
-    taken-plain p f g w = taken (end-plain (a .few) room p f g w)
+  pub taken-plain : {E : List ℕ} {cs : List Ch} {q : Cursor} {y : ℕ} {r : State} {T′ : List ℕ} → Passed s c cs q
+      → begun ≡ Z.token cs y (placed (st .cursor)) → has-text y ≡ false
+      → TokenPushed most T (at-cursor st q) (y ∷ st .cursor .line ∷ st .cursor .column ∷ 0 ∷ 0 ∷ 0 ∷ 0 ∷ 0 ∷ [])
+      T′ r
+      → Taken most (turn-of (rest s (st .cursor))) s st T E X r T′ E X
+  taken-plain p f g w = taken (end-plain (a .few) room p f g w)
 
-    pub taken-error : {E E′ : List ℕ} {r : State} → begun ≡ goes (rest s c) (Z.token-error 4 (placed (st .cursor)) ∷ []) []
-        → ErrorsPushed E (at-cursor st c) (replicate 1 (Z.token-error 4 (placed (st .cursor)))) E′ r
-        → Taken most (turn-of (rest s (st .cursor))) s st T E X r T E′ X
-    taken-error f g = taken (end-errors {es = []} (a .few) (on-text (a .few) (passed-none (z .stands)) wrote-none room) f g)
+  pub taken-error : {E E′ : List ℕ} {r : State} → begun ≡ goes (rest s c) (Z.token-error 4 (placed (st .cursor)) ∷ []) []
+      → ErrorsPushed E (at-cursor st c) (replicate 1 (Z.token-error 4 (placed (st .cursor)))) E′ r
+      → Taken most (turn-of (rest s (st .cursor))) s st T E X r T E′ X
+  taken-error f g = taken (end-errors {es = []} (a .few) (on-text (a .few) (passed-none (z .stands)) wrote-none room) f g)

@@ -4,8 +4,7 @@ use mathlib.Core.Bool.{Bool, true, false}
 use mathlib.Core.List.{List, [], _∷_}
 use Prim.Native.Nat.{ℕ, zero, suc, _-_, _<_, _≤_}
 use native.Mathlib.Omega.{arith}
-use borrow.Author.Tests.{ltb-true, lt-ltb, le-ltb, le-leb, lt-leb, eq-eqb, ne-eqb}
-use lib.Dec.{ltb}
+use borrow.Author.Tests.{ltb-true, le-leb, lt-leb, eq-eqb, ne-eqb}
 use lib.ListN.{length, take, drop, replicate}
 use Rattle.definition.specs.Source.{Place, Ch}
 use Rattle.definition.specs.Classes as C
@@ -13,10 +12,12 @@ use Rattle.definition.specs.Kind as K
 use Rattle.definition.specs.Token.{tok}
 use Rattle.definition.specs.Tokenizer.{Span, Turn, goes, refused}
 use Rattle.definition.specs.Tokenizer as Z
-use Rattle.definition.proofs.Tests.{never-both}
+use Rattle.definition.proofs.Tests.{never-both, All}
+use Rattle.definition.proofs.Codes.{Coded, coded-same}
 use Rattle.definition.proofs.Formed.{keyword-plain, plain-textless}
 use Rattle.source.specs.declared.Cursor.{Cursor}
 use Rattle.source.specs.Place.{rest}
+use Rattle.source.proofs.Laws.{stands-coded}
 use Rattle.scan.specs.declared.Scan.{Scan}
 use Rattle.slices.specs.Written.{Wrote}
 use Rattle.scan.specs.Scan.{Passed, Spanned, letters, blanks}
@@ -26,7 +27,7 @@ use Rattle.token_records.specs.Push.{ErrorsPushed, TokenPushed}
 use Rattle.turns.specs.Turn.{at-text, at-cursor, Ready, Turned}
 use Rattle.turns.proofs.Turned.{passed-trans, on-text, end-token, end-errors, end-refused, end-plain, with-words, turned-on, turned-back, part-of}
 
--- ---- runs that may meet a character above 127
+-- ---- runs that may meet a character that is foreign
 
 abbrev run-of : Bool → Span → Z.Run
 run-of true s = Z.foreign
@@ -47,16 +48,22 @@ above-word b h =
       lt-leb b 57 (omega arith),
     )
 
-white-runs : (cs : List Ch) → Z.white cs ≡ run-of (ltb 127 (Z.look (blanks cs))) (record { text = []; rest = blanks cs })
+white-runs : (cs : List Ch) → All Coded cs → Z.white cs ≡ run-of (C.is-foreign (Z.look (blanks cs))) (record { text = []; rest = blanks cs })
 unfolding Z.white blanks
-white-runs [] = refl
-white-runs (c ∷ cs) = go (white-runs cs) (ltb 127 (c .byte)) refl (C.is-white (c .byte)) refl
+white-runs [] q = refl
+white-runs (c ∷ cs) q =
+    coded-same (q .0) (λ n. by (C.is-foreign n) (C.is-white n)) Z.foreign (λ n e. rw e)
+    ∙ go (white-runs cs (q .1)) (C.is-foreign (c .byte)) refl (C.is-white (c .byte)) refl
   where
-    go : Z.white cs ≡ run-of (ltb 127 (Z.look (blanks cs))) (record { text = []; rest = blanks cs }) → (t : Bool)
-        → ltb 127 (c .byte) ≡ t → (u : Bool) → C.is-white (c .byte) ≡ u →
-        (elim t as (λ _. Z.Run)
-        [ true ↦ Z.foreign | false ↦ elim u as (λ _. Z.Run) [ true ↦ Z.white cs | false ↦ Z.ends (record { text = []; rest = c ∷ cs }) ] ])
-        ≡ run-of (ltb 127 (Z.look (elim u as (λ _. List Ch) [ true ↦ blanks cs | false ↦ c ∷ cs ])))
+    by : Bool → Bool → Z.Run
+    by t u =
+        elim t as (λ _. Z.Run)
+        [ true ↦ Z.foreign | false ↦ elim u as (λ _. Z.Run) [ true ↦ Z.white cs | false ↦ Z.ends (record { text = []; rest = c ∷ cs }) ] ]
+
+    go : Z.white cs ≡ run-of (C.is-foreign (Z.look (blanks cs))) (record { text = []; rest = blanks cs }) → (t : Bool)
+        → C.is-foreign (c .byte) ≡ t → (u : Bool) → C.is-white (c .byte) ≡ u →
+        by t u
+        ≡ run-of (C.is-foreign (Z.look (elim u as (λ _. List Ch) [ true ↦ blanks cs | false ↦ c ∷ cs ])))
         (record { text = []; rest = elim u as (λ _. List Ch) [ true ↦ blanks cs | false ↦ c ∷ cs ] })
     go ih true e true f = never-both f (above-white (c .byte) (ltb-true _ _ e))
     go ih true e false f = rw e
@@ -67,22 +74,27 @@ ahead-runs : (t : Bool) (bs : List ℕ) (s : Span) → Z.run-ahead bs (run-of t 
 ahead-runs true bs s = refl
 ahead-runs false bs s = refl
 
-word-runs : (cs : List Ch) → Z.word cs ≡ run-of (ltb 127 (Z.look (letters cs .rest))) (letters cs)
+word-runs : (cs : List Ch) → All Coded cs → Z.word cs ≡ run-of (C.is-foreign (Z.look (letters cs .rest))) (letters cs)
 unfolding Z.word letters
-word-runs [] = refl
-word-runs (c ∷ cs) = go (word-runs cs) (ltb 127 (c .byte)) refl (C.is-word (c .byte)) refl
+word-runs [] q = refl
+word-runs (c ∷ cs) q =
+    coded-same (q .0) (λ n. by (C.is-foreign n) (C.is-word n)) Z.foreign (λ n e. rw e)
+    ∙ go (word-runs cs (q .1)) (C.is-foreign (c .byte)) refl (C.is-word (c .byte)) refl
   where
+    by : Bool → Bool → Z.Run
+    by t u =
+        elim t as (λ _. Z.Run)
+        [ true ↦ Z.foreign | false ↦ elim u as (λ _. Z.Run) [ true ↦ Z.run-ahead (c .byte ∷ []) (Z.word cs) | false ↦ Z.ends (record { text = []; rest = c ∷ cs }) ] ]
+
     sp : Bool → Span
     sp u = elim u as (λ _. Span) [ true ↦ Z.ahead (c .byte ∷ []) (letters cs) | false ↦ record { text = []; rest = c ∷ cs } ]
 
-    go : Z.word cs ≡ run-of (ltb 127 (Z.look (letters cs .rest))) (letters cs) → (t : Bool)
-        → ltb 127 (c .byte) ≡ t → (u : Bool) → C.is-word (c .byte) ≡ u →
-        (elim t as (λ _. Z.Run)
-        [ true ↦ Z.foreign | false ↦ elim u as (λ _. Z.Run) [ true ↦ Z.run-ahead (c .byte ∷ []) (Z.word cs) | false ↦ Z.ends (record { text = []; rest = c ∷ cs }) ] ])
-        ≡ run-of (ltb 127 (Z.look (sp u .rest))) (sp u)
+    go : Z.word cs ≡ run-of (C.is-foreign (Z.look (letters cs .rest))) (letters cs) → (t : Bool)
+        → C.is-foreign (c .byte) ≡ t → (u : Bool) → C.is-word (c .byte) ≡ u →
+        by t u ≡ run-of (C.is-foreign (Z.look (sp u .rest))) (sp u)
     go ih true e true f = never-both f (above-word (c .byte) (ltb-true _ _ e))
     go ih true e false f = rw e
-    go ih false e true f = ap (Z.run-ahead (c .byte ∷ [])) ih ∙ ahead-runs (ltb 127 (Z.look (letters cs .rest))) (c .byte ∷ []) (letters cs)
+    go ih false e true f = ap (Z.run-ahead (c .byte ∷ [])) ih ∙ ahead-runs (C.is-foreign (Z.look (letters cs .rest))) (c .byte ∷ []) (letters cs)
     go ih false e false f = rw e
 
 -- ---- assembly
@@ -103,19 +115,22 @@ asm-other : (p : Place) (s : Span) → (Z.look (s .rest) ≡ 123 → ⊥)
 unfolding Z.assembly-turn
 asm-other p s e = rw (ne-eqb _ _ e, Z.assembly-turn)
 
-asm-run : (s : List ℕ) (w : Cursor) {b : ℕ} (cs : List Ch) → rest s w ≡ blanks cs → b ≡ Z.look (rest s w) → (t : Bool)
-    → ltb 127 b ≡ t → Z.white cs ≡ run-of t (record { text = []; rest = rest s w })
-asm-run s w cs p k t e =
-    white-runs cs ∙ ap (λ (q : List Ch). run-of (ltb 127 (Z.look q)) (record { text = []; rest = q })) (sym p)
-    ∙ ap (λ (u : Bool). run-of u (record { text = []; rest = rest s w })) (ap (ltb 127) (sym k) ∙ e)
+asm-run : (s : List ℕ) (w : Cursor) {b : ℕ} (cs : List Ch) → All Coded cs → rest s w ≡ blanks cs → b ≡ Z.look (rest s w)
+    → (t : Bool) → C.is-foreign b ≡ t → Z.white cs ≡ run-of t (record { text = []; rest = rest s w })
+asm-run s w cs o p k t e =
+    white-runs cs o ∙ ap (λ (q : List Ch). run-of (C.is-foreign (Z.look q)) (record { text = []; rest = q })) (sym p)
+    ∙ ap (λ (u : Bool). run-of u (record { text = []; rest = rest s w })) (ap C.is-foreign (sym k) ∙ e)
 
-module _ {most : ℕ} {s : List ℕ} {st : State} {c w : Cursor} {b : ℕ} (p : Place)
-    (pw : Passed s c (blanks (rest s c)) w) (k : b ≡ Z.look (rest s w)) where
-  pub asm-foreign-law : {T E X : List ℕ} {r : State} {T′ E′ X′ : List ℕ} → 127 < b → r .refusal ≡ 4
+module _ {most : ℕ} {s : List ℕ} {st : State} {c w : Cursor} {b : ℕ} {v : Bool} {T X : List ℕ} (p : Place)
+    (a : Ready most s T X st c) (pw : Passed s c (blanks (rest s c)) w) (k : b ≡ Z.look (rest s w)) (f : v ≡ C.is-foreign b) where
+  white-run : (t : Bool) → v ≡ t → Z.white (rest s c) ≡ run-of t (record { text = []; rest = rest s w })
+  white-run t e = asm-run s w _ (stands-coded (a .asks .stands)) (pw .is) k t (sym f ∙ e)
+
+  pub asm-foreign-law : {E : List ℕ} {r : State} {T′ E′ X′ : List ℕ} → v ≡ true → r .refusal ≡ 4
       → Turned most (Z.assembly-turn p (Z.white (rest s c))) s st c T E X r T′ E′ X′
-  asm-foreign-law h e = end-refused (ap (Z.assembly-turn p) (asm-run s w _ (pw .is) k true (lt-ltb _ _ h)) ∙ asm-foreign p) e (omega arith)
+  asm-foreign-law h e = end-refused (ap (Z.assembly-turn p) (white-run true h) ∙ asm-foreign p) e (omega arith)
 
-  module _ {T X : List ℕ} (a : Ready most s T X st c) (h : b ≤ 127) {d : Cursor} (pd : Passed s w (Z.drop-one (rest s w)) d) where
+  module _ (h : v ≡ false) {d : Cursor} (pd : Passed s w (Z.drop-one (rest s w)) d) where
     pub asm-open-law : {E X₁ : List ℕ} {n : Scan} {r : State} {T′ : List ℕ} → b ≡ 123
         → Spanned s d X (st .text) (Z.assembly (rest s d)) X₁ n →
         TokenPushed most T (at-text st (n .cursor) (n .n))
@@ -124,7 +139,7 @@ module _ {most : ℕ} {s : List ℕ} {st : State} {c w : Cursor} {b : ℕ} (p : 
     asm-open-law e sp g =
         let z : Z.assembly (rest s d) ≡ Z.assembly (Z.drop-one (rest s w)) = ap Z.assembly (pd .is) in
         end-token (a .few) (on-text (a .few) (passed-trans (passed-trans pw pd) (sp .passed)) (sp .wrote) (sp .room))
-        (ap (Z.assembly-turn p) (asm-run s w _ (pw .is) k false (le-ltb _ _ h)) ∙ asm-open p _ (sym k ∙ e)
+        (ap (Z.assembly-turn p) (white-run false h) ∙ asm-open p _ (sym k ∙ e)
         ∙ ap (λ (q : Span). Z.token-text (q .rest) K.InlineAssemblyFragment p (q .text) 0) (sym z))
         (with-words (tok K.InlineAssemblyFragment p (Z.assembly (rest s d) .text) 0) refl refl
         (omega (arith, sp .wrote .count)) g)
@@ -134,7 +149,7 @@ module _ {most : ℕ} {s : List ℕ} {st : State} {c w : Cursor} {b : ℕ} (p : 
         → Turned most (Z.assembly-turn p (Z.white (rest s c))) s st c T E X r T E′ X
     asm-other-law e g =
         end-errors (a .few) (on-text (a .few) (passed-trans pw pd) wrote-none (omega (arith, pw .forward, pd .forward, a .asks .room)))
-        (ap (Z.assembly-turn p) (asm-run s w _ (pw .is) k false (le-ltb _ _ h)) ∙ asm-other p _ (λ q. e (k ∙ q))) g
+        (ap (Z.assembly-turn p) (white-run false h) ∙ asm-other p _ (λ q. e (k ∙ q))) g
 
 -- ---- words
 
@@ -159,14 +174,14 @@ word-keyword : (p : Place) (s : Span) (k : ℕ) → (k ≡ 0 → ⊥) → word-k
 word-keyword p s zero e = absurd (e refl)
 word-keyword p s (suc k) e = refl
 
-word-run : (s : List ℕ) (w : Cursor) {b : ℕ} (cs : List Ch) (first : ℕ) → rest s w ≡ letters cs .rest
-    → b ≡ Z.look (rest s w) → (t : Bool) → ltb 127 b ≡ t
+word-run : (s : List ℕ) (w : Cursor) {b : ℕ} (cs : List Ch) (first : ℕ) → All Coded cs → rest s w ≡ letters cs .rest
+    → b ≡ Z.look (rest s w) → (t : Bool) → C.is-foreign b ≡ t
     → Z.run-ahead (first ∷ []) (Z.word cs) ≡ run-of t (Z.ahead (first ∷ []) (letters cs))
-word-run s w cs first p k t e =
-    ap (Z.run-ahead (first ∷ [])) (word-runs cs)
-    ∙ ahead-runs (ltb 127 (Z.look (letters cs .rest))) (first ∷ []) (letters cs)
+word-run s w cs first o p k t e =
+    ap (Z.run-ahead (first ∷ [])) (word-runs cs o)
+    ∙ ahead-runs (C.is-foreign (Z.look (letters cs .rest))) (first ∷ []) (letters cs)
     ∙ ap (λ (u : Bool). run-of u (Z.ahead (first ∷ []) (letters cs)))
-    (ap (λ (q : List Ch). ltb 127 (Z.look q)) (sym p) ∙ ap (ltb 127) (sym k) ∙ e)
+    (ap (λ (q : List Ch). C.is-foreign (Z.look q)) (sym p) ∙ ap C.is-foreign (sym k) ∙ e)
 
 -- the word as the code takes it, and as the definition does
 abbrev taken : State → Scan → List ℕ → List ℕ
@@ -178,9 +193,10 @@ spelled first cs = Z.ahead (first ∷ []) (letters cs)
 abbrev turn-at : Place → ℕ → List Ch → Turn
 turn-at p first cs = Z.word-turn p (Z.run-ahead (first ∷ []) (Z.word cs))
 
-module _ {most : ℕ} {s : List ℕ} {st : State} {c : Cursor} {T X X₁ X₂ : List ℕ} {first n b : ℕ} {w : Scan}
+module _ {most : ℕ} {s : List ℕ} {st : State} {c : Cursor} {T X X₁ X₂ : List ℕ} {first n b : ℕ} {u : Bool} {w : Scan}
     (p : Place) (a : Ready most s T X st c) (q : Wrote X (st .text) (first ∷ []) X₁ n)
-    (sp : Spanned s c X₁ n (letters (rest s c)) X₂ w) (k : b ≡ Z.look (rest s (w .cursor))) where
+    (sp : Spanned s c X₁ n (letters (rest s c)) X₂ w) (k : b ≡ Z.look (rest s (w .cursor)))
+    (i : u ≡ C.is-foreign b) where
   within : st .text ≤ length X
   within = omega (arith, a .asks .room, a .asks .wide, a .asks .small, a .asks .stands .inside)
 
@@ -190,16 +206,18 @@ module _ {most : ℕ} {s : List ℕ} {st : State} {c : Cursor} {T X X₁ X₂ : 
   taken-is : taken st w X₂ ≡ first ∷ letters (rest s c) .text
   taken-is = part-of within written (omega (arith, sp .room, sp .passed .stands .inside, a .asks .wide, a .asks .small))
 
-  pub word-foreign-law : {E : List ℕ} {r : State} {T′ E′ X′ : List ℕ} → 127 < b → r .refusal ≡ 4
+  run : (t : Bool) → u ≡ t → Z.run-ahead (first ∷ []) (Z.word (rest s c)) ≡ run-of t (Z.ahead (first ∷ []) (letters (rest s c)))
+  run t e = word-run s (w .cursor) _ first (stands-coded (a .asks .stands)) (sp .passed .is) k t (sym i ∙ e)
+
+  pub word-foreign-law : {E : List ℕ} {r : State} {T′ E′ X′ : List ℕ} → u ≡ true → r .refusal ≡ 4
       → Turned most (turn-at p first (rest s c)) s st c T E X r T′ E′ X′
   word-foreign-law h e =
-      end-refused (ap (Z.word-turn p) (word-run s (w .cursor) _ first (sp .passed .is) k true (lt-ltb _ _ h))
-      ∙ word-foreign p) e (omega arith)
+      end-refused (ap (Z.word-turn p) (run true h) ∙ word-foreign p) e (omega arith)
 
-  module _ (h : b ≤ 127) {v : Bool} (e : v ≡ Z.same (taken st w X₂) asm) where
+  module _ (h : u ≡ false) {v : Bool} (e : v ≡ Z.same (taken st w X₂) asm) where
     turn-body : (t : Bool) → v ≡ t → turn-at p first (rest s c) ≡ word-body p (spelled first (rest s c)) t (Z.keyword (taken st w X₂))
     turn-body t f =
-        ap (Z.word-turn p) (word-run s (w .cursor) _ first (sp .passed .is) k false (le-ltb _ _ h))
+        ap (Z.word-turn p) (run false h)
         ∙ word-ends p _
         ∙ ap (λ (l : List ℕ). word-body p (spelled first (rest s c)) (Z.same l asm) (Z.keyword l)) (sym taken-is)
         ∙ ap (λ (u : Bool). word-body p (spelled first (rest s c)) u (Z.keyword (taken st w X₂))) (sym e ∙ f)

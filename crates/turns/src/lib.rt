@@ -1,5 +1,6 @@
 // The turns of the tokenizer's loop, by what they begin with. A turn has the state before it, whose place is the token's, and the place `c` after what it has read.
 use classes::character::is_digit;
+use classes::character::is_foreign;
 use classes::spelling::keyword;
 use classes::spelling::same;
 use definition::kind;
@@ -226,7 +227,7 @@ fn asm_turn(
     let from = st.cursor;
     let w = white(s, c);
     let b = look(s, w);
-    if 127 < b {
+    if is_foreign(b) {
         return refuse(st, refusal::FOREIGN_CHARACTER);
     }
     let d = skip(s, w);
@@ -268,7 +269,7 @@ pub fn word_turn(
     let w = word(s, c, text, n);
     let d = w.cursor;
     let end = w.n;
-    if 127 < look(s, d) {
+    if is_foreign(look(s, d)) {
         return refuse(st, refusal::FOREIGN_CHARACTER);
     }
     if same(&text[start..end], b"asm") {

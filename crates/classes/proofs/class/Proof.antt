@@ -1,6 +1,6 @@
 use mathlib.Core.Path.{_≡_, sym, _∙_}
 use Rattle.definition.specs.Tokenizer as Z
-use borrow.Author.Tests.{lt-ltb, le-ltb, eq-eqb, ne-eqb}
+use borrow.Author.Tests.{eq-eqb, ne-eqb}
 use Rattle.classes.proofs.Choices.{yes, no, is, not, some-kind, no-kind, alone, class-is, no-symbol, letter-begins, white-begins}
 use borrow.Author.Needs.{needs}
 use Rattle.classes.proofs.class.Statement.{statement}
@@ -18,29 +18,32 @@ is-white-requires c κs = search needs
 returns-2 : tie.Need-returns-2
 returns-2 c = white-begins _ _ (sym (c .before .is-white .ensures) ∙ c .if2 .taken)
 
+is-foreign-requires : tie.Need-is-foreign-requires
+is-foreign-requires c κs = search needs
+
 returns-3 : tie.Need-returns-3
-returns-3 c = rw class-is (search (is, lt-ltb))
+returns-3 c = rw class-is (search yes)
 
 returns-4 : tie.Need-returns-4
-returns-4 c = rw class-is (search (no, is, not, le-ltb))
+returns-4 c = rw class-is (search (no, is))
 
 pair-requires : tie.Need-pair-requires
 pair-requires c κs = search needs
 
 returns-5 : tie.Need-returns-5
-returns-5 c = rw class-is (search (no, is, not, some-kind, le-ltb))
+returns-5 c = rw class-is (search (no, is, not, some-kind))
 
 symbol-requires : tie.Need-symbol-requires
 symbol-requires c κs = search needs
 
 returns-6 : tie.Need-returns-6
-returns-6 c = rw class-is (search (no, is, not, some-kind, no-kind, le-ltb) depth 7)
+returns-6 c = rw class-is (search (no, is, not, some-kind, no-kind) depth 7)
 
 past-symbols : (c : tie.Else6) → {r : Z.Class}
-    → r ≡ alone (c .before .before .before .before .before .before .before .before .before .before .args .c)
+    → r ≡ alone (c .before .before .before .before .before .before .before .before .before .before .before .args .c)
     → r
-    ≡ Z.class (c .before .before .before .before .before .before .before .before .before .before .args .c)
-    (c .before .before .before .before .before .before .before .before .before .before .args .d)
+    ≡ Z.class (c .before .before .before .before .before .before .before .before .before .before .before .args .c)
+    (c .before .before .before .before .before .before .before .before .before .before .before .args .d)
 past-symbols c e = search no-symbol
 
 returns-7 : tie.Need-returns-7
@@ -69,6 +72,7 @@ class-spec =
     returns
     is-white-requires
     returns-2
+    is-foreign-requires
     returns-3
     returns-4
     pair-requires

@@ -10,6 +10,9 @@ white-requires c κs = search needs
 look-requires : tie.Need-look-requires
 look-requires c κs = search needs
 
+is-foreign-requires : tie.Need-is-foreign-requires
+is-foreign-requires c κs = search needs
+
 refuse-requires : tie.Need-refuse-requires
 refuse-requires c κs = search needs
 
@@ -25,7 +28,7 @@ assembly-requires c κs = search needs
 with-text-requires : tie.Need-with-text-requires
 with-text-requires c κs =
     let at-assembly = c .before .before .before .before in
-    let start = at-assembly .before .before .before .before .before .before .before .before .before .before .before .before in (
+    let start = at-assembly .before .before .before .before .before .before .before .before .before .before .before .before .before in (
       start .pre .0 .few,
       omega (arith, start .pre .0 .wide),
       omega (arith, at-assembly .assembly .ensures .wrote .count),
@@ -50,10 +53,12 @@ returns-2 c =
     let at-if2 = at-assembly .before .before in
     let at-skip = at-if2 .before in
     let at-if1 = at-skip .before in
-    let at-look = at-if1 .before in
+    let at-is-foreign = at-if1 .before in
+    let at-look = at-is-foreign .before in
     let at-white = at-look .before in
     let start = at-white .before .before .before .before .before .before in
-    asm-open-law _ (at-white .white .ensures) (at-look .look .ensures) (start .pre .0) (at-if1 .if1 .left)
+    asm-open-law _ (start .pre .0) (at-white .white .ensures) (at-look .look .ensures)
+    (at-is-foreign .is-foreign .ensures) (at-if1 .if1 .left)
     (at-skip .skip .ensures) (at-if2 .if2 .taken) (at-assembly .assembly .ensures)
     (at-with-text .with-text .ensures)
 
@@ -72,6 +77,7 @@ asm-turn-spec =
     (tie.spec
     white-requires
     look-requires
+    is-foreign-requires
     refuse-requires
     returns
     skip-requires

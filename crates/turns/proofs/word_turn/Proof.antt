@@ -14,6 +14,9 @@ word-requires c κs = search needs
 look-requires : tie.Need-look-requires
 look-requires c κs = search needs
 
+is-foreign-requires : tie.Need-is-foreign-requires
+is-foreign-requires c κs = search needs
+
 refuse-requires : tie.Need-refuse-requires
 refuse-requires c κs = search needs
 
@@ -40,7 +43,7 @@ same-requires c κs = search needs
 
 asm-turn-requires : tie.Need-asm-turn-requires
 asm-turn-requires c κs =
-    let at-word = c .before .before .before .before .before .before .before .before .before .before .before .before .before in
+    let at-word = c .before .before .before .before .before .before .before .before .before .before .before .before .before .before in
     let at-put8 = at-word .before .before .before .before in
     let start = at-put8 .before .before .before .before .before .before .before in (
       ready-on
@@ -64,12 +67,14 @@ returns-2 c =
     let at-if2 = at-asm-turn .before .before .before .before in
     let at-same = at-if2 .before in
     let at-if1 = at-same .before .before .before .before in
-    let at-look = at-if1 .before in
+    let at-is-foreign = at-if1 .before in
+    let at-look = at-is-foreign .before in
     let at-word = at-look .before .before .before .before in
     let at-put8 = at-word .before .before .before .before in
     let start = at-put8 .before .before .before .before .before .before .before in
     word-asm-law _ (start .pre .0) (at-put8 .put8 .ensures) (at-word .word .ensures)
-    (at-look .look .ensures) (at-if1 .if1 .left) (at-same .same .ensures) (at-if2 .if2 .taken)
+    (at-look .look .ensures) (at-is-foreign .is-foreign .ensures) (at-if1 .if1 .left)
+    (at-same .same .ensures) (at-if2 .if2 .taken)
     (at-asm-turn .asm-turn .ensures)
 
 sub-keyword : tie.Need-sub-keyword
@@ -79,14 +84,26 @@ part-keyword-start : tie.Need-part-keyword-start
 part-keyword-start c = search needs
 
 part-keyword-end : tie.Need-part-keyword-end
-part-keyword-end c = search needs
+part-keyword-end c =
+    let at-word = c .before .before .before .before .before .before .before .before .before .before .before .before in
+    let at-put8 = at-word .before .before .before .before in
+    let start = at-put8 .before .before .before .before .before .before .before in
+    omega (
+      arith,
+      at-word .word .ensures .room,
+      at-word .word .ensures .passed .stands .inside,
+      at-word .word .ensures .wrote .size,
+      at-put8 .put8 .ensures .size,
+      start .pre .0 .asks .small,
+      start .pre .0 .asks .wide,
+    )
 
 keyword-requires : tie.Need-keyword-requires
 keyword-requires c κs = search needs
 
 with-text-requires : tie.Need-with-text-requires
 with-text-requires c κs =
-    let at-word = c .before .before .before .before .before .before .before .before .before .before .before .before .before .before .before in
+    let at-word = c .before .before .before .before .before .before .before .before .before .before .before .before .before .before .before .before in
     let at-put8 = at-word .before .before .before .before in
     let start = at-put8 .before .before .before .before .before .before .before in (
       start .pre .0 .few,
@@ -114,17 +131,19 @@ returns-3 c =
     let at-if2 = at-keyword .before .before .before in
     let at-same = at-if2 .before in
     let at-if1 = at-same .before .before .before .before in
-    let at-look = at-if1 .before in
+    let at-is-foreign = at-if1 .before in
+    let at-look = at-is-foreign .before in
     let at-word = at-look .before .before .before .before in
     let at-put8 = at-word .before .before .before .before in
     let start = at-put8 .before .before .before .before .before .before .before in
     word-identifier-law _ (start .pre .0) (at-put8 .put8 .ensures) (at-word .word .ensures)
-    (at-look .look .ensures) (at-if1 .if1 .left) (at-same .same .ensures) (at-if2 .if2 .left)
+    (at-look .look .ensures) (at-is-foreign .is-foreign .ensures) (at-if1 .if1 .left)
+    (at-same .same .ensures) (at-if2 .if2 .left)
     (at-keyword .keyword .ensures) (at-if3 .if3 .taken) (at-with-text .with-text .ensures)
 
 plain-requires : tie.Need-plain-requires
 plain-requires c κs =
-    let start = c .before .before .before .before .before .before .before .before .before .before .before .before .before .before .before .before .before .before .before .before .before .before .before .before .before .before in
+    let start = c .before .before .before .before .before .before .before .before .before .before .before .before .before .before .before .before .before .before .before .before .before .before .before .before .before .before .before in
     (start .pre .0 .few, omega (arith, start .pre .0 .wide))
 
 same-length-7 : tie.Need-same-length-7
@@ -141,12 +160,14 @@ returns-4 c =
     let at-if2 = at-keyword .before .before .before in
     let at-same = at-if2 .before in
     let at-if1 = at-same .before .before .before .before in
-    let at-look = at-if1 .before in
+    let at-is-foreign = at-if1 .before in
+    let at-look = at-is-foreign .before in
     let at-word = at-look .before .before .before .before in
     let at-put8 = at-word .before .before .before .before in
     let start = at-put8 .before .before .before .before .before .before .before in
     word-keyword-law _ (start .pre .0) (at-put8 .put8 .ensures) (at-word .word .ensures)
-    (at-look .look .ensures) (at-if1 .if1 .left) (at-same .same .ensures) (at-if2 .if2 .left)
+    (at-look .look .ensures) (at-is-foreign .is-foreign .ensures) (at-if1 .if1 .left)
+    (at-same .same .ensures) (at-if2 .if2 .left)
     (at-keyword .keyword .ensures) (at-if3 .if3 .left) (at-plain .plain .ensures)
 
 pub word-turn-spec : {M : Type 1} → statement M
@@ -156,6 +177,7 @@ word-turn-spec =
     put8-requires
     word-requires
     look-requires
+    is-foreign-requires
     refuse-requires
     same-length
     returns
