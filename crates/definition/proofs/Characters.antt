@@ -1,13 +1,14 @@
--- A script's characters: each one's bytes are it at any place and before any bytes. So of their places, and of UTF-8. Assumes nothing.
+-- A script's characters: each one's bytes are it at any place and before any bytes. So of their places and offsets, and of UTF-8. Assumes nothing.
 use mathlib.Core.Path.{_≡_, refl, sym, ap, ap₂, _∙_, subst}
 use mathlib.Core.Bool.{Bool, true, false, _&&_}
 use mathlib.Core.Option.{Option, none, some}
 use mathlib.Core.List.{List, [], _∷_, _++_, map}
 use Prim.Native.Nat.{ℕ, suc, _+_, _<_, _≤_, pred}
+use native.Mathlib.Omega.{arith}
 use borrow.Author.Tests.{lt-ltb, leb-true}
 use lib.Dec.{eqb, leb}
-use lib.ListN.{length}
-use lib.Seq.{append-snoc}
+use lib.ListN.{length, length-append, take, drop}
+use lib.Seq.{append-snoc, take-append-seam, drop-append-seam, drop-drop}
 use Rattle.definition.specs.Choice.{pick}
 use Rattle.definition.specs.Source.{Place, At, Ch, Lead, single, with-more, wrong, lead, char-at, past, place-at, Pending, fresh, within, and-then, decode, start, characters, is-some, utf8}
 use Rattle.definition.proofs.Tests.{left-true, All}
@@ -182,3 +183,28 @@ spelt-places (x ∷ cs) o l c bs s =
 pub columns-count-characters : (s : List ℕ) (cs : List Ch) → characters s ≡ some cs
     → map (λ x. x .place) cs ≡ places 1 1 (map (λ x. x .byte) cs)
 columns-count-characters s cs e = spelt-places cs 0 1 1 s (spelt s cs e)
+
+-- ---- offsets
+
+-- from the offset o to the end of the bytes each character's bytes stand at its offset, one character right after the other
+abbrev pub Laid : List ℕ → ℕ → List Ch → Type 0
+Laid bs o [] = o ≡ length bs
+Laid bs o (c ∷ cs) = (c .offset ≡ o) × (take (length (spelling c)) (drop o bs) ≡ spelling c) × Laid bs (length (spelling c) + o) cs
+
+spelt-laid : (cs : List Ch) (p : At) (bs ds : List ℕ) → drop (p .offset) bs ≡ ds → p .offset + length ds ≡ length bs → Spelt p ds cs
+    → Laid bs (p .offset) cs
+spelt-laid [] p bs ds e h s = omega (arith, h, ap length s)
+spelt-laid (c ∷ cs) p bs ds e h s =
+    let n = length (spelling c) in
+    let l : p .offset + n ≡ n + p .offset = omega arith in
+    let k : length ds ≡ n + length (s .0) = omega (arith, simp length-append at (ap length (s .2))) in (
+      ap (λ (x : Ch). x .offset) (s .1),
+      ap (take n) (e ∙ s .2) ∙ take-append-seam (spelling c) (s .0),
+      spelt-laid cs (beyond p c) bs (s .0)
+          (ap (λ (i : ℕ). drop i bs) (sym l) ∙ sym (drop-drop n (p .offset) bs) ∙ ap (drop n) (e ∙ s .2) ∙ drop-append-seam (spelling c) (s .0))
+          (omega (arith, h, k)) (s .4),
+    )
+
+-- a script's first character is at 0, and each after the bytes of the previous
+pub offsets-count-bytes : (s : List ℕ) (cs : List Ch) → characters s ≡ some cs → Laid s 0 cs
+offsets-count-bytes s cs e = spelt-laid cs start s s refl (omega arith) (spelt s cs e)
