@@ -1,21 +1,21 @@
 /*
  * delta_null.h: reading Delta Null placement scripts from C.
  *
- * One call, dn_read, takes a script and writes its tree file: the tree, and every complaint that
- * was made about the script. Link with libreader.a (x86-64).
+ * One call, dn_read, takes a script and writes its tree file: the tree, and every error that was
+ * found in the script. Link with libreader.a (x86-64).
  *
  *     uint8_t file[DN_FILE_BYTES];
  *     size_t bytes;
  *     uint32_t number = dn_read(script, script_len, file, sizeof file, &bytes);
  *
  * Number 0 says that the script was read, not that it is good. Look at the fields after DN_MODULE:
- * each is a complaint, and what it complains of may be missing from the tree. DN_TOKEN_ERROR fields
- * name all that the tokenizer met, DN_FULL_ERROR fields all that the parser met. That there is no
- * DN_REPORTED_ERROR field proves nothing: the arguments of a call and the fields of a struct type
- * report nothing.
+ * each is an error, and the part of the script that it is about may be missing from the tree.
+ * DN_TOKEN_ERROR fields are all errors of the tokenizer, DN_FULL_ERROR fields all errors of the
+ * parser. That there is no DN_REPORTED_ERROR field proves nothing: errors in the arguments of a call
+ * and in the fields of a struct type are not reported.
  *
- * Two things are lost without a complaint. A minus swallows the character after it, so that a - b is
- * read as it looks, and a -bc as a - c. Assembly with no closing brace runs to the end of the script:
+ * Two things are lost without an error. A minus consumes the character after it, so that a - b is read
+ * as it looks, and a -bc as a - c. Assembly with no closing brace runs to the end of the script:
  * asm { fn f(w: T) is read as assembly alone, and there is no function f.
  *
  * examples/tree.c walks a file and prints it.
@@ -36,14 +36,14 @@ extern "C" {
  * Reads script[0 .. script_len - 1] and writes its tree file to file[0 .. file_len - 1].
  *
  * Returns DN_OK or one of the refusals below. *bytes is set by every call: to the length of the
- * tree file, or to 0 where the script is refused. Where it is read, all bytes of the file slice
- * after the tree file are set to 0.
+ * tree file, or to 0 if the script is refused. If it is read, all bytes of the file buffer after the
+ * tree file are set to 0.
  *
- * No pointer may be NULL, also where a length is 0, and the script, the file slice and *bytes must
- * not overlap. The bytes themselves may be any. The script is not changed, nothing after the two
- * lengths is touched, no memory is allocated, and nothing is kept between calls, so that threads
- * may call it at the same time with slices of their own. Give each a stack of 1 MiB: no theorem
- * bounds it; the most that was measured is below 400 KiB (bench/README.md).
+ * No pointer may be NULL, even if a length is 0, and the script, the file buffer and *bytes must not
+ * overlap. The script may have any bytes. It is not changed, no byte beyond either buffer is touched,
+ * no memory is allocated, and no state is kept between calls, so that threads may call it at the same
+ * time with buffers of their own. Give each thread a stack of 1 MiB: no theorem bounds the stack; the
+ * most that was measured is below 400 KiB (bench/README.md).
  */
 uint32_t dn_read(const uint8_t *script, size_t script_len,
                  uint8_t *file, size_t file_len, size_t *bytes);
@@ -51,7 +51,7 @@ uint32_t dn_read(const uint8_t *script, size_t script_len,
 /* ---- limits ---- */
 
 #define DN_SCRIPT_BYTES 16384  /* the most bytes of a script */
-#define DN_FILE_BYTES 65536    /* the least length of a file slice; each tree file fits into it */
+#define DN_FILE_BYTES 65536    /* the least length of a file buffer; each tree file fits into it */
 #define DN_TOKENS 2048         /* the most tokens of a script */
 #define DN_TOKEN_ERRORS 255    /* the most token errors */
 #define DN_ERRORS 255          /* the most entries of the full list */
@@ -63,22 +63,22 @@ uint32_t dn_read(const uint8_t *script, size_t script_len,
 enum dn_number {
     DN_OK = 0, /* read: there is a tree file */
 
-    /* refused before any work: the file slice is untouched; tested in this order */
+    /* refused before any work: the file buffer is untouched; tested in this order */
     DN_SCRIPT_LENGTH = 1, /* the script has more than DN_SCRIPT_BYTES bytes */
     DN_NOT_UTF8 = 2,      /* the script is not UTF-8 (RFC 3629) */
-    DN_SLICE_LENGTH = 3,  /* the file slice has fewer than DN_FILE_BYTES bytes */
+    DN_SLICE_LENGTH = 3,  /* the file buffer has fewer than DN_FILE_BYTES bytes */
 
-    /* refused by the tokenizer, which stops at the first: the file slice is all zeros */
+    /* refused by the tokenizer, which stops at the first: the file buffer is all zeros */
     DN_FOREIGN_CHARACTER = 4,     /* a character above 127, and not in a string, a comment or
                                      assembly or after a minus */
     DN_MINUS_AT_END = 5,          /* the script ends with a dash that is a minus */
     DN_TOO_MANY_TOKENS = 6,       /* more than DN_TOKENS */
     DN_TOO_MANY_TOKEN_ERRORS = 7, /* more than DN_TOKEN_ERRORS */
 
-    /* of token records that a caller hands over; dn_read has its own and never returns it */
+    /* for token records that a caller passes; dn_read makes its own and never returns this */
     DN_BAD_RECORD = 8,
 
-    /* refused by the parser, which stops at the first: the file slice is all zeros */
+    /* refused by the parser, which stops at the first: the file buffer is all zeros */
     DN_NO_TOKENS = 9,        /* the script has no token */
     DN_NESTED_TOO_DEEP = 10, /* more than DN_NESTING calls are open */
     DN_END_AFTER_WORD = 11,  /* the script ends right after `type`, `use` or the dot of `.name` */
@@ -93,17 +93,17 @@ enum dn_number {
  *
  *     records of the tree | DN_MODULE | DN_TOKEN_ERROR .. | DN_REPORTED_ERROR .. | DN_FULL_ERROR ..
  *
- * A record's children stand before it, in the order in which they were read, each with its own
- * children before it: a program that walks the file keeps a stack and takes from it as many as the
- * record asks for.
+ * The children of a record come before it, in the order in which they were read, each with its own
+ * children before it: a program that walks the file keeps a stack and, for each record, pops its
+ * children and pushes the record.
  *
  * A body is a place (line and column, 2 bytes each), then numbers, then text to the body's end.
- * Lines and columns count from 1, columns in characters. There is no place in the tags marked
- * "no place". Below, u8, u16 and u64 are numbers of 1, 2 and 8 bytes; after the colon stand the
- * children. Text is UTF-8 and is not ended by a zero.
+ * Lines and columns count from 1, columns in characters. Tags marked "no place" have no
+ * place. Below, u8, u16 and u64 are numbers of 1, 2 and 8 bytes; the children follow the colon. Text
+ * is UTF-8 and is not terminated by a zero.
  *
- * A name is "<?>" where another token stood in place of an identifier: DN_NAMED_TYPE,
- * DN_VARIABLE and DN_TOP_VARIABLE, and there is an error 4.
+ * In DN_NAMED_TYPE, DN_VARIABLE and DN_TOP_VARIABLE the name is "<?>" if another token was in place
+ * of the identifier; there is an error 4 then.
  */
 #define DN_FIELD_HEAD 3 /* bytes before a body */
 #define DN_PLACE_BYTES 4
@@ -115,7 +115,7 @@ enum dn_tag {
     DN_VOID = 0x11,       /* no return type was written; the function's place */
     DN_POINTER = 0x12,    /* : type */
     DN_ARRAY = 0x13,      /* u64 size : type of an element */
-    DN_STRUCT = 0x14,     /* u16 count : so many DN_NAMED_TYPE */
+    DN_STRUCT = 0x14,     /* u16 count : as many DN_NAMED_TYPE */
     DN_NAMED_TYPE = 0x15, /* no place; text the name of a parameter or a struct's field : type */
 
     /* expressions */
@@ -123,7 +123,7 @@ enum dn_tag {
     DN_INTEGER = 0x21,     /* u8 base (2, 10 or 16), text the digits, in base 10 perhaps a dash first */
     DN_BOOLEAN = 0x22,     /* u8 0 or 1 */
     DN_STRING = 0x23,      /* text, its escapes replaced */
-    DN_CALL = 0x24,        /* u16 count : what is called, then so many arguments */
+    DN_CALL = 0x24,        /* u16 count : what is called, then as many arguments */
     DN_INDEX = 0x25,       /* : what is indexed, index */
     DN_CAST = 0x26,        /* : expression, type */
     DN_TAKE = 0x27,        /* : expression; prefix & */
@@ -137,28 +137,28 @@ enum dn_tag {
     DN_SIZEOF = 0x2F,      /* : type */
 
     /* compounds, and the initial value of a variable */
-    DN_COMPOUND_ARRAY = 0x30,  /* u16 count : so many expressions */
-    DN_COMPOUND_STRUCT = 0x31, /* u16 count : so many DN_COMPOUND_FIELD */
+    DN_COMPOUND_ARRAY = 0x30,  /* u16 count : as many expressions */
+    DN_COMPOUND_STRUCT = 0x31, /* u16 count : as many DN_COMPOUND_FIELD */
     DN_COMPOUND_FIELD = 0x32,  /* text the field's name : expression */
     DN_NO_VALUE = 0x33,        /* no place, empty body */
     DN_VALUE = 0x34,           /* no place, empty body : expression */
     DN_COMPOUND_VALUE = 0x35,  /* no place, empty body : compound */
 
     /* statements */
-    DN_BLOCK = 0x40,               /* u16 count : so many statements */
+    DN_BLOCK = 0x40,               /* u16 count : as many statements */
     DN_EXPRESSION = 0x41,          /* : expression */
     DN_VARIABLE = 0x42,            /* text the name : type, initial value */
     DN_ASSIGNMENT = 0x43,          /* : target, expression */
     DN_COMPOUND_ASSIGNMENT = 0x44, /* : target, compound */
-    DN_RETURN = 0x45,              /* u8 0 or 1 : so many expressions */
+    DN_RETURN = 0x45,              /* u8 0 or 1 : as many expressions */
     DN_LOOP = 0x46,                /* : statement */
     DN_WHILE = 0x47,               /* : condition, statement */
     DN_BREAK = 0x48,
-    DN_IF = 0x49,                  /* u8 2 or 3 : so many: condition, statement, statement of else */
+    DN_IF = 0x49,                  /* u8 2 or 3 : as many: condition, statement, statement of else */
     DN_ASSEMBLY = 0x4A,            /* text between the braces */
 
     /* items of the module */
-    DN_FUNCTION = 0x50,     /* u8 1 for extern, else 0; u16 count; text the name : so many
+    DN_FUNCTION = 0x50,     /* u8 1 for extern, else 0; u16 count; text the name : as many
                                DN_NAMED_TYPE, return type, and unless extern a DN_BLOCK */
     DN_ALIAS = 0x51,        /* u8 DN_DISTINCT plus DN_INTERNAL, text the name : type */
     DN_USE = 0x52,          /* text the path */
@@ -166,9 +166,9 @@ enum dn_tag {
     DN_TOP_ASSEMBLY = 0x54, /* as DN_ASSEMBLY */
 
     /* the tree's last field */
-    DN_MODULE = 0x5F, /* no place; u16 count : so many items */
+    DN_MODULE = 0x5F, /* no place; u16 count : as many items */
 
-    /* complaints, each u8 number, u16 line, u16 column, u8 expected kind, u8 got kind */
+    /* errors, each u8 number, u16 line, u16 column, u8 expected kind, u8 got kind */
     DN_REPORTED_ERROR = 0x60, /* enum dn_error: those that the Rust front end reports, in its order */
     DN_FULL_ERROR = 0x61,     /* enum dn_error: each that the parser made, in the order made */
     DN_TOKEN_ERROR = 0x62     /* enum dn_token_error; the last two bytes are 0 */
@@ -198,7 +198,7 @@ enum dn_comparison {
     DN_LESS_OR_EQUALS = 4
 };
 
-/* ---- complaints ---- */
+/* ---- errors ---- */
 
 enum dn_token_error {
     DN_UNKNOWN_ESCAPE = 1,   /* other than \r, \n, \t; it is left out. Placed at the opening quote */
@@ -208,7 +208,7 @@ enum dn_token_error {
 };
 
 /*
- * The parser's errors. Those marked "end" were met at the end of the script and have the place 0:0.
+ * The parser's errors. Those marked "end" are at the end of the script and have the place 0:0.
  * Expected and got are kinds of tokens (enum dn_kind) in the errors that name them, else 0.
  */
 enum dn_error {
