@@ -20,10 +20,10 @@ seven e =
 body-is : (e : ℕ) → seven e ≡ err-body (unpack e)
 unfolding unpack
 body-is e =
-    let lh : e / 4294967296 % 65536 / 256 % 256 ≡ e / 1099511627776 % 256 = omega arith in
-    let ll : e / 4294967296 % 65536 % 256 ≡ e / 4294967296 % 256 = omega arith in
-    let ch : e / 65536 % 65536 / 256 % 256 ≡ e / 16777216 % 256 = omega arith in
-    let cl : e / 65536 % 65536 % 256 ≡ e / 65536 % 256 = omega arith in
+    let lh : e / 65536 % 4294967296 / 65536 / 256 % 256 ≡ e / 1099511627776 % 256 = omega arith in
+    let ll : e / 65536 % 4294967296 / 65536 % 256 ≡ e / 4294967296 % 256 = omega arith in
+    let ch : e / 65536 % 4294967296 % 65536 / 256 % 256 ≡ e / 16777216 % 256 = omega arith in
+    let cl : e / 65536 % 4294967296 % 65536 % 256 ≡ e / 65536 % 256 = omega arith in
     sym (rw (lh, ll, ch, cl))
 
 pub fielded-one : {o o′ : List ℕ} {p tag q : ℕ} (e : ℕ) → Wrote o p (bare-of tag None (seven e)) 10 o′ q

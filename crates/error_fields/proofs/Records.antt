@@ -11,7 +11,8 @@ use lib.Dec.{eqb}
 use lib.ListN.{length, getD}
 use Rattle.definition.specs.Classes.{between}
 use Rattle.definition.specs.Fallible.{Err}
-use Rattle.definition.specs.Source.{is-some}
+use Rattle.definition.specs.Source.{place-at, is-some}
+use Rattle.definition.specs.Places.{unpack-place}
 use Rattle.definition.specs.Records.{ErrorWords, error-at, valid-error, error-of, error-before, errors-of}
 use Rattle.definition.proofs.Tests.{clash, left-true, right-true, between-bounds}
 use Rattle.fallible.specs.Lists as L
@@ -84,18 +85,22 @@ errors-are ws n es e = Option·some-injective (listed ws 0 n) es (sym (listed-is
 
 -- ---- the loop
 
-module _ (ws : List ℕ) (i : ℕ) {a b d : ℕ} (na : a ≡ getD ws (4 * i) 0) (nb : b ≡ getD ws (4 * i + 1) 0)
-    (nd : d ≡ getD ws (4 * i + 2) 0) where
-  pub entry-fits : (count : ℕ) → is-some (errors-of ws 0 count) ≡ true → i < count
-      → (a < 256) × ((b < 65536) × ((d < 65536) × ((0 < 256) × (0 < 256))))
-  entry-fits count h g = let s = rw zero-add at (small-at ws 0 count i h g) in omega arith
+module _ (ws : List ℕ) (i : ℕ) where
+  pub place-fits : (count : ℕ) → is-some (errors-of ws 0 count) ≡ true → i < count
+      → (getD ws (4 * i + 1) 0 < 65536) × (getD ws (4 * i + 2) 0 < 65536)
+  place-fits count h g = let s = rw zero-add at (small-at ws 0 count i h g) in (omega (arith, s .line), omega (arith, s .column))
 
-  pub token-more : {o₀ o o1 : List ℕ} {pos count p q : ℕ} (x : ℕ) → Fielding (λ n. listed ws 0 n) o₀ pos 0x62 count o i p
-      → i < count → L.unpack x ≡ L.error-at a b d 0 0 → Fielded o p 0x62 (L.unpack x ∷ []) o1 q
+  pub number-fits : {a : ℕ} → a ≡ getD ws (4 * i) 0 → (count : ℕ) → is-some (errors-of ws 0 count) ≡ true → i < count → a < 256
+  number-fits na count h g = let s = rw zero-add at (small-at ws 0 count i h g) in omega (arith, s .number)
+
+  pub token-more : {a : ℕ} (place : ℕ) → a ≡ getD ws (4 * i) 0
+      → unpack-place place ≡ place-at (getD ws (4 * i + 1) 0) (getD ws (4 * i + 2) 0)
+      → {o₀ o o1 : List ℕ} {pos count p q : ℕ} (x : ℕ) → Fielding (λ n. listed ws 0 n) o₀ pos 0x62 count o i p
+      → i < count → L.unpack x ≡ L.error-at a place 0 0 → Fielded o p 0x62 (L.unpack x ∷ []) o1 q
       → length o1 ≡ length o
       → Fielding (λ n. listed ws 0 n) o₀ pos 0x62 count o1 (i + 1) q
-  token-more x h g u w s =
-      let e : error-of (error-at ws (0 + i)) ≡ L.unpack x = sym (u ∙ rw (na, nb, nd, zero-add)) in
+  token-more place na np x h g u w s =
+      let e : error-of (error-at ws (0 + i)) ≡ L.unpack x = sym (u ∙ rw (na, np, zero-add)) in
       fields-more h g (listed-more ws 0 i ∙ ap (λ (y : Err). listed ws 0 i ++ (y ∷ [])) e) w s
 
 pub token-done : (ws : List ℕ) {o₀ o : List ℕ} {pos count i p : ℕ} → Fielding (λ n. listed ws 0 n) o₀ pos 0x62 count o i p

@@ -4,6 +4,7 @@ use mathlib.Core.Option.{some}
 use mathlib.Core.List.{List, _++_}
 use Prim.Native.Nat.{ℕ, _+_, _*_}
 use lib.ListN.{length, take}
+use Rattle.definition.specs.Tag as Tag
 use Rattle.definition.specs.Fallible.{Err, errs-bytes}
 use Rattle.definition.specs.Records.{errors-of}
 
@@ -14,4 +15,4 @@ pub record Fielded (o : List ℕ) (p tag : ℕ) (es : List Err) (o′ : List ℕ
 
 -- those of the token errors that the records hold
 abbrev pub TokenFields : List ℕ → ℕ → List ℕ → ℕ → List ℕ → ℕ → Type 0
-TokenFields o p ws count o′ q = (es : List Err) → errors-of ws 0 count ≡ some es → Fielded o p 0x62 es o′ q
+TokenFields o p ws count o′ q = (es : List Err) → errors-of ws 0 count ≡ some es → Fielded o p Tag.TokenError es o′ q

@@ -3,6 +3,8 @@
 use definition::tag;
 use fallible::entry;
 use node::Numbers;
+use node::place_at;
+use node::wide;
 use node::write_bare;
 ghost use mathlib.Core.Path.{_≡_};
 ghost use mathlib.Core.List.{[], _∷_};
@@ -42,12 +44,6 @@ pub fn error_fields(file: &mut [u8], pos: usize, tag: u8, list: &[usize], count:
     p
 }
 
-fn wide(x: u32) -> usize
-    ensures { λ r. ⌜ r ≡ x ⌝ }
-{
-    x as usize
-}
-
 // The fields of the token errors, whose records are good: number, place, 0, 0.
 pub fn token_error_fields(file: &mut [u8], pos: usize, errors: &[u32], count: usize) -> usize
     requires { ⌜ (pos + 10 * count + 13 ≤ length (now file)) × GoodErrors errors count ⌝ }
@@ -57,13 +53,8 @@ pub fn token_error_fields(file: &mut [u8], pos: usize, errors: &[u32], count: us
     let mut p = pos;
     while i < count {
         let k = 4 * i;
-        let e = entry(
-            wide(errors[k]),
-            wide(errors[k + 1]),
-            wide(errors[k + 2]),
-            0,
-            0,
-        );
+        let place = place_at(errors[k + 1], errors[k + 2]);
+        let e = entry(wide(errors[k]), place, 0, 0);
         p = error_field(file, p, tag::TOKEN_ERROR, e);
         i += 1;
     }

@@ -31,17 +31,18 @@ use leaves::operator;
 use leaves::prefix;
 use node::Numbers;
 use node::write_bare;
-use steps::Token;
 use steps::and_expect;
 use steps::expect;
 use steps::expect_identifier;
 use steps::peek;
 use steps::write_node;
 use steps::write_text_node;
+ghost use mathlib.Core.Path.{_≡_};
 ghost use Prim.Native.Nat.{_<_, _≤_};
 ghost use Rattle.definition.specs.Parser as P;
 ghost use Rattle.leaves.specs.Leaves.{listed-of, level-of};
-ghost use Rattle.expression_laws.specs.Post.{place-of, operators-on};
+ghost use Rattle.definition.specs.Places.{unpack-place};
+ghost use Rattle.expression_laws.specs.Post.{operators-on};
 ghost use Rattle.steps.specs.Contract.{Asked, GoesOn, Parses, ParsesOn};
 ghost use Rattle.expression_laws.specs.Contract.{NameRoom, BareNamed, ReadsTyped, TypedOn, ReadsList};
 
@@ -92,7 +93,7 @@ fn boolean(
     let on = State { at: t.next, ..s };
     let b = comparison(tokens, text, n, file, reported, full, on, nesting);
     let c = abandon(reported, b, st, s);
-    write_node(file, text, c, t, tag::BOOLEAN_AND, Numbers::None)
+    write_node(file, text, c, t.place, tag::BOOLEAN_AND, Numbers::None)
 }
 
 // bit_or [(`==` | `<` | `<=` | `>` | `>=`) bit_or]
@@ -124,7 +125,7 @@ fn comparison(
     let b = bit_or(tokens, text, n, file, reported, full, on, nesting);
     let c = abandon(reported, b, st, s);
     let numbers = Numbers::Byte(op - 1);
-    write_node(file, text, c, t, tag::COMPARISON_BIN_OP, numbers)
+    write_node(file, text, c, t.place, tag::COMPARISON_BIN_OP, numbers)
 }
 
 // parse_bitwise_or: bit_xor {`|` bit_xor}. All levels begin with the operand that is read here: where no operator of theirs
@@ -333,7 +334,7 @@ fn operators(
         let b = cascade(tokens, text, n, file, reported, full, level, on, nesting);
         let c = abandon(reported, b, from, s);
         let numbers = Numbers::Byte(op - 1);
-        a = write_node(file, text, c, t, tag::ARITHMETIC_BIN_OP, numbers);
+        a = write_node(file, text, c, t.place, tag::ARITHMETIC_BIN_OP, numbers);
     }
 }
 
@@ -365,7 +366,7 @@ fn cast(
         let on = State { at: t.next, ..s };
         let b = ty(tokens, text, n, file, reported, full, on, nesting);
         let c = abandon(reported, b, st, s);
-        a = write_node(file, text, c, t, tag::CAST, Numbers::None);
+        a = write_node(file, text, c, t.place, tag::CAST, Numbers::None);
     }
 }
 
@@ -415,12 +416,7 @@ fn unary(
     }
     let on = State { at: t.next, ..st };
     let a = unary(tokens, text, n, file, reported, full, on, nesting - 1);
-    let place = Token {
-        line: a.line,
-        column: a.column,
-        ..t
-    };
-    write_node(file, text, a, place, tag, Numbers::None)
+    write_node(file, text, a, a.place, tag, Numbers::None)
 }
 
 // sizeof [arguments]; what the arguments report is dropped.
@@ -459,12 +455,7 @@ fn call(
         nesting,
     );
     let c = silence(b, s.reported);
-    let place = Token {
-        line: a.line,
-        column: a.column,
-        ..t
-    };
-    write_node(file, text, c, place, tag::CALL, Numbers::Two(b.line))
+    write_node(file, text, c, a.place, tag::CALL, Numbers::Two(b.count))
 }
 
 // `sizeof` `(` type `)` | field_access_or_index
@@ -494,7 +485,7 @@ fn sizeof(
     let s = a.state;
     let b = ty(tokens, text, n, file, reported, full, s, nesting);
     let c = and_expect(tokens, text, n, reported, full, b, kind::R_PAREN, st);
-    write_node(file, text, c, t, tag::SIZEOF, Numbers::None)
+    write_node(file, text, c, t.place, tag::SIZEOF, Numbers::None)
 }
 
 // parse_field_access_or_index: atom {`.` name | `.*` | `[` expression `]`}
@@ -526,24 +517,33 @@ fn access(
                 return refuse(n, s, refusal::END_AFTER_WORD);
             }
             if u.kind != kind::IDENTIFIER {
-                let error = entry(parse_error::IDENTIFIER, u.line, u.column, 0, 0);
+                let error = entry(parse_error::IDENTIFIER, u.place, 0, 0);
                 let b = note(n, reported, full, on, error);
                 let h = b.status;
                 let e = b.state;
                 return Answer {
                     status: h,
                     state: e,
-                    line: a.line,
-                    column: a.column,
+                    place: a.place,
+                    count: a.count,
                 };
             }
             let c = Answer {
                 status,
                 state: on,
-                line: a.line,
-                column: a.column,
+                place: a.place,
+                count: a.count,
             };
-            a = write_text_node(file, text, c, t, tag::FIELD_ACCESS, Numbers::None, u);
+            a = write_text_node(
+                file,
+                text,
+                c,
+                t.place,
+                tag::FIELD_ACCESS,
+                Numbers::None,
+                u.start,
+                u.len,
+            );
             continue;
         }
         let on = State { at: t.next, ..s };
@@ -551,10 +551,17 @@ fn access(
             let c = Answer {
                 status,
                 state: on,
-                line: a.line,
-                column: a.column,
+                place: a.place,
+                count: a.count,
             };
-            a = write_node(file, text, c, t, tag::POINTER_DEREFERENCE, Numbers::None);
+            a = write_node(
+                file,
+                text,
+                c,
+                t.place,
+                tag::POINTER_DEREFERENCE,
+                Numbers::None,
+            );
             continue;
         }
         if t.kind != kind::L_BRACKET {
@@ -563,7 +570,7 @@ fn access(
         let b = expression(tokens, text, n, file, reported, full, on, nesting);
         let c = abandon(reported, b, st, s);
         let d = and_expect(tokens, text, n, reported, full, c, kind::R_BRACKET, st);
-        a = write_node(file, text, d, t, tag::INDEX, Numbers::None);
+        a = write_node(file, text, d, t.place, tag::INDEX, Numbers::None);
     }
 }
 
@@ -616,16 +623,16 @@ fn bare_name(
         return Answer {
             status,
             state: State { pos, ..s },
-            line: 0,
-            column: 0,
+            place: 0,
+            count: 0,
         };
     }
     let pos = write_bare(file, b"<?>", s.pos, tag, Numbers::None, 0, 3);
     Answer {
         status,
         state: State { pos, ..s },
-        line: 0,
-        column: 0,
+        place: 0,
+        count: 0,
     }
 }
 
@@ -654,29 +661,48 @@ pub fn ty(
         let a = Answer {
             status: Status::Done,
             state: on,
-            line: t.line,
-            column: t.column,
+            place: t.place,
+            count: 0,
         };
-        return write_text_node(file, text, a, t, tag::NAME, Numbers::None, t);
+        return write_text_node(
+            file,
+            text,
+            a,
+            t.place,
+            tag::NAME,
+            Numbers::None,
+            t.start,
+            t.len,
+        );
     }
     if t.kind == kind::STAR {
         let a = ty(tokens, text, n, file, reported, full, on, nesting - 1);
-        return write_node(file, text, a, t, tag::POINTER, Numbers::None);
+        return write_node(file, text, a, t.place, tag::POINTER, Numbers::None);
     }
     if t.kind == kind::L_BRACKET {
-        return array(tokens, text, n, file, reported, full, t, on, nesting - 1);
+        return array(
+            tokens,
+            text,
+            n,
+            file,
+            reported,
+            full,
+            t.place,
+            on,
+            nesting - 1,
+        );
     }
     if t.kind == kind::KW_STRUCT {
         let what = Listed::StructFields;
         let a = list(tokens, text, n, file, reported, full, what, on, nesting - 1);
         let b = silence(a, st.reported);
-        return write_node(file, text, b, t, tag::STRUCT, Numbers::Two(a.line));
+        return write_node(file, text, b, t.place, tag::STRUCT, Numbers::Two(a.count));
     }
     if t.kind == kind::END {
-        let error = entry(parse_error::TYPE_AT_END, 0, 0, 0, 0);
+        let error = entry(parse_error::TYPE_AT_END, 0, 0, 0);
         return raise(n, reported, full, on, error);
     }
-    let error = entry(parse_error::TYPE, t.line, t.column, 0, t.kind);
+    let error = entry(parse_error::TYPE, t.place, 0, t.kind);
     raise(n, reported, full, on, error)
 }
 
@@ -688,28 +714,22 @@ fn array(
     file: &mut [u8],
     reported: &mut [usize],
     full: &mut [usize],
-    lead: Token,
+    place: usize,
     st: State,
     nesting: usize,
 ) -> Answer
-    requires { ⌜ Asked tokens text n file reported full st × ((lead .line < 65536) × (lead .column < 65536)) ⌝ }
-    ensures { λ r. ⌜ Parses (P.parse-array-type (place-of lead)) tokens text n file reported full st nesting r ⌝ }
+    requires { ⌜ Asked tokens text n file reported full st × (place < 0x100000000) ⌝ }
+    ensures { λ r. ⌜ Parses (P.parse-array-type (unpack-place place)) tokens text n file reported full st nesting r ⌝ }
 {
     let t = peek(tokens, text, n, st.at);
     let on = State { at: t.next, ..st };
     if t.kind != kind::INTEGER {
-        let error = entry(parse_error::ARRAY_SIZE, lead.line, lead.column, 0, 0);
+        let error = entry(parse_error::ARRAY_SIZE, place, 0, 0);
         return raise(n, reported, full, on, error);
     }
     let size = array_size(text, t.start, t.len, t.base);
     if !size.fits {
-        let error = entry(
-            parse_error::ARRAY_SIZE_POSITIVE,
-            lead.line,
-            lead.column,
-            0,
-            0,
-        );
+        let error = entry(parse_error::ARRAY_SIZE_POSITIVE, place, 0, 0);
         return raise(n, reported, full, on, error);
     }
     let a = expect(tokens, text, n, reported, full, on, kind::R_BRACKET);
@@ -720,10 +740,10 @@ fn array(
     let s = a.state;
     let b = ty(tokens, text, n, file, reported, full, s, nesting);
     let numbers = Numbers::Eight(size.number);
-    write_node(file, text, b, lead, tag::ARRAY, numbers)
+    write_node(file, text, b, place, tag::ARRAY, numbers)
 }
 
-// A typed identifier, after its name, whose construct reports from `j` on.
+// A typed identifier, after its name, in a construct that began in the state `from`.
 fn typed(
     tokens: &[u32],
     text: &[u8],
@@ -731,15 +751,14 @@ fn typed(
     file: &mut [u8],
     reported: &mut [usize],
     full: &mut [usize],
-    j: usize,
+    from: State,
     st: State,
     nesting: usize,
 ) -> Answer
-    requires { ⌜ Asked tokens text n file reported full st × (j ≤ st .reported) ⌝ }
-    ensures { λ r. ⌜ TypedOn tokens text n file reported full j st nesting r ⌝ }
+    requires { ⌜ Asked tokens text n file reported full st × ((from .pos ≡ st .pos) × (from .reported ≤ st .reported)) ⌝ }
+    ensures { λ r. ⌜ TypedOn tokens text n file reported full from st nesting r ⌝ }
 {
     let a = expect(tokens, text, n, reported, full, st, kind::COLON);
-    let from = State { reported: j, ..st };
     let b = abandon(reported, a, from, st);
     let status = b.status;
     let Status::Done = status else {
@@ -767,40 +786,20 @@ pub fn typed_name(
     let t = peek(tokens, text, n, st.at);
     let on = State { at: t.next, ..st };
     if t.kind == kind::IDENTIFIER {
-        return typed(
-            tokens,
-            text,
-            n,
-            file,
-            reported,
-            full,
-            st.reported,
-            on,
-            nesting,
-        );
+        return typed(tokens, text, n, file, reported, full, st, on, nesting);
     }
     if t.kind == kind::END {
-        let error = entry(parse_error::END_OF_FILE, 0, 0, 0, 0);
+        let error = entry(parse_error::END_OF_FILE, 0, 0, 0);
         return raise(n, reported, full, on, error);
     }
-    let error = entry(parse_error::IDENTIFIER, t.line, t.column, 0, 0);
+    let error = entry(parse_error::IDENTIFIER, t.place, 0, 0);
     let b = note(n, reported, full, on, error);
     let status = b.status;
     let Status::Done = status else {
         return b;
     };
     let s = b.state;
-    typed(
-        tokens,
-        text,
-        n,
-        file,
-        reported,
-        full,
-        st.reported,
-        s,
-        nesting,
-    )
+    typed(tokens, text, n, file, reported, full, st, s, nesting)
 }
 
 // ---- lists
@@ -846,12 +845,16 @@ fn field(
     };
     let s = b.state;
     let c = expression(tokens, text, n, file, reported, full, s, nesting);
-    let place = Token {
-        line: b.line,
-        column: b.column,
-        ..t
-    };
-    write_text_node(file, text, c, place, tag::COMPOUND_FIELD, Numbers::None, t)
+    write_text_node(
+        file,
+        text,
+        c,
+        b.place,
+        tag::COMPOUND_FIELD,
+        Numbers::None,
+        t.start,
+        t.len,
+    )
 }
 
 // An item of a list.
@@ -905,23 +908,23 @@ pub fn list(
     loop {
         let t = peek(tokens, text, n, s.at);
         if t.kind == kind::END {
-            let error = entry(parse_error::LIST_AT_END, 0, 0, 0, 0);
+            let error = entry(parse_error::LIST_AT_END, 0, 0, 0);
             let b = note(n, reported, full, s, error);
             let h = b.status;
             let e = b.state;
             return Answer {
                 status: h,
                 state: e,
-                line: count,
-                column: 0,
+                place: 0,
+                count,
             };
         }
         if t.kind == close {
             return Answer {
                 status: Status::Done,
                 state: State { at: t.next, ..s },
-                line: count,
-                column: 0,
+                place: 0,
+                count,
             };
         }
         let b = item(tokens, text, n, file, reported, full, what, s, nesting);

@@ -44,7 +44,7 @@ use Rattle.expression_laws.proofs.Joins.{goes-none}
 
 module _ {A : Type 0} {K : View A} {w x : List ℕ} {n d : ℕ} {o r f o1 r1 f1 o2 : List ℕ} {s : State} {b y : Answer} {t : Token} {v : Record} {m : Act (Ans A)} {M : Act (Ans Node)} (p : A → Place) (ns : A → List Num) (text : List ℕ)
     (q : Asked w x n o r f s) (u : Seen w x n (s .at) t) (B : Reads K w x n d m o r f (fore s t) o1 r1 f1 b) (F : Finished x o1 b v o2 y)
-    (paid : size-of v ≤ 16 * min (t .kind) 1 + t .len) (made : (i : A) → K .fine (b .line) (b .column) i → rec-of x v ≡ record { tag = v .tag; place = some (p i); numbers = ns i; text = text }) where
+    (paid : size-of v ≤ 16 * min (t .kind) 1 + t .len) (made : (i : A) → K .fine (b .place) (b .count) i → rec-of x v ≡ record { tag = v .tag; place = some (p i); numbers = ns i; text = text }) where
   pub wraps-token : (rd′ : List Consumed → List Consumed)
       → ((rd : List Consumed)
       → go d M (st-of w x n f rd s)
@@ -86,7 +86,7 @@ module _ {w x : List ℕ} {n d : ℕ} {o r f : List ℕ} {s : State} {t : Token}
   pub unary-prefix : {o1 r1 f1 o2 : List ℕ} {a y : Answer} → (tag ≡ 0 → ⊥)
       → Reads node w x n (d - 1) P.parse-unary o r f (fore s t) o1 r1 f1 a
       → Finished x o1 a
-      (record { tag = tag; line = a .line; column = a .column; numbers = None; start = 0; len = 0 }) o2 y
+      (record { tag = tag; place = a .place; numbers = None; start = 0; len = 0 }) o2 y
       → Reads node w x n d P.parse-unary o r f s o2 r1 f1 y
   unfolding go run P.prefix
   unary-prefix {a = a} h B F =
@@ -131,7 +131,7 @@ module _ {w x : List ℕ} {n d i j : ℕ} {o r f : List ℕ} {a : Answer} {t : T
   call-none h = goes-none q z (λ e rd. rw (run, no u h))
 
   module _ {o1 r1 f1 o2 : List ℕ} {b y : Answer} (h : t .kind ≡ 41) (B : ReadsList w x n d Arguments o r f (a .state) o1 r1 f1 b)
-      (F : Finished x o1 (silent b (a .state .reported)) (record { tag = 0x24; line = a .line; column = a .column; numbers = Two (b .line); start = 0; len = 0 }) o2 y) where
+      (F : Finished x o1 (silent b (a .state .reported)) (record { tag = 0x24; place = a .place; numbers = Two (b .count); start = 0; len = 0 }) o2 y) where
     pub call-moved : Moved w x n i j (a .state) (y .state)
     call-moved =
         let e : budget w x n (y .state .at) ≡ budget w x n (b .state .at) = ap (λ (k : ℕ). budget w x n k) (F .at) in
@@ -166,12 +166,12 @@ module _ {w x : List ℕ} {n d i j : ℕ} {o r f : List ℕ} {a : Answer} {t : T
   pub call-done : {o1 r1 f1 o2 : List ℕ} {b c y : Answer} → t .kind ≡ 41
       → ReadsList w x n d Arguments o r f (a .state) o1 r1 f1 b → c ≡ silent b (a .state .reported)
       → Finished x o1 c
-      (record { tag = 0x24; line = a .line; column = a .column; numbers = Two (b .line); start = 0; len = 0 })
+      (record { tag = 0x24; place = a .place; numbers = Two (b .count); start = 0; len = 0 })
       o2 y
       → Goes node node w x n d call-on i j o r f a o2 r1 f1 y
   call-done {o1} {o2 = o2} {b = b} {c = c} {y = y} h B C F =
       call-found h B (subst (λ (k : Answer). Finished x o1 k
-      (record { tag = 0x24; line = a .line; column = a .column; numbers = Two (b .line); start = 0; len = 0 })
+      (record { tag = 0x24; place = a .place; numbers = Two (b .count); start = 0; len = 0 })
       o2 y) C F)
 
 -- what the list is asked with: a place after the operand's, and room for the record after it
@@ -257,7 +257,7 @@ module _ {w x : List ℕ} {n d : ℕ} {o r f : List ℕ} {s : State} {t : Token}
         → Reads node w x n d P.parse-type o r1 f1 (a .state) o1 r2 f2 b → length r2 ≡ length r
         → length f2 ≡ length f → Expected w x n 42 (s .pos) (s .reported) r2 f2 b r3 f3 c
         → Finished x o1 c
-        (record { tag = 0x2F; line = t .line; column = t .column; numbers = None; start = 0; len = 0 }) o2 y
+        (record { tag = 0x2F; place = t .place; numbers = None; start = 0; len = 0 }) o2 y
         → Reads node w x n d P.parse-sizeof o r f s o2 r3 f3 y
     sizeof-done {o1} {r2} {f2} {r3} {f3} {o2} {b} {c} {y} z B lr lf C F =
         let e : budget w x n (y .state .at) ≡ budget w x n (c .state .at) = ap (λ (k : ℕ). budget w x n k) (F .at) in

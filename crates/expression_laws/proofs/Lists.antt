@@ -127,10 +127,10 @@ module _ {w x : List ℕ} {n wanted : ℕ} (k : A.Listed) {o r f r1 f1 : List �
 
 module _ {w x : List ℕ} {n count : ℕ} (k : A.Listed) {o r f : List ℕ} {s : State} {t : Token}
     (q : Asked w x n o r f s × (count ≤ s .at)) (v : Seen w x n (s .at) t) where
-  pub rest-end : {d e : ℕ} {r1 f1 : List ℕ} {b : Answer} → t .kind ≡ 0 → unpack e ≡ error-at 14 0 0 0 0
+  pub rest-end : {d e : ℕ} {r1 f1 : List ℕ} {b : Answer} → t .kind ≡ 0 → unpack e ≡ error-at 14 0 0 0
       → Raised (noted n s) r f s e r1 f1 b
       → LoopOn (listed-on k) w x n d count o r f s o r1 f1
-      (record { status = b .status; state = b .state; line = count; column = 0 })
+      (record { status = b .status; state = b .state; place = 0; count = count })
   unfolding go run P.list-turn
   rest-end {d} z i g =
       loop-ended (listed-on k) q v g (λ rd l. go-loop d (ListOf k l) (st-of w x n f rd s) ∙ rw (run, yes v z)
@@ -139,7 +139,7 @@ module _ {w x : List ℕ} {n count : ℕ} (k : A.Listed) {o r f : List ℕ} {s :
   module _ {close : ℕ} (m0 : t .kind ≡ 0 → ⊥) (c : close ≡ P.closer k) where
     pub rest-closed : {d : ℕ} → t .kind ≡ close
         → LoopOn (listed-on k) w x n d count o r f s o r f
-        (record { status = Done; state = fore s t; line = count; column = 0 })
+        (record { status = Done; state = fore s t; place = 0; count = count })
     unfolding go run P.list-turn
     rest-closed {d} z =
         loop-closed (listed-on k) q v

@@ -61,7 +61,7 @@ module _ {w x : List ℕ} {n d count : ℕ} (on : Items → Act Items) {o r f : 
   -- after the token that closes it
   pub loop-closed : ((rd : List Consumed) (l : Items)
       → go d (on l) (st-of w x n f rd s) ≡ gives l (st-of w x n f (past w x n (s .at) rd) (fore s t)))
-      → LoopOn on w x n d count o r f s o r f (record { status = Done; state = fore s t; line = count; column = 0 })
+      → LoopOn on w x n d count o r f s o r f (record { status = Done; state = fore s t; place = 0; count = count })
   unfolding go run
   loop-closed step = record {
     moved = fore-moved (q .0 .asks) v;
@@ -85,7 +85,7 @@ module _ {w x : List ℕ} {n d count : ℕ} (on : Items → Act Items) {o r f : 
       → ((rd : List Consumed) (l : Items)
       → go d (on l) (st-of w x n f rd s)
       ≡ go d (make (unpack e) (done (P.with-error l (unpack e)))) (st-of w x n f rd s))
-      → LoopOn on w x n d count o r f s o r1 f1 (record { status = b .status; state = b .state; line = count; column = 0 })
+      → LoopOn on w x n d count o r f s o r1 f1 (record { status = b .status; state = b .state; place = 0; count = count })
   unfolding go run
   loop-ended {e} {r1} {f1} {b} g step = record {
     moved = rw (g .is) (making-moved (q .0 .asks) Done);
@@ -96,7 +96,7 @@ module _ {w x : List ℕ} {n d count : ℕ} (on : Items → Act Items) {o r f : 
         let made : go d (on l >>= as-answer) (st-of w x n f rd s) ≡ answered d (go d (make (unpack e) (done (P.with-error l (unpack e)))) (st-of w x n f rd s)) =
         go-bind d (on l) as-answer _ ∙ ap (answered d) (step rd l) in
         made-so Done n s (λ y. Shows items T E [] [] w x n o r1 f1
-        (record { status = y .status; state = y .state; line = count; column = 0 })
+        (record { status = y .status; state = y .state; place = 0; count = count })
         (go d (on l >>= as-answer) (st-of w x n f rd s))) (g .is)
         (λ h. record {
           told = record {

@@ -32,6 +32,7 @@ use Rattle.steps.specs.Tokens.{rest, budget, Seen}
 use Rattle.steps.specs.Shows.{st-of, Asks, Asked, Moved, View, Good, ShowsOf, Shows, done-of, node, typed, token, Reads, Expects, Finished, Follows, Followed, ExpectedOf, Expected}
 use Rattle.steps.proofs.Tokens.{yes, no, fore, adv}
 use Rattle.steps.proofs.Moves.{spent, refused-moved, asks-fore, asks-moved, fore-moved, making-moved, moved-trans, asked-moved, abandoned-moved}
+use Rattle.steps.proofs.OneToken.{making-pos}
 use Rattle.steps.proofs.Answers.{Stopped, say, good-of, not-done, done-le, stops, follows, abandons, wrote, wrapped, raise-same}
 use Rattle.leaves.proofs.Errors.{made-so, makes, makes-none, raise-reads}
 use Rattle.expression_laws.specs.Post.{name-of, NameRoom, BareNamedOf, BareNamed, ReadsTyped, TypedOn}
@@ -64,8 +65,8 @@ module _ {w x : List ℕ} {n : ℕ} {o : List ℕ} {a : Answer} {tag at : ℕ} (
         → BareNamed w x n o a tag at o′ (record {
           status = a .status;
           state = record { at = a .state .at; pos = p; reported = a .state .reported; full = a .state .full };
-          line = 0;
-          column = 0;
+          place = 0;
+          count = 0;
         })
     named e l g u =
         let d : done-of (a .status) ≡ 1 = rw z in
@@ -75,7 +76,7 @@ module _ {w x : List ℕ} {n : ℕ} {o : List ℕ} {a : Answer} {tag at : ℕ} (
           full = refl;
           low = omega (arith, u .end);
           high = omega (arith, u .end);
-          is = rw (z, e) (refl, (record { end = omega (arith, u .end); is = u .is }, (refl, refl)));
+          is = rw (z, e) (refl, (record { end = omega (arith, u .end); is = u .is }, refl));
         }
 
     pub bare-name : {o′ : List ℕ} {p : ℕ} → t .kind ≡ 1
@@ -84,8 +85,8 @@ module _ {w x : List ℕ} {n : ℕ} {o : List ℕ} {a : Answer} {tag at : ℕ} (
         → BareNamed w x n o a tag at o′ (record {
           status = a .status;
           state = record { at = a .state .at; pos = p; reported = a .state .reported; full = a .state .full };
-          line = 0;
-          column = 0;
+          place = 0;
+          count = 0;
         })
     bare-name y u =
         let l = text-length v in
@@ -97,8 +98,8 @@ module _ {w x : List ℕ} {n : ℕ} {o : List ℕ} {a : Answer} {tag at : ℕ} (
         → BareNamed w x n o a tag at o′ (record {
           status = a .status;
           state = record { at = a .state .at; pos = p; reported = a .state .reported; full = a .state .full };
-          line = 0;
-          column = 0;
+          place = 0;
+          count = 0;
         })
     unfolding ascii
     bare-unknown y u = named (rw (ne-eqb _ _ (λ k. y (sym (v .kind) ∙ k)))) (omega arith) (omega arith) u
@@ -209,10 +210,10 @@ module _ {w x : List ℕ} {n d j : ℕ} {o r f r1 f1 r2 : List ℕ} {s : State} 
 -- ---- an error noted
 
 module _ (n : ℕ) {e : ℕ} {r f r′ f′ : List ℕ} {s : State} {b : Answer} (g : Raised (noted n s) r f s e r′ f′ b) where
-  pub note-there : b .status ≡ Done → (s .full < 255) × (b ≡ record { status = Done; state = one-more s; line = 0; column = 0 })
+  pub note-there : b .status ≡ Done → (s .full < 255) × (b ≡ record { status = Done; state = one-more s; place = 0; count = 0 })
   note-there z =
       made-so Done n s (λ y. y .status ≡ Done → (s .full < 255)
-      × (y ≡ record { status = Done; state = one-more s; line = 0; column = 0 })) (g .is) (λ l _. (l, refl))
+      × (y ≡ record { status = Done; state = one-more s; place = 0; count = 0 })) (g .is) (λ l _. (l, refl))
       (λ l y. let e : _≡_ {A = ℕ} 0 1 = cc in absurd (omega arith)) z
 
   pub note-none : Stopped b → (255 ≤ s .full) × (b ≡ refused-at n s 12)
@@ -248,7 +249,7 @@ module _ {w x : List ℕ} {n : ℕ} {o r f : List ℕ} {s : State} {t : Token} (
   }
 
   module _ (m1 : t .kind ≡ 1 → ⊥) where
-    pub identifier-end : {d e : ℕ} {r′ f′ : List ℕ} {a : Answer} → t .kind ≡ 0 → unpack e ≡ error-at 5 0 0 0 0
+    pub identifier-end : {d e : ℕ} {r′ f′ : List ℕ} {a : Answer} → t .kind ≡ 0 → unpack e ≡ error-at 5 0 0 0
         → Raised (raised n (fore s t)) r f (fore s t) e r′ f′ a → ReadsTyped w x n d o r f s o r′ f′ a
     unfolding go run P.parse-typed-identifier
     identifier-end {d} {a = a} z i g =
@@ -268,7 +269,7 @@ module _ {w x : List ℕ} {n : ℕ} {o r f : List ℕ} {s : State} {t : Token} (
         }
 
     module _ {e : ℕ} {r1 f1 : List ℕ} {b : Answer} (m0 : t .kind ≡ 0 → ⊥)
-        (i : unpack e ≡ error-at 4 (t .line) (t .column) 0 0)
+        (i : unpack e ≡ error-at 4 (t .place) 0 0)
         (g : Raised (noted n (fore s t)) r f (fore s t) e r1 f1 b) where
       -- the error is made
       unnamed : (d : ℕ) (rd : List Consumed)
@@ -329,7 +330,7 @@ bare-shows {T} {E} {w} {x} {n} {at} {o} {r} {f} {o′} {a} {y} {q} d u v = recor
           is = rw (g .is, u .at, u .full);
           tree = wrote T (g .item .type) (m .1 .0) (g .tree) (rw (g .holds));
           reported = ap (λ (k : ℕ). errs r k) (u .reported) ∙ g .reported;
-          holds = sym (rw (m .1 .1 .0, m .1 .1 .1));
+          holds = sym (rw (m .1 .1));
         })
     one Fatal z m g = rw (m .0, m .1, z) (record { errors = g .errors; read = g .read; is = rw (g .is); tree = g .tree; reported = g .reported })
     one (Refused k) z m g = rw (m .0, z, g)
@@ -370,8 +371,7 @@ pub record Met (w x : List ℕ) (n k : ℕ) (r f : List ℕ) (a : Answer) (r′ 
   pub pos : y .state .pos ≡ a .state .pos
   pub reported : y .state .reported ≡ a .state .reported
   pub kept : errs r′ (y .state .reported) ≡ errs r (a .state .reported)
-  pub line : y .line ≡ a .line
-  pub column : y .column ≡ a .column
+  pub place : y .place ≡ a .place
   pub item : ℕ → List Consumed → Fallible Tok
   pub read : ℕ → List Consumed → List Consumed
   pub is : (d : ℕ) (rd : List Consumed)
@@ -397,8 +397,7 @@ expected-there {w} {x} {n} {k} {i} {j} {r} {f} {r′} {f′} {a} {y} v z = one (
           pos = rw st (F .expects .pos);
           reported = rw st (F .expects .kept zb .0);
           kept = rw (st, h .1) (F .expects .kept zb .1);
-          line = rw (F .is);
-          column = rw (F .is);
+          place = rw (F .is);
           item = λ d rd. record { item = g d rd .item; errors = g d rd .errors };
           read = λ d rd. g d rd .read;
           is =
@@ -416,11 +415,11 @@ expected-there {w} {x} {n} {k} {i} {j} {r} {f} {r′} {f′} {a} {y} v z = one (
 relined : {A : Type 0} {K : View A} {T : List ℕ} {E : List Err} {w x : List ℕ} {n l m : ℕ} {o r f : List ℕ}
     {a : Answer} {q : Res (Ans A)}
     → Stopped a → Shows K T E [] [] w x n o r f a q
-    → Shows K T E [] [] w x n o r f (record { status = a .status; state = a .state; line = l; column = m }) q
+    → Shows K T E [] [] w x n o r f (record { status = a .status; state = a .state; place = l; count = m }) q
 relined {A} {K} {T} {E} {w} {x} {n} {l} {m} {o} {r} {f} {a} {q} nd v = record { told = one (a .status) nd (v .told) }
   where
     one : (h : Status) → OneOf (1 ∷ 2 ∷ []) (tagOf the-type h) → ShowsOf h K T E [] [] w x n o r f a q
-        → ShowsOf h K T E [] [] w x n o r f (record { status = a .status; state = a .state; line = l; column = m }) q
+        → ShowsOf h K T E [] [] w x n o r f (record { status = a .status; state = a .state; place = l; count = m }) q
     one Done nd g = absurd (⊎-elim (λ z. omega arith) (λ z. omega arith) nd)
     one Fatal nd g = record { errors = g .errors; read = g .read; is = g .is; tree = g .tree; reported = g .reported }
     one (Refused u) nd g = g
@@ -504,8 +503,7 @@ module _ {w x : List ℕ} {n : ℕ} {o r f r1 f1 : List ℕ} {s : State} {t : To
       pub field-done : {o4 : List ℕ} {y : Answer}
           → Finished x o3 c (record {
             tag = 50;
-            line = b .line;
-            column = b .column;
+            place = b .place;
             numbers = None;
             start = t .start;
             len = t .len;
@@ -520,7 +518,7 @@ module _ {w x : List ℕ} {n : ℕ} {o r f r1 f1 : List ℕ} {s : State} {t : To
           record-reads {K = node} (next-token (rest w x n (s .at)) .place) (λ _. []) (next-token (rest w x n (s .at)) .text) F
           (moved-onward (moved-trans (e .moved) (u .moved)) (h .moved))
           (omega (arith, e .on, u .moved .at, h .moved .at)) (omega (arith, field-paid))
-          (λ _ _. rw (m .line, m .column, g [] .holds .1, v .text))
+          (λ _ _. rw (m .place, g [] .holds .1, v .text))
           (λ rd. go d P.parse-expression (st-of w x n f2 (m .read d (g rd .read)) (b .state)))
           (λ rd. go-bind d P.expect-identifier (or-return field-on) _ ∙ follows d field-on (g rd .is) ∙ go-bind d (P.expect 26) (or-return (equals-on (id rd))) _ ∙ follows d (equals-on (id rd)) (m .is d (g rd .read))
           ∙ go-bind d P.parse-expression (or-return (value-on (id rd))) _
@@ -564,5 +562,8 @@ module _ {w x : List ℕ} {n e : ℕ} {o r f r1 f1 : List ℕ} {s : State} {t : 
   pub noted-moved : Moved w x n (s .pos) (s .reported) s (b .state)
   noted-moved = rw (g .is) (moved-onward (fore-moved (q .asks) v) (making-moved (asks-fore (q .asks) v) Done))
 
-  pub noted-asked : length r1 ≡ length r → length f1 ≡ length f → Asked w x n o r1 f1 (b .state) × (s .reported ≤ b .state .reported)
-  noted-asked l k = (asked-moved q noted-moved refl l k, noted-moved .reported)
+  pub noted-asked : length r1 ≡ length r → length f1 ≡ length f
+      → Asked w x n o r1 f1 (b .state) × ((s .pos ≡ b .state .pos) × (s .reported ≤ b .state .reported))
+  noted-asked l k =
+      let p = ap (λ (y : Answer). y .state .pos) (g .is) ∙ making-pos Done n (fore s t) in
+      (asked-moved q noted-moved refl l k, (sym p, noted-moved .reported))

@@ -62,7 +62,7 @@ dot-step {w} {x} {n} d f s u h e rd =
 -- ---- a record after the operand itself, and the next turn
 
 module _ {w x : List ℕ} {n d i j : ℕ} {o r f o2 o3 r3 f3 : List ℕ} {a y y′ : Answer} {on : State} {v : Record} (p : Place) (text : List ℕ) (q : GoesOn w x n o r f a i j) (z : a .status ≡ Done)
-    (F : Finished x o (record { status = a .status; state = on; line = a .line; column = a .column }) v o2 y) (made : rec-of x v ≡ record { tag = v .tag; place = some p; numbers = []; text = text }) where
+    (F : Finished x o (record { status = a .status; state = on; place = a .place; count = a .count }) v o2 y) (made : rec-of x v ≡ record { tag = v .tag; place = some p; numbers = []; text = text }) where
   pub goes-wrapped : (rd′ : List Consumed → List Consumed) → on .pos ≡ a .state .pos → on .reported ≡ a .state .reported
       → on .full ≡ a .state .full → Moved w x n i j (a .state) (y .state)
       → ((e : Fallible Node) (rd : List Consumed)
@@ -92,8 +92,8 @@ module _ {w x : List ℕ} {n d i j : ℕ} {o r f o2 o3 r3 f3 : List ℕ} {a y y�
 module _ {w x : List ℕ} {n i j : ℕ} {o r f : List ℕ} {a : Answer} {t : Token} (q : GoesOn w x n o r f a i j)
     (u : Seen w x n (a .state .at) t) where
   pub star-moved : {o2 : List ℕ} {y : Answer} → t .kind ≡ 35
-      → Finished x o (record { status = a .status; state = fore (a .state) t; line = a .line; column = a .column })
-      (record { tag = 0x28; line = t .line; column = t .column; numbers = None; start = 0; len = 0 }) o2 y
+      → Finished x o (record { status = a .status; state = fore (a .state) t; place = a .place; count = a .count })
+      (record { tag = 0x28; place = t .place; numbers = None; start = 0; len = 0 }) o2 y
       → Moved w x n i j (a .state) (y .state)
   star-moved {y = y} k F =
       let e : budget w x n (y .state .at) ≡ budget w x n (t .next) = ap (λ (k : ℕ). budget w x n k) (F .at) in
@@ -110,8 +110,8 @@ module _ {w x : List ℕ} {n i j : ℕ} {o r f : List ℕ} {a : Answer} {t : Tok
 
   pub dot-moved : {v : Token} {o2 : List ℕ} {y : Answer} → Seen w x n (t .next) v → v .kind ≡ 1
       → Finished x o
-      (record { status = a .status; state = fore (fore (a .state) t) v; line = a .line; column = a .column })
-      (record { tag = 0x29; line = t .line; column = t .column; numbers = None; start = v .start; len = v .len })
+      (record { status = a .status; state = fore (fore (a .state) t) v; place = a .place; count = a .count })
+      (record { tag = 0x29; place = t .place; numbers = None; start = v .start; len = v .len })
       o2 y
       → Moved w x n i j (a .state) (y .state)
   dot-moved {v} {y = y} s k F =
@@ -136,8 +136,8 @@ module _ {w x : List ℕ} {n d i j : ℕ} {o r f : List ℕ} {a : Answer} {t : T
   -- ---- `.*`
 
   pub suffix-star : {o2 o3 r3 f3 : List ℕ} {y y′ : Answer} → (t .kind ≡ 34 → ⊥) → t .kind ≡ 35
-      → Finished x o (record { status = a .status; state = fore (a .state) t; line = a .line; column = a .column })
-      (record { tag = 0x28; line = t .line; column = t .column; numbers = None; start = 0; len = 0 }) o2 y
+      → Finished x o (record { status = a .status; state = fore (a .state) t; place = a .place; count = a .count })
+      (record { tag = 0x28; place = t .place; numbers = None; start = 0; len = 0 }) o2 y
       → Goes node node w x n d suffixes-on i j o2 r f y o3 r3 f3 y′ → Goes node node w x n d suffixes-on i j o r f a o3 r3 f3 y′
   unfolding go run P.suffixes-turn
   suffix-star h k F G =
@@ -178,11 +178,10 @@ module _ {w x : List ℕ} {n d i j : ℕ} {o r f : List ℕ} {a : Answer} {t : T
 
     pub dot-name : {o2 o3 r3 f3 : List ℕ} {y y′ : Answer} → (v .kind ≡ 0 → ⊥) → v .kind ≡ 1
         → Finished x o
-        (record { status = a .status; state = fore (fore (a .state) t) v; line = a .line; column = a .column })
+        (record { status = a .status; state = fore (fore (a .state) t) v; place = a .place; count = a .count })
         (record {
           tag = 0x29;
-          line = t .line;
-          column = t .column;
+          place = t .place;
           numbers = None;
           start = v .start;
           len = v .len;
@@ -199,10 +198,10 @@ module _ {w x : List ℕ} {n d i j : ℕ} {o r f : List ℕ} {a : Answer} {t : T
 
     -- another token: error 4, and the loop ends
     pub dot-other : {e : ℕ} {r1 f1 : List ℕ} {b : Answer} → (v .kind ≡ 0 → ⊥) → (v .kind ≡ 1 → ⊥)
-        → unpack e ≡ error-at 4 (v .line) (v .column) 0 0
+        → unpack e ≡ error-at 4 (v .place) 0 0
         → Raised (noted n (fore (fore (a .state) t) v)) r f (fore (fore (a .state) t) v) e r1 f1 b
         → Goes node node w x n d suffixes-on i j o r f a o r1 f1
-        (record { status = b .status; state = b .state; line = a .line; column = a .column })
+        (record { status = b .status; state = b .state; place = a .place; count = a .count })
     unfolding go run P.suffixes-turn
     dot-other {e} {r1} {f1} {b} m k c g =
         let q2 : Asks w x n r f (fore (fore (a .state) t) v) = asks-fore (asks-fore (q .asked .asks) u) s in
@@ -230,7 +229,7 @@ module _ {w x : List ℕ} {n d i j : ℕ} {o r f : List ℕ} {a : Answer} {t : T
               ∙ ap (λ (er : Err). go d (Act.make er (P.good (h2 .item) (h2 .errors ++ (er ∷ []))))
               (st-of w x n f (past-two w x n (a .state .at) (t .next) (h2 .read)) (fore (fore (a .state) t) v)))
               (rw (s .place) (sym c))))
-              (made-so Done n (fore (fore (a .state) t) v) (λ b. Shows node T E [] [] w x n o r1 f1 (record { status = b .status; state = b .state; line = a .line; column = a .column }) (go d (Act.make (unpack e) (P.good (h2 .item) (h2 .errors ++ (unpack e ∷ [])))) (st-of w x n f (past-two w x n (a .state .at) (t .next) (h2 .read)) (fore (fore (a .state) t) v)))) (g .is)
+              (made-so Done n (fore (fore (a .state) t) v) (λ b. Shows node T E [] [] w x n o r1 f1 (record { status = b .status; state = b .state; place = a .place; count = a .count }) (go d (Act.make (unpack e) (P.good (h2 .item) (h2 .errors ++ (unpack e ∷ [])))) (st-of w x n f (past-two w x n (a .state .at) (t .next) (h2 .read)) (fore (fore (a .state) t) v)))) (g .is)
               (λ l. record {
                 told = record {
                   item = h2 .item;
@@ -274,7 +273,7 @@ module _ {w x : List ℕ} {n d i j : ℕ} {o r f : List ℕ} {a : Answer} {t : T
       }
 
   module _ {o1 r1 f1 r2 r3 f3 o2 : List ℕ} {b c d1 y : Answer} (h : t .kind ≡ 43) (B : Reads node w x n d P.parse-expression o r f (fore (a .state) t) o1 r1 f1 b) (C : Abandoned r1 b i j (a .state .reported) r2 c) (lr : length r2 ≡ length r) (lf : length f1 ≡ length f)
-      (X : Expected w x n 44 i j r2 f1 c r3 f3 d1) (F : Finished x o1 d1 (record { tag = 0x25; line = t .line; column = t .column; numbers = None; start = 0; len = 0 }) o2 y) where
+      (X : Expected w x n 44 i j r2 f1 c r3 f3 d1) (F : Finished x o1 d1 (record { tag = 0x25; place = t .place; numbers = None; start = 0; len = 0 }) o2 y) where
     pub index-moved : Moved w x n i j (a .state) (y .state)
     index-moved =
         let e : budget w x n (y .state .at) ≡ budget w x n (d1 .state .at) = ap (λ (k : ℕ). budget w x n k) (F .at) in

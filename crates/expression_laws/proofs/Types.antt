@@ -16,6 +16,7 @@ use Rattle.definition.specs.Token.{Tok, next-token, number}
 use Rattle.definition.specs.Act.{Node, Items, Type', StructFields, Act, Role, plain, size, Consumed, St, Res, gives, refused, after, or-return, now-read, run, _>>=_, _>>?_}
 use Rattle.definition.specs.Parser as P
 use Rattle.definition.specs.Go.{go}
+use Rattle.definition.specs.Places.{unpack-place}
 use Rattle.definition.proofs.Flat.{go-bind}
 use Rattle.node.specs.Put.{Room, rec-of, size-of}
 use Rattle.node.specs.declared.Record.{Record}
@@ -38,7 +39,7 @@ use Rattle.leaves.specs.declared.Size.{Size}
 use Rattle.leaves.specs.Leaves.{there, unfit, Valued}
 use Rattle.leaves.proofs.Errors.{raise-reads}
 use Rattle.leaves.proofs.Atoms.{leaf-reads}
-use Rattle.expression_laws.specs.Post.{place-at, as-answer, ReadsList}
+use Rattle.expression_laws.specs.Post.{as-answer, ReadsList}
 
 -- ---- numbers
 
@@ -132,7 +133,7 @@ module _ {A : Type 0} {K : View A} {w x : List ℕ} {n d : ℕ} {m : Act (Ans No
   pub record-reads : Moved w x n (s .pos) (s .reported) s (b .state)
       → s .at + min (next-token (rest w x n (s .at)) .kind) 1 ≤ b .state .at
       → b .state .pos + budget w x n (b .state .at) + size-of v ≤ s .pos + budget w x n (s .at)
-      → ((i : A) → K .fine (b .line) (b .column) i → rec-of x v ≡ record { tag = v .tag; place = some p; numbers = ns i; text = text })
+      → ((i : A) → K .fine (b .place) (b .count) i → rec-of x v ≡ record { tag = v .tag; place = some p; numbers = ns i; text = text })
       → (q : List Consumed → Res (Ans A))
       → ((rd : List Consumed)
       → go d m (st-of w x n f rd s)
@@ -204,7 +205,7 @@ module _ {w x : List ℕ} {n d : ℕ} {o r f : List ℕ} {s : State} (q : Asked 
   type-deep z e = deep Type' (q .asks) z e
 
   module _ {t : Token} (nz : d ≡ 0 → ⊥) (v : Seen w x n (s .at) t) where
-    pub type-name : {o′ : List ℕ} {y : Answer} → t .kind ≡ 1 → Finished x o (there s t) (texted t 16 None t) o′ y
+    pub type-name : {o′ : List ℕ} {y : Answer} → t .kind ≡ 1 → Finished x o (there s t) (texted (t .place) 16 None (t .start) (t .len)) o′ y
         → Reads node w x n d P.parse-type o r f s o′ r f y
     unfolding go run P.type-rule
     type-name z u =
@@ -219,7 +220,7 @@ module _ {w x : List ℕ} {n d : ℕ} {o r f : List ℕ} {s : State} (q : Asked 
 
       pub type-star : {o1 r1 f1 o2 : List ℕ} {b y : Answer} → t .kind ≡ 24
           → Reads node w x n (d - 1) P.parse-type o r f (fore s t) o1 r1 f1 b
-          → Finished x o1 b (untexted t 18 None) o2 y → Reads node w x n d P.parse-type o r f s o2 r1 f1 y
+          → Finished x o1 b (untexted (t .place) 18 None) o2 y → Reads node w x n d P.parse-type o r f s o2 r1 f1 y
       unfolding go run P.type-rule
       type-star z u F = down Type' nz
           (record-reads (next-token (rest w x n (s .at)) .place) (λ _. []) [] F (moved-onward (fore-moved (q .asks) v) (u .moved)) (omega (arith, v .kind, v .on, u .moved .at)) (omega arith) (λ _ _. rw (v .place))
@@ -231,7 +232,7 @@ module _ {w x : List ℕ} {n d : ℕ} {o r f : List ℕ} {s : State} (q : Asked 
 
       module _ (m24 : t .kind ≡ 24 → ⊥) where
         pub type-array : {o1 r1 f1 : List ℕ} {b : Answer} → t .kind ≡ 43
-            → Reads node w x n (d - 1) (P.parse-array-type (place-at (t .line) (t .column))) o r f (fore s t) o1
+            → Reads node w x n (d - 1) (P.parse-array-type (unpack-place (t .place))) o r f (fore s t) o1
             r1 f1 b
             → Reads node w x n d P.parse-type o r f s o1 r1 f1 b
         unfolding go run P.type-rule
@@ -240,7 +241,7 @@ module _ {w x : List ℕ} {n d : ℕ} {o r f : List ℕ} {s : State} (q : Asked 
           on = omega (arith, v .kind, v .on, u .moved .at);
           is =
               λ rd. say (rw (run, no v m1, no v m24, yes v z, v .place)
-              (ap (λ (S : St). go (d - 1) (P.parse-array-type (place-at (t .line) (t .column))) S)
+              (ap (λ (S : St). go (d - 1) (P.parse-array-type (unpack-place (t .place))) S)
               (adv s v (λ _. plain) f rd))) (u .is (past w x n (s .at) rd));
         })
 
@@ -251,11 +252,11 @@ module _ {w x : List ℕ} {n d : ℕ} {o r f : List ℕ} {s : State} (q : Asked 
 
           pub type-struct : {o1 r1 f1 o2 : List ℕ} {a b y : Answer} → t .kind ≡ 16
               → ReadsList w x n (d - 1) StructFields o r f (fore s t) o1 r1 f1 a → b ≡ silent a (s .reported)
-              → Finished x o1 b (untexted t 20 (Two (a .line))) o2 y
+              → Finished x o1 b (untexted (t .place) 20 (Two (a .count))) o2 y
               → Reads node w x n d P.parse-type o r f s o2 r1 f1 y
           unfolding go run P.type-rule
           type-struct {o1} {r1} {f1} {o2} {a} {b} {y} z u e F =
-              let G : Finished x o1 (silent a (s .reported)) (untexted t 20 (Two (a .line))) o2 y = rw e at F in
+              let G : Finished x o1 (silent a (s .reported)) (untexted (t .place) 20 (Two (a .count))) o2 y = rw e at F in
               let mv = moved-onward (fore-moved (q .asks) v) (u .moved) in
               down Type' nz
               (record-reads {K = items} (next-token (rest w x n (s .at)) .place) (λ i. two (i .count) ∷ []) [] G (record { at = mv .at; end = mv .end; pos = mv .pos; room = mv .room; reported = omega arith; less = omega arith; full = mv .full; few = mv .few }) (omega (arith, v .kind, v .on, u .moved .at)) (omega arith) (λ i h. rw (v .place, h))
@@ -270,7 +271,7 @@ module _ {w x : List ℕ} {n d : ℕ} {o r f : List ℕ} {s : State} (q : Asked 
               (u .is (past w x n (s .at) rd))))
 
           module _ {e : ℕ} {r′ f′ : List ℕ} {y : Answer} (m16 : t .kind ≡ 16 → ⊥) where
-            pub type-end : t .kind ≡ 0 → unpack e ≡ error-at 12 0 0 0 0
+            pub type-end : t .kind ≡ 0 → unpack e ≡ error-at 12 0 0 0
                 → Raised (raised n (fore s t)) r f (fore s t) e r′ f′ y
                 → Reads node w x n d P.parse-type o r f s o r′ f′ y
             unfolding go run P.type-rule
@@ -279,7 +280,7 @@ module _ {w x : List ℕ} {n d : ℕ} {o r f : List ℕ} {s : State} (q : Asked 
                 (λ rd. rw (run, no v m1, no v m24, no v m43, no v m16, yes v z)
                 (raise-same (d - 1) (sym i) (adv s v (λ _. plain) f rd))))
 
-            pub type-other : (t .kind ≡ 0 → ⊥) → unpack e ≡ error-at 11 (t .line) (t .column) 0 (t .kind)
+            pub type-other : (t .kind ≡ 0 → ⊥) → unpack e ≡ error-at 11 (t .place) 0 (t .kind)
                 → Raised (raised n (fore s t)) r f (fore s t) e r′ f′ y
                 → Reads node w x n d P.parse-type o r f s o r′ f′ y
             unfolding go run P.type-rule
@@ -288,17 +289,17 @@ module _ {w x : List ℕ} {n d : ℕ} {o r f : List ℕ} {s : State} (q : Asked 
                 (λ rd. rw (run, no v m1, no v m24, no v m43, no v m16, no v z)
                 (raise-same (d - 1) (rw (v .place, v .kind) (sym i)) (adv s v (λ _. plain) f rd))))
 
--- ---- `array`, after `[`, of a type at a line and a column
+-- ---- `array`, after `[`, of a type at a place
 
 not-false : (b : Bool) → not b ≡ false → b ≡ true
 not-false true e = refl
 not-false false e = sym e
 
-module _ {w x : List ℕ} {n : ℕ} (line column : ℕ) {o r f : List ℕ} {s : State} {t : Token}
-    (q : Asked w x n o r f s × ((line < 65536) × (column < 65536))) (v : Seen w x n (s .at) t) where
-  pub array-no-integer : {d e : ℕ} {r′ f′ : List ℕ} {y : Answer} → (t .kind ≡ 2 → ⊥) → unpack e ≡ error-at 9 line column 0 0
+module _ {w x : List ℕ} {n : ℕ} (place : ℕ) {o r f : List ℕ} {s : State} {t : Token}
+    (q : Asked w x n o r f s × (place < 0x100000000)) (v : Seen w x n (s .at) t) where
+  pub array-no-integer : {d e : ℕ} {r′ f′ : List ℕ} {y : Answer} → (t .kind ≡ 2 → ⊥) → unpack e ≡ error-at 9 place 0 0
       → Raised (raised n (fore s t)) r f (fore s t) e r′ f′ y
-      → Reads node w x n d (P.parse-array-type (place-at line column)) o r f s o r′ f′ y
+      → Reads node w x n d (P.parse-array-type (unpack-place place)) o r f s o r′ f′ y
   unfolding go run P.parse-array-type
   array-no-integer {d} m i g =
       raise-reads (q .0 .asks) v size g d
@@ -309,9 +310,9 @@ module _ {w x : List ℕ} {n : ℕ} (line column : ℕ) {o r f : List ℕ} {s : 
     fit : unfit (next-token (rest w x n (s .at)) .base) (next-token (rest w x n (s .at)) .text) ≡ not (u .fits)
     fit = rw (v .text, v .base) (k .fits)
 
-    pub array-no-size : {d e : ℕ} {r′ f′ : List ℕ} {y : Answer} → not (u .fits) ≡ true → unpack e ≡ error-at 10 line column 0 0
+    pub array-no-size : {d e : ℕ} {r′ f′ : List ℕ} {y : Answer} → not (u .fits) ≡ true → unpack e ≡ error-at 10 place 0 0
         → Raised (raised n (fore s t)) r f (fore s t) e r′ f′ y
-        → Reads node w x n d (P.parse-array-type (place-at line column)) o r f s o r′ f′ y
+        → Reads node w x n d (P.parse-array-type (unpack-place place)) o r f s o r′ f′ y
     unfolding go run P.parse-array-type
     array-no-size {d} m i g =
         raise-reads (q .0 .asks) v size g d
@@ -322,14 +323,14 @@ module _ {w x : List ℕ} {n : ℕ} (line column : ℕ) {o r f : List ℕ} {s : 
       -- after the type, and after `]`
       abbrev array-on : Fallible Node → Act (Ans Node)
       array-on b =
-          wrapped node [] [] 19 (λ _. place-at line column)
+          wrapped node [] [] 19 (λ _. unpack-place place)
           (λ _. eight (number (next-token (rest w x n (s .at)) .base) 0 (next-token (rest w x n (s .at)) .text)) ∷ []) [] b
 
       abbrev bracket-on : Fallible Tok → Act (Ans Node)
       bracket-on _ = P.parse-type >>? array-on
 
       bracket : (d : ℕ) (rd : List Consumed)
-          → go d (P.parse-array-type (place-at line column)) (st-of w x n f rd s)
+          → go d (P.parse-array-type (unpack-place place)) (st-of w x n f rd s)
           ≡ after (go d (P.expect 44) (st-of w x n f (past-as size w x n (s .at) rd) (fore s t)))
           (λ z S. go d (or-return bracket-on z) S)
       unfolding go run P.parse-array-type
@@ -339,7 +340,7 @@ module _ {w x : List ℕ} {n : ℕ} (line column : ℕ) {o r f : List ℕ} {s : 
           ∙ go-bind d (P.expect 44) (or-return bracket-on)
           (st-of w x n f (past-as size w x n (s .at) rd) (fore s t))
 
-      pub array-open : {d : ℕ} → Stopped a → Reads node w x n d (P.parse-array-type (place-at line column)) o r f s o r1 f1 a
+      pub array-open : {d : ℕ} → Stopped a → Reads node w x n d (P.parse-array-type (unpack-place place)) o r f s o r1 f1 a
       array-open {d} nd =
           record {
             moved = moved-onward (fore-moved (q .0 .asks) v) (e .moved);
@@ -351,13 +352,13 @@ module _ {w x : List ℕ} {n : ℕ} (line column : ℕ) {o r f : List ℕ} {s : 
       pub array-done : {d : ℕ} {o2 r2 f2 o3 : List ℕ} {b y : Answer} → a .status ≡ Done
           → Reads node w x n d P.parse-type o r1 f1 (a .state) o2 r2 f2 b
           → Finished x o2 b
-          (record { tag = 19; line = line; column = column; numbers = Eight (u .number); start = 0; len = 0 })
+          (record { tag = 19; place = place; numbers = Eight (u .number); start = 0; len = 0 })
           o3 y
-          → Reads node w x n d (P.parse-array-type (place-at line column)) o r f s o3 r2 f2 y
+          → Reads node w x n d (P.parse-array-type (unpack-place place)) o r f s o3 r2 f2 y
       array-done {d} {o2} {r2} {f2} {o3} {b} {y} za c F =
           let g : (rd : List Consumed) → Good _ _ _ [] [] w x n o r1 f1 a (go d (P.expect 44) (st-of w x n f (past-as size w x n (s .at) rd) (fore s t))) =
           λ rd. good-of za (e .is plain d (past-as size w x n (s .at) rd) o) in
-          record-reads {K = node} (place-at line column)
+          record-reads {K = node} (unpack-place place)
           (λ _. eight (number (next-token (rest w x n (s .at)) .base) 0 (next-token (rest w x n (s .at)) .text)) ∷ []) [] F
           (moved-onward (fore-moved (q .0 .asks) v) (moved-onward (e .moved) (c .moved)))
           (omega (arith, v .kind, v .on, e .moved .at, c .moved .at)) (omega arith)
@@ -392,8 +393,8 @@ module _ {w x : List ℕ} {n : ℕ} {o r f : List ℕ} {s : State} (q : Asked w 
         → Room o1 x (b .state .pos) (16 + 0) 0 0
     struct-room u e l = rw e (room-moved (moved-onward (fore-moved (q .asks) v) (u .moved)) l)
 
-    pub array-asked : Asked w x n o r f (fore s t) × ((t .line < 65536) × (t .column < 65536))
-    array-asked = (asked-seen q v, (omega (arith, v .lines), omega (arith, v .columns)))
+    pub array-asked : Asked w x n o r f (fore s t) × (t .place < 0x100000000)
+    array-asked = (asked-seen q v, v .places)
 
     pub size-asked : t .kind ≡ 2 → (t .start + t .len ≤ length x) × ((0 < t .base) × (t .base < 256))
     size-asked z = (v .part, (v .based z, omega (arith, v .bases)))

@@ -20,9 +20,9 @@ ReadsTyped tokens text n file reported full st nesting r =
     G.ReadsTyped (at-entry tokens) (at-entry text) n nesting (at-entry file) (at-entry reported) (at-entry full) st
     (at-exit file) (at-exit reported) (at-exit full) r
 
-abbrev pub TypedOn : Lent → Lent → ℕ → Lent → Lent → Lent → ℕ → State → ℕ → Answer → Type 0
-TypedOn tokens text n file reported full j st nesting r =
-    G.TypedOn (at-entry tokens) (at-entry text) n nesting j (at-entry file) (at-entry reported) (at-entry full) st
+abbrev pub TypedOn : Lent → Lent → ℕ → Lent → Lent → Lent → State → State → ℕ → Answer → Type 0
+TypedOn tokens text n file reported full from st nesting r =
+    G.TypedOn (at-entry tokens) (at-entry text) n nesting (from .reported) (at-entry file) (at-entry reported) (at-entry full) st
     (at-exit file) (at-exit reported) (at-exit full) r
 
 abbrev pub ReadsList : A.Listed → Lent → Lent → ℕ → Lent → Lent → Lent → State → ℕ → Answer → Type 0

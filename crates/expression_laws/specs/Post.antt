@@ -7,7 +7,6 @@ use lib.ListN.{length, take}
 use Rattle.definition.specs.Ascii.{ascii}
 use Rattle.definition.specs.Choice.{pick}
 use Rattle.definition.specs.Source.{Place}
-pub use Rattle.definition.specs.Source.{place-at}
 use Rattle.definition.specs.Node.{recs-bytes}
 use Rattle.definition.specs.Fallible.{Err, Fallible, Ans, ok}
 use Rattle.definition.specs.Kind as K
@@ -27,9 +26,6 @@ use Rattle.steps.specs.declared.Token.{Token}
 use Rattle.steps.specs.Tokens.{rest, budget, Held}
 use Rattle.leaves.specs.Leaves.{level-at}
 use Rattle.steps.specs.Shows.{st-of, Moved, Shows, done-of, typed, items}
-
-abbrev pub place-of : Token → Place
-place-of t = place-at (t .line) (t .column)
 
 -- ---- the loops, after an operand
 
@@ -59,7 +55,7 @@ pub record NameRoom (w x : List ℕ) (n : ℕ) (o : List ℕ) (a : Answer) (at :
   pub room : a .state .pos + 19 * done-of (a .status) + length (next-token (rest w x n at) .text) ≤ length o
 
 abbrev pub BareNamedOf : Status → List ℕ → List ℕ → ℕ → List ℕ → Answer → ℕ → ℕ → List ℕ → Answer → Type 0
-BareNamedOf Done w x n o a tag at o′ y = (y .status ≡ Done) × (Wrote o (a .state .pos) (bare-of tag None (name-of (next-token (rest w x n at)))) (3 + length (name-of (next-token (rest w x n at)))) o′ (y .state .pos) × ((y .line ≡ 0) × (y .column ≡ 0)))
+BareNamedOf Done w x n o a tag at o′ y = (y .status ≡ Done) × (Wrote o (a .state .pos) (bare-of tag None (name-of (next-token (rest w x n at)))) (3 + length (name-of (next-token (rest w x n at)))) o′ (y .state .pos) × (y .place ≡ 0))
 BareNamedOf Fatal w x n o a tag at o′ y = (y ≡ a) × (o′ ≡ o)
 BareNamedOf (Refused m) w x n o a tag at o′ y = (y ≡ a) × (o′ ≡ o)
 

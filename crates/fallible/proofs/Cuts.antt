@@ -22,16 +22,16 @@ pub made : (h : Status) (n : ℕ) (s : State) {r f r′ f′ : List ℕ} {e : �
     → Raised (making h n s) r f s e r′ f′ (record {
       status = h;
       state = record { at = s .at; pos = s .pos; reported = t .reported; full = t .full };
-      line = 0;
-      column = 0;
+      place = 0;
+      count = 0;
     })
 made h n s l p = record {
   is =
       ap (λ (t : Tally). record {
         status = h;
         state = record { at = s .at; pos = s .pos; reported = t .reported; full = t .full };
-        line = 0;
-        column = 0;
+        place = 0;
+        count = 0;
       }) (p .is)
       ∙ sym (rw (lt-ltb (s .full) 255 l));
   reported = λ _. p .reported;
@@ -72,8 +72,8 @@ pub cut : {r r′ : List ℕ} {a : Answer} {i j k : ℕ} {t : Tally} → Cuts r 
     → Abandoned r a i j k r′ (record {
       status = a .status;
       state = record { at = a .state .at; pos = i; reported = t .reported; full = t .full };
-      line = 0;
-      column = 0;
+      place = 0;
+      count = 0;
     })
 cut {r} {r′} {a} {i} {j} {k} {t} c h p =
     let m : t .reported ≡ j + (a .state .reported - k) = ap (λ (t : Tally). t .reported) (p .is) in

@@ -13,7 +13,7 @@ use Rattle.fallible.specs.Lists.{unpack, errs}
 
 -- a refusal: all n tokens are passed
 abbrev pub refused-at : ℕ → State → ℕ → Answer
-refused-at n s m = record { status = Refused m; state = record { at = n; pos = s .pos; reported = s .reported; full = s .full }; line = 0; column = 0 }
+refused-at n s m = record { status = Refused m; state = record { at = n; pos = s .pos; reported = s .reported; full = s .full }; place = 0; count = 0 }
 
 -- one error more in both lists
 abbrev pub one-more : State → State
@@ -21,7 +21,7 @@ one-more s = record { at = s .at; pos = s .pos; reported = s .reported + 1; full
 
 -- an error is made, with an answer so; or a 256th is refused
 abbrev pub making : Status → ℕ → State → Answer
-making h n s = pick (ltb (s .full) 255) (record { status = h; state = one-more s; line = 0; column = 0 }) (refused-at n s 12)
+making h n s = pick (ltb (s .full) 255) (record { status = h; state = one-more s; place = 0; count = 0 }) (refused-at n s 12)
 
 abbrev pub raised : ℕ → State → Answer
 raised n s = making Fatal n s
@@ -67,4 +67,4 @@ pub record Cuts (r : List ℕ) (a : Answer) (i j k : ℕ) : Type 0 where
 -- ---- errors dropped
 
 abbrev pub silent : Answer → ℕ → Answer
-silent a j = record { status = a .status; state = record { at = a .state .at; pos = a .state .pos; reported = j; full = a .state .full }; line = a .line; column = a .column }
+silent a j = record { status = a .status; state = record { at = a .state .at; pos = a .state .pos; reported = j; full = a .state .full }; place = a .place; count = a .count }

@@ -3,13 +3,14 @@ use mathlib.Core.List.{List, map}
 use Prim.Native.Nat.{ℕ, _/_, _%_}
 use lib.ListN.{take}
 use Rattle.definition.specs.Fallible.{Err}
+use Rattle.definition.specs.Places.{unpack-place}
 
-abbrev pub error-at : ℕ → ℕ → ℕ → ℕ → ℕ → Err
-error-at number line column expected got = record { number = number; place = record { line = line; column = column }; expected = expected; got = got }
+abbrev pub error-at : ℕ → ℕ → ℕ → ℕ → Err
+error-at number place expected got = record { number = number; place = unpack-place place; expected = expected; got = got }
 
--- an entry: one byte of number, two of line, two of column, one of each kind
+-- an entry: one byte of number, four of place, one of each kind
 unfoldable pub unpack : ℕ → Err
-unpack e = error-at (e / 281474976710656 % 256) (e / 4294967296 % 65536) (e / 65536 % 65536) (e / 256 % 256) (e % 256)
+unpack e = error-at (e / 281474976710656 % 256) (e / 65536 % 4294967296) (e / 256 % 256) (e % 256)
 
 -- the first n errors of a slice
 unfoldable pub errs : List ℕ → ℕ → List Err

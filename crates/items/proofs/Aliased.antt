@@ -17,6 +17,7 @@ use Rattle.definition.specs.Act as A
 use Rattle.definition.specs.Act.{Act, done, loop, Loop, Left, Modifiers, next, panic, if_then_else_, Node, Consumed, plain, St, Res, after, or-return, run, _>>=_, _>>?_}
 use Rattle.definition.specs.Parser as P
 use Rattle.definition.specs.Go.{go}
+use Rattle.definition.specs.Places.{unpack-place}
 use Rattle.definition.proofs.Flat.{go-bind, go-loop}
 use Rattle.fallible.proofs.Grown.{errs-length}
 use Rattle.fallible.specs.declared.State.{State}
@@ -35,7 +36,6 @@ use Rattle.steps.proofs.Answers.{Stopped, say, good-of, stops, follows, wrapped
 use Rattle.steps.proofs.Constructs.{within}
 use Rattle.steps.proofs.Following.{expecting, expects-after}
 use Rattle.leaves.proofs.Errors.{raise-reads}
-use Rattle.expression_laws.specs.Post.{place-at}
 use Rattle.expression_laws.proofs.Types.{moved-onward, shown-from, record-reads, past}
 use Rattle.expression_laws.proofs.Calls.{expect-seam}
 use Rattle.statement.proofs.Statements.{clean}
@@ -131,7 +131,7 @@ module _ (d k number : ℕ) (m : Tok → Act (Ans Node)) {w x : List ℕ} {n : �
       })
 
   by-other : {e : ℕ} {r1 f1 : List ℕ} {y : Answer} → (t .kind ≡ 0 → ⊥) → (t .kind ≡ k → ⊥)
-      → unpack e ≡ error-at number (t .line) (t .column) 0 0
+      → unpack e ≡ error-at number (t .place) 0 0
       → Raised (raised n (fore s t)) r f (fore s t) e r1 f1 y
       → Reads node w x n d (by k number m) o r f s o r1 f1 y
   unfolding go run
@@ -180,32 +180,32 @@ module _ {w x : List ℕ} {n d : ℕ} {o r f r1 f1 o1 r2 f2 : List ℕ} {s : Sta
     pub alias-room : length o1 ≡ length o → Room o1 x (c .state .pos) (16 + t .len) (t .start) (t .len)
     alias-room l = record { room = omega (arith, alias-paid, q .room); part = u .part }
 
-module _ (d words line column : ℕ) {w x : List ℕ} {n : ℕ} {o r f : List ℕ} {s : State} {t : Token}
+module _ (d words : ℕ) (place : ℕ) {w x : List ℕ} {n : ℕ} {o r f : List ℕ} {s : State} {t : Token}
     (q : Asked w x n o r f s) (u : Seen w x n (s .at) t) where
   pub alias-end : {y : Answer} → t .kind ≡ 0 → y ≡ refused-at n s 11
-      → Reads node w x n d (alias-rule words (place-at line column)) o r f s o r f y
+      → Reads node w x n d (alias-rule words (unpack-place place)) o r f s o r f y
   unfolding alias-rule
-  alias-end h e = by-end d 1 16 (name-on words (place-at line column)) q u h e
+  alias-end h e = by-end d 1 16 (name-on words (unpack-place place)) q u h e
 
   pub alias-other : {e : ℕ} {r1 f1 : List ℕ} {y : Answer} → (t .kind ≡ 0 → ⊥) → (t .kind ≡ 1 → ⊥)
-      → unpack e ≡ error-at 16 (t .line) (t .column) 0 0 → Raised (raised n (fore s t)) r f (fore s t) e r1 f1 y
-      → Reads node w x n d (alias-rule words (place-at line column)) o r f s o r1 f1 y
+      → unpack e ≡ error-at 16 (t .place) 0 0 → Raised (raised n (fore s t)) r f (fore s t) e r1 f1 y
+      → Reads node w x n d (alias-rule words (unpack-place place)) o r f s o r1 f1 y
   unfolding alias-rule
-  alias-other m0 m1 i g = by-other d 1 16 (name-on words (place-at line column)) q u m0 m1 i g
+  alias-other m0 m1 i g = by-other d 1 16 (name-on words (unpack-place place)) q u m0 m1 i g
 
   module _ {r1 f1 : List ℕ} {a : Answer} (h : t .kind ≡ 1) (X : Expects w x n (λ role. P.expect-as role 26) r f (fore s t) r1 f1 a) where
     alias-named : (rd : List Consumed)
-        → go d (alias-rule words (place-at line column)) (st-of w x n f rd s)
+        → go d (alias-rule words (unpack-place place)) (st-of w x n f rd s)
         ≡ after (go d (P.expect 26) (st-of w x n f (past w x n (s .at) rd) (fore s t)))
-        (λ z S. go d (or-return (λ _. equals-on words (place-at line column) (next-token (rest w x n (s .at)))) z) S)
+        (λ z S. go d (or-return (λ _. equals-on words (unpack-place place) (next-token (rest w x n (s .at)))) z) S)
     unfolding alias-rule
     alias-named rd =
-        by-there d 1 16 (name-on words (place-at line column)) q u (omega arith) h rd
+        by-there d 1 16 (name-on words (unpack-place place)) q u (omega arith) h rd
         ∙ go-bind d (P.expect 26)
-        (or-return (λ _. equals-on words (place-at line column) (next-token (rest w x n (s .at)))))
+        (or-return (λ _. equals-on words (unpack-place place) (next-token (rest w x n (s .at)))))
         (st-of w x n f (past w x n (s .at) rd) (fore s t))
 
-    pub alias-stops : Stopped a → Reads node w x n d (alias-rule words (place-at line column)) o r f s o r1 f1 a
+    pub alias-stops : Stopped a → Reads node w x n d (alias-rule words (unpack-place place)) o r f s o r1 f1 a
     alias-stops nd =
         record {
           moved = moved-onward (fore-moved (q .asks) u) (X .moved);
@@ -218,25 +218,24 @@ module _ (d words line column : ℕ) {w x : List ℕ} {n : ℕ} {o r f : List �
         → length f2 ≡ length f → Expected w x n 50 (s .pos) (s .reported) r2 f2 b r3 f3 c
         → Finished x o1 c (record {
           tag = 0x51;
-          line = line;
-          column = column;
+          place = place;
           numbers = Byte words;
           start = t .start;
           len = t .len;
         }) o2 y
-        → Reads node w x n d (alias-rule words (place-at line column)) o r f s o2 r3 f3 y
+        → Reads node w x n d (alias-rule words (unpack-place place)) o r f s o2 r3 f3 y
     alias-done z B lr lf C F =
         let g : (rd : List Consumed) → Good _ _ _ [] [] w x n o r1 f1 a (go d (P.expect 26) (st-of w x n f (past w x n (s .at) rd) (fore s t))) =
         λ rd. good-of z (X .is plain d (past w x n (s .at) rd) o) in
-        let end : Fallible Node → Act (Ans Node) = aliased words (place-at line column) (next-token (rest w x n (s .at))) in
-        record-reads {K = node} (place-at line column) (λ _. byte words ∷ []) (next-token (rest w x n (s .at)) .text) F
+        let end : Fallible Node → Act (Ans Node) = aliased words (unpack-place place) (next-token (rest w x n (s .at))) in
+        record-reads {K = node} (unpack-place place) (λ _. byte words ∷ []) (next-token (rest w x n (s .at)) .text) F
         (moved-trans (moved-trans (moved-trans (fore-moved (q .asks) u) (X .moved)) (B .moved)) (C .moved))
         (omega (arith, C .moved .at, B .moved .at, X .moved .at, u .on, u .kind))
         (omega (arith, alias-paid q u X B h C))
         (λ _ _. rw (u .text))
         (λ rd. after (go d P.parse-type (st-of w x n f1 (g rd .read) (a .state))) (λ z S. go d (or-return (expecting plain 50) z) S))
         (λ rd. alias-named rd ∙ follows d
-        (λ _. equals-on words (place-at line column) (next-token (rest w x n (s .at)))) (g rd .is) ∙ go-bind d
+        (λ _. equals-on words (unpack-place place) (next-token (rest w x n (s .at)))) (g rd .is) ∙ go-bind d
         P.parse-type (or-return (λ ty. P.expect 50 >>? λ _. end ty)) (st-of w x n f1 (g rd .read) (a .state))
         ∙ expect-seam d plain 50 end (go d P.parse-type (st-of w x n f1 (g rd .read) (a .state))))
         (λ rd. expects-after (alias-follows q u X B z lr lf) C plain d
@@ -278,7 +277,7 @@ module _ (d : ℕ) {w x : List ℕ} {n : ℕ} {o r f : List ℕ} {s : State} {t 
     (q : Asked w x n o r f s) (u : Seen w x n (s .at) t) (M : Modified w x n 0 0 (s .at) m) where
   modified-step : (rd : List Consumed)
       → go d P.parse-type-alias (st-of w x n f rd s)
-      ≡ go d (P.expect 15 >>? λ _. alias-rule (m .words) (place-at (t .line) (t .column)))
+      ≡ go d (P.expect 15 >>? λ _. alias-rule (m .words) (unpack-place (t .place)))
       (st-of w x n f (M .read rd) (onto s (m .next)))
   unfolding go run P.parse-type-alias alias-rule
   modified-step rd =
@@ -289,7 +288,7 @@ module _ (d : ℕ) {w x : List ℕ} {n : ℕ} {o r f : List ℕ} {s : State} {t 
       ∙ ap (λ (c : ℕ). go d (P.expect 15 >>? λ _. alias-rule c p) S) (M .sum)
       ∙ ap (λ (p : Place). go d (P.expect 15 >>? λ _. alias-rule (m .words) p) S) (u .place)
 
-  pub modified-reads : {o1 r1 f1 : List ℕ} {y : Answer} → Reads node w x n d (P.expect 15 >>? λ _. alias-rule (m .words) (place-at (t .line) (t .column))) o r f (onto s (m .next)) o1 r1 f1 y → Reads node w x n d P.parse-type-alias o r f s o1 r1 f1 y
+  pub modified-reads : {o1 r1 f1 : List ℕ} {y : Answer} → Reads node w x n d (P.expect 15 >>? λ _. alias-rule (m .words) (unpack-place (t .place))) o r f (onto s (m .next)) o1 r1 f1 y → Reads node w x n d P.parse-type-alias o r f s o1 r1 f1 y
   modified-reads {y = y} R =
       record {
         moved = moved-trans (modified-moved q M) (R .moved);
@@ -320,34 +319,34 @@ module _ {w x : List ℕ} {n : ℕ} {o r f r1 f1 : List ℕ} {s : State} {t : To
   pub path-room : Room o x (a .state .pos) (16 + t .len) (t .start) (t .len)
   path-room = record { room = omega (arith, path-paid, q .room); part = u .part }
 
-module _ (d line column : ℕ) {w x : List ℕ} {n : ℕ} {o r f : List ℕ} {s : State} {t : Token}
+module _ (d : ℕ) (place : ℕ) {w x : List ℕ} {n : ℕ} {o r f : List ℕ} {s : State} {t : Token}
     (q : Asked w x n o r f s) (u : Seen w x n (s .at) t) where
-  pub path-end : {y : Answer} → t .kind ≡ 0 → y ≡ refused-at n s 11 → Reads node w x n d (path-rule (place-at line column)) o r f s o r f y
+  pub path-end : {y : Answer} → t .kind ≡ 0 → y ≡ refused-at n s 11 → Reads node w x n d (path-rule (unpack-place place)) o r f s o r f y
   unfolding path-rule
-  path-end h e = by-end d 3 17 (string-on (place-at line column)) q u h e
+  path-end h e = by-end d 3 17 (string-on (unpack-place place)) q u h e
 
   pub path-other : {e : ℕ} {r1 f1 : List ℕ} {y : Answer} → (t .kind ≡ 0 → ⊥) → (t .kind ≡ 3 → ⊥)
-      → unpack e ≡ error-at 17 (t .line) (t .column) 0 0 → Raised (raised n (fore s t)) r f (fore s t) e r1 f1 y
-      → Reads node w x n d (path-rule (place-at line column)) o r f s o r1 f1 y
+      → unpack e ≡ error-at 17 (t .place) 0 0 → Raised (raised n (fore s t)) r f (fore s t) e r1 f1 y
+      → Reads node w x n d (path-rule (unpack-place place)) o r f s o r1 f1 y
   unfolding path-rule
-  path-other m0 m3 i g = by-other d 3 17 (string-on (place-at line column)) q u m0 m3 i g
+  path-other m0 m3 i g = by-other d 3 17 (string-on (unpack-place place)) q u m0 m3 i g
 
   module _ {r1 f1 : List ℕ} {a : Answer} (h : t .kind ≡ 3) (X : Expects w x n (λ role. P.expect-as role 50) r f (fore s t) r1 f1 a) where
     pub path-done : {o1 : List ℕ} {y : Answer}
         → Finished x o a
-        (record { tag = 0x52; line = line; column = column; numbers = None; start = t .start; len = t .len }) o1
+        (record { tag = 0x52; place = place; numbers = None; start = t .start; len = t .len }) o1
         y
-        → Reads node w x n d (path-rule (place-at line column)) o r f s o1 r1 f1 y
+        → Reads node w x n d (path-rule (unpack-place place)) o r f s o1 r1 f1 y
     unfolding path-rule
     path-done F =
         let text : List ℕ = next-token (rest w x n (s .at)) .text in
         let end : Fallible Tok → Act (Ans Node) = wrapped (token (next-token (rest w x n (t .next)))) [] [] 0x52
-        (λ _. place-at line column) (λ _. []) text in
-        record-reads (place-at line column) (λ _. []) text F (moved-onward (fore-moved (q .asks) u) (X .moved))
+        (λ _. unpack-place place) (λ _. []) text in
+        record-reads (unpack-place place) (λ _. []) text F (moved-onward (fore-moved (q .asks) u) (X .moved))
         (omega (arith, X .moved .at, u .on, u .kind)) (omega (arith, path-paid q u h X)) (λ _ _. rw (u .text))
         (λ rd. go d (P.expect 50) (st-of w x n f (past w x n (s .at) rd) (fore s t)))
-        (λ rd. by-there d 3 17 (string-on (place-at line column)) q u (omega arith) h rd ∙ clean d 50 end
-        (P.good (P.node [] 0x52 (place-at line column) [] text) []) (λ _. refl)
+        (λ rd. by-there d 3 17 (string-on (unpack-place place)) q u (omega arith) h rd ∙ clean d 50 end
+        (P.good (P.node [] 0x52 (unpack-place place) [] text) []) (λ _. refl)
         (st-of w x n f (past w x n (s .at) rd) (fore s t)) ∙ go-bind d (P.expect 50) (or-return end)
         (st-of w x n f (past w x n (s .at) rd) (fore s t)))
         (λ rd. X .is plain d (past w x n (s .at) rd) o)
@@ -356,30 +355,30 @@ module _ (d line column : ℕ) {w x : List ℕ} {n : ℕ} {o r f : List ℕ} {s 
 
 module _ (d : ℕ) {w x : List ℕ} {n : ℕ} (f : List ℕ) (s : State) {t : Token} (u : Seen w x n (s .at) t) (rd : List Consumed) where
   use-step : go d P.parse-use (st-of w x n f rd s)
-      ≡ go d (P.expect 18 >>? λ _. path-rule (place-at (t .line) (t .column))) (st-of w x n f rd s)
+      ≡ go d (P.expect 18 >>? λ _. path-rule (unpack-place (t .place))) (st-of w x n f rd s)
   unfolding go run P.parse-use path-rule
   use-step = ap (λ (p : Place). go d (P.expect 18 >>? λ _. path-rule p) (st-of w x n f rd s)) (u .place)
 
   var-step : go d P.parse-top-level-var-declaration (st-of w x n f rd s)
-      ≡ go d (P.expect 5 >>? λ _. P.declaration 0x53 (place-at (t .line) (t .column))) (st-of w x n f rd s)
+      ≡ go d (P.expect 5 >>? λ _. P.declaration 0x53 (unpack-place (t .place))) (st-of w x n f rd s)
   unfolding go run P.parse-top-level-var-declaration
   var-step = ap (λ (p : Place). go d (P.expect 5 >>? λ _. P.declaration 0x53 p) (st-of w x n f rd s)) (u .place)
 
 module _ {w x : List ℕ} {n d : ℕ} {o r f r1 f1 : List ℕ} {s : State} {t : Token} {a : Answer} (u : Seen w x n (s .at) t) where
   module _ (X : Expects w x n (λ role. P.expect-as role 18) r f s r1 f1 a) where
     pub use-stops : Stopped a → Reads node w x n d P.parse-use o r f s o r1 f1 a
-    use-stops nd = keyword-stops (path-rule (place-at (t .line) (t .column))) X (use-step d f s u) nd
+    use-stops nd = keyword-stops (path-rule (unpack-place (t .place))) X (use-step d f s u) nd
 
     pub use-on : {o1 r2 f2 : List ℕ} {y : Answer} → a .status ≡ Done
-        → Reads node w x n d (path-rule (place-at (t .line) (t .column))) o r1 f1 (a .state) o1 r2 f2 y
+        → Reads node w x n d (path-rule (unpack-place (t .place))) o r1 f1 (a .state) o1 r2 f2 y
         → Reads node w x n d P.parse-use o r f s o1 r2 f2 y
-    use-on z B = keyword-on (path-rule (place-at (t .line) (t .column))) X (use-step d f s u) z B
+    use-on z B = keyword-on (path-rule (unpack-place (t .place))) X (use-step d f s u) z B
 
   module _ (X : Expects w x n (λ role. P.expect-as role 5) r f s r1 f1 a) where
     pub var-stops : Stopped a → Reads node w x n d P.parse-top-level-var-declaration o r f s o r1 f1 a
-    var-stops nd = keyword-stops (P.declaration 0x53 (place-at (t .line) (t .column))) X (var-step d f s u) nd
+    var-stops nd = keyword-stops (P.declaration 0x53 (unpack-place (t .place))) X (var-step d f s u) nd
 
     pub var-on : {o1 r2 f2 : List ℕ} {y : Answer} → a .status ≡ Done
-        → Reads node w x n d (P.declaration 0x53 (place-at (t .line) (t .column))) o r1 f1 (a .state) o1 r2 f2 y
+        → Reads node w x n d (P.declaration 0x53 (unpack-place (t .place))) o r1 f1 (a .state) o1 r2 f2 y
         → Reads node w x n d P.parse-top-level-var-declaration o r f s o1 r2 f2 y
-    var-on z B = keyword-on (P.declaration 0x53 (place-at (t .line) (t .column))) X (var-step d f s u) z B
+    var-on z B = keyword-on (P.declaration 0x53 (unpack-place (t .place))) X (var-step d f s u) z B

@@ -16,6 +16,7 @@ use Rattle.definition.specs.Act.{Act, Items, Node, peek, next, if_then_else_, p
 use Rattle.definition.specs.Parser as P
 use Rattle.definition.specs.Parser.{parse}
 use Rattle.definition.specs.Go.{go}
+use Rattle.definition.specs.Places.{unpack-place}
 use Rattle.definition.proofs.Flat.{go-bind}
 use Rattle.fallible.proofs.Grown.{errs-length}
 use Rattle.fallible.specs.declared.State.{State}
@@ -31,7 +32,7 @@ use Rattle.steps.specs.Shows.{st-of, Asked, Moved, Good, Shows, Reads, done-of,
 use Rattle.steps.proofs.Tokens.{yes, no, fore, adv}
 use Rattle.steps.proofs.Answers.{Stopped, say, good-of, is-good, stops, follows, wrapped, finishes}
 use Rattle.steps.proofs.Following.{expects-after}
-use Rattle.expression_laws.specs.Post.{place-at, as-answer}
+use Rattle.expression_laws.specs.Post.{as-answer}
 use Rattle.expression_laws.proofs.Names.{text-length}
 use Rattle.expression_laws.proofs.Types.{paid, past}
 use Rattle.expression_laws.proofs.Calls.{rebased, expect-seam}
@@ -62,16 +63,15 @@ module _ {w x : List ℕ} {n name i j : ℕ} {o r f : List ℕ} {a : Answer} (q 
     pub external-room : Room o x (b .state .pos) (16 + t .len) (t .start) (t .len)
     external-room = record { room = omega (arith, q .room, X .high, text-length u); part = u .part }
 
-    pub external-on : {o2 : List ℕ} {y : Answer} {line column : ℕ} (d : ℕ)
+    pub external-on : {o2 : List ℕ} {y : Answer} {place : ℕ} (d : ℕ)
         → Finished x o b (record {
           tag = 0x50;
-          line = line;
-          column = column;
-          numbers = ByteTwo 1 (a .line);
+          place = place;
+          numbers = ByteTwo 1 (a .count);
           start = t .start;
           len = t .len;
         }) o2 y
-        → FunctionOn w x n d 1 (place-at line column) name i j o r f a o2 r1 f1 y
+        → FunctionOn w x n d 1 (unpack-place place) name i j o r f a o2 r1 f1 y
     external-on {o2} {y} {line} {column} d F =
         let e : budget w x n (y .state .at) ≡ budget w x n (b .state .at) = ap (λ (k : ℕ). budget w x n k) (F .at) in
         let l = text-length u in
@@ -88,9 +88,9 @@ module _ {w x : List ℕ} {n name i j : ℕ} {o r f : List ℕ} {a : Answer} (q 
                 few = omega (arith, F .full, X .moved);
               };
           is = λ T E p li lj v.
-              say (outside-seam d (place-at line column) (next-token (rest w x n name)) p
-              ∙ expect-seam d plain 50 (outside (place-at line column) (next-token (rest w x n name))) p)
-              (finishes d (λ _. place-at line column) (λ i. byte 1 ∷ two (i .count) ∷ [])
+              say (outside-seam d (unpack-place place) (next-token (rest w x n name)) p
+              ∙ expect-seam d plain 50 (outside (unpack-place place) (next-token (rest w x n name))) p)
+              (finishes d (λ _. unpack-place place) (λ i. byte 1 ∷ two (i .count) ∷ [])
               (next-token (rest w x n name) .text) F (λ k h. rw (h, expected-line X, u .text))
               (expects-after external-follows X plain d li lj v));
         }
@@ -179,14 +179,14 @@ module _ {w x : List ℕ} {n d name i j : ℕ} {o r f : List ℕ} {a : Answer} (
       ),
     )
 
-module _ {w x : List ℕ} {n d name i j line column : ℕ} {o r f : List ℕ} {a : Answer} (q : FunctionAsked w x n o r f name a i j) {o1 r1 f1 o2 : List ℕ} {b c : Answer} {t : Token} (z : a .status ≡ Done) (B : ReadsBody w x n d o r f (a .state) o1 r1 f1 b)
-    (F : Finished x o1 b (record { tag = 0x40; line = line; column = column; numbers = Two (b .line); start = 0; len = 0 }) o2 c) (u : Seen w x n name t) where
+module _ {w x : List ℕ} {n d name i j : ℕ} {place : ℕ} {o r f : List ℕ} {a : Answer} (q : FunctionAsked w x n o r f name a i j) {o1 r1 f1 o2 : List ℕ} {b c : Answer} {t : Token} (z : a .status ≡ Done) (B : ReadsBody w x n d o r f (a .state) o1 r1 f1 b)
+    (F : Finished x o1 b (record { tag = 0x40; place = place; numbers = Two (b .count); start = 0; len = 0 }) o2 c) (u : Seen w x n name t) where
   pub whole-room : length o2 ≡ length o → Room o2 x (c .state .pos) (16 + t .len) (t .start) (t .len)
   whole-room l = record { room = omega (arith, q .room, B .moved .room, F .high, text-length u, l); part = u .part }
 
   module _ {r2 o3 : List ℕ} {y : Answer} (h : b .status ≡ Done)
       (X : Exchanged r1 j (a .state .reported) (b .state .reported) r2)
-      (G : Finished x o2 c (record { tag = 0x50; line = line; column = column; numbers = ByteTwo 0 (a .line); start = t .start; len = t .len }) o3 y) where
+      (G : Finished x o2 c (record { tag = 0x50; place = place; numbers = ByteTwo 0 (a .count); start = t .start; len = t .len }) o3 y) where
     whole-moved : Moved w x n i j (up (19 + length (next-token (rest w x n name) .text)) (a .state)) (y .state)
     whole-moved =
         let e : budget w x n (y .state .at) ≡ budget w x n (b .state .at) = ap (λ (k : ℕ). budget w x n k) (G .at ∙ F .at) in
@@ -224,9 +224,9 @@ module _ {w x : List ℕ} {n d name i j line column : ℕ} {o r f : List ℕ} {a
           })
 
       whole-shown : Shows node T E [] [] w x n o3 r2 f1 y
-          (after k (λ z S. go d (or-return (function-on (place-at line column) 0 (next-token (rest w x n name))) z) S))
+          (after k (λ z S. go d (or-return (function-on (unpack-place place) 0 (next-token (rest w x n name))) z) S))
       whole-shown =
-          let p : Place = place-at line column in
+          let p : Place = unpack-place place in
           let nm : Tok = next-token (rest w x n name) in
           let e : Fallible Items = record { item = g .item; errors = g .errors } in
           say (follows d (function-on p 0 nm) (g .is) ∙ body-first d p nm e (st-of w x n f (g .read) (a .state))
@@ -237,7 +237,7 @@ module _ {w x : List ℕ} {n d name i j line column : ℕ} {o r f : List ℕ} {a
           (λ k _. rw (g .holds, u .text))
           (finishes d (λ _. p) (λ k. two (k .count) ∷ []) [] F (λ k e. rw e) turned-body))
 
-    pub whole-reads : FunctionOn w x n d 0 (place-at line column) name i j o r f a o3 r2 f1 y
+    pub whole-reads : FunctionOn w x n d 0 (unpack-place place) name i j o r f a o3 r2 f1 y
     whole-reads = record {
       moved = whole-moved;
       is =
@@ -425,7 +425,7 @@ module _ {w x : List ℕ} {n d : ℕ} {o r f r1 f1 : List ℕ} {s : State} {a : 
 
 module _ {w x : List ℕ} {n d : ℕ} {o r f o1 r1 f1 : List ℕ} {s : State} {t : Token} {y : Answer} (u : Seen w x n (s .at) t) where
   pub definition-external : t .kind ≡ 19
-      → Reads node w x n d (P.function (place-at (t .line) (t .column)) 1) o r f (fore s t) o1 r1 f1 y
+      → Reads node w x n d (P.function (unpack-place (t .place)) 1) o r f (fore s t) o1 r1 f1 y
       → Reads node w x n d P.parse-function-definition o r f s o1 r1 f1 y
   unfolding go run P.parse-function-definition
   definition-external h B = record {
@@ -438,7 +438,7 @@ module _ {w x : List ℕ} {n d : ℕ} {o r f o1 r1 f1 : List ℕ} {s : State} {t
         (B .is (past w x n (s .at) rd));
   }
 
-  pub definition-whole : (t .kind ≡ 19 → ⊥) → Reads node w x n d (P.function (place-at (t .line) (t .column)) 0) o r f s o1 r1 f1 y
+  pub definition-whole : (t .kind ≡ 19 → ⊥) → Reads node w x n d (P.function (unpack-place (t .place)) 0) o r f s o1 r1 f1 y
       → Reads node w x n d P.parse-function-definition o r f s o1 r1 f1 y
   unfolding go run P.parse-function-definition
   definition-whole m B =

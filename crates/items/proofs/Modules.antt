@@ -80,7 +80,7 @@ module _ {w x : List ℕ} {n d : ℕ} {o r f : List ℕ} {s : State} {t : Token}
             }
 
         module _ (m5 : t .kind ≡ 5 → ⊥) (q : Asked w x n o r f s) where
-          pub item-assembly : {o1 : List ℕ} {y : Answer} → t .kind ≡ 54 → Finished x o (there s t) (texted t 0x54 None t) o1 y
+          pub item-assembly : {o1 : List ℕ} {y : Answer} → t .kind ≡ 54 → Finished x o (there s t) (texted (t .place) 0x54 None (t .start) (t .len)) o1 y
               → Reads node w x n d P.parse-top-level-item o r f s o1 r f y
           unfolding go run P.parse-top-level-item
           item-assembly h F =
@@ -89,7 +89,7 @@ module _ {w x : List ℕ} {n d : ℕ} {o r f : List ℕ} {s : State} {t : Token}
               (λ rd. rw (run, either u 4 19 mf, any u 15 20 21 ma, no u m18, no u m5, yes u h))
 
           pub item-other : {e : ℕ} {r1 f1 : List ℕ} {y : Answer} → (t .kind ≡ 54 → ⊥)
-              → unpack e ≡ error-at 1 (t .line) (t .column) 0 (t .kind)
+              → unpack e ≡ error-at 1 (t .place) 0 (t .kind)
               → Raised (raised n (fore s t)) r f (fore s t) e r1 f1 y
               → Reads node w x n d P.parse-top-level-item o r f s o r1 f1 y
           unfolding go run P.parse-top-level-item
@@ -102,7 +102,7 @@ module _ {w x : List ℕ} {n d : ℕ} {o r f : List ℕ} {s : State} {t : Token}
 
 module _ {w x : List ℕ} {n d count : ℕ} {o r f : List ℕ} {s : State} {t : Token}
     (q : Asked w x n o r f s × (count ≤ s .at)) (v : Seen w x n (s .at) t) where
-  pub module-end : t .kind ≡ 0 → LoopOn items-on w x n d count o r f s o r f (record { status = Done; state = s; line = count; column = 0 })
+  pub module-end : t .kind ≡ 0 → LoopOn items-on w x n d count o r f s o r f (record { status = Done; state = s; place = 0; count = count })
   unfolding go run P.module-turn
   module-end z = record {
     moved = stays (q .0 .asks);

@@ -50,10 +50,10 @@ still {r} {r′} {i} {j} {k} {b} {c} v z = one (b .status) (v .is)
 
 -- `expect` after an answer keeps its numbers
 pub expected-line : {w x : List ℕ} {n k i j : ℕ} {r f r′ f′ : List ℕ} {a y : Answer} → Expected w x n k i j r f a r′ f′ y
-    → y .line ≡ a .line
+    → y .count ≡ a .count
 expected-line {w} {x} {n} {k} {i} {j} {r} {f} {r′} {f′} {a} {y} v = one (a .status) (v .is)
   where
-    one : (h : Status) → ExpectedOf h w x n k i j r f a r′ f′ y → y .line ≡ a .line
+    one : (h : Status) → ExpectedOf h w x n k i j r f a r′ f′ y → y .count ≡ a .count
     one Done m = rw (m .is)
     one Fatal m = rw (m .0)
     one (Refused u) m = rw (m .0)

@@ -12,6 +12,7 @@ use Rattle.definition.specs.Act as A
 use Rattle.definition.specs.Act.{Act, Items, Node, plain, Consumed, St, gives, after, or-return, run, _>>=_, _>>?_}
 use Rattle.definition.specs.Parser as P
 use Rattle.definition.specs.Go.{go}
+use Rattle.definition.specs.Places.{unpack-place}
 use Rattle.definition.proofs.Flat.{go-bind}
 use Rattle.fallible.proofs.Grown.{errs-length}
 use Rattle.fallible.specs.declared.State.{State}
@@ -26,7 +27,7 @@ use Rattle.steps.specs.Tokens.{budget, Seen}
 use Rattle.steps.specs.Shows.{st-of, Asked, Moved, Good, Shows, Reads, node, items, Finished}
 use Rattle.steps.proofs.Tokens.{yes, no, fore, adv}
 use Rattle.steps.proofs.Answers.{Stopped, say, good-of, is-good, stops, follows, abandons, finishes}
-use Rattle.expression_laws.specs.Post.{place-at, as-answer, ReadsList}
+use Rattle.expression_laws.specs.Post.{as-answer, ReadsList}
 use Rattle.expression_laws.proofs.Types.{past}
 use Rattle.statement.specs.Post.{up}
 use Rattle.items.specs.Rules.{return-rule, signature-rule}
@@ -35,10 +36,10 @@ use Rattle.items.proofs.Orders.{answered, still, turned}
 
 -- ---- `return_type`
 
-module _ {w x : List ℕ} {n d line column : ℕ} {o r f : List ℕ} {s : State} {t : Token} (u : Seen w x n (s .at) t) where
+module _ {w x : List ℕ} {n d : ℕ} {place : ℕ} {o r f : List ℕ} {s : State} {t : Token} (u : Seen w x n (s .at) t) where
   pub type-given : {o1 r1 f1 : List ℕ} {y : Answer} → t .kind ≡ 51
       → Reads node w x n d P.parse-type o r f (fore s t) o1 r1 f1 y
-      → ReadsType w x n d (place-at line column) o r f s o1 r1 f1 y
+      → ReadsType w x n d (unpack-place place) o r f s o1 r1 f1 y
   unfolding go run
   type-given h B = record {
     moved =
@@ -56,13 +57,13 @@ module _ {w x : List ℕ} {n d line column : ℕ} {o r f : List ℕ} {s : State}
   }
 
   pub type-none : {o2 : List ℕ} {y : Answer} → Asked w x n o r f s → (t .kind ≡ 51 → ⊥)
-      → Finished x o (record { status = Done; state = s; line = line; column = column })
-      (record { tag = 0x11; line = line; column = column; numbers = None; start = 0; len = 0 }) o2 y
-      → ReadsType w x n d (place-at line column) o r f s o2 r f y
+      → Finished x o (record { status = Done; state = s; place = place; count = 0 })
+      (record { tag = 0x11; place = place; numbers = None; start = 0; len = 0 }) o2 y
+      → ReadsType w x n d (unpack-place place) o r f s o2 r f y
   unfolding go run recs-bytes
   type-none {o2} {y} q m F =
       let e : budget w x n (y .state .at) ≡ budget w x n (s .at) = ap (λ (k : ℕ). budget w x n k) (F .at) in
-      let none : Fallible Node = record { item = record { place = place-at line column; recs = [] }; errors = [] } in
+      let none : Fallible Node = record { item = record { place = unpack-place place; recs = [] }; errors = [] } in
       record {
         moved =
             record {
@@ -77,7 +78,7 @@ module _ {w x : List ℕ} {n d line column : ℕ} {o r f : List ℕ} {s : State}
             };
         is = λ rd.
             say (rw (run, no u m))
-            (finishes {K = node} {rs = []} {es = []} {q = gives (ok none) (st-of w x n f rd s)} d (λ _. place-at line column) (λ _. []) [] F (λ i _. refl)
+            (finishes {K = node} {rs = []} {es = []} {q = gives (ok none) (st-of w x n f rd s)} d (λ _. unpack-place place) (λ _. []) [] F (λ i _. refl)
             (record {
               told = record {
                 item = none .item;
@@ -196,7 +197,7 @@ module _ {w x : List ℕ} {n d : ℕ} {p : Place} {o r f o1 r1 f1 : List ℕ} {s
       pub signature-reads : {r4 : List ℕ} → a .status ≡ Done → c .status ≡ Done
           → Exchanged r3 (s .reported) (a .state .reported) (c .state .reported) r4
           → ReadsSignature w x n d p o r f s o2 r4 f2
-          (record { status = c .status; state = c .state; line = a .line; column = 0 })
+          (record { status = c .status; state = c .state; place = 0; count = a .count })
       unfolding go run
       signature-reads z y X =
           let e : c .state .reported ≡ b .state .reported = ap (λ (z : Answer). z .state .reported) (still C y) in

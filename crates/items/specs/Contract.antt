@@ -25,7 +25,3 @@ abbrev pub FunctionOn : ℕ → Place → Lent → Lent → ℕ → Lent → Len
 FunctionOn external p tokens text n file reported full name a from nesting r =
     I.FunctionOn (at-entry tokens) (at-entry text) n nesting external p name (from .pos) (from .reported) (at-entry file)
     (at-entry reported) (at-entry full) a (at-exit file) (at-exit reported) (at-exit full) r
-
-abbrev pub ReadsModule : Lent → Lent → ℕ → Lent → Lent → Lent → ℕ → Answer → Type 0
-ReadsModule tokens text n file reported full nesting r =
-    I.ReadsModule (at-entry tokens) (at-entry text) n nesting (at-exit file) (at-exit reported) (at-exit full) r

@@ -2,6 +2,7 @@
 use mathlib.Core.List.{[], _∷_, _++_}
 use Prim.Native.Nat.{ℕ}
 use lib.Dec.{leb}
+use Rattle.definition.specs.Tag as Tag
 use Rattle.definition.specs.Source.{Place}
 use Rattle.definition.specs.Node.{byte, two}
 use Rattle.definition.specs.Fallible.{Fallible, Ans}
@@ -15,7 +16,7 @@ use Rattle.expression_laws.specs.Post.{as-answer}
 
 -- the return type of a function at the place p
 abbrev pub return-rule : Place → Act (Ans Node)
-return-rule p = peek λ t. if t is K.RArrow then (next λ _. P.parse-type) else P.good (P.node [] 0x11 p [] []) []
+return-rule p = peek λ t. if t is K.RArrow then (next λ _. P.parse-type) else P.good (P.node [] Tag.Void p [] []) []
 
 -- the parameters and the return type: the records in reading order, the errors of the type first
 abbrev pub signed : Items → Fallible Node → Items
@@ -32,9 +33,9 @@ abbrev pub function-on : Place → ℕ → Tok → Fallible Items → Act (Ans N
 function-on p external name x =
     if leb 1 external then
     (P.expect K.Semicolon >>? λ _.
-    P.good (P.node (x .item .recs) 0x50 p (byte 1 ∷ two (x .item .count) ∷ []) (name .text)) (x .errors)) else
+    P.good (P.node (x .item .recs) Tag.FunctionDefinition p (byte 1 ∷ two (x .item .count) ∷ []) (name .text)) (x .errors)) else
     (P.parse-body >>= λ b.
-    P.good (P.node (x .item .recs ++ P.node (b .recs) 0x40 p (two (b .count) ∷ []) [] .recs) 0x50 p (byte 0 ∷ two (x .item .count) ∷ []) (name .text)) (b .errors ++ x .errors))
+    P.good (P.node (x .item .recs ++ P.node (b .recs) Tag.Block p (two (b .count) ∷ []) [] .recs) Tag.FunctionDefinition p (byte 0 ∷ two (x .item .count) ∷ []) (name .text)) (b .errors ++ x .errors))
 
 -- the loop of a module
 abbrev pub items-on : Items → Act Items

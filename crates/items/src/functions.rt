@@ -11,7 +11,6 @@ use fallible::exchange;
 use leaves::Listed;
 use node::Numbers;
 use statement::body;
-use steps::Token;
 use steps::and_expect;
 use steps::expect;
 use steps::expect_identifier;
@@ -20,7 +19,7 @@ use steps::write_node;
 use steps::write_text_node;
 ghost use Prim.Native.Nat.{ℕ};
 ghost use Rattle.definition.specs.Parser as P;
-ghost use Rattle.expression_laws.specs.Post.{place-of};
+ghost use Rattle.definition.specs.Places.{unpack-place};
 ghost use Rattle.items.specs.Items.{flag};
 ghost use Rattle.steps.specs.Contract.{Asked, Parses};
 ghost use Rattle.items.specs.Contract.{ReadsType, ReadsSignature, FunctionAsked, FunctionOn};
@@ -33,12 +32,12 @@ fn return_type(
     file: &mut [u8],
     reported: &mut [usize],
     full: &mut [usize],
-    lead: Token,
+    place: usize,
     st: State,
     nesting: usize,
 ) -> Answer
     requires { ⌜ Asked tokens text n file reported full st ⌝ }
-    ensures { λ r. ⌜ ReadsType (place-of lead) tokens text n file reported full st nesting r ⌝ }
+    ensures { λ r. ⌜ ReadsType (unpack-place place) tokens text n file reported full st nesting r ⌝ }
 {
     let t = peek(tokens, text, n, st.at);
     if t.kind == kind::R_ARROW {
@@ -48,10 +47,10 @@ fn return_type(
     let a = Answer {
         status: Status::Done,
         state: st,
-        line: lead.line,
-        column: lead.column,
+        place,
+        count: 0,
     };
-    write_node(file, text, a, lead, tag::VOID, Numbers::None)
+    write_node(file, text, a, place, tag::VOID, Numbers::None)
 }
 
 // parameters return_type. The answer's `line` is the count of parameters; the errors of the type are reported before theirs, and a fatal type drops theirs.
@@ -62,12 +61,12 @@ fn signature(
     file: &mut [u8],
     reported: &mut [usize],
     full: &mut [usize],
-    lead: Token,
+    place: usize,
     st: State,
     nesting: usize,
 ) -> Answer
     requires { ⌜ Asked tokens text n file reported full st ⌝ }
-    ensures { λ r. ⌜ ReadsSignature (place-of lead) tokens text n file reported full st nesting r ⌝ }
+    ensures { λ r. ⌜ ReadsSignature (unpack-place place) tokens text n file reported full st nesting r ⌝ }
 {
     let what = Listed::Parameters;
     let a = list(tokens, text, n, file, reported, full, what, st, nesting);
@@ -76,7 +75,7 @@ fn signature(
         return a;
     };
     let s = a.state;
-    let b = return_type(tokens, text, n, file, reported, full, lead, s, nesting);
+    let b = return_type(tokens, text, n, file, reported, full, place, s, nesting);
     let c = abandon(reported, b, st, s);
     let h = c.status;
     let Status::Done = h else {
@@ -87,8 +86,8 @@ fn signature(
     Answer {
         status: h,
         state: e,
-        line: a.line,
-        column: 0,
+        place: 0,
+        count: a.count,
     }
 }
 
@@ -100,18 +99,27 @@ fn external_function(
     file: &mut [u8],
     reported: &mut [usize],
     full: &mut [usize],
-    lead: Token,
+    place: usize,
     name: usize,
     a: Answer,
     from: State,
 ) -> Answer
     requires { ⌜ FunctionAsked tokens text n file reported full name a from ⌝ }
-    ensures { λ r. ⌜ ((d : ℕ) → FunctionOn 1 (place-of lead) tokens text n file reported full name a from d r) ⌝ }
+    ensures { λ r. ⌜ ((d : ℕ) → FunctionOn 1 (unpack-place place) tokens text n file reported full name a from d r) ⌝ }
 {
     let t = peek(tokens, text, n, name);
     let b = and_expect(tokens, text, n, reported, full, a, kind::SEMICOLON, from);
-    let numbers = Numbers::ByteTwo(1, a.line);
-    write_text_node(file, text, b, lead, tag::FUNCTION_DEFINITION, numbers, t)
+    let numbers = Numbers::ByteTwo(1, a.count);
+    write_text_node(
+        file,
+        text,
+        b,
+        place,
+        tag::FUNCTION_DEFINITION,
+        numbers,
+        t.start,
+        t.len,
+    )
 }
 
 // A function's body and its record. The body's errors are reported before those of the signature.
@@ -122,14 +130,14 @@ fn whole_function(
     file: &mut [u8],
     reported: &mut [usize],
     full: &mut [usize],
-    lead: Token,
+    place: usize,
     name: usize,
     a: Answer,
     from: State,
     nesting: usize,
 ) -> Answer
     requires { ⌜ FunctionAsked tokens text n file reported full name a from ⌝ }
-    ensures { λ r. ⌜ FunctionOn 0 (place-of lead) tokens text n file reported full name a from nesting r ⌝ }
+    ensures { λ r. ⌜ FunctionOn 0 (unpack-place place) tokens text n file reported full name a from nesting r ⌝ }
 {
     let status = a.status;
     let Status::Done = status else {
@@ -143,10 +151,19 @@ fn whole_function(
     };
     let e = b.state;
     exchange(reported, from.reported, s.reported, e.reported);
-    let c = write_node(file, text, b, lead, tag::BLOCK, Numbers::Two(b.line));
+    let c = write_node(file, text, b, place, tag::BLOCK, Numbers::Two(b.count));
     let t = peek(tokens, text, n, name);
-    let numbers = Numbers::ByteTwo(0, a.line);
-    write_text_node(file, text, c, lead, tag::FUNCTION_DEFINITION, numbers, t)
+    let numbers = Numbers::ByteTwo(0, a.count);
+    write_text_node(
+        file,
+        text,
+        c,
+        place,
+        tag::FUNCTION_DEFINITION,
+        numbers,
+        t.start,
+        t.len,
+    )
 }
 
 // `fn` name signature (`;` | body), the first where the function is external.
@@ -158,12 +175,12 @@ fn function(
     reported: &mut [usize],
     full: &mut [usize],
     external: bool,
-    lead: Token,
+    place: usize,
     st: State,
     nesting: usize,
 ) -> Answer
     requires { ⌜ Asked tokens text n file reported full st ⌝ }
-    ensures { λ r. ⌜ Parses (P.function (place-of lead) (flag external)) tokens text n file reported full st nesting r ⌝ }
+    ensures { λ r. ⌜ Parses (P.function (unpack-place place) (flag external)) tokens text n file reported full st nesting r ⌝ }
 {
     let a = expect(tokens, text, n, reported, full, st, kind::KW_FN);
     let status = a.status;
@@ -177,9 +194,9 @@ fn function(
         return b;
     };
     let e = b.state;
-    let c = signature(tokens, text, n, file, reported, full, lead, e, nesting);
+    let c = signature(tokens, text, n, file, reported, full, place, e, nesting);
     if external {
-        return external_function(tokens, text, n, file, reported, full, lead, s.at, c, st);
+        return external_function(tokens, text, n, file, reported, full, place, s.at, c, st);
     }
     whole_function(
         tokens,
@@ -188,7 +205,7 @@ fn function(
         file,
         reported,
         full,
-        lead,
+        place,
         s.at,
         c,
         st,
@@ -213,7 +230,29 @@ pub fn function_definition(
     let t = peek(tokens, text, n, st.at);
     if t.kind == kind::KW_EXTERN {
         let on = State { at: t.next, ..st };
-        return function(tokens, text, n, file, reported, full, true, t, on, nesting);
+        return function(
+            tokens,
+            text,
+            n,
+            file,
+            reported,
+            full,
+            true,
+            t.place,
+            on,
+            nesting,
+        );
     }
-    function(tokens, text, n, file, reported, full, false, t, st, nesting)
+    function(
+        tokens,
+        text,
+        n,
+        file,
+        reported,
+        full,
+        false,
+        t.place,
+        st,
+        nesting,
+    )
 }

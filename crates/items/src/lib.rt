@@ -20,7 +20,8 @@ use steps::peek;
 use steps::write_text_node;
 ghost use Rattle.definition.specs.Parser as P;
 ghost use Rattle.steps.specs.Contract.{Asked, Parses};
-ghost use Rattle.items.specs.Contract.{ReadsModule};
+ghost use Rattle.expression_laws.specs.Contract.{LoopOn};
+ghost use Rattle.items.specs.Rules.{items-on};
 
 // parse_top_level_item
 fn top_level_item(
@@ -54,18 +55,27 @@ fn top_level_item(
         let a = Answer {
             status: Status::Done,
             state: on,
-            line: t.line,
-            column: t.column,
+            place: t.place,
+            count: 0,
         };
-        return write_text_node(file, text, a, t, tag::TOP_LEVEL_ASSEMBLY, Numbers::None, t);
+        return write_text_node(
+            file,
+            text,
+            a,
+            t.place,
+            tag::TOP_LEVEL_ASSEMBLY,
+            Numbers::None,
+            t.start,
+            t.len,
+        );
     }
-    let error = entry(parse_error::TOP_LEVEL, t.line, t.column, 0, t.kind);
+    let error = entry(parse_error::TOP_LEVEL, t.place, 0, t.kind);
     raise(n, reported, full, on, error)
 }
 
 // ---- the module
 
-// parse_module: {top_level_item} to the end, from the file's first byte on; `left` calls may be open at once. The answer's `line` is the count of items.
+// parse_module: {top_level_item} to the end, from the state `from` on; `nesting` calls may be open at once. The answer's `count` is that of the items.
 pub fn module(
     tokens: &[u32],
     text: &[u8],
@@ -73,26 +83,22 @@ pub fn module(
     file: &mut [u8],
     reported: &mut [usize],
     full: &mut [usize],
+    from: State,
     nesting: usize,
 ) -> Answer
-    requires { ⌜ Asked tokens text n file reported full (record { at = 0; pos = 0; reported = 0; full = 0 }) ⌝ }
-    ensures { λ r. ⌜ ReadsModule tokens text n file reported full nesting r ⌝ }
+    requires { ⌜ Asked tokens text n file reported full from ⌝ }
+    ensures { λ r. ⌜ LoopOn items-on 0 tokens text n file reported full from nesting r ⌝ }
 {
     let mut count = 0;
-    let mut st = State {
-        at: 0,
-        pos: 0,
-        reported: 0,
-        full: 0,
-    };
+    let mut st = from;
     loop {
         let t = peek(tokens, text, n, st.at);
         if t.kind == kind::END {
             return Answer {
                 status: Status::Done,
                 state: st,
-                line: count,
-                column: 0,
+                place: 0,
+                count,
             };
         }
         let b = top_level_item(tokens, text, n, file, reported, full, st, nesting);

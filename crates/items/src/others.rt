@@ -12,7 +12,6 @@ use fallible::raise;
 use fallible::refuse;
 use node::Numbers;
 use statement::declarations::declaration;
-use steps::Token;
 use steps::and_expect;
 use steps::expect;
 use steps::peek;
@@ -20,7 +19,7 @@ use steps::write_text_node;
 ghost use Prim.Native.Nat.{ℕ, _+_, _≤_};
 ghost use Rattle.definition.specs.Parser as P;
 ghost use Rattle.steps.specs.Tokens.{Held};
-ghost use Rattle.expression_laws.specs.Post.{place-of};
+ghost use Rattle.definition.specs.Places.{unpack-place};
 ghost use Rattle.items.specs.Items.{Modified};
 ghost use Rattle.items.specs.Rules.{alias-rule, path-rule};
 ghost use Rattle.steps.specs.Contract.{Asked, Parses};
@@ -67,12 +66,12 @@ fn alias(
     reported: &mut [usize],
     full: &mut [usize],
     words: u8,
-    lead: Token,
+    place: usize,
     st: State,
     nesting: usize,
 ) -> Answer
     requires { ⌜ Asked tokens text n file reported full st ⌝ }
-    ensures { λ r. ⌜ Parses (alias-rule words (place-of lead)) tokens text n file reported full st nesting r ⌝ }
+    ensures { λ r. ⌜ Parses (alias-rule words (unpack-place place)) tokens text n file reported full st nesting r ⌝ }
 {
     let t = peek(tokens, text, n, st.at);
     let on = State { at: t.next, ..st };
@@ -80,7 +79,7 @@ fn alias(
         return refuse(n, st, refusal::END_AFTER_WORD);
     }
     if t.kind != kind::IDENTIFIER {
-        let error = entry(parse_error::NAME_AFTER_TYPE, t.line, t.column, 0, 0);
+        let error = entry(parse_error::NAME_AFTER_TYPE, t.place, 0, 0);
         return raise(n, reported, full, on, error);
     }
     let a = expect(tokens, text, n, reported, full, on, kind::EQUALS);
@@ -92,7 +91,16 @@ fn alias(
     let b = ty(tokens, text, n, file, reported, full, s, nesting);
     let c = and_expect(tokens, text, n, reported, full, b, kind::SEMICOLON, st);
     let numbers = Numbers::Byte(words);
-    write_text_node(file, text, c, lead, tag::TYPE_ALIAS, numbers, t)
+    write_text_node(
+        file,
+        text,
+        c,
+        place,
+        tag::TYPE_ALIAS,
+        numbers,
+        t.start,
+        t.len,
+    )
 }
 
 // parse_type_alias: modifiers `type` alias
@@ -141,11 +149,11 @@ fn path(
     file: &mut [u8],
     reported: &mut [usize],
     full: &mut [usize],
-    lead: Token,
+    place: usize,
     st: State,
 ) -> Answer
     requires { ⌜ Asked tokens text n file reported full st ⌝ }
-    ensures { λ r. ⌜ ((d : ℕ) → Parses (path-rule (place-of lead)) tokens text n file reported full st d r) ⌝ }
+    ensures { λ r. ⌜ ((d : ℕ) → Parses (path-rule (unpack-place place)) tokens text n file reported full st d r) ⌝ }
 {
     let t = peek(tokens, text, n, st.at);
     let on = State { at: t.next, ..st };
@@ -153,11 +161,20 @@ fn path(
         return refuse(n, st, refusal::END_AFTER_WORD);
     }
     if t.kind != kind::STRING {
-        let error = entry(parse_error::PATH_AFTER_USE, t.line, t.column, 0, 0);
+        let error = entry(parse_error::PATH_AFTER_USE, t.place, 0, 0);
         return raise(n, reported, full, on, error);
     }
     let a = expect(tokens, text, n, reported, full, on, kind::SEMICOLON);
-    write_text_node(file, text, a, lead, tag::USE, Numbers::None, t)
+    write_text_node(
+        file,
+        text,
+        a,
+        place,
+        tag::USE,
+        Numbers::None,
+        t.start,
+        t.len,
+    )
 }
 
 // parse_use: `use` path
@@ -180,7 +197,7 @@ pub fn use_path(
         return a;
     };
     let s = a.state;
-    path(tokens, text, n, file, reported, full, t, s)
+    path(tokens, text, n, file, reported, full, t.place, s)
 }
 
 // parse_top_level_var_declaration: `var` declaration
@@ -205,5 +222,16 @@ pub fn top_level_var_declaration(
     };
     let s = a.state;
     let tag = tag::TOP_LEVEL_VARIABLE;
-    declaration(tokens, text, n, file, reported, full, tag, t, s, nesting)
+    declaration(
+        tokens,
+        text,
+        n,
+        file,
+        reported,
+        full,
+        tag,
+        t.place,
+        s,
+        nesting,
+    )
 }

@@ -88,7 +88,7 @@ Atom w x n o r f s o′ r′ f′ y = (d : ℕ) → Reads node w x n d P.parse-a
 
 module _ {w x : List ℕ} {n : ℕ} {o r f : List ℕ} {s : State} {t : Token} (q : Literal w x n o r f s) (v : Seen w x n (s .at) t) where
   pub integer-reads : {o′ : List ℕ} {y : Answer} → t .kind ≡ 2
-      → Finished x o (there s t) (texted t 33 (Byte (t .base % 256)) t) o′ y → Atom w x n o r f s o′ r f y
+      → Finished x o (there s t) (texted (t .place) 33 (Byte (t .base % 256)) (t .start) (t .len)) o′ y → Atom w x n o r f s o′ r f y
   unfolding go run P.parse-atom
   integer-reads z u d =
       let b : t .base % 256 ≡ t .base = omega (arith, v .bases) in
@@ -104,7 +104,7 @@ module _ {w x : List ℕ} {n : ℕ} {o r f : List ℕ} {s : State} {t : Token} (
         (rw (v .place, v .text)) d (λ rd. rw (run, no v m2, yes v z))
 
     module _ (m1 : t .kind ≡ 1 → ⊥) where
-      pub string-reads : {o′ : List ℕ} {y : Answer} → t .kind ≡ 3 → Finished x o (there s t) (texted t 35 None t) o′ y
+      pub string-reads : {o′ : List ℕ} {y : Answer} → t .kind ≡ 3 → Finished x o (there s t) (texted (t .place) 35 None (t .start) (t .len)) o′ y
           → Atom w x n o r f s o′ r f y
       unfolding go run P.parse-atom
       string-reads z u d =
@@ -112,7 +112,7 @@ module _ {w x : List ℕ} {n : ℕ} {o r f : List ℕ} {s : State} {t : Token} (
           (rw (v .place, v .text)) d (λ rd. rw (run, no v m2, no v m1, yes v z))
 
       module _ (m3 : t .kind ≡ 3 → ⊥) where
-        pub true-reads : {o′ : List ℕ} {y : Answer} → t .kind ≡ 12 → Finished x o (there s t) (untexted t 34 (Byte 1)) o′ y
+        pub true-reads : {o′ : List ℕ} {y : Answer} → t .kind ≡ 12 → Finished x o (there s t) (untexted (t .place) 34 (Byte 1)) o′ y
             → Atom w x n o r f s o′ r f y
         unfolding go run P.parse-atom
         true-reads z u d =
@@ -120,7 +120,7 @@ module _ {w x : List ℕ} {n : ℕ} {o r f : List ℕ} {s : State} {t : Token} (
             (λ rd. rw (run, no v m2, no v m1, no v m3, yes v z))
 
         module _ (m12 : t .kind ≡ 12 → ⊥) where
-          pub false-reads : {o′ : List ℕ} {y : Answer} → t .kind ≡ 13 → Finished x o (there s t) (untexted t 34 (Byte 0)) o′ y
+          pub false-reads : {o′ : List ℕ} {y : Answer} → t .kind ≡ 13 → Finished x o (there s t) (untexted (t .place) 34 (Byte 0)) o′ y
               → Atom w x n o r f s o′ r f y
           unfolding go run P.parse-atom
           false-reads z u d =
@@ -129,14 +129,14 @@ module _ {w x : List ℕ} {n : ℕ} {o r f : List ℕ} {s : State} {t : Token} (
 
           module _ {e : ℕ} {r′ f′ : List ℕ} {y : Answer} (m13 : t .kind ≡ 13 → ⊥)
               (g : Raised (raised n (fore s t)) r f (fore s t) e r′ f′ y) where
-            pub end-reads : t .kind ≡ 0 → unpack e ≡ error-at 8 0 0 0 0 → Atom w x n o r f s o r′ f′ y
+            pub end-reads : t .kind ≡ 0 → unpack e ≡ error-at 8 0 0 0 → Atom w x n o r f s o r′ f′ y
             unfolding go run P.parse-atom
             end-reads z i d =
                 raise-reads (q .asked .asks) v plain g d (λ rd. rw
                 (run, no v m2, no v m1, no v m3, no v m12, no v m13, no v (λ b. q .bare (v .kind ∙ b)), yes v z)
                 (raise-same d (sym i) (adv s v (λ _. plain) f rd)))
 
-            pub other-reads : (t .kind ≡ 0 → ⊥) → unpack e ≡ error-at 7 (t .line) (t .column) 0 (t .kind) → Atom w x n o r f s o r′ f′ y
+            pub other-reads : (t .kind ≡ 0 → ⊥) → unpack e ≡ error-at 7 (t .place) 0 (t .kind) → Atom w x n o r f s o r′ f′ y
             unfolding go run P.parse-atom
             other-reads z i d =
                 raise-reads (q .asked .asks) v plain g d (λ rd. rw
@@ -185,8 +185,8 @@ module _ {w x : List ℕ} {n : ℕ} {r f : List ℕ} {a : Answer} (q : Asks w x 
     pub close-refused : Ended b → Closed w x n r f a r′ f′ b
     close-refused h = closes b refl (if-ended (λ k. ClosingOf k a b b) (b .status) h (λ m. refl))
 
-    pub close-on : Alive b → Closed w x n r f a r′ f′ (record { status = a .status; state = b .state; line = a .line; column = a .column })
+    pub close-on : Alive b → Closed w x n r f a r′ f′ (record { status = a .status; state = b .state; place = a .place; count = a .count })
     close-on h =
         closes _ refl (if-alive
-        (λ k. ClosingOf k a b (record { status = a .status; state = b .state; line = a .line; column = a .column }))
+        (λ k. ClosingOf k a b (record { status = a .status; state = b .state; place = a .place; count = a .count }))
         (b .status) h refl refl)

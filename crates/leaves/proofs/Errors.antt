@@ -28,11 +28,11 @@ use Rattle.steps.proofs.Answers.{say, raise-shows}
 
 -- what holds of both answers holds of the one that is made
 pub made-so : {a : Answer} (h : Status) (n : ℕ) (s : State) (C : Answer → Type 0) → a ≡ making h n s
-    → (s .full < 255 → C (record { status = h; state = one-more s; line = 0; column = 0 }))
+    → (s .full < 255 → C (record { status = h; state = one-more s; place = 0; count = 0 }))
     → (255 ≤ s .full → C (refused-at n s 12)) → C a
 made-so h n s C e p c = subst C (sym e) (one (ltb (s .full) 255) refl)
   where
-    one : (b : Bool) → ltb (s .full) 255 ≡ b → C (pick b (record { status = h; state = one-more s; line = 0; column = 0 }) (refused-at n s 12))
+    one : (b : Bool) → ltb (s .full) 255 ≡ b → C (pick b (record { status = h; state = one-more s; place = 0; count = 0 }) (refused-at n s 12))
     one true l = p (ltb-true _ _ l)
     one false l = c (ltb-false _ _ l)
 

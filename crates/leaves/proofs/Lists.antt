@@ -36,7 +36,7 @@ module _ {w x : List ℕ} {n : ℕ} {r f : List ℕ} {s : State} {close : ℕ} {
       → ((k : Listed) → P.closer k ≡ close → (d : ℕ) (rd : List Consumed) (i : Items)
       → go d (P.after-item k i) (st-of w x n f rd s)
       ≡ go d (loop (ListOf k i) done) (st-of w x n f (read k rd) s′))
-      → Commas w x n r f s close r f (record { status = Done; state = s′; line = 0; column = 0 })
+      → Commas w x n r f s close r f (record { status = Done; state = s′; place = 0; count = 0 })
   goes read m p e h =
       record {
         moved = m;
@@ -45,24 +45,24 @@ module _ {w x : List ℕ} {n : ℕ} {r f : List ℕ} {s : State} {close : ℕ} {
             record { errors = []; read = read k rd; is = h k ck d rd i ∙ rw append-nil; reported = rw (e, append-nil) };
       }
 
-  pub comma-there : t .kind ≡ 53 → Commas w x n r f s close r f (record { status = Done; state = fore s t; line = 0; column = 0 })
+  pub comma-there : t .kind ≡ 53 → Commas w x n r f s close r f (record { status = Done; state = fore s t; place = 0; count = 0 })
   unfolding go run P.after-item
   comma-there z =
       goes (λ k rd. rd ++ now-read (P.comma-role k) (rest w x n (s .at))) (fore-moved q v) refl refl
       (λ k ck d rd i. rw (run, yes v z, v .tail))
 
   module _ (m : t .kind ≡ 53 → ⊥) where
-    pub comma-close : t .kind ≡ close → Commas w x n r f s close r f (record { status = Done; state = s; line = 0; column = 0 })
+    pub comma-close : t .kind ≡ close → Commas w x n r f s close r f (record { status = Done; state = s; place = 0; count = 0 })
     unfolding go run P.after-item
     comma-close z = goes (λ k rd. rd) (stays q) refl refl (λ k ck d rd i. rw (run, no v m, yes v (z ∙ sym ck)))
 
     module _ (mc : t .kind ≡ close → ⊥) where
-      pub comma-end : t .kind ≡ 0 → Commas w x n r f s close r f (record { status = Done; state = s; line = 0; column = 0 })
+      pub comma-end : t .kind ≡ 0 → Commas w x n r f s close r f (record { status = Done; state = s; place = 0; count = 0 })
       unfolding go run P.after-item
       comma-end z = goes (λ k rd. rd) (stays q) refl refl (λ k ck d rd i. rw (run, no v m, no v (λ y. mc (y ∙ ck)), yes v z))
 
       module _ {e : ℕ} {r′ f′ : List ℕ} {a : Answer} (z : t .kind ≡ 0 → ⊥)
-          (u : unpack e ≡ error-at 15 (t .line) (t .column) 0 (t .kind))
+          (u : unpack e ≡ error-at 15 (t .place) 0 (t .kind))
           (g : Raised (noted n (fore s t)) r f (fore s t) e r′ f′ a) where
         -- the token is passed, and the error made
         passed : (k : Listed) → P.closer k ≡ close → (d : ℕ) (rd : List Consumed) (i : Items)

@@ -4,6 +4,7 @@ use mathlib.Core.Bool.{Bool, true, false, _&&_, _||_, not}
 use mathlib.Core.List.{List, _++_}
 use Prim.Native.Nat.{ℕ, min, _+_, _-_, _^_, _≤_}
 use lib.Dec.{eqb, ltb}
+use Rattle.definition.specs.Tag as Tag
 use Rattle.definition.specs.Choice.{pick}
 use Rattle.definition.specs.Fallible.{Err, Ans}
 use Rattle.definition.specs.Token.{Tok, next-token, dashed, number}
@@ -104,7 +105,7 @@ is-arithmetic k = eqb k K.Bar || eqb k K.Caret || eqb k K.Ampersand || eqb k K.L
 
 -- the kind k has the prefix tag r, or none where r is 0
 pub record Prefix (k r : ℕ) : Type 0 where
-  pub small : r ≤ 0x2B
+  pub small : r ≤ Tag.BooleanNot
   pub real : min r 1 ≤ k
   pub is : (d : ℕ) (S : St) → next-token (S .tokens) .kind ≡ k → go d P.unary-rule S ≡ go d (elim (eqb r 0) [ true ↦ P.parse-call | false ↦ P.prefix r ]) S
 
@@ -112,11 +113,11 @@ pub record Prefix (k r : ℕ) : Type 0 where
 
 -- the answer of a token that is read
 abbrev pub there : State → Token → Answer
-there s t = record { status = Done; state = record { at = t .next; pos = s .pos; reported = s .reported; full = s .full }; line = t .line; column = t .column }
+there s t = record { status = Done; state = record { at = t .next; pos = s .pos; reported = s .reported; full = s .full }; place = t .place; count = 0 }
 
 -- the record of a name
 abbrev pub identifier : Token → Record
-identifier t = texted t 0x20 None t
+identifier t = texted (t .place) Tag.Identifier None (t .start) (t .len)
 
 -- a name, and the next token neither a suffix nor the arguments of a call
 abbrev pub is-name-alone : ℕ → ℕ → Bool
@@ -125,17 +126,17 @@ is-name-alone k next = eqb k K.Identifier && not (eqb next K.Dot) && not (eqb ne
 -- no parenthesis opens what is read
 pub record Literal (w x : List ℕ) (n : ℕ) (o r f : List ℕ) (s : State) : Type 0 where
   pub asked : Asked w x n o r f s
-  pub bare : next-token (rest w x n (s .at)) .kind ≡ 41 → ⊥
+  pub bare : next-token (rest w x n (s .at)) .kind ≡ K.LParen → ⊥
 
 -- after the item a, `)` is asked for: b is that answer
 abbrev pub ClosingOf : Status → Answer → Answer → Answer → Type 0
-ClosingOf Done a b y = y ≡ record { status = a .status; state = b .state; line = a .line; column = a .column }
-ClosingOf Fatal a b y = y ≡ record { status = a .status; state = b .state; line = a .line; column = a .column }
+ClosingOf Done a b y = y ≡ record { status = a .status; state = b .state; place = a .place; count = a .count }
+ClosingOf Fatal a b y = y ≡ record { status = a .status; state = b .state; place = a .place; count = a .count }
 ClosingOf (Refused m) a b y = y ≡ b
 
 pub record Closing (w x : List ℕ) (n : ℕ) (r f : List ℕ) (a : Answer) (r′ f′ : List ℕ) (y : Answer) : Type 0 where
   pub b : Answer
-  pub expects : Expects w x n (λ role. P.expect-as role 42) r f (a .state) r′ f′ b
+  pub expects : Expects w x n (λ role. P.expect-as role K.RParen) r f (a .state) r′ f′ b
   pub is : ClosingOf (b .status) a b y
 
 abbrev pub ClosedOf : Status → List ℕ → List ℕ → ℕ → List ℕ → List ℕ → Answer → List ℕ → List ℕ → Answer → Type 0

@@ -101,27 +101,27 @@ pub fn comma(
         return Answer {
             status: Status::Done,
             state: on,
-            line: 0,
-            column: 0,
+            place: 0,
+            count: 0,
         };
     }
     if t.kind == close {
         return Answer {
             status: Status::Done,
             state: st,
-            line: 0,
-            column: 0,
+            place: 0,
+            count: 0,
         };
     }
     if t.kind == kind::END {
         return Answer {
             status: Status::Done,
             state: st,
-            line: 0,
-            column: 0,
+            place: 0,
+            count: 0,
         };
     }
-    let error = entry(parse_error::IN_LIST, t.line, t.column, 0, t.kind);
+    let error = entry(parse_error::IN_LIST, t.place, 0, t.kind);
     note(n, reported, full, on, error)
 }
 
@@ -277,15 +277,14 @@ pub fn prefix(k: u32) -> u8
     if k == kind::BANG { tag::BOOLEAN_NOT } else { 0 }
 }
 
-// A leaf of the tree: the token's record, the state after it.
+// A leaf of the tree, at the place of the token `t`: its record, whose text is a part of the text slice, and the state after the token.
 fn leaf(file: &mut [u8], text: &[u8], st: State, t: Token, tag: u8, numbers: Numbers) -> Answer
     requires { ⌜ Room file text (st .pos) (16 + t .len) (t .start) (t .len) ⌝ }
-    ensures { λ r. ⌜ Finishes (texted t tag numbers t) file text (there st t) r ⌝ }
+    ensures { λ r. ⌜ Finishes (texted (t .place) tag numbers (t .start) (t .len)) file text (there st t) r ⌝ }
 {
     let v = Record {
         tag,
-        line: t.line,
-        column: t.column,
+        place: t.place,
         numbers,
         start: t.start,
         len: t.len,
@@ -298,8 +297,8 @@ fn leaf(file: &mut [u8], text: &[u8], st: State, t: Token, tag: u8, numbers: Num
             pos,
             ..st
         },
-        line: t.line,
-        column: t.column,
+        place: t.place,
+        count: 0,
     }
 }
 
@@ -359,10 +358,10 @@ pub fn literal(
     }
     let on = State { at: t.next, ..st };
     if t.kind == kind::END {
-        let error = entry(parse_error::EXPRESSION_AT_END, 0, 0, 0, 0);
+        let error = entry(parse_error::EXPRESSION_AT_END, 0, 0, 0);
         return raise(n, reported, full, on, error);
     }
-    let error = entry(parse_error::EXPRESSION, t.line, t.column, 0, t.kind);
+    let error = entry(parse_error::EXPRESSION, t.place, 0, t.kind);
     raise(n, reported, full, on, error)
 }
 
@@ -392,7 +391,7 @@ pub fn close(
     Answer {
         status,
         state: e,
-        line: a.line,
-        column: a.column,
+        place: a.place,
+        count: a.count,
     }
 }

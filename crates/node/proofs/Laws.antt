@@ -2,14 +2,16 @@
 use mathlib.Core.Path.{_≡_, refl, sym, ap, _∙_}
 use mathlib.Core.Option.{none, some}
 use mathlib.Core.List.{List, [], _∷_, _++_, append-assoc, append-nil}
-use Prim.Native.Nat.{ℕ, suc, _+_, _/_, _≤_, _<_}
+use Prim.Native.Nat.{ℕ, suc, _+_, _*_, _/_, _%_, _≤_, _<_}
 use native.Mathlib.Numerals.{add-one}
 use native.Mathlib.Nat.{add-zero, div-div-eq-div-mul}
 use native.Mathlib.Omega.{arith}
 use lib.ListN.{length, take, drop, getD, set, length-set, length-drop, length-append}
 use lib.Seq.{take-suc-set, take-suc, getD-drop, length-take-le}
+use Rattle.definition.specs.Source.{place-at}
+use Rattle.definition.specs.Places.{unpack-place}
 use Rattle.definition.specs.Node.{u16, u64, Num, rec-bytes, nums-bytes}
-use Rattle.node.specs.Put.{Grew, Copying, Wrote, placed}
+use Rattle.node.specs.Put.{Grew, Copying, Wrote}
 
 -- one byte
 pub grew-one : {o : List ℕ} {p b : ℕ} → p < length o → Grew o p (b ∷ []) 1 (set o p b) (p + 1)
@@ -67,11 +69,19 @@ eight-twos n = rw (div-div-eq-div-mul n 281474976710656 256, div-div-eq-div-mul 
 
 -- ---- records
 
+-- a place in one number is the line and the column that it is made of
+pub packed : (l c : ℕ) → l < 65536 → c < 65536
+    → (unpack-place (l * 65536 + c) ≡ place-at l c) × (l * 65536 + c < 0x100000000)
+packed l c h k =
+    let line : (l * 65536 + c) / 65536 ≡ l = omega arith in
+    let column : (l * 65536 + c) % 65536 ≡ c = omega arith in
+    (rw (line, column), omega arith)
+
 module _ {o o1 o2 o3 t : List ℕ} {ns : List Num} {pos k len p q r tag : ℕ} where
-  pub is-record : {line column : ℕ} → Grew o pos (placed tag (4 + k + len) line column) 7 o1 p
+  pub is-record : {line column : ℕ} → Grew o pos (tag ∷ (u16 (4 + k + len) ++ (u16 line ++ u16 column))) 7 o1 p
       → Grew o1 p (nums-bytes ns) k o2 q → Grew o2 q t len o3 r
       → Wrote o pos
-      (record { tag = tag; place = some (record { line = line; column = column }); numbers = ns; text = t })
+      (record { tag = tag; place = some (place-at line column); numbers = ns; text = t })
       (7 + k + len) o3 r
   unfolding rec-bytes
   is-record a b d = record {

@@ -2,8 +2,9 @@
 use mathlib.Core.Path.{_≡_}
 use mathlib.Core.Option.{none, some}
 use mathlib.Core.List.{List, [], _∷_, _++_}
-use Prim.Native.Nat.{ℕ, _+_, _≤_}
+use Prim.Native.Nat.{ℕ, _+_, _/_, _%_, _≤_}
 use lib.ListN.{length, take, drop}
+use Rattle.definition.specs.Places.{unpack-place}
 use Rattle.definition.specs.Node.{Num, byte, two, eight, Rec, u16, rec-bytes}
 use Rattle.node.specs.declared.Numbers.{Numbers}
 use Rattle.node.specs.declared.Numbers.the-variants.{None, Byte, Two, Eight, ByteTwo}
@@ -36,12 +37,12 @@ width-of (Eight n) = 8
 width-of (ByteTwo b n) = 3
 
 -- the front of a record: its tag, the length of its body, its place
-abbrev pub placed : ℕ → ℕ → ℕ → ℕ → List ℕ
-placed tag size line column = tag ∷ (u16 size ++ (u16 line ++ u16 column))
+abbrev pub placed : ℕ → ℕ → ℕ → List ℕ
+placed tag size place = tag ∷ (u16 size ++ (u16 (place / 65536) ++ u16 (place % 65536)))
 
 -- the record of the definition, and its length
 abbrev pub rec-of : List ℕ → Record → Rec
-rec-of x r = record { tag = r .tag; place = some (record { line = r .line; column = r .column }); numbers = nums-of (r .numbers); text = take (r .len) (drop (r .start) x) }
+rec-of x r = record { tag = r .tag; place = some (unpack-place (r .place)); numbers = nums-of (r .numbers); text = take (r .len) (drop (r .start) x) }
 
 abbrev pub size-of : Record → ℕ
 size-of r = 7 + width-of (r .numbers) + r .len

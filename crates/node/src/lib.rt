@@ -3,6 +3,8 @@ ghost use mathlib.Core.Path.{_≡_};
 ghost use mathlib.Core.List.{[], _∷_};
 ghost use Prim.Native.Nat.{_+_, _<_, _≤_};
 ghost use lib.ListN.{length};
+ghost use Rattle.definition.specs.Source.{place-at};
+ghost use Rattle.definition.specs.Places.{unpack-place};
 ghost use Rattle.definition.specs.Node.{u16, u64, nums-bytes};
 ghost use Rattle.node.specs.Put.{nums-of, width-of, placed, rec-of, size-of, bare-of, bare-size};
 ghost use Rattle.node.specs.Contract.{Room, part, Grew, Wrote};
@@ -19,8 +21,7 @@ pub enum Numbers {
 // A record with a place; its text is a part of a text slice.
 pub struct Record {
     pub tag: u8,
-    pub line: usize,
-    pub column: usize,
+    pub place: usize,
     pub numbers: Numbers,
     pub start: usize,
     pub len: usize,
@@ -93,15 +94,30 @@ fn put_part(file: &mut [u8], text: &[u8], pos: usize, start: usize, len: usize) 
     pos + len
 }
 
+// A word as a number.
+pub fn wide(x: u32) -> usize
+    ensures { λ r. ⌜ r ≡ x ⌝ }
+{
+    x as usize
+}
+
+// A place as one number: 65,536 times the line, and the column; 0 where there is none.
+pub fn place_at(line: u32, column: u32) -> usize
+    requires { ⌜ (line < 65536) × (column < 65536) ⌝ }
+    ensures { λ r. ⌜ (unpack-place r ≡ place-at line column) × (r < 0x100000000) ⌝ }
+{
+    wide(line) * 0x1_0000 + wide(column)
+}
+
 // The front of a record with a place, whose body has `size` bytes.
-fn opening(file: &mut [u8], pos: usize, tag: u8, size: usize, line: usize, column: usize) -> usize
+fn opening(file: &mut [u8], pos: usize, tag: u8, size: usize, place: usize) -> usize
     requires { ⌜ pos + 7 ≤ length (now file) ⌝ }
-    ensures { λ r. ⌜ Grew (placed tag size line column) 7 file pos r ⌝ }
+    ensures { λ r. ⌜ Grew (placed tag size place) 7 file pos r ⌝ }
 {
     let p = put(file, pos, tag);
     let p = put_two(file, p, size);
-    let p = put_two(file, p, line);
-    put_two(file, p, column)
+    let p = put_two(file, p, place / 0x1_0000);
+    put_two(file, p, place % 0x1_0000)
 }
 
 // A record with a place.
@@ -110,14 +126,7 @@ pub fn write_record(file: &mut [u8], text: &[u8], pos: usize, r: Record) -> usiz
     ensures { λ q. ⌜ Wrote (rec-of (now (text .entry)) r) (size-of r) file pos q ⌝ }
 {
     let numbers = r.numbers;
-    let p = opening(
-        file,
-        pos,
-        r.tag,
-        4 + width(numbers) + r.len,
-        r.line,
-        r.column,
-    );
+    let p = opening(file, pos, r.tag, 4 + width(numbers) + r.len, r.place);
     let p = put_numbers(file, p, numbers);
     put_part(file, text, p, r.start, r.len)
 }

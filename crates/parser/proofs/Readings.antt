@@ -92,7 +92,7 @@ module _ {w x : List ℕ} {n : ℕ} {o r f : List ℕ} {a : Answer} (B : ReadsMo
     pub full : state .full ≡ errs f (a .state .full)
     pub recs : take (a .state .pos) o ≡ recs-bytes (tree .recs)
     pub reported : errs r (a .state .reported) ≡ tree .errors
-    pub count : tree .count ≡ a .line
+    pub count : tree .count ≡ a .count
 
   pub tree-of : a .status ≡ Done → Tree
   tree-of z =
@@ -224,7 +224,7 @@ module _ (T : List ℕ) (n : ℕ) (E : List ℕ) (m : ℕ) (X o : List ℕ) {o1 
       ∙ sym (none-of o (h .tokens) (h .errors) k s p))
 
   pub read-done : {o2 : List ℕ} {b : ℕ} → Alive a
-      → RestWritten o1 (a .state .pos) (a .line) E m r1 (a .state .reported) f1 (a .state .full) o2 b
+      → RestWritten o1 (a .state .pos) (a .count) E m r1 (a .state .reported) f1 (a .state .full) o2 b
       → ReadValidated T n E m X o o2 (record { number = 0; bytes = b })
   unfolding file-bytes
   read-done {o2} {b} z C h e =
@@ -232,7 +232,7 @@ module _ (T : List ℕ) (n : ℕ) (E : List ℕ) (m : ℕ) (X o : List ℕ) {o1 
       let g = tree-of B (done-of-module B z) in
       let p : parse-module (h .tokens) ≡ gives (g .tree) (g .state) = ap parse-module (sym (t .tokens)) ∙ g .is in
       let s : 0 < length (h .tokens) = subst (λ (ts : List Tok). 0 < length ts) (t .tokens) (some-tokens T X n some-n) in
-      let ws : tree-file (take (a .state .pos) o1) (a .line) (h .errors) (errs r1 (a .state .reported)) (errs f1 (a .state .full)) ≡ file-bytes (h .errors) (g .tree) (g .state .full) =
+      let ws : tree-file (take (a .state .pos) o1) (a .count) (h .errors) (errs r1 (a .state .reported)) (errs f1 (a .state .full)) ≡ file-bytes (h .errors) (g .tree) (g .state .full) =
       same-file (h .errors) (g .recs) (sym (g .count)) (g .reported) (sym (g .full)) in
       let bytes : b ≡ length (file-bytes (h .errors) (g .tree) (g .state .full)) = C .end (h .errors) (t .errors) ∙ ap length ws in
       let file : o2 ≡ filled (length o) (file-bytes (h .errors) (g .tree) (g .state .full)) = C .is (h .errors)

@@ -5,6 +5,7 @@ use mathlib.Core.Option.{some}
 use mathlib.Core.List.{List, _++_}
 use Prim.Native.Nat.{ℕ, _+_, _*_, _≤_}
 use lib.ListN.{length, take}
+use Rattle.definition.specs.Tag as Tag
 use Rattle.definition.specs.Source.{is-some}
 use Rattle.definition.specs.Node.{u16, field}
 use Rattle.definition.specs.Fallible.{Err, errs-bytes}
@@ -31,7 +32,7 @@ answer r o = record { number = r .number; bytes = r .bytes; file = o }
 
 -- the module's field of so many items, the token errors, the reported errors, the full list
 abbrev pub tree-file : List ℕ → ℕ → List Err → List Err → List Err → List ℕ
-tree-file tree count es reported full = tree ++ field 0x5F (u16 count) ++ errs-bytes 0x62 es ++ errs-bytes 0x60 reported ++ errs-bytes 0x61 full
+tree-file tree count es reported full = tree ++ field Tag.Module (u16 count) ++ errs-bytes Tag.TokenError es ++ errs-bytes Tag.ReportedError reported ++ errs-bytes Tag.FullError full
 
 -- there is room for them after p, and m token errors are good
 pub record RestRoom (o : List ℕ) (p : ℕ) (E : List ℕ) (m : ℕ) (r : List ℕ) (reported-count : ℕ) (f : List ℕ) (full-count : ℕ) : Type 0 where

@@ -4,6 +4,7 @@ use definition::refusal;
 use definition::tag;
 use error_fields::error_fields;
 use error_fields::token_error_fields;
+use fallible::State;
 use fallible::Status;
 use items::module;
 use node::Numbers;
@@ -75,8 +76,14 @@ pub fn read_tokens(
     requires { ⌜ (65536 ≤ length (now file)) × ((0 < count) × Accepted tokens count errors «error_count» text) ⌝ }
     ensures { λ r. ⌜ ReadValidated tokens count errors «error_count» text file r ⌝ }
 {
-    let mut reported: [usize; 256] = [0; 256];
-    let mut full: [usize; 256] = [0; 256];
+    let mut reported: [usize; limit::ERROR_ENTRIES] = [0; limit::ERROR_ENTRIES];
+    let mut full: [usize; limit::ERROR_ENTRIES] = [0; limit::ERROR_ENTRIES];
+    let from = State {
+        at: 0,
+        pos: 0,
+        reported: 0,
+        full: 0,
+    };
     let a = module(
         tokens,
         text,
@@ -84,6 +91,7 @@ pub fn read_tokens(
         file,
         &mut reported,
         &mut full,
+        from,
         limit::NESTING,
     );
     let status = a.status;
@@ -95,7 +103,7 @@ pub fn read_tokens(
     let bytes = end_file(
         file,
         s.pos,
-        a.line,
+        a.count,
         errors,
         error_count,
         &reported,

@@ -5,12 +5,14 @@ use parser::Written;
 use parser::read_tokens;
 use slices::clear_bytes;
 use source::valid;
+use token_records::State;
 use tokenizer::run;
 ghost use mathlib.Core.Path.{_≡_};
 ghost use Prim.Native.Nat.{_≤_};
 ghost use lib.ListN.{length};
 ghost use Rattle.definition.specs.Operations as O;
 ghost use Rattle.source.specs.Place.{Stands, origin};
+ghost use Rattle.tokenizer.specs.Contract.{RunAsks, Ran};
 ghost use Rattle.parser.specs.Answer.{answer};
 ghost use Rattle.reader.specs.OneTree.{OneTree};
 
@@ -22,22 +24,48 @@ fn cleared(number: u32, file: &mut [u8]) -> Written
     Written { number, bytes: 0 }
 }
 
-// Behind the tests: tokens, errors and text in arrays of its own. The records of the loop are good, so they are not tested again.
+// A script that was read: the answer, and the state in which the tokenizer ended.
+pub struct ScriptRead {
+    pub written: Written,
+    pub state: State,
+}
+
+// Tokenises a valid script into lent slices, and reads its tokens into the file. The records stay in the slices; they
+// are those of the tokenizer's loop, so they are not validated again.
+pub fn read_into(
+    script: &[u8],
+    tokens: &mut [u32],
+    errors: &mut [u32],
+    text: &mut [u8],
+    file: &mut [u8],
+) -> ScriptRead
+    requires { ⌜ RunAsks 2048 script tokens errors text × (65536 ≤ length (now file)) ⌝ }
+    ensures { λ r. ⌜ Ran 2048 script tokens errors text (r .state)
+        × (answer (r .written) (now (file .exit)) ≡ O.whole (now (script .entry)) (now (file .entry))) ⌝ }
+{
+    let state = run(limit::TOKENS, script, tokens, errors, text);
+    if state.refusal != 0 {
+        let written = cleared(state.refusal, file);
+        return ScriptRead { written, state };
+    }
+    if state.tokens == 0 {
+        let written = cleared(refusal::NO_TOKENS, file);
+        return ScriptRead { written, state };
+    }
+    let written = read_tokens(tokens, state.tokens, errors, state.errors, text, file);
+    ScriptRead { written, state }
+}
+
+// The whole operation after its tests, with token slices of its own.
 fn read_valid(script: &[u8], file: &mut [u8]) -> Written
     requires { ⌜ Stands (now script) origin × (length (now script) ≤ 16384) × (65536 ≤ length (now file)) ⌝ }
     ensures { λ r. ⌜ answer r (now (file .exit)) ≡ O.whole (now (script .entry)) (now (file .entry)) ⌝ }
 {
-    let mut tokens: [u32; 16384] = [0; 16384];
-    let mut errors: [u32; 1024] = [0; 1024];
-    let mut text: [u8; 16384] = [0; 16384];
-    let st = run(limit::TOKENS, script, &mut tokens, &mut errors, &mut text);
-    if st.refusal != 0 {
-        return cleared(st.refusal, file);
-    }
-    if st.tokens == 0 {
-        return cleared(refusal::NO_TOKENS, file);
-    }
-    read_tokens(&tokens, st.tokens, &errors, st.errors, &text, file)
+    let mut tokens: [u32; limit::TOKEN_WORDS] = [0; limit::TOKEN_WORDS];
+    let mut errors: [u32; limit::ERROR_WORDS] = [0; limit::ERROR_WORDS];
+    let mut text: [u8; limit::TEXT_BYTES] = [0; limit::TEXT_BYTES];
+    let r = read_into(script, &mut tokens, &mut errors, &mut text, file);
+    r.written
 }
 
 // The whole operation.

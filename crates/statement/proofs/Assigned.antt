@@ -11,6 +11,7 @@ use Rattle.definition.specs.Fallible.{Err, Fallible, Ans, ok}
 use Rattle.definition.specs.Act.{Act, done, if_then_else_, Node, Consumed, plain, St, gives, or-return, run, _>>?_}
 use Rattle.definition.specs.Parser as P
 use Rattle.definition.specs.Go.{go}
+use Rattle.definition.specs.Places.{unpack-place}
 use Rattle.definition.proofs.Flat.{go-bind}
 use Rattle.fallible.proofs.Grown.{errs-length}
 use Rattle.fallible.specs.declared.State.{State}
@@ -30,15 +31,14 @@ use Rattle.steps.proofs.Moves.{fore-moved, moved-trans, asks-moved, abandoned-m
 use Rattle.steps.proofs.Answers.{Stopped, say, good-of, is-good, follows, abandons, wrapped, finishes}
 use Rattle.steps.proofs.Constructs.{then-stops}
 use Rattle.steps.proofs.Following.{expects-after}
-use Rattle.expression_laws.specs.Post.{place-at}
 use Rattle.expression_laws.proofs.Types.{past}
 use Rattle.expression_laws.proofs.Calls.{expect-seam}
 use Rattle.statement.specs.Post.{ReadsAfter}
 use Rattle.statement.proofs.Spare.{expression-spares}
 
 -- a record of a statement at a place
-abbrev pub placed : ℕ → ℕ → ℕ → Record
-placed tag line column = record { tag = tag; line = line; column = column; numbers = None; start = 0; len = 0 }
+abbrev pub placed : ℕ → ℕ → Record
+placed tag place = record { tag = tag; place = place; numbers = None; start = 0; len = 0 }
 
 -- ---- after the expression
 
@@ -46,18 +46,18 @@ placed tag line column = record { tag = tag; line = line; column = column; numbe
 abbrev any-node : View Node
 any-node = record { recs = λ y. y .recs; fine = λ l c y. Unit {0} }
 
-module _ {w x : List ℕ} {n d : ℕ} {o r f : List ℕ} {s : State} {t : Token} {i line column : ℕ}
+module _ {w x : List ℕ} {n d : ℕ} {o r f : List ℕ} {s : State} {t : Token} {i : ℕ} {place : ℕ}
     (q : Asked w x n o r f s) (hi : i ≤ s .pos) (u : Seen w x n (s .at) t) where
   -- `=` or `<-`, a value read by m, `;`
   module _ {o1 r1 f1 r2 r3 f2 o2 : List ℕ} {a b c y : Answer} {m : Act (Ans Node)} (tag : ℕ) (B : Reads node w x n d m o r f (fore s t) o1 r1 f1 a) (C : Abandoned r1 a i (s .reported) (s .reported) r2 b) (lr : length r2 ≡ length r) (lf : length f1 ≡ length f)
-      (X : Expected w x n 50 i (s .reported) r2 f1 b r3 f2 c) (F : Finished x o1 c (placed tag line column) o2 y) where
+      (X : Expected w x n 50 i (s .reported) r2 f1 b r3 f2 c) (F : Finished x o1 c (placed tag place) o2 y) where
     assigned-after : 0 < t .kind
         → ((e : Node) (rd : List Consumed)
-        → go d (P.after-expression (place-at line column) e) (st-of w x n f rd s)
+        → go d (P.after-expression (unpack-place place) e) (st-of w x n f rd s)
         ≡ go d
-        (m >>? λ v. P.expect 50 >>? λ _. wrapped node (e .recs) [] tag (λ _. place-at line column) (λ _. []) [] v)
+        (m >>? λ v. P.expect 50 >>? λ _. wrapped node (e .recs) [] tag (λ _. unpack-place place) (λ _. []) [] v)
         (st-of w x n f (past w x n (s .at) rd) (fore s t)))
-        → ReadsAfter w x n d (P.after-expression (place-at line column)) i o r f s o2 r3 f2 y
+        → ReadsAfter w x n d (P.after-expression (unpack-place place)) i o r f s o2 r3 f2 y
     assigned-after k step =
         let e : budget w x n (y .state .at) ≡ budget w x n (c .state .at) = ap (λ (k : ℕ). budget w x n k) (F .at) in
         let M : Moved w x n i (s .reported) (fore s t) (b .state) = abandoned-moved (B .moved) C in
@@ -74,34 +74,34 @@ module _ {w x : List ℕ} {n d : ℕ} {o r f : List ℕ} {s : State} {t : Token}
                 few = omega (arith, F .full, X .moved);
               };
           is = λ rd T e li tree.
-              let v : Fallible Node → Act (Ans Node) = wrapped node (e .recs) [] tag (λ _. place-at line column) (λ _. []) [] in
+              let v : Fallible Node → Act (Ans Node) = wrapped node (e .recs) [] tag (λ _. unpack-place place) (λ _. []) [] in
               let lj : length (errs r (s .reported)) ≡ s .reported = errs-length r (s .reported) (omega (arith, q .asks)) in
               say (step e rd ∙ go-bind d m (or-return (λ z. P.expect 50 >>? λ _. v z)) _
               ∙ expect-seam d plain 50 v (go d m (st-of w x n f (past w x n (s .at) rd) (fore s t))))
-              (finishes d (λ _. place-at line column) (λ _. []) [] F (λ _ _. refl)
+              (finishes d (λ _. unpack-place place) (λ _. []) [] F (λ _ _. refl)
               (expects-after (record { asks = asks-moved (q .asks) (moved-trans (fore-moved (q .asks) u) M) lr lf; pos = C .low; reported = C .first }) X plain d li lj
               (abandons {T = T} {E = errs r (s .reported)} tree (sym (append-nil (errs r (s .reported)))) li lj
               lj C (omega (arith, B .moved .pos, hi)) (B .moved .reported) (B .is (past w x n (s .at) rd)))));
         }
 
   module _ {o1 r1 f1 r2 r3 f2 o2 : List ℕ} {a b c y : Answer} (h : t .kind ≡ 26) (B : Reads node w x n d P.parse-expression o r f (fore s t) o1 r1 f1 a) (C : Abandoned r1 a i (s .reported) (s .reported) r2 b) (lr : length r2 ≡ length r) (lf : length f1 ≡ length f)
-      (X : Expected w x n 50 i (s .reported) r2 f1 b r3 f2 c) (F : Finished x o1 c (placed 0x43 line column) o2 y) where
-    pub assignment-after : ReadsAfter w x n d (P.after-expression (place-at line column)) i o r f s o2 r3 f2 y
+      (X : Expected w x n 50 i (s .reported) r2 f1 b r3 f2 c) (F : Finished x o1 c (placed 0x43 place) o2 y) where
+    pub assignment-after : ReadsAfter w x n d (P.after-expression (unpack-place place)) i o r f s o2 r3 f2 y
     unfolding go run P.after-expression
     assignment-after =
         assigned-after 0x43 B C lr lf X F (omega (arith, h)) (λ e rd. rw (run, yes u h)
         (ap (λ (S : St). go d (P.parse-expression >>? λ v. P.expect 50 >>? λ _. wrapped node (e .recs) [] 0x43
-        (λ _. place-at line column) (λ _. []) [] v) S) (adv s u (λ _. plain) f rd)))
+        (λ _. unpack-place place) (λ _. []) [] v) S) (adv s u (λ _. plain) f rd)))
 
   module _ {o1 r1 f1 r2 r3 f2 o2 : List ℕ} {a b c y : Answer} (h : t .kind ≡ 52) (B : Reads node w x n d P.parse-compound o r f (fore s t) o1 r1 f1 a) (C : Abandoned r1 a i (s .reported) (s .reported) r2 b) (lr : length r2 ≡ length r) (lf : length f1 ≡ length f)
-      (X : Expected w x n 50 i (s .reported) r2 f1 b r3 f2 c) (F : Finished x o1 c (placed 0x44 line column) o2 y) where
-    pub compound-after : ReadsAfter w x n d (P.after-expression (place-at line column)) i o r f s o2 r3 f2 y
+      (X : Expected w x n 50 i (s .reported) r2 f1 b r3 f2 c) (F : Finished x o1 c (placed 0x44 place) o2 y) where
+    pub compound-after : ReadsAfter w x n d (P.after-expression (unpack-place place)) i o r f s o2 r3 f2 y
     unfolding go run P.after-expression
     compound-after =
         assigned-after 0x44 B C lr lf X F (omega (arith, h))
         (λ e rd. rw (run, no {k = 26} u (λ e. omega (arith, h)), yes u h)
         (ap (λ (S : St). go d (P.parse-compound >>? λ v. P.expect 50 >>? λ _. wrapped node (e .recs) [] 0x44
-        (λ _. place-at line column) (λ _. []) [] v) S) (adv s u (λ _. plain) f rd)))
+        (λ _. unpack-place place) (λ _. []) [] v) S) (adv s u (λ _. plain) f rd)))
 
 -- what the steps after a value ask for
 module _ {w x : List ℕ} {n d : ℕ} {o r f : List ℕ} {s : State} {t : Token} {i : ℕ} (q : Asked w x n o r f s)
@@ -129,22 +129,22 @@ module _ {w x : List ℕ} {n d : ℕ} {o r f : List ℕ} {s : State} {t : Token}
       assigned-room X l = record { room = omega (arith, q .room, assigned-moved .room, X .high); part = omega arith }
 
 -- a record is paid for only where the answer is there
-finished-high : {x o o′ : List ℕ} {b y : Answer} {line column tag : ℕ} → Finished x o b (placed tag line column) o′ y
+finished-high : {x o o′ : List ℕ} {b y : Answer} {tag : ℕ} {place : ℕ} → Finished x o b (placed tag place) o′ y
     → y .state .pos ≤ b .state .pos + 7 * done-of (b .status)
-finished-high {x} {o} {o′} {b} {y} {line} {column} {tag} F = one (b .status) (F .is)
+finished-high {x} {o} {o′} {b} {y} {tag} {place} F = one (b .status) (F .is)
   where
-    one : (h : Status) → FinishedOf h x o b (placed tag line column) o′ y → y .state .pos ≤ b .state .pos + 7 * done-of h
+    one : (h : Status) → FinishedOf h x o b (placed tag place) o′ y → y .state .pos ≤ b .state .pos + 7 * done-of h
     one Done m = omega (arith, F .high)
     one Fatal m = omega (arith, ap (λ (k : Answer). k .state .pos) (m .0))
     one (Refused u) m = omega (arith, ap (λ (k : Answer). k .state .pos) (m .0))
 
 -- `;`
-module _ {w x : List ℕ} {n d : ℕ} {o r f : List ℕ} {t : Token} {i line column : ℕ} {a : Answer}
+module _ {w x : List ℕ} {n d : ℕ} {o r f : List ℕ} {t : Token} {i : ℕ} {place : ℕ} {a : Answer}
     (q : Asked w x n o r f (a .state)) (hi : i ≤ a .state .pos) (u : Seen w x n (a .state .at) t)
     (z : a .status ≡ Done) where
   pub expression-after : {r1 f1 o2 : List ℕ} {b y : Answer} → (t .kind ≡ 26 → ⊥) → (t .kind ≡ 52 → ⊥)
-      → Expected w x n 50 i (a .state .reported) r f a r1 f1 b → Finished x o b (placed 0x41 line column) o2 y
-      → ReadsAfter w x n d (P.after-expression (place-at line column)) i o r f (a .state) o2 r1 f1 y
+      → Expected w x n 50 i (a .state .reported) r f a r1 f1 b → Finished x o b (placed 0x41 place) o2 y
+      → ReadsAfter w x n d (P.after-expression (unpack-place place)) i o r f (a .state) o2 r1 f1 y
   unfolding go run P.after-expression
   expression-after {b = b} {y = y} m26 m52 X F =
       let e : budget w x n (y .state .at) ≡ budget w x n (b .state .at) = ap (λ (k : ℕ). budget w x n k) (F .at) in
@@ -161,7 +161,7 @@ module _ {w x : List ℕ} {n d : ℕ} {o r f : List ℕ} {t : Token} {i line col
               few = omega (arith, F .full, X .moved);
             };
         is = λ rd T e li tree.
-            let v : Fallible Node → Act (Ans Node) = wrapped any-node [] [] 0x41 (λ _. place-at line column) (λ _. []) [] in
+            let v : Fallible Node → Act (Ans Node) = wrapped any-node [] [] 0x41 (λ _. unpack-place place) (λ _. []) [] in
             let A : Shows any-node T (errs r (a .state .reported)) [] [] w x n o r f a (gives (ok (record { item = e; errors = [] })) (st-of w x n f rd (a .state))) =
             is-good z (record {
               item = e;
@@ -174,7 +174,7 @@ module _ {w x : List ℕ} {n d : ℕ} {o r f : List ℕ} {t : Token} {i line col
             }) in
             say (rw (run, no u m26, no u m52) (expect-seam d plain 50 v
             (gives (ok (record { item = e; errors = [] })) (st-of w x n f rd (a .state)))))
-            (finishes d (λ _. place-at line column) (λ _. []) [] F (λ _ _. refl)
+            (finishes d (λ _. unpack-place place) (λ _. []) [] F (λ _ _. refl)
             (expects-after (record { asks = q .asks; pos = hi; reported = omega arith }) X plain d li
             (errs-length r (a .state .reported) (omega (arith, q .asks))) A));
       }
@@ -203,19 +203,19 @@ module _ {w x : List ℕ} {n d : ℕ} {o r f o1 r1 f1 : List ℕ} {s : State} {a
       ∙ length-append (errs r (s .reported)) es
       ∙ ap (λ (k : ℕ). k + length es) (errs-length r (s .reported) (omega (arith, q .asks)))
 
-  module _ (line column : ℕ) where
-    pub statement-stops : Stopped a → Reads node w x n d (P.expression-statement (place-at line column)) o r f s o1 r1 f1 a
+  module _ (place : ℕ) where
+    pub statement-stops : Stopped a → Reads node w x n d (P.expression-statement (unpack-place place)) o r f s o1 r1 f1 a
     unfolding P.expression-statement
-    statement-stops nd = then-stops (on (place-at line column)) B nd
+    statement-stops nd = then-stops (on (unpack-place place)) B nd
 
     module _ (z : a .status ≡ Done) (lo : length o1 ≡ length o) (lr : length r1 ≡ length r) where
       pub statement-errors : {o2 : List ℕ} {y : Answer} → s .reported < a .state .reported
-          → Finished x o1 a (placed 0x41 line column) o2 y
-          → Reads node w x n d (P.expression-statement (place-at line column)) o r f s o2 r1 f1 y
+          → Finished x o1 a (placed 0x41 place) o2 y
+          → Reads node w x n d (P.expression-statement (unpack-place place)) o r f s o2 r1 f1 y
       unfolding go run P.expression-statement
       statement-errors {o2} {y} h F =
           let e : budget w x n (y .state .at) ≡ budget w x n (a .state .at) = ap (λ (k : ℕ). budget w x n k) (F .at) in
-          let k : Fallible Node → Act (Ans Node) = wrapped node [] [] 0x41 (λ _. place-at line column) (λ _. []) [] in
+          let k : Fallible Node → Act (Ans Node) = wrapped node [] [] 0x41 (λ _. unpack-place place) (λ _. []) [] in
           record {
             moved =
                 record {
@@ -233,16 +233,16 @@ module _ {w x : List ℕ} {n d : ℕ} {o r f o1 r1 f1 : List ℕ} {s : State} {a
                 let g = good-of z (B .is rd) in
                 let y : Fallible Node = record { item = g .item; errors = g .errors } in
                 let m : P.is-empty (g .errors) ≡ false = is-filled (g .errors) (omega (arith, own lr (g .errors) (g .reported), h)) in
-                let step : go d (on (place-at line column) y) (st-of w x n f1 (g .read) (a .state)) ≡ go d (k y) (st-of w x n f1 (g .read) (a .state)) =
+                let step : go d (on (unpack-place place) y) (st-of w x n f1 (g .read) (a .state)) ≡ go d (k y) (st-of w x n f1 (g .read) (a .state)) =
                 rw (run, m) in
-                say (go-bind d P.parse-expression (or-return (on (place-at line column))) (st-of w x n f rd s)
-                ∙ follows d (on (place-at line column)) (g .is) ∙ step ∙ sym (follows d k (g .is)))
-                (finishes d (λ _. place-at line column) (λ _. []) [] F (λ _ _. refl) (B .is rd));
+                say (go-bind d P.parse-expression (or-return (on (unpack-place place))) (st-of w x n f rd s)
+                ∙ follows d (on (unpack-place place)) (g .is) ∙ step ∙ sym (follows d k (g .is)))
+                (finishes d (λ _. unpack-place place) (λ _. []) [] F (λ _ _. refl) (B .is rd));
           }
 
       pub statement-after : {o2 r2 f2 : List ℕ} {y : Answer} → (s .reported < a .state .reported → ⊥)
-          → ReadsAfter w x n d (P.after-expression (place-at line column)) (s .pos) o1 r1 f1 (a .state) o2 r2 f2 y
-          → Reads node w x n d (P.expression-statement (place-at line column)) o r f s o2 r2 f2 y
+          → ReadsAfter w x n d (P.after-expression (unpack-place place)) (s .pos) o1 r1 f1 (a .state) o2 r2 f2 y
+          → Reads node w x n d (P.expression-statement (unpack-place place)) o r f s o2 r2 f2 y
       unfolding go run P.expression-statement
       statement-after {o2} {r2} {f2} {y} h G = record {
         moved =
@@ -262,12 +262,12 @@ module _ {w x : List ℕ} {n d : ℕ} {o r f o1 r1 f1 : List ℕ} {s : State} {a
             let m : g .errors ≡ [] = is-none (g .errors) (omega (arith, own lr (g .errors) (g .reported), h)) in
             let E : errs r1 (a .state .reported) ≡ errs r (s .reported) = g .reported ∙ ap
             (λ (es : List Err). errs r (s .reported) ++ es) m ∙ append-nil (errs r (s .reported)) in
-            let step : go d (on (place-at line column) (record { item = g .item; errors = g .errors })) (st-of w x n f1 (g .read) (a .state)) ≡ go d (P.after-expression (place-at line column) (g .item)) (st-of w x n f1 (g .read) (a .state)) =
+            let step : go d (on (unpack-place place) (record { item = g .item; errors = g .errors })) (st-of w x n f1 (g .read) (a .state)) ≡ go d (P.after-expression (unpack-place place) (g .item)) (st-of w x n f1 (g .read) (a .state)) =
             rw (m, run) in
-            say (go-bind d P.parse-expression (or-return (on (place-at line column))) (st-of w x n f rd s)
-            ∙ follows d (on (place-at line column)) (g .is) ∙ step)
+            say (go-bind d P.parse-expression (or-return (on (unpack-place place))) (st-of w x n f rd s)
+            ∙ follows d (on (unpack-place place)) (g .is) ∙ step)
             (subst (λ (es : List Err). Shows node (take (s .pos) o) es [] [] w x n o2 r2 f2 y
-            (go d (P.after-expression (place-at line column) (g .item)) (st-of w x n f1 (g .read) (a .state))))
+            (go d (P.after-expression (unpack-place place) (g .item)) (st-of w x n f1 (g .read) (a .state))))
             E (G .is (g .read) (take (s .pos) o) (g .item) (length-take-le (s .pos) o (omega (arith, q .room)))
             (g .tree)));
       }

@@ -63,7 +63,7 @@ module _ {w x : List ℕ} {n d : ℕ} {o r f r1 f1 : List ℕ} {s : State} {a : 
     is = λ rd. refusal h (λ m g. opening d _ ∙ rw g) (e .is plain d rd o);
   }
 
-  pub body-none : a .status ≡ Fatal → ReadsBody w x n d o r f s o r1 f1 (record { status = Done; state = a .state; line = 0; column = 0 })
+  pub body-none : a .status ≡ Fatal → ReadsBody w x n d o r f s o r1 f1 (record { status = Done; state = a .state; place = 0; count = 0 })
   unfolding go run recs-bytes _>>=_
   body-none z = record {
     moved = e .moved;
@@ -75,7 +75,7 @@ module _ {w x : List ℕ} {n d : ℕ} {o r f r1 f1 : List ℕ} {s : State} {a : 
     where
       one : (rd : List Consumed) → Bad (take (s .pos) o) (errs r (s .reported)) w x n o r1 f1 a (go d (P.expect 39) (st-of w x n f rd s))
           → Shows items (take (s .pos) o) (errs r (s .reported)) [] [] w x n o r1 f1
-          (record { status = Done; state = a .state; line = 0; column = 0 })
+          (record { status = Done; state = a .state; place = 0; count = 0 })
           (go d (P.parse-body >>= as-answer) (st-of w x n f rd s))
       one rd i =
           record {
@@ -117,17 +117,17 @@ module _ {w x : List ℕ} {n count : ℕ} {o r f : List ℕ} {s : State} {t : To
     (q : Asked w x n o r f s × (count ≤ s .at)) (v : Seen w x n (s .at) t) where
   pub rest-closed : {d : ℕ} → t .kind ≡ 40
       → LoopOn statements-on w x n d count o r f s o r f
-      (record { status = Done; state = fore s t; line = count; column = 0 })
+      (record { status = Done; state = fore s t; place = 0; count = count })
   unfolding go run P.body-turn
   rest-closed {d} z =
       loop-closed statements-on q v (λ rd l. go-loop d (Body l) (st-of w x n f rd s) ∙ rw (run, yes v z)
       (ap (λ (S : St). gives l S) (adv s v (λ _. plain) f rd)))
 
   module _ (m40 : t .kind ≡ 40 → ⊥) where
-    pub rest-end : {d e : ℕ} {r1 f1 : List ℕ} {b : Answer} → t .kind ≡ 0 → unpack e ≡ error-at 13 0 0 0 0
+    pub rest-end : {d e : ℕ} {r1 f1 : List ℕ} {b : Answer} → t .kind ≡ 0 → unpack e ≡ error-at 13 0 0 0
         → Raised (noted n s) r f s e r1 f1 b
         → LoopOn statements-on w x n d count o r f s o r1 f1
-        (record { status = b .status; state = b .state; line = count; column = 0 })
+        (record { status = b .status; state = b .state; place = 0; count = count })
     unfolding go run P.body-turn
     rest-end {d} z i g =
         loop-ended statements-on q v g

@@ -15,6 +15,7 @@ use Rattle.definition.specs.Act as A
 use Rattle.definition.specs.Act.{Act, Node, peek, if_then_else_, plain, Consumed, Res, after, or-return, run, _>>?_}
 use Rattle.definition.specs.Parser as P
 use Rattle.definition.specs.Go.{go}
+use Rattle.definition.specs.Places.{unpack-place}
 use Rattle.definition.proofs.Flat.{go-bind}
 use Rattle.fallible.proofs.Grown.{errs-length}
 use Rattle.fallible.specs.declared.State.{State}
@@ -31,7 +32,7 @@ use Rattle.steps.proofs.Tokens.{yes, no}
 use Rattle.steps.proofs.Moves.{making-moved, asks-moved}
 use Rattle.steps.proofs.Answers.{Stopped, say, good-of, stops, follows, wrapped, finishes, wrote, raise-shows, not-done, done-le, raise-same}
 use Rattle.steps.proofs.Following.{expects-after}
-use Rattle.expression_laws.specs.Post.{place-at, name-of, ReadsList, NameRoom}
+use Rattle.expression_laws.specs.Post.{name-of, ReadsList, NameRoom}
 use Rattle.expression_laws.proofs.Types.{through}
 use Rattle.expression_laws.proofs.Calls.{expect-seam}
 use Rattle.statement.specs.Rules.{values-rule}
@@ -47,9 +48,9 @@ opens A.StructFields = omega arith
 opens A.ArrayValues = omega arith
 opens A.StructValues = omega arith
 
-module _ {w x : List ℕ} {n d : ℕ} {o r f o1 r1 f1 o2 : List ℕ} {s : State} {b y : Answer} (k : A.Listed) (tag line column : ℕ) (q : Starts (P.opener k) w x n o r f s) (B : ReadsList w x n d k o r f s o1 r1 f1 b)
-    (F : Finished x o1 b (record { tag = tag; line = line; column = column; numbers = Two (b .line); start = 0; len = 0 }) o2 y) where
-  pub values-reads : Reads node w x n d (values-rule k tag (place-at line column)) o r f s o2 r1 f1 y
+module _ {w x : List ℕ} {n d : ℕ} {o r f o1 r1 f1 o2 : List ℕ} {s : State} {b y : Answer} (k : A.Listed) (tag : ℕ) (place : ℕ) (q : Starts (P.opener k) w x n o r f s) (B : ReadsList w x n d k o r f s o1 r1 f1 b)
+    (F : Finished x o1 b (record { tag = tag; place = place; numbers = Two (b .count); start = 0; len = 0 }) o2 y) where
+  pub values-reads : Reads node w x n d (values-rule k tag (unpack-place place)) o r f s o2 r1 f1 y
   values-reads =
       let e : budget w x n (y .state .at) ≡ budget w x n (b .state .at) = ap (λ (k : ℕ). budget w x n k) (F .at) in
       record {
@@ -67,9 +68,9 @@ module _ {w x : List ℕ} {n d : ℕ} {o r f o1 r1 f1 o2 : List ℕ} {s : State}
         on = omega (arith, F .at, B .on);
         is = λ rd.
             say (through d (P.parse-list k) _
-            (wrapped items [] [] tag (λ _. place-at line column) (λ i. two (i .count) ∷ []) []) (λ i. refl)
+            (wrapped items [] [] tag (λ _. unpack-place place) (λ i. two (i .count) ∷ []) []) (λ i. refl)
             (st-of w x n f rd s))
-            (finishes d (λ _. place-at line column) (λ i. two (i .count) ∷ []) [] F (λ i e. rw e) (B .is rd));
+            (finishes d (λ _. unpack-place place) (λ i. two (i .count) ∷ []) [] F (λ i e. rw e) (B .is rd));
       }
 
 -- ---- `compound`
@@ -131,23 +132,23 @@ module _ {w x : List ℕ} {n d : ℕ} {o r f r1 f1 : List ℕ} {s : State} {a : 
 
     module _ {t : Token} (u : Seen w x n (a .state .at) t) where
       pub compound-array : {o1 r2 f2 : List ℕ} {y : Answer} → t .kind ≡ 43
-          → Reads node w x n d (values-rule A.ArrayValues 0x30 (place-at (t .line) (t .column))) o r1 f1
+          → Reads node w x n d (values-rule A.ArrayValues 0x30 (unpack-place (t .place))) o r1 f1
           (a .state) o1 r2 f2 y
           → Reads node w x n d P.parse-compound o r f s o1 r2 f2 y
       unfolding go run
       compound-array h B =
-          compound-on (values-rule A.ArrayValues 0x30 (place-at (t .line) (t .column)))
+          compound-on (values-rule A.ArrayValues 0x30 (unpack-place (t .place)))
           (λ rd. rw (run, no {k = 0} u (λ e. omega (arith, h)), yes u h)
           (ap (λ (p : Place). go d (values-rule A.ArrayValues 0x30 p) (st-of w x n f1 rd (a .state))) (u .place)))
           (B .moved) (B .is)
 
       pub compound-struct : {o1 r2 f2 : List ℕ} {y : Answer} → t .kind ≡ 39
-          → Reads node w x n d (values-rule A.StructValues 0x31 (place-at (t .line) (t .column))) o r1 f1
+          → Reads node w x n d (values-rule A.StructValues 0x31 (unpack-place (t .place))) o r1 f1
           (a .state) o1 r2 f2 y
           → Reads node w x n d P.parse-compound o r f s o1 r2 f2 y
       unfolding go run
       compound-struct h B =
-          compound-on (values-rule A.StructValues 0x31 (place-at (t .line) (t .column)))
+          compound-on (values-rule A.StructValues 0x31 (unpack-place (t .place)))
           (λ rd. rw (run, no {k = 0} u (λ e. omega (arith, h)), no {k = 43} u (λ e. omega (arith, h)), yes u h)
           (ap (λ (p : Place). go d (values-rule A.StructValues 0x31 p) (st-of w x n f1 rd (a .state))) (u .place)))
           (B .moved) (B .is)
@@ -160,12 +161,12 @@ module _ {w x : List ℕ} {n d : ℕ} {o r f r1 f1 : List ℕ} {s : State} {a : 
             → Reads node w x n d P.parse-compound o r f s o r2 f2 y
         failed step = compound-on (P.raise (unpack e)) step (rw (g .is) (making-moved q Fatal)) (λ rd. raise-shows node q g d rd o)
 
-        pub compound-end : t .kind ≡ 0 → unpack e ≡ error-at 18 0 0 0 0 → Reads node w x n d P.parse-compound o r f s o r2 f2 y
+        pub compound-end : t .kind ≡ 0 → unpack e ≡ error-at 18 0 0 0 → Reads node w x n d P.parse-compound o r f s o r2 f2 y
         unfolding go run
         compound-end z i = failed (λ rd. rw (run, yes u z) (raise-same d {S = st-of w x n f1 rd (a .state)} (sym i) refl))
 
         pub compound-other : (t .kind ≡ 0 → ⊥) → (t .kind ≡ 43 → ⊥) → (t .kind ≡ 39 → ⊥)
-            → unpack e ≡ error-at 19 (t .line) (t .column) 0 (t .kind)
+            → unpack e ≡ error-at 19 (t .place) 0 (t .kind)
             → Reads node w x n d P.parse-compound o r f s o r2 f2 y
         unfolding go run
         compound-other m0 m43 m39 i =
@@ -174,8 +175,8 @@ module _ {w x : List ℕ} {n d : ℕ} {o r f r1 f1 : List ℕ} {s : State} {a : 
 
 -- ---- `named`
 
-pub named-stops : {w x : List ℕ} {n : ℕ} {o : List ℕ} {a : Answer} {tag line column p : ℕ} → Stopped a
-    → Named w x n o a tag line column p o a
+pub named-stops : {w x : List ℕ} {n : ℕ} {o : List ℕ} {a : Answer} {tag p : ℕ} {place : ℕ} → Stopped a
+    → Named w x n o a tag place p o a
 named-stops {w} {x} {n} {o} {a} {tag} {line} {column} {p} nd =
     record {
       at = refl;
@@ -186,23 +187,23 @@ named-stops {w} {x} {n} {o} {a} {tag} {line} {column} {p} nd =
       is = one (a .status) (not-done (a .status) nd);
     }
   where
-    one : (h : Status) → done-of h ≡ 0 → NamedOf h w x n o a tag line column p o a
+    one : (h : Status) → done-of h ≡ 0 → NamedOf h w x n o a tag place p o a
     one Done z = absurd (omega arith)
     one Fatal z = (refl, refl)
     one (Refused m) z = (refl, refl)
 
-module _ {w x : List ℕ} {n : ℕ} {o o2 : List ℕ} {a y : Answer} {tag line column p : ℕ} {t : Token}
+module _ {w x : List ℕ} {n : ℕ} {o o2 : List ℕ} {a y : Answer} {tag p : ℕ} {place : ℕ} {t : Token}
     (z : a .status ≡ Done) (u : Seen w x n p t) where
   -- the record has the name
   named-so : (X : List ℕ) (start len : ℕ) → name-of (next-token (rest w x n p)) ≡ take len (drop start X)
       → length (name-of (next-token (rest w x n p))) ≡ len → len ≤ 3 + length (next-token (rest w x n p) .text)
       → Finished X o a
-      (record { tag = tag; line = line; column = column; numbers = None; start = start; len = len }) o2 y
-      → Named w x n o a tag line column p o2 y
+      (record { tag = tag; place = place; numbers = None; start = start; len = len }) o2 y
+      → Named w x n o a tag place p o2 y
   named-so X start len e l h F =
       let one : done-of (a .status) ≡ 1 = rw z in
       let m = subst (λ (k : Status). FinishedOf k X o a
-      (record { tag = tag; line = line; column = column; numbers = None; start = start; len = len }) o2 y) z
+      (record { tag = tag; place = place; numbers = None; start = start; len = len }) o2 y) z
       (F .is) in
       record {
         at = F .at;
@@ -210,14 +211,14 @@ module _ {w x : List ℕ} {n : ℕ} {o o2 : List ℕ} {a y : Answer} {tag line c
         full = F .full;
         low = F .low;
         high = omega (arith, F .high, one, h);
-        is = subst (λ (k : Status). NamedOf k w x n o a tag line column p o2 y) (sym z)
+        is = subst (λ (k : Status). NamedOf k w x n o a tag place p o2 y) (sym z)
             (m .0, (rw (l, e) (m .1 .0), (m .1 .1 .0, m .1 .1 .1)));
       }
 
   pub named-there : t .kind ≡ 1
       → Finished x o a
-      (record { tag = tag; line = line; column = column; numbers = None; start = t .start; len = t .len }) o2 y
-      → Named w x n o a tag line column p o2 y
+      (record { tag = tag; place = place; numbers = None; start = t .start; len = t .len }) o2 y
+      → Named w x n o a tag place p o2 y
   named-there h F =
       let i : name-of (next-token (rest w x n p)) ≡ next-token (rest w x n p) .text = rw (yes u h) in
       let l : length (take (t .len) (drop (t .start) x)) ≡ t .len = length-take-le (t .len) (drop (t .start) x)
@@ -226,8 +227,8 @@ module _ {w x : List ℕ} {n : ℕ} {o o2 : List ℕ} {a y : Answer} {tag line c
 
   pub named-none : (t .kind ≡ 1 → ⊥)
       → Finished (60 ∷ 63 ∷ 62 ∷ []) o a
-      (record { tag = tag; line = line; column = column; numbers = None; start = 0; len = 3 }) o2 y
-      → Named w x n o a tag line column p o2 y
+      (record { tag = tag; place = place; numbers = None; start = 0; len = 3 }) o2 y
+      → Named w x n o a tag place p o2 y
   unfolding ascii
   named-none h F =
       named-so (60 ∷ 63 ∷ 62 ∷ []) 0 3 (rw (no u h))
@@ -240,25 +241,25 @@ abbrev declares : ℕ → Place → Fallible P.Typed → Act (Ans Node)
 declares tag p x = P.good (P.node (x .item .type) tag p [] (x .item .name)) (x .errors)
 
 names : {T : List ℕ} {E : List Err} {w x : List ℕ} {n : ℕ} {o o′ r f : List ℕ} {b y : Answer}
-    {tag line column at : ℕ} {q : Res (Ans P.Typed)} (d : ℕ)
-    → Named w x n o b tag line column at o′ y
+    {tag at : ℕ} {place : ℕ} {q : Res (Ans P.Typed)} (d : ℕ)
+    → Named w x n o b tag place at o′ y
     → Shows (typed (name-of (next-token (rest w x n at)))) T E [] [] w x n o r f b q
-    → Shows node T E [] [] w x n o′ r f y (after q (λ z S. go d (or-return (declares tag (place-at line column)) z) S))
+    → Shows node T E [] [] w x n o′ r f y (after q (λ z S. go d (or-return (declares tag (unpack-place place)) z) S))
 unfolding go run
 names {T} {E} {w} {x} {n} {o} {o′} {r} {f} {b} {y} {tag} {line} {column} {at} {q} d N v =
     record { told = one (b .status) refl (N .is) (v .told) }
   where
-    one : (h : Status) → b .status ≡ h → NamedOf h w x n o b tag line column at o′ y
+    one : (h : Status) → b .status ≡ h → NamedOf h w x n o b tag place at o′ y
         → ShowsOf h (typed (name-of (next-token (rest w x n at)))) T E [] [] w x n o r f b q
         → ShowsOf (y .status) node T E [] [] w x n o′ r f y
-        (after q (λ z S. go d (or-return (declares tag (place-at line column)) z) S))
+        (after q (λ z S. go d (or-return (declares tag (unpack-place place)) z) S))
     one Done z m g =
         rw (m .0) (record {
-          item = P.node (g .item .type) tag (place-at line column) [] (g .item .name);
+          item = P.node (g .item .type) tag (unpack-place place) [] (g .item .name);
           errors = g .errors;
           read = g .read;
           is = rw (g .is, N .at, N .full);
-          tree = wrote T (g .item .type) (m .1 .0) (g .tree) (ap (named-of tag line column) (g .holds));
+          tree = wrote T (g .item .type) (m .1 .0) (g .tree) (ap (named-of tag place) (g .holds));
           reported = ap (λ (k : ℕ). errs r k) (N .reported) ∙ g .reported;
           holds = sym (rw (m .1 .1 .0, m .1 .1 .1));
         })
@@ -275,9 +276,9 @@ declaration-room {b = b} q D X l =
       room = omega (arith, q .room, D .spare, X .high, X .pays, done-le (b .status));
     }
 
-module _ {w x : List ℕ} {n d : ℕ} {o r f o1 r1 f1 r2 f2 o2 : List ℕ} {s : State} {a b y : Answer} {tag line column : ℕ} (q : Asked w x n o r f s) (D : ReadsDeclared w x n d o r f s o1 r1 f1 a) (lr : length r1 ≡ length r) (lf : length f1 ≡ length f)
-    (X : Expected w x n 50 (s .pos) (s .reported) r1 f1 a r2 f2 b) (N : Named w x n o1 b tag line column (s .at) o2 y) where
-  pub declaration-reads : Reads node w x n d (P.declaration tag (place-at line column)) o r f s o2 r2 f2 y
+module _ {w x : List ℕ} {n d : ℕ} {o r f o1 r1 f1 r2 f2 o2 : List ℕ} {s : State} {a b y : Answer} {tag : ℕ} {place : ℕ} (q : Asked w x n o r f s) (D : ReadsDeclared w x n d o r f s o1 r1 f1 a) (lr : length r1 ≡ length r) (lf : length f1 ≡ length f)
+    (X : Expected w x n 50 (s .pos) (s .reported) r1 f1 a r2 f2 b) (N : Named w x n o1 b tag place (s .at) o2 y) where
+  pub declaration-reads : Reads node w x n d (P.declaration tag (unpack-place place)) o r f s o2 r2 f2 y
   unfolding P.declaration
   declaration-reads =
       let e : budget w x n (y .state .at) ≡ budget w x n (b .state .at) = ap (λ (k : ℕ). budget w x n k) (N .at) in
@@ -296,8 +297,8 @@ module _ {w x : List ℕ} {n d : ℕ} {o r f o1 r1 f1 r2 f2 o2 : List ℕ} {s : 
         on = omega (arith, N .at, X .moved .at, D .on);
         is = λ rd.
             say (go-bind d P.parse-var-like-declaration
-            (or-return (λ x. P.expect 50 >>? λ _. declares tag (place-at line column) x)) _
-            ∙ expect-seam d plain 50 (declares tag (place-at line column))
+            (or-return (λ x. P.expect 50 >>? λ _. declares tag (unpack-place place) x)) _
+            ∙ expect-seam d plain 50 (declares tag (unpack-place place))
             (go d P.parse-var-like-declaration (st-of w x n f rd s)))
             (names d N (expects-after (record {
               asks = asks-moved (q .asks) (D .moved) lr lf;

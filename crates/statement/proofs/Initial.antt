@@ -52,8 +52,8 @@ pub bare-on : {o o2 : List ℕ} {a : Answer} {tag p : ℕ} → a .status ≡ Don
     → Bared o a tag o2 (record {
       status = a .status;
       state = record { at = a .state .at; pos = p; reported = a .state .reported; full = a .state .full };
-      line = 0;
-      column = 0;
+      place = 0;
+      count = 0;
     })
 bare-on {o} {o2} {a} {tag} {p} z v =
     let one : done-of (a .status) ≡ 1 = rw z in
@@ -66,8 +66,8 @@ bare-on {o} {o2} {a} {tag} {p} z v =
       is = subst (λ (h : Status). BaredOf h o a tag o2 (record {
         status = a .status;
         state = record { at = a .state .at; pos = p; reported = a .state .reported; full = a .state .full };
-        line = 0;
-        column = 0;
+        place = 0;
+        count = 0;
       })) (sym z) (z, v);
     }
 
@@ -201,7 +201,7 @@ module _ {w x : List ℕ} {n d i j : ℕ} {o r f : List ℕ} {a : Answer} (q : G
               let g = good-of z v in
               let X : Fallible P.Typed = record { item = g .item; errors = g .errors } in
               let none : Fallible Node = record {
-                item = record { place = record { line = a .line; column = a .column }; recs = [] };
+                item = record { place = record { place = a .place; count = a .count }; recs = [] };
                 errors = [];
               } in
               let shown : Shows node T E (X .item .type) (X .errors) w x n o r f a (gives (ok none) (st-of w x n f (g .read) (a .state))) =

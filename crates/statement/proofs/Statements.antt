@@ -15,6 +15,7 @@ use Rattle.definition.specs.Token.{Tok, next-token, _is_}
 use Rattle.definition.specs.Act.{Act, done, peek, next, if_then_else_, Node, Consumed, plain, St, Res, gives, refused, after, or-return, run, advance, _>>=_, _>>?_}
 use Rattle.definition.specs.Parser as P
 use Rattle.definition.specs.Go.{go}
+use Rattle.definition.specs.Places.{unpack-place}
 use Rattle.definition.proofs.Flat.{go-bind}
 use Rattle.fallible.proofs.Grown.{errs-length}
 use Rattle.fallible.specs.declared.State.{State}
@@ -35,7 +36,6 @@ use Rattle.steps.proofs.Constructs.{then-stops}
 use Rattle.steps.proofs.Following.{expects-after}
 use Rattle.leaves.specs.Leaves.{there}
 use Rattle.leaves.proofs.Atoms.{leaf-reads}
-use Rattle.expression_laws.specs.Post.{place-at}
 use Rattle.expression_laws.proofs.Types.{past, through}
 use Rattle.expression_laws.proofs.Calls.{wraps-token, expect-seam}
 use Rattle.statement.specs.Rules.{guarded-rule}
@@ -251,7 +251,7 @@ ended-on m z = omega (arith, m .at, z)
 module _ {w x : List ℕ} {n d : ℕ} {o r f : List ℕ} {s : State} {t : Token} (u : Seen w x n (s .at) t) where
   pub loop-reads : {o1 r1 f1 o2 : List ℕ} {b y : Answer} → Starts K.KwLoop w x n o r f s
       → Reads node w x n d P.parse-statement o r f (fore s t) o1 r1 f1 b
-      → Finished x o1 b (untexted t 0x46 None) o2 y → Reads node w x n d P.statement-rule o r f s o2 r1 f1 y
+      → Finished x o1 b (untexted (t .place) 0x46 None) o2 y → Reads node w x n d P.statement-rule o r f s o2 r1 f1 y
   loop-reads q B F =
       wraps-token (λ _. here w x n s) (λ _. []) [] (q .asked) u B F (omega (arith, q .kind, u .kind))
       (λ i e. rw (u .place)) (past w x n (s .at))
@@ -261,7 +261,7 @@ module _ {w x : List ℕ} {n d : ℕ} {o r f : List ℕ} {s : State} {t : Token}
 
   pub while-reads : {o1 r1 f1 o2 : List ℕ} {b y : Answer} → Starts K.KwWhile w x n o r f s
       → Reads node w x n d guarded-rule o r f (fore s t) o1 r1 f1 b
-      → Finished x o1 b (untexted t 0x47 None) o2 y → Reads node w x n d P.statement-rule o r f s o2 r1 f1 y
+      → Finished x o1 b (untexted (t .place) 0x47 None) o2 y → Reads node w x n d P.statement-rule o r f s o2 r1 f1 y
   while-reads q B F =
       wraps-token (λ _. here w x n s) (λ _. []) [] (q .asked) u B F (omega (arith, q .kind, u .kind))
       (λ i e. rw (u .place)) (past w x n (s .at))
@@ -273,7 +273,7 @@ module _ {w x : List ℕ} {n d : ℕ} {o r f : List ℕ} {s : State} {t : Token}
       (adv s u (λ _. plain) f rd))
 
   pub assembly-reads : {o2 : List ℕ} {y : Answer} → Starts K.InlineAssemblyFragment w x n o r f s
-      → Finished x o (there s t) (texted t 0x4A None t) o2 y
+      → Finished x o (there s t) (texted (t .place) 0x4A None (t .start) (t .len)) o2 y
       → Reads node w x n d P.statement-rule o r f s o2 r f y
   assembly-reads q F =
       leaf-reads (q .asked .asks) u [] (next-token (rest w x n (s .at)) .text) F (omega (arith, q .kind, u .kind))
@@ -281,7 +281,7 @@ module _ {w x : List ℕ} {n d : ℕ} {o r f : List ℕ} {s : State} {t : Token}
 
   pub break-reads : {r1 f1 o2 : List ℕ} {a y : Answer} → Starts K.KwBreak w x n o r f s
       → Expects w x n (λ role. P.expect-as role 50) r f (fore s t) r1 f1 a
-      → Finished x o a (untexted t 0x48 None) o2 y → Reads node w x n d P.statement-rule o r f s o2 r1 f1 y
+      → Finished x o a (untexted (t .place) 0x48 None) o2 y → Reads node w x n d P.statement-rule o r f s o2 r1 f1 y
   break-reads {a = a} {y = y} q X F =
       let e : budget w x n (y .state .at) ≡ budget w x n (a .state .at) = ap (λ (k : ℕ). budget w x n k) (F .at) in
       let k : Fallible Tok → Act (Ans Node) = wrapped (token (next-token (rest w x n (t .next)))) [] [] 0x48 (λ _. here w x n s) (λ _. []) [] in
@@ -311,7 +311,7 @@ module _ {w x : List ℕ} {n d : ℕ} {o r f : List ℕ} {s : State} {t : Token}
   -- ---- which of them: the rest is the function's own
 
   pub var-reads : {o1 r1 f1 : List ℕ} {y : Answer} → Starts K.KwVar w x n o r f s
-      → Reads node w x n d (P.declaration 0x42 (place-at (t .line) (t .column))) o r f (fore s t) o1 r1 f1 y
+      → Reads node w x n d (P.declaration 0x42 (unpack-place (t .place))) o r f (fore s t) o1 r1 f1 y
       → Reads node w x n d P.statement-rule o r f s o1 r1 f1 y
   var-reads q B = record {
     moved = omega (arith, B .moved, u .pays, u .up);
@@ -326,7 +326,7 @@ module _ {w x : List ℕ} {n d : ℕ} {o r f : List ℕ} {s : State} {t : Token}
   module _ (m6 : t .kind ≡ 6 → ⊥) (m5 : t .kind ≡ 5 → ⊥) (m39 : t .kind ≡ 39 → ⊥) (m7 : t .kind ≡ 7 → ⊥)
       (m8 : t .kind ≡ 8 → ⊥) (m9 : t .kind ≡ 9 → ⊥) (m10 : t .kind ≡ 10 → ⊥) (m54 : t .kind ≡ 54 → ⊥) where
     pub end-reads : {e : ℕ} {r1 f1 : List ℕ} {y : Answer} → Asked w x n o r f s → t .kind ≡ 0
-        → unpack e ≡ error-at 6 0 0 0 0 → Raised (raised n s) r f s e r1 f1 y
+        → unpack e ≡ error-at 6 0 0 0 → Raised (raised n s) r f s e r1 f1 y
         → Reads node w x n d P.statement-rule o r f s o r1 f1 y
     unfolding go run P.statement-rule
     end-reads {e} {y = y} q z i g =
@@ -340,7 +340,7 @@ module _ {w x : List ℕ} {n d : ℕ} {o r f : List ℕ} {s : State} {t : Token}
         }
 
     pub other-reads : {o1 r1 f1 : List ℕ} {y : Answer} → (t .kind ≡ 0 → ⊥)
-        → Reads node w x n d (P.expression-statement (place-at (t .line) (t .column))) o r f s o1 r1 f1 y
+        → Reads node w x n d (P.expression-statement (unpack-place (t .place))) o r f s o1 r1 f1 y
         → Reads node w x n d P.statement-rule o r f s o1 r1 f1 y
     unfolding go run P.statement-rule
     other-reads z B =
@@ -355,8 +355,8 @@ module _ {w x : List ℕ} {n d : ℕ} {o r f : List ℕ} {s : State} {t : Token}
   -- ---- `return`
 
   pub return-none : {t2 : Token} {o2 : List ℕ} {y : Answer} → Starts K.KwReturn w x n o r f s → Seen w x n (t .next) t2 → t2 .kind ≡ 50
-      → Finished x o (record { status = Done; state = fore (fore s t) t2; line = t .line; column = t .column })
-      (untexted t 0x45 (Byte 0)) o2 y
+      → Finished x o (record { status = Done; state = fore (fore s t) t2; place = t .place; count = 0 })
+      (untexted (t .place) 0x45 (Byte 0)) o2 y
       → Reads node w x n d P.statement-rule o r f s o2 r f y
   unfolding go run P.parse-return recs-bytes
   return-none {t2} {o2} {y} q v h F =
@@ -399,7 +399,7 @@ module _ {w x : List ℕ} {n d : ℕ} {o r f : List ℕ} {s : State} {t : Token}
       → Reads node w x n d P.parse-expression o r f (fore s t) o1 r1 f1 b → length r1 ≡ length r
       → length f1 ≡ length f
       → Expected w x n 50 (s .pos) (s .reported) r1 f1 b r2 f2 c
-      → Finished x o1 c (untexted t 0x45 (Byte 1)) o2 y → Reads node w x n d P.statement-rule o r f s o2 r2 f2 y
+      → Finished x o1 c (untexted (t .place) 0x45 (Byte 1)) o2 y → Reads node w x n d P.statement-rule o r f s o2 r2 f2 y
   unfolding go run P.parse-return
   return-value {b = b} {c = c} {y = y} q v h B lr lf C F =
       let e : budget w x n (y .state .at) ≡ budget w x n (c .state .at) = ap (λ (k : ℕ). budget w x n k) (F .at) in
@@ -435,7 +435,7 @@ module _ {w x : List ℕ} {n d : ℕ} {o r f : List ℕ} {s : State} {t : Token}
   -- ---- a body that is a statement
 
   pub block-reads : {o1 r1 f1 o2 : List ℕ} {b y : Answer} → Starts K.LBrace w x n o r f s
-      → ReadsBody w x n d o r f s o1 r1 f1 b → Finished x o1 b (untexted t 0x40 (Two (b .line))) o2 y
+      → ReadsBody w x n d o r f s o1 r1 f1 b → Finished x o1 b (untexted (t .place) 0x40 (Two (b .count))) o2 y
       → Reads node w x n d P.statement-rule o r f s o2 r1 f1 y
   unfolding go run
   block-reads {b = b} {y = y} q B F =
@@ -487,7 +487,7 @@ module _ {w x : List ℕ} {n d : ℕ} {o r f : List ℕ} {s : State} {t : Token}
         }
 
     module _ {t2 : Token} (z : a .status ≡ Done) (v : Seen w x n (a .state .at) t2) where
-      pub if-two : {o2 : List ℕ} {y : Answer} → (t2 .kind ≡ 11 → ⊥) → Finished x o1 a (untexted t 0x49 (Byte 2)) o2 y
+      pub if-two : {o2 : List ℕ} {y : Answer} → (t2 .kind ≡ 11 → ⊥) → Finished x o1 a (untexted (t .place) 0x49 (Byte 2)) o2 y
           → Reads node w x n d P.statement-rule o r f s o2 r1 f1 y
       unfolding go run
       if-two {o2} {y} h F =
@@ -519,7 +519,7 @@ module _ {w x : List ℕ} {n d : ℕ} {o r f : List ℕ} {s : State} {t : Token}
       pub if-three : {o2 r2 f2 r3 o3 : List ℕ} {b c y : Answer} → t2 .kind ≡ 11
           → Reads node w x n d P.parse-statement o1 r1 f1 (fore (a .state) t2) o2 r2 f2 b → length r1 ≡ length r
           → Abandoned r2 b (s .pos) (s .reported) (a .state .reported) r3 c
-          → Finished x o2 c (untexted t 0x49 (Byte 3)) o3 y → Reads node w x n d P.statement-rule o r f s o3 r3 f2 y
+          → Finished x o2 c (untexted (t .place) 0x49 (Byte 3)) o3 y → Reads node w x n d P.statement-rule o r f s o3 r3 f2 y
       unfolding go run
       if-three {b = b} {c = c} {y = y} h D lr C F =
           let e : budget w x n (y .state .at) ≡ budget w x n (b .state .at) = ap (λ (k : ℕ). budget w x n k) (F .at ∙ C .at) in

@@ -6,7 +6,6 @@ use Rattle.definition.specs.Fallible.{Ans}
 use Rattle.definition.specs.Act.{Node, Act}
 use Rattle.fallible.specs.declared.State.{State}
 use Rattle.fallible.specs.declared.Answer.{Answer}
-use Rattle.steps.specs.declared.Token.{Token}
 use Rattle.statement.specs.Post as B
 
 abbrev pub Starts : ℕ → Slice → Slice → ℕ → Slice → Slice → Slice → State → Type 0
@@ -25,16 +24,16 @@ ReadsDeclared tokens text n file reported full st nesting r =
     B.ReadsDeclared (at-entry tokens) (at-entry text) n nesting (at-entry file) (at-entry reported) (at-entry full) st
     (at-exit file) (at-exit reported) (at-exit full) r
 
-abbrev pub Named : Lent → Lent → ℕ → Lent → Answer → ℕ → Token → ℕ → Answer → Type 0
-Named tokens text n file a tag lead at r =
-    B.Named (at-entry tokens) (at-entry text) n (at-entry file) a tag (lead .line) (lead .column) at (at-exit file) r
+abbrev pub Named : Lent → Lent → ℕ → Lent → Answer → ℕ → ℕ → ℕ → Answer → Type 0
+Named tokens text n file a tag place at r =
+    B.Named (at-entry tokens) (at-entry text) n (at-entry file) a tag place at (at-exit file) r
 
 abbrev pub ReadsBody : Lent → Lent → ℕ → Lent → Lent → Lent → State → ℕ → Answer → Type 0
 ReadsBody tokens text n file reported full st nesting r =
     B.ReadsBody (at-entry tokens) (at-entry text) n nesting (at-entry file) (at-entry reported) (at-entry full) st
     (at-exit file) (at-exit reported) (at-exit full) r
 
-abbrev pub ReadsAfter : (Node → Act (Ans Node)) → Lent → Lent → ℕ → Lent → Lent → Lent → ℕ → State → ℕ → Answer → Type 0
-ReadsAfter k tokens text n file reported full i st nesting r =
-    B.ReadsAfter (at-entry tokens) (at-entry text) n nesting k i (at-entry file) (at-entry reported) (at-entry full) st
+abbrev pub ReadsAfter : (Node → Act (Ans Node)) → Lent → Lent → ℕ → Lent → Lent → Lent → State → State → ℕ → Answer → Type 0
+ReadsAfter k tokens text n file reported full from st nesting r =
+    B.ReadsAfter (at-entry tokens) (at-entry text) n nesting k (from .pos) (at-entry file) (at-entry reported) (at-entry full) st
     (at-exit file) (at-exit reported) (at-exit full) r

@@ -10,6 +10,7 @@ use Rattle.definition.specs.Token.{next-token}
 use Rattle.definition.specs.Act.{Items, Node, Act, done, loop, Body, Consumed, Res, after, or-return, _>>=_}
 use Rattle.definition.specs.Parser as P
 use Rattle.definition.specs.Go.{go}
+use Rattle.definition.specs.Places.{unpack-place}
 use Rattle.node.specs.Put.{Wrote, bare-of}
 use Rattle.node.specs.declared.Numbers.the-variants.{None}
 use Rattle.fallible.specs.declared.State.{State}
@@ -19,7 +20,7 @@ use Rattle.fallible.specs.declared.Answer.{Answer}
 use Rattle.fallible.specs.Lists.{errs}
 use Rattle.steps.specs.Tokens.{rest, budget}
 use Rattle.steps.specs.Shows.{st-of, Asked, Moved, Shows, done-of, node, typed, items}
-use Rattle.expression_laws.specs.Post.{place-at, name-of, as-answer}
+use Rattle.expression_laws.specs.Post.{name-of, as-answer}
 use Rattle.statement.specs.Rules.{value-on}
 
 -- what begins with a token of the kind k
@@ -61,21 +62,21 @@ pub record ReadsDeclared (w x : List ℕ) (n d : ℕ) (o r f : List ℕ) (s : St
   pub is : (rd : List Consumed) → Shows (typed (name-of (next-token (rest w x n (s .at))))) (take (s .pos) o) (errs r (s .reported)) [] [] w x n o′ r′ f′ a (go d P.parse-var-like-declaration (st-of w x n f rd s))
 
 -- a record with a place and a name
-abbrev pub named-of : ℕ → ℕ → ℕ → List ℕ → Rec
-named-of tag line column name = record { tag = tag; place = some (place-at line column); numbers = []; text = name }
+abbrev pub named-of : ℕ → ℕ → List ℕ → Rec
+named-of tag place name = record { tag = tag; place = some (unpack-place place); numbers = []; text = name }
 
-abbrev pub NamedOf : Status → List ℕ → List ℕ → ℕ → List ℕ → Answer → ℕ → ℕ → ℕ → ℕ → List ℕ → Answer → Type 0
-NamedOf Done w x n o a tag line column at o′ y = (y .status ≡ Done) × (Wrote o (a .state .pos) (named-of tag line column (name-of (next-token (rest w x n at)))) (7 + length (name-of (next-token (rest w x n at)))) o′ (y .state .pos) × ((y .line ≡ line) × (y .column ≡ column)))
-NamedOf Fatal w x n o a tag line column at o′ y = (y ≡ a) × (o′ ≡ o)
-NamedOf (Refused m) w x n o a tag line column at o′ y = (y ≡ a) × (o′ ≡ o)
+abbrev pub NamedOf : Status → List ℕ → List ℕ → ℕ → List ℕ → Answer → ℕ → ℕ → ℕ → List ℕ → Answer → Type 0
+NamedOf Done w x n o a tag place at o′ y = (y .status ≡ Done) × (Wrote o (a .state .pos) (named-of tag place (name-of (next-token (rest w x n at)))) (7 + length (name-of (next-token (rest w x n at)))) o′ (y .state .pos) × (y .place ≡ place))
+NamedOf Fatal w x n o a tag place at o′ y = (y ≡ a) × (o′ ≡ o)
+NamedOf (Refused m) w x n o a tag place at o′ y = (y ≡ a) × (o′ ≡ o)
 
-pub record Named (w x : List ℕ) (n : ℕ) (o : List ℕ) (a : Answer) (tag line column p : ℕ) (o′ : List ℕ) (y : Answer) : Type 0 where
+pub record Named (w x : List ℕ) (n : ℕ) (o : List ℕ) (a : Answer) (tag : ℕ) (place : ℕ) (p : ℕ) (o′ : List ℕ) (y : Answer) : Type 0 where
   pub at : y .state .at ≡ a .state .at
   pub reported : y .state .reported ≡ a .state .reported
   pub full : y .state .full ≡ a .state .full
   pub low : a .state .pos ≤ y .state .pos
   pub high : y .state .pos ≤ a .state .pos + 10 * done-of (a .status) + length (next-token (rest w x n p) .text)
-  pub is : NamedOf (a .status) w x n o a tag line column p o′ y
+  pub is : NamedOf (a .status) w x n o a tag place p o′ y
 
 -- ---- bodies
 

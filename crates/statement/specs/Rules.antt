@@ -1,6 +1,7 @@
 -- The parts of the definition's functions that functions of the code are of their own. Assumes nothing.
 use mathlib.Core.List.{[], _∷_, _++_}
 use Prim.Native.Nat.{ℕ}
+use Rattle.definition.specs.Tag as Tag
 use Rattle.definition.specs.Source.{Place}
 use Rattle.definition.specs.Node.{two}
 use Rattle.definition.specs.Fallible.{Fallible, Ans}
@@ -18,9 +19,9 @@ values-rule k tag p = P.parse-list k >>= λ i. P.good (P.node (i .recs) tag p (t
 abbrev pub value-on : Fallible P.Typed → Act (Ans P.Typed)
 value-on x =
     peek λ t.
-    if t is K.Equals then (next λ _. P.parse-expression >>? λ e. P.declared x (P.bare (e .item .recs) 0x34 []) (e .errors)) else
-    if t is K.LArrow then (next λ _. P.parse-compound >>? λ c. P.declared x (P.bare (c .item .recs) 0x35 []) (c .errors)) else
-    P.declared x (P.bare [] 0x33 []) []
+    if t is K.Equals then (next λ _. P.parse-expression >>? λ e. P.declared x (P.bare (e .item .recs) Tag.AssignedValue []) (e .errors)) else
+    if t is K.LArrow then (next λ _. P.parse-compound >>? λ c. P.declared x (P.bare (c .item .recs) Tag.CompoundValue []) (c .errors)) else
+    P.declared x (P.bare [] Tag.NoValue []) []
 
 -- a condition and what it guards, without a record of their own
 abbrev pub guarded-rule : Act (Ans Node)

@@ -23,7 +23,7 @@ use steps::write_text_node;
 ghost use Rattle.definition.specs.Parser as P;
 ghost use Rattle.node.specs.Contract.{Room};
 ghost use Rattle.leaves.specs.Leaves.{listed-of};
-ghost use Rattle.expression_laws.specs.Post.{place-of};
+ghost use Rattle.definition.specs.Places.{unpack-place};
 ghost use Rattle.statement.specs.Rules.{values-rule};
 ghost use Rattle.steps.specs.Contract.{Asked, GoesOn, Parses};
 ghost use Rattle.expression_laws.specs.Contract.{NameRoom};
@@ -51,7 +51,7 @@ pub fn compound(
     let s = a.state;
     let t = peek(tokens, text, n, s.at);
     if t.kind == kind::END {
-        let error = entry(parse_error::COMPOUND_AT_END, 0, 0, 0, 0);
+        let error = entry(parse_error::COMPOUND_AT_END, 0, 0, 0);
         return raise(n, reported, full, s, error);
     }
     if t.kind == kind::L_BRACKET {
@@ -88,7 +88,7 @@ pub fn compound(
             nesting,
         );
     }
-    let error = entry(parse_error::COMPOUND, t.line, t.column, 0, t.kind);
+    let error = entry(parse_error::COMPOUND, t.place, 0, t.kind);
     raise(n, reported, full, s, error)
 }
 
@@ -102,15 +102,15 @@ fn values(
     full: &mut [usize],
     what: Listed,
     tag: u8,
-    lead: Token,
+    place: usize,
     st: State,
     nesting: usize,
 ) -> Answer
     requires { ⌜ Starts (P.opener (listed-of what)) tokens text n file reported full st ⌝ }
-    ensures { λ r. ⌜ Parses (values-rule (listed-of what) tag (place-of lead)) tokens text n file reported full st nesting r ⌝ }
+    ensures { λ r. ⌜ Parses (values-rule (listed-of what) tag (unpack-place place)) tokens text n file reported full st nesting r ⌝ }
 {
     let a = list(tokens, text, n, file, reported, full, what, st, nesting);
-    write_node(file, text, a, lead, tag, Numbers::Two(a.line))
+    write_node(file, text, a, place, tag, Numbers::Two(a.count))
 }
 
 // A record with nothing but its tag after an answer, if it is there.
@@ -127,8 +127,8 @@ fn bare(file: &mut [u8], text: &[u8], a: Answer, tag: u8) -> Answer
     Answer {
         status,
         state: State { pos, ..s },
-        line: 0,
-        column: 0,
+        place: 0,
+        count: 0,
     }
 }
 
@@ -193,11 +193,11 @@ fn named(
     file: &mut [u8],
     a: Answer,
     tag: u8,
-    lead: Token,
+    place: usize,
     at: usize,
 ) -> Answer
     requires { ⌜ NameRoom tokens text n file a at ⌝ }
-    ensures { λ r. ⌜ Named tokens text n file a tag lead at r ⌝ }
+    ensures { λ r. ⌜ Named tokens text n file a tag place at r ⌝ }
 {
     let status = a.status;
     let Status::Done = status else {
@@ -205,14 +205,9 @@ fn named(
     };
     let t = peek(tokens, text, n, at);
     if t.kind == kind::IDENTIFIER {
-        return write_text_node(file, text, a, lead, tag, Numbers::None, t);
+        return write_text_node(file, text, a, place, tag, Numbers::None, t.start, t.len);
     }
-    let none = Token {
-        start: 0,
-        len: 3,
-        ..t
-    };
-    write_text_node(file, b"<?>", a, lead, tag, Numbers::None, none)
+    write_text_node(file, b"<?>", a, place, tag, Numbers::None, 0, 3)
 }
 
 // A declaration after `var`: var_like_declaration `;`
@@ -224,14 +219,14 @@ pub fn declaration(
     reported: &mut [usize],
     full: &mut [usize],
     tag: u8,
-    lead: Token,
+    place: usize,
     st: State,
     nesting: usize,
 ) -> Answer
     requires { ⌜ Asked tokens text n file reported full st ⌝ }
-    ensures { λ r. ⌜ Parses (P.declaration tag (place-of lead)) tokens text n file reported full st nesting r ⌝ }
+    ensures { λ r. ⌜ Parses (P.declaration tag (unpack-place place)) tokens text n file reported full st nesting r ⌝ }
 {
     let a = var_like_declaration(tokens, text, n, file, reported, full, st, nesting);
     let b = and_expect(tokens, text, n, reported, full, a, kind::SEMICOLON, st);
-    named(tokens, text, n, file, b, tag, lead, st.at)
+    named(tokens, text, n, file, b, tag, place, st.at)
 }

@@ -57,8 +57,8 @@ pub fn body(
         Status::Fatal => Answer {
             status: Status::Done,
             state: s,
-            line: 0,
-            column: 0,
+            place: 0,
+            count: 0,
         },
         Status::Refused(_) => a,
     }
@@ -86,20 +86,20 @@ fn body_rest(
             return Answer {
                 status: Status::Done,
                 state: State { at: t.next, ..st },
-                line: count,
-                column: 0,
+                place: 0,
+                count,
             };
         }
         if t.kind == kind::END {
-            let error = entry(parse_error::BODY_AT_END, 0, 0, 0, 0);
+            let error = entry(parse_error::BODY_AT_END, 0, 0, 0);
             let b = note(n, reported, full, st, error);
             let status = b.status;
             let s = b.state;
             return Answer {
                 status,
                 state: s,
-                line: count,
-                column: 0,
+                place: 0,
+                count,
             };
         }
         let b = statement(tokens, text, n, file, reported, full, st, nesting);
@@ -131,7 +131,7 @@ fn block(
 {
     let t = peek(tokens, text, n, st.at);
     let a = body(tokens, text, n, file, reported, full, st, nesting);
-    write_node(file, text, a, t, tag::BLOCK, Numbers::Two(a.line))
+    write_node(file, text, a, t.place, tag::BLOCK, Numbers::Two(a.count))
 }
 
 // `loop` statement
@@ -151,7 +151,7 @@ fn loop_statement(
     let t = peek(tokens, text, n, st.at);
     let on = State { at: t.next, ..st };
     let a = statement(tokens, text, n, file, reported, full, on, nesting);
-    write_node(file, text, a, t, tag::LOOP, Numbers::None)
+    write_node(file, text, a, t.place, tag::LOOP, Numbers::None)
 }
 
 // A condition and what it guards: expression statement
@@ -195,7 +195,7 @@ fn while_statement(
     let t = peek(tokens, text, n, st.at);
     let on = State { at: t.next, ..st };
     let a = guarded(tokens, text, n, file, reported, full, on, nesting);
-    write_node(file, text, a, t, tag::WHILE, Numbers::None)
+    write_node(file, text, a, t.place, tag::WHILE, Numbers::None)
 }
 
 // `if` guarded [`else` statement]
@@ -222,12 +222,12 @@ fn if_statement(
     let s = a.state;
     let u = peek(tokens, text, n, s.at);
     if u.kind != kind::KW_ELSE {
-        return write_node(file, text, a, t, tag::IF, Numbers::Byte(2));
+        return write_node(file, text, a, t.place, tag::IF, Numbers::Byte(2));
     }
     let on = State { at: u.next, ..s };
     let b = statement(tokens, text, n, file, reported, full, on, nesting);
     let c = abandon(reported, b, st, s);
-    write_node(file, text, c, t, tag::IF, Numbers::Byte(3))
+    write_node(file, text, c, t.place, tag::IF, Numbers::Byte(3))
 }
 
 // The statement that the next token begins.
@@ -270,10 +270,10 @@ fn statement_rule(
         return assembly_statement(tokens, text, n, file, reported, full, st);
     }
     if t.kind == kind::END {
-        let error = entry(parse_error::STATEMENT_AT_END, 0, 0, 0, 0);
+        let error = entry(parse_error::STATEMENT_AT_END, 0, 0, 0);
         return raise(n, reported, full, st, error);
     }
-    expression_statement(tokens, text, n, file, reported, full, t, st, nesting)
+    expression_statement(tokens, text, n, file, reported, full, t.place, st, nesting)
 }
 
 // parse_statement, one of the four functions whose open calls are counted.

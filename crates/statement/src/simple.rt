@@ -9,16 +9,16 @@ use fallible::State;
 use fallible::Status;
 use fallible::abandon;
 use node::Numbers;
-use steps::Token;
 use steps::and_expect;
 use steps::expect;
 use steps::peek;
 use steps::write_node;
 use steps::write_text_node;
+ghost use mathlib.Core.Path.{_≡_};
 ghost use Prim.Native.Nat.{ℕ, _≤_};
 ghost use Rattle.definition.specs.Kind as K;
 ghost use Rattle.definition.specs.Parser as P;
-ghost use Rattle.expression_laws.specs.Post.{place-of};
+ghost use Rattle.definition.specs.Places.{unpack-place};
 ghost use Rattle.steps.specs.Contract.{Asked, Parses};
 ghost use Rattle.statement.specs.Contract.{Starts, ReadsAfter};
 
@@ -42,15 +42,15 @@ pub fn return_statement(
         let a = Answer {
             status: Status::Done,
             state: State { at: u.next, ..st },
-            line: t.line,
-            column: t.column,
+            place: t.place,
+            count: 0,
         };
-        return write_node(file, text, a, t, tag::RETURN, Numbers::Byte(0));
+        return write_node(file, text, a, t.place, tag::RETURN, Numbers::Byte(0));
     }
     let on = State { at: t.next, ..st };
     let a = expression(tokens, text, n, file, reported, full, on, nesting);
     let b = and_expect(tokens, text, n, reported, full, a, kind::SEMICOLON, st);
-    write_node(file, text, b, t, tag::RETURN, Numbers::Byte(1))
+    write_node(file, text, b, t.place, tag::RETURN, Numbers::Byte(1))
 }
 
 // `var` declaration
@@ -70,7 +70,18 @@ pub fn var_statement(
     let t = peek(tokens, text, n, st.at);
     let on = State { at: t.next, ..st };
     let tag = tag::VARIABLE_DECLARATION;
-    declaration(tokens, text, n, file, reported, full, tag, t, on, nesting)
+    declaration(
+        tokens,
+        text,
+        n,
+        file,
+        reported,
+        full,
+        tag,
+        t.place,
+        on,
+        nesting,
+    )
 }
 
 // `break` `;`
@@ -89,7 +100,7 @@ pub fn break_statement(
     let t = peek(tokens, text, n, st.at);
     let on = State { at: t.next, ..st };
     let a = expect(tokens, text, n, reported, full, on, kind::SEMICOLON);
-    write_node(file, text, a, t, tag::BREAK, Numbers::None)
+    write_node(file, text, a, t.place, tag::BREAK, Numbers::None)
 }
 
 // A fragment of assembly.
@@ -109,10 +120,19 @@ pub fn assembly_statement(
     let a = Answer {
         status: Status::Done,
         state: State { at: t.next, ..st },
-        line: t.line,
-        column: t.column,
+        place: t.place,
+        count: 0,
     };
-    write_text_node(file, text, a, t, tag::INLINE_ASSEMBLY, Numbers::None, t)
+    write_text_node(
+        file,
+        text,
+        a,
+        t.place,
+        tag::INLINE_ASSEMBLY,
+        Numbers::None,
+        t.start,
+        t.len,
+    )
 }
 
 // Behind its target, which was written from `i` on: `=` expression `;`
@@ -123,21 +143,20 @@ fn assignment(
     file: &mut [u8],
     reported: &mut [usize],
     full: &mut [usize],
-    lead: Token,
-    i: usize,
+    place: usize,
+    from: State,
     st: State,
     nesting: usize,
 ) -> Answer
-    requires { ⌜ Starts K.Equals tokens text n file reported full st × (i ≤ st .pos) ⌝ }
-    ensures { λ r. ⌜ ReadsAfter (P.after-expression (place-of lead)) tokens text n file reported full i st nesting r ⌝ }
+    requires { ⌜ Starts K.Equals tokens text n file reported full st × ((from .pos ≤ st .pos) × (from .reported ≡ st .reported)) ⌝ }
+    ensures { λ r. ⌜ ReadsAfter (P.after-expression (unpack-place place)) tokens text n file reported full from st nesting r ⌝ }
 {
     let t = peek(tokens, text, n, st.at);
     let on = State { at: t.next, ..st };
     let a = expression(tokens, text, n, file, reported, full, on, nesting);
-    let from = State { pos: i, ..st };
     let b = abandon(reported, a, from, st);
     let c = and_expect(tokens, text, n, reported, full, b, kind::SEMICOLON, from);
-    write_node(file, text, c, lead, tag::ASSIGNMENT, Numbers::None)
+    write_node(file, text, c, place, tag::ASSIGNMENT, Numbers::None)
 }
 
 // Behind its target, which was written from `i` on: `<-` compound `;`
@@ -148,21 +167,27 @@ fn compound_assignment(
     file: &mut [u8],
     reported: &mut [usize],
     full: &mut [usize],
-    lead: Token,
-    i: usize,
+    place: usize,
+    from: State,
     st: State,
     nesting: usize,
 ) -> Answer
-    requires { ⌜ Starts K.LArrow tokens text n file reported full st × (i ≤ st .pos) ⌝ }
-    ensures { λ r. ⌜ ReadsAfter (P.after-expression (place-of lead)) tokens text n file reported full i st nesting r ⌝ }
+    requires { ⌜ Starts K.LArrow tokens text n file reported full st × ((from .pos ≤ st .pos) × (from .reported ≡ st .reported)) ⌝ }
+    ensures { λ r. ⌜ ReadsAfter (P.after-expression (unpack-place place)) tokens text n file reported full from st nesting r ⌝ }
 {
     let t = peek(tokens, text, n, st.at);
     let on = State { at: t.next, ..st };
     let a = compound(tokens, text, n, file, reported, full, on, nesting);
-    let from = State { pos: i, ..st };
     let b = abandon(reported, a, from, st);
     let c = and_expect(tokens, text, n, reported, full, b, kind::SEMICOLON, from);
-    write_node(file, text, c, lead, tag::COMPOUND_ASSIGNMENT, Numbers::None)
+    write_node(
+        file,
+        text,
+        c,
+        place,
+        tag::COMPOUND_ASSIGNMENT,
+        Numbers::None,
+    )
 }
 
 // Behind an expression with no errors, which was written from `i` on: assignment | compound_assignment | `;`
@@ -173,30 +198,51 @@ fn after_expression(
     file: &mut [u8],
     reported: &mut [usize],
     full: &mut [usize],
-    lead: Token,
-    i: usize,
+    place: usize,
+    from: State,
     st: State,
     nesting: usize,
 ) -> Answer
-    requires { ⌜ Asked tokens text n file reported full st × (i ≤ st .pos) ⌝ }
-    ensures { λ r. ⌜ ReadsAfter (P.after-expression (place-of lead)) tokens text n file reported full i st nesting r ⌝ }
+    requires { ⌜ Asked tokens text n file reported full st × ((from .pos ≤ st .pos) × (from .reported ≡ st .reported)) ⌝ }
+    ensures { λ r. ⌜ ReadsAfter (P.after-expression (unpack-place place)) tokens text n file reported full from st nesting r ⌝ }
 {
     let t = peek(tokens, text, n, st.at);
     if t.kind == kind::EQUALS {
-        return assignment(tokens, text, n, file, reported, full, lead, i, st, nesting);
+        return assignment(
+            tokens,
+            text,
+            n,
+            file,
+            reported,
+            full,
+            place,
+            from,
+            st,
+            nesting,
+        );
     }
     if t.kind == kind::L_ARROW {
-        return compound_assignment(tokens, text, n, file, reported, full, lead, i, st, nesting);
+        return compound_assignment(
+            tokens,
+            text,
+            n,
+            file,
+            reported,
+            full,
+            place,
+            from,
+            st,
+            nesting,
+        );
     }
     let a = Answer {
         status: Status::Done,
         state: st,
-        line: lead.line,
-        column: lead.column,
+        place,
+        count: 0,
     };
-    let from = State { pos: i, ..st };
     let b = and_expect(tokens, text, n, reported, full, a, kind::SEMICOLON, from);
-    write_node(file, text, b, lead, tag::EXPRESSION, Numbers::None)
+    write_node(file, text, b, place, tag::EXPRESSION, Numbers::None)
 }
 
 // expression after_expression; where the expression has errors the statement ends with it.
@@ -207,12 +253,12 @@ pub fn expression_statement(
     file: &mut [u8],
     reported: &mut [usize],
     full: &mut [usize],
-    lead: Token,
+    place: usize,
     st: State,
     nesting: usize,
 ) -> Answer
     requires { ⌜ Asked tokens text n file reported full st ⌝ }
-    ensures { λ r. ⌜ Parses (P.expression-statement (place-of lead)) tokens text n file reported full st nesting r ⌝ }
+    ensures { λ r. ⌜ Parses (P.expression-statement (unpack-place place)) tokens text n file reported full st nesting r ⌝ }
 {
     let a = expression(tokens, text, n, file, reported, full, st, nesting);
     let status = a.status;
@@ -221,18 +267,7 @@ pub fn expression_statement(
     };
     let s = a.state;
     if st.reported < s.reported {
-        return write_node(file, text, a, lead, tag::EXPRESSION, Numbers::None);
+        return write_node(file, text, a, place, tag::EXPRESSION, Numbers::None);
     }
-    after_expression(
-        tokens,
-        text,
-        n,
-        file,
-        reported,
-        full,
-        lead,
-        st.pos,
-        s,
-        nesting,
-    )
+    after_expression(tokens, text, n, file, reported, full, place, st, s, nesting)
 }

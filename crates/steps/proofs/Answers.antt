@@ -98,9 +98,9 @@ module _ {A : Type 0} (K : View A) {w x : List ℕ} {n : ℕ} {r f r′ f′ : L
 
       one : (b : Bool) → ltb (s .full) 255 ≡ b
           → ShowsOf
-          (pick b (record { status = Fatal; state = one-more s; line = 0; column = 0 }) (refused-at n s 12) .status) K
+          (pick b (record { status = Fatal; state = one-more s; place = 0; count = 0 }) (refused-at n s 12) .status) K
           (take (s .pos) o) (errs r (s .reported)) [] [] w x n o r′ f′
-          (pick b (record { status = Fatal; state = one-more s; line = 0; column = 0 }) (refused-at n s 12))
+          (pick b (record { status = Fatal; state = one-more s; place = 0; count = 0 }) (refused-at n s 12))
           (go d (P.raise {A = A} (unpack e)) (st-of w x n f rd s))
       one true l =
           record {
@@ -206,7 +206,7 @@ wrapped K rs es tag p ns text e = P.good (P.node (rs ++ K .recs (e .item)) tag (
 module _ {A : Type 0} {K : View A} {T : List ℕ} {E : List Err} {rs : List Rec} {es : List Err} {w x : List ℕ}
     {n : ℕ} {o o′ r f : List ℕ} {a y : Answer} {v : Record} {q : Res (Ans A)} (d : ℕ) (p : A → Place)
     (ns : A → List Num) (text : List ℕ) (u : Finished x o a v o′ y) where
-  pub finishes : ((i : A) → K .fine (a .line) (a .column) i
+  pub finishes : ((i : A) → K .fine (a .place) (a .count) i
       → rec-of x v ≡ record { tag = v .tag; place = some (p i); numbers = ns i; text = text })
       → Shows K T E rs es w x n o r f a q
       → Shows node T E [] [] w x n o′ r f y (after q (λ z S. go d (or-return (wrapped K rs es (v .tag) p ns text) z) S))
@@ -224,7 +224,7 @@ module _ {A : Type 0} {K : View A} {T : List ℕ} {E : List Err} {rs : List Rec}
             is = rw (g .is, u .at, u .full);
             tree = wrote T (rs ++ K .recs (g .item)) (m .1 .0) (g .tree) (sym (e (g .item) (g .holds)));
             reported = ap (λ (k : ℕ). errs r k) (u .reported) ∙ g .reported;
-            holds = ap place-of (sym (e (g .item) (g .holds))) ∙ sym (rw (m .1 .1 .0, m .1 .1 .1));
+            holds = ap place-of (sym (e (g .item) (g .holds))) ∙ sym (rw (m .1 .1));
           })
       one Fatal z m g = rw (m .0, m .1, z) (record { errors = g .errors; read = g .read; is = rw (g .is); tree = g .tree; reported = g .reported })
       one (Refused k) z m g = rw (m .0, z, g)

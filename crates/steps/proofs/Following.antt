@@ -51,7 +51,7 @@ module _ {A : Type 0} {K : View A} {w x : List ℕ} {n k i j : ℕ} {r f r′ f�
 
       lost : Bad T E w x n o r′ f′ (v .c) (go d (P.expect-as role k) S)
           → Bad T E w x n o r′ f′
-          (record { status = v .c .status; state = v .c .state; line = a .line; column = a .column })
+          (record { status = v .c .status; state = v .c .state; place = a .place; count = a .count })
           (after q (λ z S. go d (or-return (expecting role k) z) S))
       lost c = record { errors = c .errors; read = c .read; is = step ∙ rw (c .is); tree = c .tree; reported = c .reported }
 
@@ -59,7 +59,7 @@ module _ {A : Type 0} {K : View A} {w x : List ℕ} {n k i j : ℕ} {r f r′ f�
           → ShowsOf h (token (next-token (rest w x n (a .state .at)))) (take (a .state .pos) o)
           (errs r (a .state .reported)) [] [] w x n o (v .between) f′ (v .b) (go d (P.expect-as role k) S)
           → ShowsOf (v .c .status) K T E rs es w x n o r′ f′
-          (record { status = v .c .status; state = v .c .state; line = a .line; column = a .column })
+          (record { status = v .c .status; state = v .c .state; place = a .place; count = a .count })
           (after q (λ z S. go d (or-return (expecting role k) z) S))
       one Done h m t =
           rw (m .0, h) (record {
@@ -85,7 +85,7 @@ module _ {A : Type 0} {K : View A} {w x : List ℕ} {n k i j : ℕ} {r f r′ f�
           (λ (h : Status). ShowsOf h (token (next-token (rest w x n (a .state .at)))) T E (rs ++ K .recs (g .item))
           (es ++ g .errors) w x n o r′ f′ (v .c) (go d (P.expect-as role k) S)) (m .status) (b .told) in
           subst (λ (h : Status). ShowsOf h K T E rs es w x n o r′ f′
-          (record { status = v .c .status; state = v .c .state; line = a .line; column = a .column })
+          (record { status = v .c .status; state = v .c .state; place = a .place; count = a .count })
           (after q (λ z S. go d (or-return (expecting role k) z) S))) (sym (m .status)) (lost c)
       one (Refused u) h m t = rw (m .0, h) (step ∙ rw t)
 

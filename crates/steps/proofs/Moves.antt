@@ -55,7 +55,7 @@ module _ {w x : List ℕ} {n : ℕ} {r f : List ℕ} {s : State} (q : Asks w x n
     where
       go : (b : Bool) → (b ≡ true → s .full < 255) → ltb (s .full) 255 ≡ b
           → Moved w x n (s .pos) (s .reported) s
-          (pick b (record { status = h; state = one-more s; line = 0; column = 0 }) (refused-at n s 12) .state)
+          (pick b (record { status = h; state = one-more s; place = 0; count = 0 }) (refused-at n s 12) .state)
       go true g e =
           let l = g refl in
           record {

@@ -21,7 +21,7 @@ use Rattle.fallible.specs.declared.Status.{Status}
 use Rattle.fallible.specs.declared.Status.the-variants.{Done, Fatal, Refused}
 use Rattle.fallible.specs.declared.Answer.{Answer}
 use Rattle.fallible.specs.Lists.{unpack, error-at, errs}
-use Rattle.fallible.specs.Answers.{refused-at, one-more, raised, Raised, AbandonedOf, Abandoned}
+use Rattle.fallible.specs.Answers.{refused-at, one-more, making, raised, Raised, AbandonedOf, Abandoned}
 use Rattle.node.specs.Put.{Wrote, rec-of, size-of}
 use Rattle.node.specs.declared.Record.{Record}
 use Rattle.fallible.proofs.Status.{the-type}
@@ -37,14 +37,15 @@ use Rattle.steps.proofs.Answers.{Stopped, say, not-done, raise-same, ra
 raised-status : (n : ℕ) (s : State) → done-of (raised n s .status) ≡ 0
 raised-status n s = go (ltb (s .full) 255)
   where
-    go : (b : Bool) → done-of (pick b (record { status = Fatal; state = one-more s; line = 0; column = 0 }) (refused-at n s 12) .status) ≡ 0
+    go : (b : Bool) → done-of (pick b (record { status = Fatal; state = one-more s; place = 0; count = 0 }) (refused-at n s 12) .status) ≡ 0
     go true = refl
     go false = refl
 
-raised-pos : (n : ℕ) (s : State) → raised n s .state .pos ≡ s .pos
-raised-pos n s = go (ltb (s .full) 255)
+-- an error writes nothing
+pub making-pos : (h : Status) (n : ℕ) (s : State) → making h n s .state .pos ≡ s .pos
+making-pos h n s = go (ltb (s .full) 255)
   where
-    go : (b : Bool) → pick b (record { status = Fatal; state = one-more s; line = 0; column = 0 }) (refused-at n s 12) .state .pos ≡ s .pos
+    go : (b : Bool) → pick b (record { status = h; state = one-more s; place = 0; count = 0 }) (refused-at n s 12) .state .pos ≡ s .pos
     go true = refl
     go false = refl
 
@@ -55,7 +56,7 @@ module _ {w x : List ℕ} {n : ℕ} {r f : List ℕ} {s : State} {t : Token} (q 
       → go d (m role) (st-of w x n f rd s)
       ≡ go d (P.good (next-token (rest w x n (s .at))) [])
       (st-of w x n f (rd ++ now-read (λ _. of role) (rest w x n (s .at))) (fore s t)))
-      → Expects w x n m r f s r f (record { status = Done; state = fore s t; line = t .line; column = t .column })
+      → Expects w x n m r f s r f (record { status = Done; state = fore s t; place = t .place; count = 0 })
   unfolding go run recs-bytes
   there of g z h = record {
     moved = fore-moved q v;
@@ -89,7 +90,7 @@ module _ {w x : List ℕ} {n : ℕ} {r f : List ℕ} {s : State} {t : Token} (q 
       let mv : Moved w x n (s .pos) (s .reported) s (a .state) = rw (g .is)
       (moved-trans (fore-moved q v) (making-moved (asks-fore q v) Fatal)) in
       let nd : done-of (a .status) ≡ 0 = rw (g .is) (raised-status n (fore s t)) in
-      let ps : a .state .pos ≡ s .pos = rw (g .is) (raised-pos n (fore s t)) in
+      let ps : a .state .pos ≡ s .pos = rw (g .is) (making-pos Fatal n (fore s t)) in
       let up : t .next ≤ a .state .at = rw (g .is) (making-moved (asks-fore q v) Fatal .at) in
       record {
         moved = mv;
@@ -107,16 +108,16 @@ module _ {w x : List ℕ} {n : ℕ} {r f : List ℕ} {s : State} {t : Token} (q 
 
   pub expect-there : {k : ℕ} → 0 < k → t .kind ≡ k
       → Expects w x n (λ role. P.expect-as role k) r f s r f
-      (record { status = Done; state = fore s t; line = t .line; column = t .column })
+      (record { status = Done; state = fore s t; place = t .place; count = 0 })
   unfolding go run
   expect-there {k} g z = there (λ role. role) g z (λ role d rd. rw (run, yes v z, v .tail))
 
   module _ {k e : ℕ} {r′ f′ : List ℕ} {a : Answer} (m : t .kind ≡ k → ⊥) (g : Raised (raised n (fore s t)) r f (fore s t) e r′ f′ a) where
-    pub expect-end : t .kind ≡ 0 → unpack e ≡ error-at 3 0 0 k 0 → Expects w x n (λ role. P.expect-as role k) r f s r′ f′ a
+    pub expect-end : t .kind ≡ 0 → unpack e ≡ error-at 3 0 k 0 → Expects w x n (λ role. P.expect-as role k) r f s r′ f′ a
     unfolding go run
     expect-end z i = missing (λ role. role) g (λ role d rd. rw (run, no v m, yes v z) (raise-same d (sym i) (adv s v (λ _. role) f rd)))
 
-    pub expect-other : (t .kind ≡ 0 → ⊥) → unpack e ≡ error-at 2 (t .line) (t .column) k (t .kind)
+    pub expect-other : (t .kind ≡ 0 → ⊥) → unpack e ≡ error-at 2 (t .place) k (t .kind)
         → Expects w x n (λ role. P.expect-as role k) r f s r′ f′ a
     unfolding go run
     expect-other z i =
@@ -127,18 +128,18 @@ module _ {w x : List ℕ} {n : ℕ} {r f : List ℕ} {s : State} {t : Token} (q 
 
   pub identifier-there : t .kind ≡ 1
       → Expects w x n (λ role. P.expect-identifier) r f s r f
-      (record { status = Done; state = fore s t; line = t .line; column = t .column })
+      (record { status = Done; state = fore s t; place = t .place; count = 0 })
   unfolding go run
   identifier-there z = there (λ role. plain) (omega arith) z (λ role d rd. rw (run, yes v z, v .tail))
 
   module _ {e : ℕ} {r′ f′ : List ℕ} {a : Answer} (m : t .kind ≡ 1 → ⊥) (g : Raised (raised n (fore s t)) r f (fore s t) e r′ f′ a) where
-    pub identifier-end : t .kind ≡ 0 → unpack e ≡ error-at 5 0 0 0 0 → Expects w x n (λ role. P.expect-identifier) r f s r′ f′ a
+    pub identifier-end : t .kind ≡ 0 → unpack e ≡ error-at 5 0 0 0 → Expects w x n (λ role. P.expect-identifier) r f s r′ f′ a
     unfolding go run
     identifier-end z i =
         missing (λ role. plain) g
         (λ role d rd. rw (run, no v m, yes v z) (raise-same d (sym i) (adv s v (λ _. plain) f rd)))
 
-    pub identifier-other : (t .kind ≡ 0 → ⊥) → unpack e ≡ error-at 4 (t .line) (t .column) 0 0
+    pub identifier-other : (t .kind ≡ 0 → ⊥) → unpack e ≡ error-at 4 (t .place) 0 0
         → Expects w x n (λ role. P.expect-identifier) r f s r′ f′ a
     unfolding go run
     identifier-other z i =
@@ -174,7 +175,7 @@ module _ {w x : List ℕ} {n k i j : ℕ} {r f : List ℕ} {a : Answer} (q : Fol
   pub expected-on : {r1 r′ f′ : List ℕ} {b c : Answer} → a .status ≡ Done
       → Expects w x n (λ role. P.expect-as role k) r f (a .state) r1 f′ b
       → Abandoned r1 b i j (a .state .reported) r′ c
-      → Expected w x n k i j r f a r′ f′ (record { status = c .status; state = c .state; line = a .line; column = a .column })
+      → Expected w x n k i j r f a r′ f′ (record { status = c .status; state = c .state; place = a .place; count = a .count })
   expected-on {r1} {r′} {f′} {b} {c} z e v =
       let at : budget w x n (c .state .at) ≡ budget w x n (b .state .at) = ap (λ (k : ℕ). budget w x n k) (v .at) in
       let hw : done-of (c .status) ≤ done-of (b .status) = fewer (b .status) refl (v .is) in
@@ -184,7 +185,7 @@ module _ {w x : List ℕ} {n k i j : ℕ} {r f : List ℕ} {a : Answer} (q : Fol
         pays = omega (arith, e .pays);
         is =
             subst (λ (h : Status). ExpectedOf h w x n k i j r f a r′ f′
-            (record { status = c .status; state = c .state; line = a .line; column = a .column })) (sym z)
+            (record { status = c .status; state = c .state; place = a .place; count = a .count })) (sym z)
             (record { b = b; c = c; between = r1; expects = e; abandoned = v; is = refl });
       }
     where
@@ -208,8 +209,8 @@ module _ {x o : List ℕ} {a : Answer} {v : Record} where
       → Finished x o a v o′ (record {
         status = a .status;
         state = record { at = a .state .at; pos = p; reported = a .state .reported; full = a .state .full };
-        line = v .line;
-        column = v .column;
+        place = v .place;
+        count = 0;
       })
   finish-on z u =
       record {
@@ -218,5 +219,5 @@ module _ {x o : List ℕ} {a : Answer} {v : Record} where
         full = refl;
         low = omega (arith, u .end);
         high = omega (arith, u .end);
-        is = rw z (refl, (u, (refl, refl)));
+        is = rw z (refl, (u, refl));
       }

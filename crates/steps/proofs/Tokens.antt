@@ -7,6 +7,8 @@ use native.Mathlib.Omega.{arith}
 use lib.ListN.{length, take, drop, getD, length-drop}
 use lib.Seq.{length-take-le}
 use borrow.Author.Tests.{eq-eqb, ne-eqb}
+use Rattle.definition.specs.Source.{place-at}
+use Rattle.definition.specs.Places.{unpack-place}
 use Rattle.definition.specs.Token.{Tok, next-token, _is_}
 use Rattle.definition.specs.Act.{Role, Consumed, advance, now-read}
 use Rattle.fallible.specs.declared.State.{State}
@@ -24,25 +26,30 @@ pub rest-nil : (w x : List ℕ) (n at : ℕ) → n ≤ at → rest w x n at ≡ 
 unfolding rest from
 rest-nil w x n at h = let e : n - at ≡ 0 = omega arith in rw e
 
-pub seen-there : {w x : List ℕ} {n at : ℕ} → Held w x n → at < n
+-- a line and a column of a record that can be read, as numbers
+pub place-sound : {w x : List ℕ} {n at : ℕ} → Held w x n → at < n
+    → (getD w (8 * at + 1) 0 < 65536) × (getD w (8 * at + 2) 0 < 65536)
+place-sound q h = let s = q .each _ h in (omega (arith, s .line), omega (arith, s .column))
+
+pub seen-there : {w x : List ℕ} {n at : ℕ} (place : ℕ) → Held w x n → at < n
+    → (unpack-place place ≡ place-at (getD w (8 * at + 1) 0) (getD w (8 * at + 2) 0)) × (place < 0x100000000)
     → Seen w x n at (record {
       kind = getD w (8 * at) 0;
-      line = getD w (8 * at + 1) 0;
-      column = getD w (8 * at + 2) 0;
+      place = place;
       start = getD w (8 * at + 3) 0;
       len = getD w (8 * at + 4) 0;
       base = getD w (8 * at + 5) 0;
       next = at + 1;
     })
 unfolding spend
-seen-there {w} {x} {n} {at} q h =
+seen-there {w} {x} {n} {at} place q h p =
     let s = q .each at h in
     let e = rest-cons w x n at h in
     let l : length (take (getD w (8 * at + 4) 0) (drop (getD w (8 * at + 3) 0) x)) ≡ getD w (8 * at + 4) 0 =
     length-take-le _ _ (simp length-drop (omega arith)) in
     record {
       kind = rw e;
-      place = rw e;
+      place = rw e (sym (p .0));
       text = rw e;
       base = rw e;
       tail = rw e;
@@ -52,20 +59,19 @@ seen-there {w} {x} {n} {at} q h =
       end = omega arith;
       part = s .part;
       kinds = s .kind;
-      lines = s .line;
-      columns = s .column;
+      places = p .1;
       bases = s .base;
       based = s .based;
     }
 
-pub seen-wide : {w x : List ℕ} {n at l c b e u : ℕ} → Held w x n → at < n → l ≡ getD w (8 * at + 1) 0
-    → c ≡ getD w (8 * at + 2) 0 → b ≡ getD w (8 * at + 3) 0 → e ≡ getD w (8 * at + 4) 0
-    → u ≡ getD w (8 * at + 5) 0
-    → Seen w x n at (record { kind = getD w (8 * at) 0; line = l; column = c; start = b; len = e; base = u; next = at + 1 })
-seen-wide q h i j k m o = rw (i, j, k, m, o) (seen-there q h)
+pub seen-wide : {w x : List ℕ} {n at b e u : ℕ} (place : ℕ) → Held w x n → at < n
+    → (unpack-place place ≡ place-at (getD w (8 * at + 1) 0) (getD w (8 * at + 2) 0)) × (place < 0x100000000)
+    → b ≡ getD w (8 * at + 3) 0 → e ≡ getD w (8 * at + 4) 0 → u ≡ getD w (8 * at + 5) 0
+    → Seen w x n at (record { kind = getD w (8 * at) 0; place = place; start = b; len = e; base = u; next = at + 1 })
+seen-wide place q h p k m o = rw (k, m, o) (seen-there place q h p)
 
 pub seen-end : {w x : List ℕ} {n at : ℕ} → at ≤ n → n ≤ at
-    → Seen w x n at (record { kind = 0; line = 0; column = 0; start = 0; len = 0; base = 0; next = at })
+    → Seen w x n at (record { kind = 0; place = 0; start = 0; len = 0; base = 0; next = at })
 unfolding spend
 seen-end {w} {x} {n} {at} g h =
     let e = rest-nil w x n at h in
@@ -81,8 +87,7 @@ seen-end {w} {x} {n} {at} g h =
       end = omega arith;
       part = omega arith;
       kinds = omega arith;
-      lines = omega arith;
-      columns = omega arith;
+      places = omega arith;
       bases = omega arith;
       based = λ z. omega arith;
     }

@@ -9,6 +9,7 @@ use Rattle.definition.specs.Token.{Tok, next-token}
 use Rattle.definition.specs.Act.{Act, Consumed, Items, Node, Role, St, Res, gives, refused, after, or-return}
 use Rattle.definition.specs.Parser as P
 use Rattle.definition.specs.Go.{go}
+use Rattle.definition.specs.Places.{unpack-place}
 use Rattle.node.specs.Put.{Wrote, rec-of, size-of}
 use Rattle.node.specs.declared.Numbers.{Numbers}
 use Rattle.node.specs.declared.Record.{Record}
@@ -52,7 +53,7 @@ pub record Moved (w x : List ℕ) (n i j : ℕ) (s s′ : State) : Type 0 where
 
 -- ---- answers
 
--- Of an item: its records, and what it is by the answer's two numbers.
+-- Of an item: its records, and what it is by the answer's place and count.
 pub record View (A : Type 0) : Type 1 where
   pub recs : A → List Rec
   pub fine : ℕ → ℕ → A → Type 0
@@ -65,7 +66,7 @@ pub record Good {A : Type 0} (K : View A) (T : List ℕ) (E : List Err) (rs : Li
   pub is : q ≡ gives (ok (record { item = item; errors = errors })) (st-of w x n f read (a .state))
   pub tree : take (a .state .pos) o ≡ T ++ recs-bytes (rs ++ K .recs item)
   pub reported : errs r (a .state .reported) ≡ E ++ (es ++ errors)
-  pub holds : K .fine (a .line) (a .column) item
+  pub holds : K .fine (a .place) (a .count) item
 
 -- a fatal one: only its errors stand, after E
 pub record Bad {A : Type 0} (T : List ℕ) (E : List Err) (w x : List ℕ) (n : ℕ) (o r f : List ℕ) (a : Answer) (q : Res (Ans A)) : Type 0 where
@@ -94,19 +95,19 @@ done-of (Refused m) = 0
 
 -- a node, with its place
 abbrev pub node : View Node
-node = record { recs = λ y. y .recs; fine = λ l c y. y .place ≡ record { line = l; column = c } }
+node = record { recs = λ y. y .recs; fine = λ p k y. y .place ≡ unpack-place p }
 
 -- a token, with its place
 abbrev pub token : Tok → View Tok
-token t = record { recs = λ y. []; fine = λ l c y. (y ≡ t) × (t .place ≡ record { line = l; column = c }) }
+token t = record { recs = λ y. []; fine = λ p k y. (y ≡ t) × (t .place ≡ unpack-place p) }
 
 -- a typed identifier, of the name
 abbrev pub typed : List ℕ → View P.Typed
-typed name = record { recs = λ y. y .type; fine = λ l c y. y .name ≡ name }
+typed name = record { recs = λ y. y .type; fine = λ p k y. y .name ≡ name }
 
 -- the items of a list, and how many
 abbrev pub items : View Items
-items = record { recs = λ y. y .recs; fine = λ l c y. y .count ≡ l }
+items = record { recs = λ y. y .recs; fine = λ p k y. y .count ≡ k }
 
 -- ---- functions
 
@@ -150,7 +151,7 @@ pub record Followed (w x : List ℕ) (n k i j : ℕ) (r f : List ℕ) (a : Answe
   pub between : List ℕ
   pub expects : Expects w x n (λ role. P.expect-as role k) r f (a .state) between f′ b
   pub abandoned : Abandoned between b i j (a .state .reported) r′ c
-  pub is : y ≡ record { status = c .status; state = c .state; line = a .line; column = a .column }
+  pub is : y ≡ record { status = c .status; state = c .state; place = a .place; count = a .count }
 
 abbrev pub ExpectedOf : Status → List ℕ → List ℕ → ℕ → ℕ → ℕ → ℕ → List ℕ → List ℕ → Answer → List ℕ → List ℕ → Answer → Type 0
 ExpectedOf Done w x n k i j r f a r′ f′ y = Followed w x n k i j r f a r′ f′ y
@@ -165,15 +166,15 @@ pub record Expected (w x : List ℕ) (n k i j : ℕ) (r f : List ℕ) (a : Answe
 
 -- ---- a record after an answer
 
--- at the place of a token, with the text of one, or with none
-abbrev pub texted : Token → ℕ → Numbers → Token → Record
-texted t tag ns name = record { tag = tag; line = t .line; column = t .column; numbers = ns; start = name .start; len = name .len }
+-- at a place, with a part of the text, or with none
+abbrev pub texted : ℕ → ℕ → Numbers → ℕ → ℕ → Record
+texted place tag ns start len = record { tag = tag; place = place; numbers = ns; start = start; len = len }
 
-abbrev pub untexted : Token → ℕ → Numbers → Record
-untexted t tag ns = record { tag = tag; line = t .line; column = t .column; numbers = ns; start = 0; len = 0 }
+abbrev pub untexted : ℕ → ℕ → Numbers → Record
+untexted place tag ns = texted place tag ns 0 0
 
 abbrev pub FinishedOf : Status → List ℕ → List ℕ → Answer → Record → List ℕ → Answer → Type 0
-FinishedOf Done x o a v o′ y = (y .status ≡ Done) × (Wrote o (a .state .pos) (rec-of x v) (size-of v) o′ (y .state .pos) × ((y .line ≡ v .line) × (y .column ≡ v .column)))
+FinishedOf Done x o a v o′ y = (y .status ≡ Done) × (Wrote o (a .state .pos) (rec-of x v) (size-of v) o′ (y .state .pos) × (y .place ≡ v .place))
 FinishedOf Fatal x o a v o′ y = (y ≡ a) × (o′ ≡ o)
 FinishedOf (Refused m) x o a v o′ y = (y ≡ a) × (o′ ≡ o)
 

@@ -3,9 +3,11 @@ use mathlib.Core.Path.{_≡_}
 use mathlib.Core.List.{List, [], _∷_}
 use Prim.Native.Nat.{ℕ, zero, suc, min, _+_, _*_, _-_, _<_, _≤_}
 use lib.ListN.{length, take, drop, getD}
+use Rattle.definition.specs.Kind as K
 use Rattle.definition.specs.Token.{Tok, next-token, tail}
 unfoldable pub use Rattle.definition.specs.Cost.{spend}
 use Rattle.definition.specs.Records.{words-at, token-of}
+use Rattle.definition.specs.Places.{unpack-place}
 use Rattle.steps.specs.declared.Token.{Token}
 
 -- the token whose record is the i-th
@@ -26,12 +28,12 @@ budget w x n at = spend (rest w x n at)
 -- a record that can be read
 pub record Sound (w x : List ℕ) (i : ℕ) : Type 0 where
   pub real : 0 < getD w (8 * i) 0
-  pub kind : getD w (8 * i) 0 ≤ 54
+  pub kind : getD w (8 * i) 0 ≤ K.InlineAssemblyFragment
   pub line : getD w (8 * i + 1) 0 ≤ 16384
   pub column : getD w (8 * i + 2) 0 ≤ 16384
   pub part : getD w (8 * i + 3) 0 + getD w (8 * i + 4) 0 ≤ length x
   pub base : getD w (8 * i + 5) 0 ≤ 16
-  pub based : getD w (8 * i) 0 ≡ 2 → 0 < getD w (8 * i + 5) 0
+  pub based : getD w (8 * i) 0 ≡ K.Integer → 0 < getD w (8 * i + 5) 0
 
 -- n records are there, and each can be read
 pub record Held (w x : List ℕ) (n : ℕ) : Type 0 where
@@ -42,7 +44,7 @@ pub record Held (w x : List ℕ) (n : ℕ) : Type 0 where
 -- what `head` shows
 pub record Seen (w x : List ℕ) (n at : ℕ) (t : Token) : Type 0 where
   pub kind : next-token (rest w x n at) .kind ≡ t .kind
-  pub place : next-token (rest w x n at) .place ≡ record { line = t .line; column = t .column }
+  pub place : next-token (rest w x n at) .place ≡ unpack-place (t .place)
   pub text : next-token (rest w x n at) .text ≡ take (t .len) (drop (t .start) x)
   pub base : next-token (rest w x n at) .base ≡ t .base
   pub tail : tail (rest w x n at) ≡ rest w x n (t .next)
@@ -51,8 +53,7 @@ pub record Seen (w x : List ℕ) (n at : ℕ) (t : Token) : Type 0 where
   pub up : at ≤ t .next
   pub end : t .next ≤ n
   pub part : t .start + t .len ≤ length x
-  pub kinds : t .kind ≤ 54
-  pub lines : t .line ≤ 16384
-  pub columns : t .column ≤ 16384
+  pub kinds : t .kind ≤ K.InlineAssemblyFragment
+  pub places : t .place < 0x100000000
   pub bases : t .base ≤ 16
-  pub based : t .kind ≡ 2 → 0 < t .base
+  pub based : t .kind ≡ K.Integer → 0 < t .base

@@ -9,6 +9,8 @@ use fallible::entry;
 use fallible::raise;
 use node::Numbers;
 use node::Record;
+use node::place_at;
+use node::wide;
 use node::write_record;
 ghost use mathlib.Core.Path.{_≡_};
 ghost use Prim.Native.Nat.{_+_, _<_, _≤_};
@@ -21,18 +23,11 @@ ghost use Rattle.steps.specs.Contract.{Asks, Follows, Expects, Expected,
 // A token as its record has it, and the place after it. At the end all is 0.
 pub struct Token {
     pub kind: u32,
-    pub line: usize,
-    pub column: usize,
+    pub place: usize,
     pub start: usize,
     pub len: usize,
     pub base: usize,
     pub next: usize,
-}
-
-fn wide(x: u32) -> usize
-    ensures { λ r. ⌜ r ≡ x ⌝ }
-{
-    x as usize
 }
 
 // The token at a place.
@@ -44,8 +39,7 @@ pub fn peek(tokens: &[u32], text: &[u8], n: usize, at: usize) -> Token
         let i = 8 * at;
         Token {
             kind: tokens[i],
-            line: wide(tokens[i + 1]),
-            column: wide(tokens[i + 2]),
+            place: place_at(tokens[i + 1], tokens[i + 2]),
             start: wide(tokens[i + 3]),
             len: wide(tokens[i + 4]),
             base: wide(tokens[i + 5]),
@@ -54,8 +48,7 @@ pub fn peek(tokens: &[u32], text: &[u8], n: usize, at: usize) -> Token
     } else {
         Token {
             kind: kind::END,
-            line: 0,
-            column: 0,
+            place: 0,
             start: 0,
             len: 0,
             base: 0,
@@ -83,15 +76,15 @@ pub fn expect(
         return Answer {
             status: Status::Done,
             state: on,
-            line: t.line,
-            column: t.column,
+            place: t.place,
+            count: 0,
         };
     }
     if t.kind == kind::END {
-        let error = entry(parse_error::EXPECTED_AT_END, 0, 0, wanted, 0);
+        let error = entry(parse_error::EXPECTED_AT_END, 0, wanted, 0);
         return raise(n, reported, full, on, error);
     }
-    let error = entry(parse_error::EXPECTED, t.line, t.column, wanted, t.kind);
+    let error = entry(parse_error::EXPECTED, t.place, wanted, t.kind);
     raise(n, reported, full, on, error)
 }
 
@@ -113,15 +106,15 @@ pub fn expect_identifier(
         return Answer {
             status: Status::Done,
             state: on,
-            line: t.line,
-            column: t.column,
+            place: t.place,
+            count: 0,
         };
     }
     if t.kind == kind::END {
-        let error = entry(parse_error::END_OF_FILE, 0, 0, 0, 0);
+        let error = entry(parse_error::END_OF_FILE, 0, 0, 0);
         return raise(n, reported, full, on, error);
     }
-    let error = entry(parse_error::IDENTIFIER, t.line, t.column, 0, 0);
+    let error = entry(parse_error::IDENTIFIER, t.place, 0, 0);
     raise(n, reported, full, on, error)
 }
 
@@ -151,23 +144,24 @@ pub fn and_expect(
     Answer {
         status: h,
         state: e,
-        line: a.line,
-        column: a.column,
+        place: a.place,
+        count: a.count,
     }
 }
 
-// A record after what an answer has, if it is there: at the place of `t`, with the text of `name`.
+// A record after what an answer has, if it is there; its text is a part of the text slice.
 pub fn write_text_node(
     file: &mut [u8],
     text: &[u8],
     a: Answer,
-    t: Token,
+    place: usize,
     tag: u8,
     numbers: Numbers,
-    name: Token,
+    start: usize,
+    len: usize,
 ) -> Answer
-    requires { ⌜ Room file text (a .state .pos) (16 + name .len) (name .start) (name .len) ⌝ }
-    ensures { λ r. ⌜ Finishes (texted t tag numbers name) file text a r ⌝ }
+    requires { ⌜ Room file text (a .state .pos) (16 + len) start len ⌝ }
+    ensures { λ r. ⌜ Finishes (texted place tag numbers start len) file text a r ⌝ }
 {
     let status = a.status;
     let Status::Done = status else {
@@ -176,18 +170,17 @@ pub fn write_text_node(
     let s = a.state;
     let v = Record {
         tag,
-        line: t.line,
-        column: t.column,
+        place,
         numbers,
-        start: name.start,
-        len: name.len,
+        start,
+        len,
     };
     let pos = write_record(file, text, s.pos, v);
     Answer {
         status,
         state: State { pos, ..s },
-        line: t.line,
-        column: t.column,
+        place,
+        count: 0,
     }
 }
 
@@ -196,17 +189,12 @@ pub fn write_node(
     file: &mut [u8],
     text: &[u8],
     a: Answer,
-    t: Token,
+    place: usize,
     tag: u8,
     numbers: Numbers,
 ) -> Answer
     requires { ⌜ Room file text (a .state .pos) 16 0 0 ⌝ }
-    ensures { λ r. ⌜ Finishes (untexted t tag numbers) file text a r ⌝ }
+    ensures { λ r. ⌜ Finishes (untexted place tag numbers) file text a r ⌝ }
 {
-    let none = Token {
-        start: 0,
-        len: 0,
-        ..t
-    };
-    write_text_node(file, text, a, t, tag, numbers, none)
+    write_text_node(file, text, a, place, tag, numbers, 0, 0)
 }

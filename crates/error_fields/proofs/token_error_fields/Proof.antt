@@ -1,7 +1,7 @@
 use mathlib.Core.Path.{refl}
 use Prim.Native.Nat.{_-_}
 use Rattle.error_fields.proofs.Fielding.{Fielding, fields-none}
-use Rattle.error_fields.proofs.Records.{listed, entry-fits, token-more, token-done}
+use Rattle.error_fields.proofs.Records.{listed, place-fits, number-fits, token-more, token-done}
 use borrow.Author.Needs.{needs}
 use native.Mathlib.Omega.{arith}
 use Rattle.error_fields.proofs.token_error_fields.Statement.{statement}
@@ -22,6 +22,29 @@ loop-holds c =
 mul-k : tie.Need-mul-k Inv-loop μ-loop
 mul-k c = search needs
 
+add-place-at : tie.Need-add-place-at Inv-loop μ-loop
+add-place-at c = search needs
+
+mul-place-at : tie.Need-mul-place-at Inv-loop μ-loop
+mul-place-at c = search needs
+
+shared-slice-read-place-at : tie.Need-shared-slice-read-place-at Inv-loop μ-loop
+shared-slice-read-place-at c = search needs
+
+add-place-at-2 : tie.Need-add-place-at-2 Inv-loop μ-loop
+add-place-at-2 c = search needs
+
+mul-place-at-2 : tie.Need-mul-place-at-2 Inv-loop μ-loop
+mul-place-at-2 c = search needs
+
+shared-slice-read-place-at-2 : tie.Need-shared-slice-read-place-at-2 Inv-loop μ-loop
+shared-slice-read-place-at-2 c = search needs
+
+place-at-requires : tie.Need-place-at-requires Inv-loop μ-loop
+place-at-requires c κs =
+    let start = c .before .before .before .before .before .before in
+    place-fits _ _ _ (start .pre .1 .1) (omega arith)
+
 mul-wide : tie.Need-mul-wide Inv-loop μ-loop
 mul-wide c = search needs
 
@@ -31,37 +54,13 @@ shared-slice-read-wide c = search needs
 wide-requires : tie.Need-wide-requires Inv-loop μ-loop
 wide-requires c κs = search needs
 
-add-wide : tie.Need-add-wide Inv-loop μ-loop
-add-wide c = search needs
-
-mul-wide-2 : tie.Need-mul-wide-2 Inv-loop μ-loop
-mul-wide-2 c = search needs
-
-shared-slice-read-wide-2 : tie.Need-shared-slice-read-wide-2 Inv-loop μ-loop
-shared-slice-read-wide-2 c = search needs
-
-wide-requires-2 : tie.Need-wide-requires-2 Inv-loop μ-loop
-wide-requires-2 c κs = search needs
-
-add-wide-2 : tie.Need-add-wide-2 Inv-loop μ-loop
-add-wide-2 c = search needs
-
-mul-wide-3 : tie.Need-mul-wide-3 Inv-loop μ-loop
-mul-wide-3 c = search needs
-
-shared-slice-read-wide-3 : tie.Need-shared-slice-read-wide-3 Inv-loop μ-loop
-shared-slice-read-wide-3 c = search needs
-
-wide-requires-3 : tie.Need-wide-requires-3 Inv-loop μ-loop
-wide-requires-3 c κs = search needs
-
 entry-requires : tie.Need-entry-requires Inv-loop μ-loop
 entry-requires c κs =
-    let at-wide2 = c .before .before in
-    let at-wide = at-wide2 .before .before in
-    let start = at-wide .before .before .before .before .before .before in
-    entry-fits _ _ (at-wide .wide .ensures) (at-wide2 .wide2 .ensures) (c .wide3 .ensures) _
-    (start .pre .1 .1) (omega arith)
+    let at-place-at = c .before .before in
+    let start = at-place-at .before .before .before .before .before .before .before in (
+      number-fits _ _ (c .wide .ensures) _ (start .pre .1 .1) (omega arith),
+      (at-place-at .place-at .ensures .1, (omega arith, omega arith)),
+    )
 
 error-field-requires : tie.Need-error-field-requires Inv-loop μ-loop
 error-field-requires c κs = search needs
@@ -76,11 +75,10 @@ loop-again : tie.Need-loop-again Inv-loop μ-loop
 loop-again c =
     let at-error-field = c .before .before in
     let at-entry = at-error-field .before .before in
-    let at-wide3 = at-entry .before in
-    let at-wide2 = at-wide3 .before .before in
-    let at-wide = at-wide2 .before .before in
-    let at-loop = at-wide .before .before .before in
-    token-more _ _ (at-wide .wide .ensures) (at-wide2 .wide2 .ensures) (at-wide3 .wide3 .ensures) _
+    let at-wide = at-entry .before in
+    let at-place-at = at-wide .before .before in
+    let at-loop = at-place-at .before .before .before .before in
+    token-more _ _ _ (at-wide .wide .ensures) (at-place-at .place-at .ensures .0) _
     (at-loop .loop .inv) (omega arith) (at-entry .entry .ensures) (at-error-field .error-field .ensures)
     (omega (arith, at-error-field .error-field .kept))
 
@@ -98,17 +96,16 @@ token-error-fields-spec =
     μ-loop
     loop-holds
     mul-k
+    add-place-at
+    mul-place-at
+    shared-slice-read-place-at
+    add-place-at-2
+    mul-place-at-2
+    shared-slice-read-place-at-2
+    place-at-requires
     mul-wide
     shared-slice-read-wide
     wide-requires
-    add-wide
-    mul-wide-2
-    shared-slice-read-wide-2
-    wide-requires-2
-    add-wide-2
-    mul-wide-3
-    shared-slice-read-wide-3
-    wide-requires-3
     entry-requires
     error-field-requires
     add-i

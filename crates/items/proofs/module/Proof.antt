@@ -2,7 +2,7 @@ use Rattle.expression_laws.specs.Post.{LoopOn}
 use Rattle.expression_laws.proofs.Turns.{ItemsTurned, at-start, one-turn}
 use Rattle.expression_laws.proofs.Loops.{loop-asked}
 use Rattle.items.specs.Rules.{items-on}
-use Rattle.items.proofs.Modules.{module-reads, module-end, module-refused, module-next}
+use Rattle.items.proofs.Modules.{module-end, module-refused, module-next}
 use borrow.Author.Needs.{needs}
 use native.Mathlib.Omega.{arith}
 use Prim.Native.Nat.{_-_}
@@ -42,8 +42,7 @@ returns : tie.Need-returns Inv-loop μ-loop
 returns c =
     let at-peek = c .before .before in
     let at-loop = at-peek .before in
-    module-reads
-    (at-loop .loop .inv .1 .rest (module-end (at-loop .loop .inv .0) (at-peek .peek .ensures) (c .if1 .taken)))
+    at-loop .loop .inv .1 .rest (module-end (at-loop .loop .inv .0) (at-peek .peek .ensures) (c .if1 .taken))
 
 top-level-item-requires : tie.Need-top-level-item-requires Inv-loop μ-loop
 top-level-item-requires c κs =
@@ -77,10 +76,9 @@ returns-2 c =
     let at-if1 = at-top-level-item .before .before .before .before in
     let at-peek = at-if1 .before .before in
     let at-loop = at-peek .before in
-    module-reads
-    (at-loop .loop .inv .1 .rest
+    at-loop .loop .inv .1 .rest
     (module-refused (at-loop .loop .inv .0) (at-peek .peek .ensures) (at-if1 .if1 .left)
-    (at-top-level-item .top-level-item .ensures) (c .before .match .keys1)))
+    (at-top-level-item .top-level-item .ensures) (c .before .match .keys1))
 
 counted-requires : tie.Need-counted-requires Inv-loop μ-loop
 counted-requires c κs =

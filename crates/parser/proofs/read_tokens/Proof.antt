@@ -1,3 +1,4 @@
+use Rattle.items.proofs.Modules.{module-reads}
 use Rattle.parser.proofs.Readings.{module-asked, rest-room, read-refused, read-done}
 use native.Mathlib.Omega.{arith}
 use borrow.Author.Needs.{needs}
@@ -39,7 +40,7 @@ returns c =
     let at-match = at-clear-bytes .before .before .before in
     let at-module = at-match .before .before .before .before .before in
     let start = at-module .before .before .before .before .before .before .before .before in
-    read-refused _ _ _ _ _ _ (at-module .«module» .ensures) (start .pre .1 .0)
+    read-refused _ _ _ _ _ _ (module-reads (at-module .«module» .ensures)) (start .pre .1 .0)
     (omega (arith, at-module .«module» .kept)) (at-match .match .keys1)
     (at-clear-bytes .clear-bytes .ensures) (c .before .number-of .ensures) (c .refused .ensures)
 
@@ -53,7 +54,7 @@ end-file-requires : tie.Need-end-file-requires
 end-file-requires c κs =
     let at-module = c .before .before .before .before .before .before .before .before .before in
     let start = at-module .before .before .before .before .before .before .before .before in
-    rest-room _ _ _ _ _ (start .pre .1 .1) (at-module .«module» .ensures)
+    rest-room _ _ _ _ _ (start .pre .1 .1) (module-reads (at-module .«module» .ensures))
     (omega (arith, (start .pre) .0, at-module .«module» .kept)) (omega (arith, at-module .«module» .kept))
     (omega (arith, at-module .«module» .kept))
 
@@ -69,7 +70,7 @@ returns-2 c =
     let at-match = at-end-file .before .before .before .before .before in
     let at-module = at-match .before .before .before .before .before in
     let start = at-module .before .before .before .before .before .before .before .before in
-    read-done _ _ _ _ _ _ (at-module .«module» .ensures) (start .pre .1 .0)
+    read-done _ _ _ _ _ _ (module-reads (at-module .«module» .ensures)) (start .pre .1 .0)
     (omega (arith, at-module .«module» .kept)) (at-match .match .keys2) (at-end-file .end-file .ensures)
 
 pub read-tokens-spec : {M : Type 1} → statement M

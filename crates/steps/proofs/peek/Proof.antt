@@ -1,4 +1,4 @@
-use Rattle.steps.proofs.Tokens.{seen-wide, seen-end}
+use Rattle.steps.proofs.Tokens.{place-sound, seen-wide, seen-end}
 use borrow.Author.Needs.{needs}
 use Rattle.steps.proofs.peek.Statement.{statement}
 use Rattle.steps.proofs.peek.Tie as tie
@@ -11,6 +11,30 @@ mul-t8 c = search needs
 
 shared-slice-read-t10 : tie.Need-shared-slice-read-t10
 shared-slice-read-t10 c = search needs
+
+add-place-at : tie.Need-add-place-at
+add-place-at c = search needs
+
+mul-place-at : tie.Need-mul-place-at
+mul-place-at c = search needs
+
+shared-slice-read-place-at : tie.Need-shared-slice-read-place-at
+shared-slice-read-place-at c = search needs
+
+add-place-at-2 : tie.Need-add-place-at-2
+add-place-at-2 c = search needs
+
+mul-place-at-2 : tie.Need-mul-place-at-2
+mul-place-at-2 c = search needs
+
+shared-slice-read-place-at-2 : tie.Need-shared-slice-read-place-at-2
+shared-slice-read-place-at-2 c = search needs
+
+place-at-requires : tie.Need-place-at-requires
+place-at-requires c κs =
+    let at-if1 = c .before .before .before in
+    let start = at-if1 .before .before .before in
+    place-sound (start .pre .0) (at-if1 .if1 .taken)
 
 add-wide : tie.Need-add-wide
 add-wide c = search needs
@@ -48,43 +72,19 @@ shared-slice-read-wide-3 c = search needs
 wide-requires-3 : tie.Need-wide-requires-3
 wide-requires-3 c κs = search needs
 
-add-wide-4 : tie.Need-add-wide-4
-add-wide-4 c = search needs
-
-mul-wide-4 : tie.Need-mul-wide-4
-mul-wide-4 c = search needs
-
-shared-slice-read-wide-4 : tie.Need-shared-slice-read-wide-4
-shared-slice-read-wide-4 c = search needs
-
-wide-requires-4 : tie.Need-wide-requires-4
-wide-requires-4 c κs = search needs
-
-add-wide-5 : tie.Need-add-wide-5
-add-wide-5 c = search needs
-
-mul-wide-5 : tie.Need-mul-wide-5
-mul-wide-5 c = search needs
-
-shared-slice-read-wide-5 : tie.Need-shared-slice-read-wide-5
-shared-slice-read-wide-5 c = search needs
-
-wide-requires-5 : tie.Need-wide-requires-5
-wide-requires-5 c κs = search needs
-
-add-t36 : tie.Need-add-t36
-add-t36 c = search needs
+add-t35 : tie.Need-add-t35
+add-t35 c = search needs
 
 returns : tie.Need-returns
 returns c =
-    let at-wide4 = c .before .before in
-    let at-wide3 = at-wide4 .before .before in
+    let at-wide3 = c in
     let at-wide2 = at-wide3 .before .before in
     let at-wide = at-wide2 .before .before in
-    let at-if1 = at-wide .before .before .before in
+    let at-place-at = at-wide .before .before in
+    let at-if1 = at-place-at .before .before .before .before in
     let start = at-if1 .before .before .before in
-    seen-wide (start .pre .0) (at-if1 .if1 .taken) (at-wide .wide .ensures) (at-wide2 .wide2 .ensures)
-    (at-wide3 .wide3 .ensures) (at-wide4 .wide4 .ensures) (c .wide5 .ensures)
+    seen-wide _ (start .pre .0) (at-if1 .if1 .taken) (at-place-at .place-at .ensures) (at-wide .wide .ensures)
+    (at-wide2 .wide2 .ensures) (c .wide3 .ensures)
 
 returns-2 : tie.Need-returns-2
 returns-2 c =
@@ -98,6 +98,13 @@ peek-spec =
     mul-i
     mul-t8
     shared-slice-read-t10
+    add-place-at
+    mul-place-at
+    shared-slice-read-place-at
+    add-place-at-2
+    mul-place-at-2
+    shared-slice-read-place-at-2
+    place-at-requires
     add-wide
     mul-wide
     shared-slice-read-wide
@@ -110,14 +117,6 @@ peek-spec =
     mul-wide-3
     shared-slice-read-wide-3
     wide-requires-3
-    add-wide-4
-    mul-wide-4
-    shared-slice-read-wide-4
-    wide-requires-4
-    add-wide-5
-    mul-wide-5
-    shared-slice-read-wide-5
-    wide-requires-5
-    add-t36
+    add-t35
     returns
     returns-2)

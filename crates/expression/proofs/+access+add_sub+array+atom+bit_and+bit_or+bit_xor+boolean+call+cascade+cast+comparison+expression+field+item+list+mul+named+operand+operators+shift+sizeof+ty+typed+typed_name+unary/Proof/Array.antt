@@ -67,7 +67,7 @@ module _ (t : ℕ) where
       let at-if1 = at-entry .before in
       let at-peek = at-if1 .before .before in
       let start = at-peek .before .before .before .before .before .before in
-      array-no-integer (start .args .lead .line) (start .args .lead .column) (start .pre .1)
+      array-no-integer (start .args .place) (start .pre .1)
       (at-peek .peek .ensures) (at-if1 .if1 .taken) (at-entry .entry .ensures) (at-raise .raise .ensures)
 
   pub array-size-requires : lts.Need-array-size-requires given (array-at t) array.Post
@@ -106,7 +106,7 @@ module _ (t : ℕ) where
       let at-if1 = at-array-size .before in
       let at-peek = at-if1 .before .before in
       let start = at-peek .before .before .before .before .before .before in
-      array-no-size (start .args .lead .line) (start .args .lead .column) (start .pre .1)
+      array-no-size (start .args .place) (start .pre .1)
       (at-peek .peek .ensures) (at-if1 .if1 .left) (at-array-size .array-size .ensures) (at-if2 .if2 .taken)
       (at-entry2 .entry2 .ensures) (at-raise2 .raise2 .ensures)
 
@@ -137,7 +137,7 @@ module _ (t : ℕ) where
       let at-if1 = at-array-size .before in
       let at-peek = at-if1 .before .before in
       let start = at-peek .before .before .before .before .before .before in
-      array-open (start .args .lead .line) (start .args .lead .column) (start .pre .1)
+      array-open (start .args .place) (start .pre .1)
       (at-peek .peek .ensures) (at-if1 .if1 .left) (at-array-size .array-size .ensures) (at-if2 .if2 .left)
       (at-expect .expect .ensures) (c .match .keys2)
 
@@ -190,7 +190,7 @@ module _ (t : ℕ) where
       let at-if1 = at-array-size .before in
       let at-peek = at-if1 .before .before in
       let start = at-peek .before .before .before .before .before .before in
-      array-done (start .args .lead .line) (start .args .lead .column) (start .pre .1)
+      array-done (start .args .place) (start .pre .1)
       (at-peek .peek .ensures) (at-if1 .if1 .left) (at-array-size .array-size .ensures) (at-if2 .if2 .left)
       (at-expect .expect .ensures) (at-enum-told .enum-told .given .1) (at-ty .ty .ensures)
       (at-write-node .write-node .ensures)

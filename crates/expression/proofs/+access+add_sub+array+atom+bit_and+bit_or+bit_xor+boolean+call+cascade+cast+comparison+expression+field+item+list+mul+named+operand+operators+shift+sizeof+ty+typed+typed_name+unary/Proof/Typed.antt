@@ -23,7 +23,8 @@ module _ (t : ℕ) where
   abandon-requires c κs =
       let at-expect = c .before .before .before .before .before in
       let start = at-expect .before .before .before .before .before .before .before .before in
-      colon-cuts (start .pre .1) (at-expect .expect .ensures) (omega (arith, at-expect .expect .kept))
+      let same = start .pre .1 .1 .0 in
+      rw same (colon-cuts (start .pre .1 .0, start .pre .1 .1 .1) (at-expect .expect .ensures) (omega (arith, at-expect .expect .kept)))
 
   pub enum-told : lts.Need-enum-told given (typed-at t) typed.Post
   enum-told c = search needs
@@ -45,16 +46,18 @@ module _ (t : ℕ) where
       let at-abandon = c .before .before .before in
       let at-expect = at-abandon .before .before .before .before .before .before in
       let start = at-expect .before .before .before .before .before .before .before .before in
-      typed-colon (start .pre .1) (at-expect .expect .ensures) (at-abandon .abandon .ensures)
+      let same = start .pre .1 .1 .0 in
+      typed-colon (start .pre .1 .0, start .pre .1 .1 .1) (at-expect .expect .ensures) (rw same at (at-abandon .abandon .ensures))
       (c .match .keys2)
 
   pub ty-requires : lts.Need-ty-requires given (typed-at t) typed.Post
   ty-requires c κs =
       let at-abandon = c .before .before .before .before .before .before .before .before in
       let at-expect = at-abandon .before .before .before .before .before .before in
-      let start = at-expect .before .before .before .before .before .before .before .before in (
+      let start = at-expect .before .before .before .before .before .before .before .before in
+      let same = start .pre .1 .1 .0 in (
         omega (arith, start .pre .0, at-expect .expect .ensures .moved, at-abandon .abandon .ensures .at),
-        type-asked (start .pre .1) (at-expect .expect .ensures) (at-abandon .abandon .ensures)
+        type-asked (start .pre .1 .0, start .pre .1 .1 .1) (at-expect .expect .ensures) (rw same at (at-abandon .abandon .ensures))
             (omega (arith, at-expect .expect .kept, at-abandon .abandon .kept))
             (omega (arith, at-expect .expect .kept, at-abandon .abandon .kept)),
       )
@@ -65,9 +68,10 @@ module _ (t : ℕ) where
       let at-abandon = at-ty .before .before .before .before .before .before .before .before .before in
       let at-expect = at-abandon .before .before .before .before .before .before in
       let start = at-expect .before .before .before .before .before .before .before .before in
-      type-cuts (start .pre .1) (at-expect .expect .ensures) (at-abandon .abandon .ensures)
+      let same = start .pre .1 .1 .0 in
+      rw same (type-cuts (start .pre .1 .0, start .pre .1 .1 .1) (at-expect .expect .ensures) (rw same at (at-abandon .abandon .ensures))
       (at-ty .ty .ensures) (omega (arith, at-expect .expect .kept, at-abandon .abandon .kept))
-      (omega (arith, at-expect .expect .kept, at-abandon .abandon .kept)) (omega (arith, at-ty .ty .kept))
+      (omega (arith, at-expect .expect .kept, at-abandon .abandon .kept)) (omega (arith, at-ty .ty .kept)))
 
   pub same-length-3 : lts.Need-same-length-3 given (typed-at t) typed.Post
   same-length-3 c =
@@ -111,5 +115,6 @@ module _ (t : ℕ) where
       let at-abandon = at-enum-told .before .before .before .before in
       let at-expect = at-abandon .before .before .before .before .before .before in
       let start = at-expect .before .before .before .before .before .before .before .before in
-      typed-type (start .pre .1) (at-expect .expect .ensures) (at-abandon .abandon .ensures)
-      (at-enum-told .enum-told .given .1) (at-ty .ty .ensures) (at-abandon2 .abandon2 .ensures)
+      let same = start .pre .1 .1 .0 in
+      typed-type (start .pre .1 .0, start .pre .1 .1 .1) (at-expect .expect .ensures) (rw same at (at-abandon .abandon .ensures))
+      (at-enum-told .enum-told .given .1) (at-ty .ty .ensures) (rw same at (at-abandon2 .abandon2 .ensures))

@@ -4,6 +4,7 @@ use Rattle.expression_laws.proofs.Types.{raise-asked}
 use Rattle.expression_laws.proofs.Names.{identifier-name, identifier-end, identifier-refused, identifier-noted, noted-moved, noted-asked}
 use borrow.Author.Needs.{needs}
 use native.Mathlib.Omega.{arith}
+use mathlib.Core.Path.{refl}
 use Prim.Native.Nat.{ℕ}
 use Rattle.expression.proofs.+access+add_sub+array+atom+bit_and+bit_or+bit_xor+boolean+call+cascade+cast+comparison+expression+field+item+list+mul+named+operand+operators+shift+sizeof+ty+typed+typed_name+unary.Lts-typed_name as lts
 use Rattle.expression.proofs.typed.Reads as typed
@@ -39,7 +40,7 @@ module _ (t : ℕ) where
       let at-peek = c .before .before .before .before .before in
       let start = at-peek .before .before .before .before .before .before in (
         omega (arith, start .pre .0, at-peek .peek .ensures),
-        (asked-seen (start .pre .1) (at-peek .peek .ensures), omega arith),
+        (asked-seen (start .pre .1) (at-peek .peek .ensures), (refl, omega arith)),
       )
 
   pub same-length : lts.Need-same-length given (typed-name-at t) typed-name.Post

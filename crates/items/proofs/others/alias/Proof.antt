@@ -19,7 +19,7 @@ returns : tie.Need-returns
 returns c =
     let at-peek = c .before .before .before in
     let start = at-peek .before .before .before .before .before .before in
-    alias-end _ _ _ _ (start .pre) (at-peek .peek .ensures) (c .before .if1 .taken) (c .refuse .ensures)
+    alias-end _ _ _ (start .pre) (at-peek .peek .ensures) (c .before .if1 .taken) (c .refuse .ensures)
 
 entry-requires : tie.Need-entry-requires
 entry-requires c κs =
@@ -49,7 +49,7 @@ returns-2 c =
     let at-if1 = at-if2 .before .before in
     let at-peek = at-if1 .before .before in
     let start = at-peek .before .before .before .before .before .before in
-    alias-other _ _ _ _ (start .pre) (at-peek .peek .ensures) (at-if1 .if1 .left) (at-if2 .if2 .taken)
+    alias-other _ _ _ (start .pre) (at-peek .peek .ensures) (at-if1 .if1 .left) (at-if2 .if2 .taken)
     (at-entry .entry .ensures) (at-raise .raise .ensures)
 
 expect-requires : tie.Need-expect-requires
@@ -77,7 +77,7 @@ returns-3 c =
     let at-if2 = at-expect .before .before .before in
     let at-peek = at-if2 .before .before .before .before in
     let start = at-peek .before .before .before .before .before .before in
-    alias-stops _ _ _ _ (start .pre) (at-peek .peek .ensures) (at-if2 .if2 .left)
+    alias-stops _ _ _ (start .pre) (at-peek .peek .ensures) (at-if2 .if2 .left)
     (at-expect .expect .ensures) (c .match .keys2)
 
 ty-requires : tie.Need-ty-requires
@@ -142,7 +142,7 @@ returns-4 c =
     let at-if2 = at-expect .before .before .before in
     let at-peek = at-if2 .before .before .before .before in
     let start = at-peek .before .before .before .before .before .before in
-    alias-done _ _ _ _ (start .pre) (at-peek .peek .ensures) (at-if2 .if2 .left)
+    alias-done _ _ _ (start .pre) (at-peek .peek .ensures) (at-if2 .if2 .left)
     (at-expect .expect .ensures) (at-enum-told .enum-told .given .1) (at-ty .ty .ensures)
     (omega (arith, at-ty .ty .kept, at-expect .expect .kept))
     (omega (arith, at-ty .ty .kept, at-expect .expect .kept)) (at-and-expect .and-expect .ensures)

@@ -18,7 +18,7 @@ returns : tie.Need-returns
 returns c =
     let at-peek = c .before .before .before in
     let start = at-peek .before .before .before .before .before .before in
-    λ d. path-end d _ _ (start .pre) (at-peek .peek .ensures) (c .before .if1 .taken) (c .refuse .ensures)
+    λ d. path-end d _ (start .pre) (at-peek .peek .ensures) (c .before .if1 .taken) (c .refuse .ensures)
 
 entry-requires : tie.Need-entry-requires
 entry-requires c κs =
@@ -48,7 +48,7 @@ returns-2 c =
     let at-if1 = at-if2 .before .before in
     let at-peek = at-if1 .before .before in
     let start = at-peek .before .before .before .before .before .before in
-    λ d. path-other d _ _ (start .pre) (at-peek .peek .ensures) (at-if1 .if1 .left) (at-if2 .if2 .taken)
+    λ d. path-other d _ (start .pre) (at-peek .peek .ensures) (at-if1 .if1 .left) (at-if2 .if2 .taken)
     (at-entry .entry .ensures) (at-raise .raise .ensures)
 
 expect-requires : tie.Need-expect-requires
@@ -90,7 +90,7 @@ returns-3 c =
     let at-if2 = at-expect .before .before .before in
     let at-peek = at-if2 .before .before .before .before in
     let start = at-peek .before .before .before .before .before .before in
-    λ d. path-done d _ _ (start .pre) (at-peek .peek .ensures) (at-if2 .if2 .left)
+    λ d. path-done d _ (start .pre) (at-peek .peek .ensures) (at-if2 .if2 .left)
     (at-expect .expect .ensures) (at-write-text-node .write-text-node .ensures)
 
 pub path-spec : {M : Type 1} → statement M

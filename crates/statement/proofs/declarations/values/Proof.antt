@@ -38,7 +38,7 @@ returns c =
     let at-write-node = c .before .before in
     let at-list = at-write-node .before .before .before .before .before .before .before .before in
     let start = at-list .before .before .before .before .before .before .before .before .before in
-    values-reads _ _ _ _ (start .pre) (at-list .list .ensures) (at-write-node .write-node .ensures)
+    values-reads _ _ _ (start .pre) (at-list .list .ensures) (at-write-node .write-node .ensures)
 
 pub values-spec : {M : Type 1} → statement M
 values-spec =

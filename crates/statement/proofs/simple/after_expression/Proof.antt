@@ -67,7 +67,7 @@ returns-2 c =
 and-expect-requires : tie.Need-and-expect-requires
 and-expect-requires c κs =
     let start = c .before .before .before .before .before .before .before .before .before .before .before .before in (
-      record { asks = start .pre .0 .asks; pos = (start .pre) .1; reported = omega arith },
+      record { asks = start .pre .0 .asks; pos = start .pre .1 .0; reported = omega (arith, start .pre .1 .1) },
       (omega arith, omega arith),
     )
 
@@ -103,8 +103,8 @@ returns-3 c =
     let at-if1 = at-if2 .before .before in
     let at-peek = at-if1 .before .before in
     let start = at-peek .before .before .before .before .before .before in
-    expression-after (start .pre .0) (start .pre .1) (at-peek .peek .ensures) refl (at-if1 .if1 .left)
-    (at-if2 .if2 .left) (at-and-expect .and-expect .ensures) (at-write-node .write-node .ensures)
+    expression-after (start .pre .0) (start .pre .1 .0) (at-peek .peek .ensures) refl (at-if1 .if1 .left)
+    (at-if2 .if2 .left) (rw (start .pre .1 .1) at (at-and-expect .and-expect .ensures)) (at-write-node .write-node .ensures)
 
 pub after-expression-spec : {M : Type 1} → statement M
 after-expression-spec =

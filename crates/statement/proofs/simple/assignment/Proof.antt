@@ -21,8 +21,8 @@ abandon-requires c κs =
     let at-expression = c .before .before .before .before .before .before .before in
     let at-peek = at-expression .before .before .before .before in
     let start = at-peek .before .before .before .before .before .before in
-    assigned-cuts (start .pre .0 .asked) (start .pre .1) (at-peek .peek .ensures)
-    (at-expression .expression .ensures) (omega (arith, at-expression .expression .kept))
+    rw (start .pre .1 .1) (assigned-cuts (start .pre .0 .asked) (start .pre .1 .0) (at-peek .peek .ensures)
+    (at-expression .expression .ensures) (omega (arith, at-expression .expression .kept)))
 
 and-expect-requires : tie.Need-and-expect-requires
 and-expect-requires c κs =
@@ -30,10 +30,10 @@ and-expect-requires c κs =
     let at-expression = at-abandon .before .before .before .before .before .before .before .before in
     let at-peek = at-expression .before .before .before .before in
     let start = at-peek .before .before .before .before .before .before in (
-      assigned-asks (start .pre .0 .asked) (start .pre .1) (at-peek .peek .ensures)
-          (at-expression .expression .ensures) (at-abandon .abandon .ensures)
+      rw (start .pre .1 .1) (assigned-asks (start .pre .0 .asked) (start .pre .1 .0) (at-peek .peek .ensures)
+          (at-expression .expression .ensures) (rw (start .pre .1 .1) at (at-abandon .abandon .ensures))
           (omega (arith, at-abandon .abandon .kept, at-expression .expression .kept))
-          (omega (arith, at-expression .expression .kept)),
+          (omega (arith, at-expression .expression .kept))),
       (omega arith, omega arith),
     )
 
@@ -44,8 +44,9 @@ write-node-requires c κs =
     let at-expression = at-abandon .before .before .before .before .before .before .before .before in
     let at-peek = at-expression .before .before .before .before in
     let start = at-peek .before .before .before .before .before .before in
-    assigned-room (start .pre .0 .asked) (start .pre .1) (at-peek .peek .ensures)
-    (at-expression .expression .ensures) (at-abandon .abandon .ensures) (at-and-expect .and-expect .ensures)
+    assigned-room (start .pre .0 .asked) (start .pre .1 .0) (at-peek .peek .ensures)
+    (at-expression .expression .ensures) (rw (start .pre .1 .1) at (at-abandon .abandon .ensures))
+    (rw (start .pre .1 .1) at (at-and-expect .and-expect .ensures))
     (omega (arith, at-expression .expression .kept))
 
 same-length : tie.Need-same-length
@@ -98,11 +99,11 @@ returns c =
     let at-expression = at-abandon .before .before .before .before .before .before .before .before in
     let at-peek = at-expression .before .before .before .before in
     let start = at-peek .before .before .before .before .before .before in
-    assignment-after (start .pre .0 .asked) (start .pre .1) (at-peek .peek .ensures)
+    assignment-after (start .pre .0 .asked) (start .pre .1 .0) (at-peek .peek .ensures)
     (sym (at-peek .peek .ensures .kind) ∙ start .pre .0 .kind) (at-expression .expression .ensures)
-    (at-abandon .abandon .ensures)
+    (rw (start .pre .1 .1) at (at-abandon .abandon .ensures))
     (omega (arith, at-abandon .abandon .kept, at-expression .expression .kept))
-    (omega (arith, at-expression .expression .kept)) (at-and-expect .and-expect .ensures)
+    (omega (arith, at-expression .expression .kept)) (rw (start .pre .1 .1) at (at-and-expect .and-expect .ensures))
     (at-write-node .write-node .ensures)
 
 pub assignment-spec : {M : Type 1} → statement M

@@ -21,8 +21,8 @@ abandon-requires c κs =
     let at-compound = c .before .before .before .before .before .before .before in
     let at-peek = at-compound .before .before .before .before in
     let start = at-peek .before .before .before .before .before .before in
-    assigned-cuts (start .pre .0 .asked) (start .pre .1) (at-peek .peek .ensures)
-    (at-compound .compound .ensures) (omega (arith, at-compound .compound .kept))
+    rw (start .pre .1 .1) (assigned-cuts (start .pre .0 .asked) (start .pre .1 .0) (at-peek .peek .ensures)
+    (at-compound .compound .ensures) (omega (arith, at-compound .compound .kept)))
 
 and-expect-requires : tie.Need-and-expect-requires
 and-expect-requires c κs =
@@ -30,10 +30,10 @@ and-expect-requires c κs =
     let at-compound = at-abandon .before .before .before .before .before .before .before .before in
     let at-peek = at-compound .before .before .before .before in
     let start = at-peek .before .before .before .before .before .before in (
-      assigned-asks (start .pre .0 .asked) (start .pre .1) (at-peek .peek .ensures)
-          (at-compound .compound .ensures) (at-abandon .abandon .ensures)
+      rw (start .pre .1 .1) (assigned-asks (start .pre .0 .asked) (start .pre .1 .0) (at-peek .peek .ensures)
+          (at-compound .compound .ensures) (rw (start .pre .1 .1) at (at-abandon .abandon .ensures))
           (omega (arith, at-abandon .abandon .kept, at-compound .compound .kept))
-          (omega (arith, at-compound .compound .kept)),
+          (omega (arith, at-compound .compound .kept))),
       (omega arith, omega arith),
     )
 
@@ -44,8 +44,9 @@ write-node-requires c κs =
     let at-compound = at-abandon .before .before .before .before .before .before .before .before in
     let at-peek = at-compound .before .before .before .before in
     let start = at-peek .before .before .before .before .before .before in
-    assigned-room (start .pre .0 .asked) (start .pre .1) (at-peek .peek .ensures)
-    (at-compound .compound .ensures) (at-abandon .abandon .ensures) (at-and-expect .and-expect .ensures)
+    assigned-room (start .pre .0 .asked) (start .pre .1 .0) (at-peek .peek .ensures)
+    (at-compound .compound .ensures) (rw (start .pre .1 .1) at (at-abandon .abandon .ensures))
+    (rw (start .pre .1 .1) at (at-and-expect .and-expect .ensures))
     (omega (arith, at-compound .compound .kept))
 
 same-length : tie.Need-same-length
@@ -98,10 +99,10 @@ returns c =
     let at-compound = at-abandon .before .before .before .before .before .before .before .before in
     let at-peek = at-compound .before .before .before .before in
     let start = at-peek .before .before .before .before .before .before in
-    compound-after (start .pre .0 .asked) (start .pre .1) (at-peek .peek .ensures)
+    compound-after (start .pre .0 .asked) (start .pre .1 .0) (at-peek .peek .ensures)
     (sym (at-peek .peek .ensures .kind) ∙ start .pre .0 .kind) (at-compound .compound .ensures)
-    (at-abandon .abandon .ensures) (omega (arith, at-abandon .abandon .kept, at-compound .compound .kept))
-    (omega (arith, at-compound .compound .kept)) (at-and-expect .and-expect .ensures)
+    (rw (start .pre .1 .1) at (at-abandon .abandon .ensures)) (omega (arith, at-abandon .abandon .kept, at-compound .compound .kept))
+    (omega (arith, at-compound .compound .kept)) (rw (start .pre .1 .1) at (at-and-expect .and-expect .ensures))
     (at-write-node .write-node .ensures)
 
 pub compound-assignment-spec : {M : Type 1} → statement M

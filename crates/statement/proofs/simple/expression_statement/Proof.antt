@@ -33,7 +33,7 @@ returns : tie.Need-returns
 returns c =
     let at-expression = c .before .before .before .before .before .before .before in
     let start = at-expression .before .before .before .before .before .before .before .before .before in
-    statement-stops (start .pre) (at-expression .expression .ensures) _ _ (c .match .keys2)
+    statement-stops (start .pre) (at-expression .expression .ensures) _ (c .match .keys2)
 
 write-node-requires : tie.Need-write-node-requires
 write-node-requires c κs =
@@ -67,18 +67,22 @@ returns-2 c =
     let at-enum-told = at-if1 .before .before .before .before in
     let at-expression = at-enum-told .before .before .before .before .before .before .before .before in
     let start = at-expression .before .before .before .before .before .before .before .before .before in
-    statement-errors (start .pre) (at-expression .expression .ensures) _ _
+    statement-errors (start .pre) (at-expression .expression .ensures) _
     (at-enum-told .enum-told .given .1) (omega (arith, at-expression .expression .kept))
     (omega (arith, at-expression .expression .kept)) (at-if1 .if1 .taken) (at-write-node .write-node .ensures)
 
 after-expression-requires : tie.Need-after-expression-requires
 after-expression-requires c κs =
+    let at-if1 = c .before in
     let at-expression = c .before .before .before .before .before .before .before .before .before .before .before .before .before .before .before in
     let start = at-expression .before .before .before .before .before .before .before .before .before in (
       asked-moved (start .pre) (at-expression .expression .ensures .moved)
           (omega (arith, at-expression .expression .kept)) (omega (arith, at-expression .expression .kept))
           (omega (arith, at-expression .expression .kept)),
-      at-expression .expression .ensures .moved .pos,
+      (
+        at-expression .expression .ensures .moved .pos,
+        omega (arith, at-if1 .if1 .left, at-expression .expression .ensures .moved .reported),
+      ),
     )
 
 same-length-7 : tie.Need-same-length-7
@@ -106,7 +110,7 @@ returns-3 c =
     let at-enum-told = at-if1 .before .before .before .before in
     let at-expression = at-enum-told .before .before .before .before .before .before .before .before in
     let start = at-expression .before .before .before .before .before .before .before .before .before in
-    statement-after (start .pre) (at-expression .expression .ensures) _ _
+    statement-after (start .pre) (at-expression .expression .ensures) _
     (at-enum-told .enum-told .given .1) (omega (arith, at-expression .expression .kept))
     (omega (arith, at-expression .expression .kept)) (λ e. omega (arith, e, at-if1 .if1 .left))
     (at-after-expression .after-expression .ensures)
