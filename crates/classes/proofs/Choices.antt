@@ -1,4 +1,4 @@
--- A choice among several by tests in turn, and a table that is searched from its first entry. Assumes nothing.
+-- Laws of a choice by several tests in turn, and of a table that is searched from its first entry. Assumes nothing.
 use mathlib.Core.Path.{_≡_, refl, sym, ap, _∙_}
 use mathlib.Core.Bool.{Bool, true, false, _&&_}
 use mathlib.Core.List.{List, [], _∷_}
@@ -15,6 +15,7 @@ use Rattle.definition.specs.Tokenizer as Z
 use Rattle.definition.proofs.Tests.{clash, left-true, right-true, and-false, either-true, between-bounds}
 use Rattle.definition.proofs.Formed.{letter-bounds}
 
+-- the test holds, or it does not: v is the test as the code computed it
 pub yes : {A : Type 0} (t : Bool) {v : Bool} (a b : A) → v ≡ t → v ≡ true → a ≡ pick t a b
 yes t a b e f = ap (λ (x : Bool). pick x a b) (sym f ∙ e)
 
@@ -27,7 +28,7 @@ is t a b e = yes t a b refl e
 pub not : {A : Type 0} (t : Bool) (a b : A) {r : A} → t ≡ false → r ≡ b → r ≡ pick t a b
 not t a b e g = no t a b refl e g
 
--- a kind that was found, or not
+-- a kind was found, or not
 pub some-kind : {r : ℕ} (n : ℕ) → r ≡ n → 0 < r → ltb 0 n ≡ true
 some-kind n e h = lt-ltb 0 n (omega (arith, e, h))
 
@@ -36,12 +37,12 @@ no-kind n e h = le-ltb 0 n (omega (arith, e, h))
 
 -- ---- a table
 
--- of n entries from the i-th on: the answer of the first whose test passes, or 0
+-- of n entries from index i on: the answer of the first whose test holds, or 0
 unfoldable pub found : (ℕ → Bool) → (ℕ → ℕ) → ℕ → ℕ → ℕ
 found t k zero i = 0
 found t k (suc n) i = pick (t i) (k i) (found t k n (suc i))
 
--- the entries before the i-th are passed
+-- the invariant: the search from index i on finds a
 pub record Searching (t : ℕ → Bool) (k : ℕ → ℕ) (n a i : ℕ) : Type 0 where
   pub left : ℕ
   pub sum : i + left ≡ n
@@ -88,9 +89,9 @@ at-most m [] e (suc k) = omega arith
 at-most m (x ∷ xs) e zero = leb-true _ _ (left-true (leb x m) (small m xs) e)
 at-most m (x ∷ xs) e (suc k) = at-most m xs (right-true (leb x m) (small m xs) e) k
 
--- ---- what a character begins, test by test
+-- ---- the class of a character, test by test
 
--- after the test for letters
+-- the tests after that for letters
 abbrev no-word : ℕ → Z.Class
 no-word c = pick (eqb c (char "-")) Z.Dash (pick (eqb c (char "0")) Z.Zero (pick (is-digit c) Z.Digit Z.Unknown))
 
@@ -106,13 +107,14 @@ pub class-is : (c d : ℕ) →
 unfolding Z.class
 class-is c d = refl
 
+-- a character that is none of these has the class of the tests after them
 pub no-symbol : (c d : ℕ) {p y : ℕ} {u v w : Bool} {r : Z.Class} → v ≡ is-letter c → v ≡ false → w ≡ is-white c → w ≡ false
     → u ≡ is-foreign c → u ≡ false → (eqb c (char "/") && eqb d (char "/")) ≡ false → p ≡ Z.pair c d → p ≤ 0 → y ≡ Z.symbol c → y ≤ 0
     → r ≡ alone c → r ≡ Z.class c d
 no-symbol c d a b e f h n g i j k l m =
     rw (class-is, sym h ∙ n, sym e ∙ f, g, no-kind (Z.pair c d) i j, no-kind (Z.symbol c) k l, sym a ∙ b) m
 
--- a letter is none of what is tested before it
+-- a letter fails all tests before that for letters
 module _ (c : ℕ) (h : is-letter c ≡ true) where
   other : (k : ℕ) → is-letter k ≡ false → eqb c k ≡ false
   other k e = ne-eqb c k (λ z. clash (sym h ∙ ap is-letter z ∙ e))

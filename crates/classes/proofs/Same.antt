@@ -11,6 +11,7 @@ use lib.ListN.{length, getD, drop, drop-of-length-le}
 use lib.Seq.{drop-cons}
 use Rattle.definition.specs.Tokenizer as Z
 
+-- the invariant: a and b are equal if and only if they are from i on
 pub record Comparing (a b : List ℕ) (i : ℕ) : Type 0 where
   pub ia : i ≤ length a
   pub ib : i ≤ length b

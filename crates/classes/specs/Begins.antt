@@ -1,4 +1,4 @@
--- What a character begins, as the definition names it. Assumes nothing.
+-- Maps the classes of the code to those of the definition. Assumes nothing.
 use Rattle.definition.specs.Tokenizer as Z
 use Rattle.classes.specs.declared.character.Class.{Class}
 

@@ -1,8 +1,8 @@
-// The classes of characters, by their first bytes. Above 127 none but `is_foreign` holds.
+// Classes of characters, and predicates on them, by a character's first byte. Above 127 only `is_foreign` holds.
 ghost use mathlib.Core.Path.{_≡_};
 ghost use Rattle.definition.specs.Classes as C;
 
-// What a character begins.
+// What a character begins, by its class.
 pub enum Class {
     Foreign,
     White,
@@ -42,14 +42,14 @@ pub fn is_digit(c: u8) -> bool
     between(b'0', b'9', c)
 }
 
-// A letter, or `_`.
+// A letter or `_`.
 pub fn is_letter(c: u8) -> bool
     ensures { λ r. ⌜ r ≡ C.is-letter c ⌝ }
 {
     between(b'A', b'Z', c) | between(b'a', b'z', c) | (c == b'_')
 }
 
-// What a word goes on with.
+// A character after the first of a word: a letter, `_` or a digit.
 pub fn is_word(c: u8) -> bool
     ensures { λ r. ⌜ r ≡ C.is-word c ⌝ }
 {

@@ -1,4 +1,4 @@
-// Characters: their classes, the fixed spellings, and what a character begins.
+// Characters: their classes, the fixed spellings, and which token a character begins.
 pub mod character;
 pub mod spelling;
 
@@ -13,7 +13,7 @@ ghost use mathlib.Core.Path.{_≡_};
 ghost use Rattle.definition.specs.Tokenizer as Z;
 ghost use Rattle.classes.specs.Begins.{class-of};
 
-// What the character `c` begins, `d` after it; 0 stands for the end. What begins most often is tested first.
+// The class of the character `c`, which `d` follows; 0 is the end. The most frequent classes are tested first.
 pub fn class(c: u8, d: u8) -> Class
     ensures { λ r. ⌜ class-of r ≡ Z.class c d ⌝ }
 {

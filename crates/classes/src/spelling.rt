@@ -1,10 +1,10 @@
-// The fixed spellings: symbols, keywords and escapes. 0 stands for none.
+// Fixed spellings: symbols, keywords and escapes. Each function returns 0 if there is none.
 use definition::kind;
 ghost use mathlib.Core.Path.{_≡_};
 ghost use Prim.Native.Nat.{_+_, _<_};
 ghost use Rattle.definition.specs.Tokenizer as Z;
 
-// Two characters that are one symbol.
+// The kind of a symbol of two characters.
 pub fn pair(c: u8, d: u8) -> u32
     ensures { λ r. ⌜ r ≡ Z.pair c d ⌝ }
 {
@@ -30,7 +30,7 @@ pub fn pair(c: u8, d: u8) -> u32
     0
 }
 
-// A symbol of one character.
+// The kind of a symbol of one character.
 pub fn symbol(c: u8) -> u32
     ensures { λ r. ⌜ r ≡ Z.symbol c ⌝ }
 {
@@ -69,7 +69,7 @@ pub fn symbol(c: u8) -> u32
     0
 }
 
-// What an escape in a string stands for.
+// The character that an escape in a string denotes.
 pub fn escape(c: u8) -> u8
     ensures { λ r. ⌜ r ≡ Z.escape c ⌝ }
 {
@@ -103,7 +103,7 @@ pub fn same(a: &[u8], b: &[u8]) -> bool
     }
 }
 
-// The keyword that a word is. The table has the keywords in the order of their kinds, each in eight bytes.
+// The kind of a keyword. The table lists the keywords in the order of their kinds, each in eight bytes.
 pub fn keyword(w: &[u8]) -> u32
     ensures { λ r. ⌜ r ≡ Z.keyword (now (w .entry)) ⌝ }
 {

@@ -1,4 +1,4 @@
--- What it is for a script to be accepted: number 0 from the whole operation means that each step answered. Assumes nothing.
+-- An accepted script: if the whole operation answers 0, each of its steps has succeeded. Assumes nothing.
 use mathlib.Core.Path.{_≡_, refl, sym, ap, _∙_, subst}
 use mathlib.Core.Bool.{Bool, true, false}
 use mathlib.Core.Option.{Option, none, some}
@@ -21,7 +21,7 @@ use Rattle.definition.specs.Operations.{Outcome, file, refused, filled, 
 use Rattle.definition.proofs.Total.{Moves, module-moves}
 use Rattle.definition.proofs.Tokens.{Made, TokensOf, script-tokens}
 
--- what an accepted script was read to, on a file slice o
+-- the characters, tokens, errors and items of an accepted script, read on a file slice o
 pub record Accepted (s o : List ℕ) : Type 0 where
   pub chars : List Ch
   pub decoded : characters s ≡ some chars
@@ -36,7 +36,7 @@ pub record Accepted (s o : List ℕ) : Type 0 where
   pub file : whole s o .file ≡ filled (length o) (file-bytes errors items (last .full))
 
 module _ (s o : List ℕ) where
-  -- a Written that is the operation's
+  -- the result of the operation
   abbrev Is : Written → Type 0
   Is w = whole s o ≡ w
 
@@ -95,6 +95,7 @@ module _ (s o : List ℕ) where
   short true b h z = absurd (omega (arith, ap (λ (x : Written). x .number) h))
   short false b h z = utf8 (ltb-false _ _ b) (characters s) refl h z
 
+  -- a script with the number 0 has been decoded, tokenised and parsed
   pub accepted : whole s o .number ≡ 0 → Accepted s o
   unfolding whole
   accepted z = short (ltb 16384 (length s)) refl refl z

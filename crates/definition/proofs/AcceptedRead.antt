@@ -1,5 +1,5 @@
--- What it is for Read to accept what it is handed: each record is good and each step answered. Its file has room in
--- 65,536 bytes. Assumes nothing.
+-- Accepted records: if Read answers 0, each record is valid and the parse has succeeded. The file fits into 65,536
+-- bytes. Assumes nothing.
 use mathlib.Core.Path.{_≡_, refl, sym, ap, _∙_, subst}
 use mathlib.Core.Bool.{Bool, true, false}
 use mathlib.Core.Option.{Option, none, some}
@@ -23,15 +23,15 @@ use Rattle.definition.proofs.Tokens.{Kinds, texts}
 use Rattle.definition.proofs.Validated.{Fits, fits, Lies, lies, First, first, errors-many, Split, split}
 use Rattle.definition.proofs.Room.{Light, light-reading, file-room}
 
--- ---- what is handed in
+-- ---- the records passed to Read
 
--- n tokens, and their texts from byte e on
+-- n tokens, whose texts lie within the slice from byte e on
 record Good (e n : ℕ) (ts : List Tok) : Type 0 where
   many : length ts ≡ n
   kinds : Kinds ts
   text : e + texts ts ≤ 16384
 
--- one more record in front
+-- one more record before the others
 good-more : (X : List ℕ) (e n : ℕ) (w : TokenWords) (us : List Tok) → Fits X w → Lies X e w → Good (text-end e w) n us
     → Good e (suc n) (token-of X w ∷ us)
 good-more X e n w us f l g = record {
@@ -54,6 +54,7 @@ all-good T X (suc n) p e i ts h q =
     let g : Good end n (a .later) = all-good T X n (place-of w) end (suc i) (a .later) (l .high) (a .rest) in
     subst (Good e (suc n)) (a .is) (good-more X e n w (a .later) f l g)
 
+-- the counts and limits of validated tokens and errors
 pub record Sized (n : ℕ) (ts : List Tok) (es : List Err) : Type 0 where
   pub many : length ts ≡ n
   pub kinds : Kinds ts
@@ -61,6 +62,7 @@ pub record Sized (n : ℕ) (ts : List Tok) (es : List Err) : Type 0 where
   pub tokens : length ts ≤ 2048
   pub errors : length es ≤ 255
 
+-- validated records are within the limits
 pub validated-sized : (T : List ℕ) (n : ℕ) (E : List ℕ) (m : ℕ) (X : List ℕ) (h : Validated) → validate T n E m X ≡ some h
     → Sized n (h .tokens) (h .errors)
 validated-sized T n E m X h q =
@@ -74,8 +76,9 @@ validated-sized T n E m X h q =
       errors = omega (arith, errors-many E m 0 (h .errors) (s .errors), s .few-errors);
     }
 
--- ---- accepted
+-- ---- acceptance
 
+-- the tokens, errors and items of accepted records, read on a file slice o
 pub record AcceptedRead (T : List ℕ) (n : ℕ) (E : List ℕ) (m : ℕ) (X o : List ℕ) : Type 0 where
   pub toks : List Tok
   pub errors : List Err
@@ -88,11 +91,11 @@ pub record AcceptedRead (T : List ℕ) (n : ℕ) (E : List ℕ) (m : ℕ) (X o :
   pub file : read T n E m X o .file ≡ filled (length o) (file-bytes errors items (last .full))
 
 module _ (T : List ℕ) (n : ℕ) (E : List ℕ) (m : ℕ) (X o : List ℕ) (z : read T n E m X o .number ≡ 0) where
-  -- a Written that is the operation's
+  -- the result of the operation
   abbrev Is : Written → Type 0
   Is w = read T n E m X o ≡ w
 
-  -- an answer with another number
+  -- a result with another number contradicts z
   other : (w : Written) → Is w → (w .number ≡ 0 → ⊥) → AcceptedRead T n E m X o
   other w h k = absurd (k (sym (ap (λ (x : Written). x .number) h) ∙ z))
 
@@ -140,16 +143,18 @@ module _ (T : List ℕ) (n : ℕ) (E : List ℕ) (m : ℕ) (X o : List ℕ) (z :
   wide true h = other _ h (λ e. omega arith)
   wide false h = tested (validate T n E m X) refl h
 
+  -- records with the number 0 have been validated and parsed
   pub accepted-read : AcceptedRead T n E m X o
   unfolding read
   accepted-read = wide (ltb (length o) 65536) refl
 
+  -- the records of an accepted reading are within the limits of the file
   pub read-light : Light (accepted-read .items) (accepted-read .last)
   read-light =
       let a : AcceptedRead T n E m X o = accepted-read in
       light-reading (a .toks) (a .sized .tokens) (a .sized .text) (a .items) (a .last) (a .parsed)
 
-  -- the file has room in 65,536 bytes
+  -- the file fits into 65,536 bytes
   pub read-room : read T n E m X o .bytes ≤ 65536
   read-room =
       let a : AcceptedRead T n E m X o = accepted-read in

@@ -1,4 +1,4 @@
--- An act and what follows it. Assumes nothing.
+-- Running an act and its continuation. Assumes nothing.
 use mathlib.Core.Path.{_≡_, refl}
 use mathlib.Core.Bool.{Bool, true, false}
 use lib.Dec.{ltb}
@@ -18,6 +18,7 @@ assoc : {A B C : Type 0} (r : Res A) (f : A → St → Res B) (g : B → St → 
 assoc (gives a t) f g h e = e a t
 assoc (refused n) f g h e = refl
 
+-- running `m >>= f` is running m, then f on its answer
 pub run-bind : {A B : Type 0} (c : Goal → St → Res (Ans Node)) (o : (l : Loop) → St → Res (Left l)) (m : Act A)
     (f : A → Act B) (s : St)
     → run c o (m >>= f) s ≡ after (run c o m s) (λ a t. run c o (f a) t)

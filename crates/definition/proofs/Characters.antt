@@ -1,4 +1,5 @@
--- A script's characters: each one's bytes are it at any place and before any bytes. So of their places and offsets, and of UTF-8. Assumes nothing.
+-- The characters of a script: the bytes of each decode to it at any place and before any bytes. Hence the laws about
+-- their places and offsets, and about UTF-8. Assumes nothing.
 use mathlib.Core.Path.{_≡_, refl, sym, ap, ap₂, _∙_, subst}
 use mathlib.Core.Bool.{Bool, true, false, _&&_}
 use mathlib.Core.Option.{Option, none, some}
@@ -16,9 +17,11 @@ use Rattle.definition.proofs.Codes.{Coded, coded-single, Completes, com
 
 -- ---- the bytes of a character
 
+-- all bytes of a character
 abbrev pub spelling : Ch → List ℕ
 spelling c = c .byte ∷ c .more
 
+-- the character at another place
 abbrev pub at : At → Ch → Ch
 at p c = char-at p (c .byte) (c .more)
 
@@ -26,7 +29,7 @@ at p c = char-at p (c .byte) (c .more)
 abbrev pub beyond : At → Ch → At
 beyond p c = past p (c .byte) (c .more)
 
--- the character's bytes give it, wherever they stand and whatever is after
+-- the bytes of the character decode to it, at any place and before any bytes
 abbrev pub Whole : Ch → Type 0
 Whole c = (p : At) (bs : List ℕ) → decode fresh p (spelling c ++ bs) ≡ and-then (at p c) (decode fresh (beyond p c) bs)
 
@@ -34,7 +37,7 @@ Whole c = (p : At) (bs : List ℕ) → decode fresh p (spelling c ++ bs) ≡ and
 abbrev pub Sound : Ch → Type 0
 Sound c = Whole c × Coded c
 
--- the bytes are those of the characters, the first of them at p
+-- the bytes are those of the characters, the first of which is at the place p
 abbrev pub Spelt : At → List ℕ → List Ch → Type 0
 Spelt p bs [] = bs ≡ []
 Spelt p bs (c ∷ cs) = (rest : List ℕ) × (c ≡ at p c) × (bs ≡ spelling c ++ rest) × Sound c × Spelt (beyond p c) rest cs
@@ -43,7 +46,7 @@ abbrev SpeltOf : At → List ℕ → Option (List Ch) → Type 0
 SpeltOf p bs none = Unit {0}
 SpeltOf p bs (some cs) = Spelt p bs cs
 
--- the bytes read of a character that is not yet whole
+-- the bytes of a character that is not yet complete
 abbrev held : Pending → List ℕ
 held fresh = []
 held (within l m n lo hi) = l ∷ m
@@ -86,7 +89,7 @@ spelt-from (b ∷ bs) (within l m n lo hi) p r g =
     c : Ch
     c = char-at p l (m ++ (b ∷ []))
 
-    -- one byte more of it
+    -- with one more byte
     more : (bs′ : List ℕ) → (l ∷ m ++ (b ∷ [])) ++ bs′ ≡ (l ∷ m) ++ (b ∷ bs′)
     more bs′ = ap (λ (x : List ℕ). l ∷ x) (append-snoc m b bs′)
 
@@ -115,6 +118,7 @@ spelt-from (b ∷ bs) (within l m n lo hi) p r g =
 spelt-at : (p : At) (bs : List ℕ) (cs : List Ch) → decode fresh p bs ≡ some cs → Spelt p bs cs
 spelt-at p bs cs e = subst (SpeltOf p bs) e (spelt-from bs fresh p (λ _ _. refl) tt)
 
+-- the bytes of a script are those of its characters
 pub spelt : (bs : List ℕ) (cs : List Ch) → characters bs ≡ some cs → Spelt start bs cs
 unfolding characters
 spelt bs cs e = spelt-at start bs cs e
@@ -127,8 +131,9 @@ spelt-coded (c ∷ cs) p bs s = (s .3 .1, spelt-coded cs (beyond p c) (s .0) (s 
 pub decode-coded : (p : At) (bs : List ℕ) (cs : List Ch) → decode fresh p bs ≡ some cs → All Coded cs
 decode-coded p bs cs e = spelt-coded cs p bs (spelt-at p bs cs e)
 
--- ---- UTF-8, wherever the bytes stand
+-- ---- UTF-8 at any place
 
+-- bytes that decode at any place
 abbrev pub Utf8 : List ℕ → Type 0
 Utf8 bs = (p : At) → is-some (decode fresh p bs) ≡ true
 
@@ -136,7 +141,7 @@ pub utf8-none : Utf8 []
 unfolding decode
 utf8-none p = refl
 
--- a character before UTF-8
+-- a character followed by UTF-8 is UTF-8
 pub utf8-char : (c : Ch) (bs : List ℕ) → Whole c → Utf8 bs → Utf8 (spelling c ++ bs)
 utf8-char c bs w u p = rw (w p bs) (there (decode fresh (beyond p c) bs) (u (beyond p c)))
   where
@@ -157,7 +162,7 @@ utf8-true bs u = u start
 
 -- ---- columns count characters
 
--- the places of characters with these first bytes, the first at the line l and the column c
+-- the places of characters with these first bytes, where the first is at line l and column c
 abbrev pub places : ℕ → ℕ → List ℕ → List Place
 places l c [] = []
 places l c (b ∷ bs) = place-at l c ∷ pick (eqb b 10) (places (suc l) 1 bs) (places l (suc c) bs)
@@ -179,7 +184,7 @@ spelt-places (x ∷ cs) o l c bs s =
     go true t f = f (suc l) 1 t
     go false t f = f l (suc c) t
 
--- a script's first character is at 1:1, and each character one column after the previous, or first in the next line
+-- a script's first character is at 1:1, each other one column after the one before, or first in the next line
 pub columns-count-characters : (s : List ℕ) (cs : List Ch) → characters s ≡ some cs
     → map (λ x. x .place) cs ≡ places 1 1 (map (λ x. x .byte) cs)
 columns-count-characters s cs e = spelt-places cs 0 1 1 s (spelt s cs e)

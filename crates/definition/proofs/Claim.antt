@@ -1,4 +1,4 @@
--- Demand 3, two scripts with one tree. Assumes nothing.
+-- Demand 3, two scripts with one tree: the theorem. Assumes nothing.
 use mathlib.Core.Path.{_≡_, refl, sym, ap, ap₂, _∙_, subst}
 use mathlib.Core.Bool.{Bool, true, false, _&&_, _||_}
 use mathlib.Core.List.{List, [], _∷_, _++_, map}
@@ -31,13 +31,13 @@ use Rattle.definition.proofs.Accepted.{Accepted, accepted}
 use Rattle.definition.proofs.Room.{all-read, recs-length, light}
 use Rattle.definition.proofs.Fields.{tree-of-file, entries-of-file}
 
--- ---- what is told of tokens determines them, but for the spelling of sizes
+-- ---- the stripped tokens determine the tokens, up to the spelling of array sizes
 
--- what is told of a token that is not struck
+-- the stripped form of a token that is not struck
 tell : Role → Tok → Norm
 tell r t = pick (is-size r) (sized (t .kind) (number (t .base) 0 (t .text))) (spelling t)
 
--- those that are left, in a row
+-- the stripped forms of the tokens that are left
 told : List Consumed → List Norm
 told cs = map (λ c. tell (c .role) (c .tok)) cs
 
@@ -74,7 +74,7 @@ untexted t h k =
     no-text (eqb (t .kind) K.Identifier) (eqb (t .kind) K.Integer) (eqb (t .kind) K.String)
     (eqb (t .kind) K.InlineAssemblyFragment) h k
 
--- no two forms are one
+-- the four forms are distinct
 form : Norm → ℕ
 form (symbol k) = 0
 form (named k x) = 1
@@ -95,7 +95,7 @@ named-baseless t f n = go (eqb (t .kind) K.Integer) refl
     go true e = never-both n (rw (eqb-true (t .kind) K.Integer e))
     go false e = baseless t f e
 
--- a spelling tells the kind, the text and the base
+-- the spelling determines the kind, the text and the base
 abbrev Spelt : Tok → Tok → Type 0
 Spelt t u = (t .kind ≡ u .kind) × (t .text ≡ u .text) × (t .base ≡ u .base)
 
@@ -165,9 +165,11 @@ formed-strike (c ∷ cs) a = go (is-struck (c .role) (c .tok .kind)) (formed-str
 -- ---- the theorem
 
 module _ (s o : List ℕ) (a : Accepted s o) where
+  -- the file of an accepted script has the bytes of its errors and items
   pub file-is : file-of s o ≡ file-bytes (a .errors) (a .items) (a .last .full)
   file-is = rw (a .bytes, a .file) (take-at _ _ _ refl)
 
+  -- the tokens of an accepted script are those that were parsed
   pub tokens-are : tokens-of-script s ≡ a .toks
   unfolding tokens-of-script
   tokens-are = rw (tokens-of-script, a .decoded, a .tokenised)
@@ -202,7 +204,8 @@ module _ (s o : List ℕ) (a : Accepted s o) where
       let all : All Formed (a .toks) = all-map Good Formed (λ t g. g .formed) (a .toks) (a .made .good) in
       formed-strike (reading s) (subst (All Formed) (sym (reading-own ∙ tokens-are)) all)
 
--- For any two scripts s and t, read on file slices o and p: both are accepted, both files have no entry of the full list, and their trees are equal. Then each was read with its own tokens, and what is left of these once struck agrees.
+-- For any two scripts s and t, read on file slices o and p: if both are accepted, neither file has an entry of the
+-- full list, and the trees are equal, then each was read with its own tokens, and after striking these agree.
 pub one-tree : (s t o p : List ℕ) → whole s o .number ≡ 0 → whole t p .number ≡ 0 → full-entries (file-of s o) ≡ 0
     → full-entries (file-of t p) ≡ 0 → tree (file-of s o) ≡ tree (file-of t p) → OneReading s t
 one-tree s t o p x y h k e =

@@ -1,4 +1,4 @@
--- The induction for readings that make no error: an error is an end, and no answer is fatal. Assumes nothing.
+-- The induction for readings without errors: an error ends the reading, and no answer is fatal. Assumes nothing.
 use mathlib.Core.Path.{refl}
 use mathlib.Core.Bool.{true, false}
 use mathlib.Core.List.{List, [], _∷_}
@@ -13,11 +13,11 @@ use Rattle.definition.specs.Parser.{rule, turn, loops, parse, parse-modu
 use Rattle.definition.proofs.Later.{Later, later-refl, later-trans, later-advance, later-push, later-full, After, weaken}
 use Rattle.definition.proofs.Ind.{join, limit, wp, each, each-ans}
 
--- no error was made on the way
+-- no error was made between the two states
 abbrev pub Clean : St → St → Type 0
 Clean s s′ = length (s′ .full) ≤ length (s .full)
 
--- every act goes on from its state
+-- the state after an act is later than the state before it
 module _ (c : Goal → St → Res (Ans Node)) (o : (l : Loop) → St → Res (Left l))
     (c-later : (g : Goal) (s : St) → After (λ a s′. Later s s′) (c g s)) (o-later : (l : Loop) (s : St) → After (λ a s′. Later s s′) (o l s)) where
   pub run-later : {A : Type 0} (m : Act A) (s₀ s : St) → Later s₀ s → After (λ a s′. Later s₀ s′) (run c o m s)
@@ -52,7 +52,7 @@ parse-later (suc n) g s =
     run-later (λ h t. parse n h t) (λ l t. loops (λ h u. parse n h u) (suc (suc (length (t .tokens)))) l t) (λ h t. parse-later n h t)
     (λ l t. loops-later (λ h u. parse n h u) (λ h u. parse-later n h u) (suc (suc (length (t .tokens)))) l t) (rule g) s s (later-refl s)
 
--- I: what holds of the tokens left, whatever is read
+-- I: an invariant of the tokens left
 module _ (G : Goal → St → Ans Node → St → Type 0) (L : (l : Loop) → St → Left l → St → Type 0)
     (I : List Tok → Type 0) (I-tail : (ts : List Tok) → I ts → I (tail ts))
     (I-later : (s s′ : St) → Later s s′ → I (s .tokens) → I (s′ .tokens)) where
@@ -65,7 +65,7 @@ module _ (G : Goal → St → Ans Node → St → Type 0) (L : (l : Loop) → St
   abbrev pub cwp : {A : Type 0} → Act A → (A → St → Type 0) → St → Type 0
   cwp m Q s = wp G L Known Never m Q s
 
-  -- with where the run began
+  -- with the state before the run
   abbrev Kept : {A : Type 0} → St → (A → St → Type 0) → A → St → Type 0
   Kept s Q a s′ = Later s s′ × (Clean s s′ → Q a s′)
 
@@ -80,7 +80,7 @@ module _ (G : Goal → St → Ans Node → St → Type 0) (L : (l : Loop) → St
           λ k. absurd (omega (arith, later-full l, length-append (s .full) (e ∷ []))),
         )) h
 
-    -- an answer on the way, and what follows
+    -- an answer in the middle of a run, and the rest of the run
     on-the-way : {A : Type 0} (Q : A → St → Type 0) (s s′ : St) (r : Res A) → Later s s′
         → (Clean s s′ → After (Kept s′ Q) r) → After (λ a s″. Later s′ s″) r → After (Kept s Q) r
     on-the-way Q s s′ (gives a s″) l h k = (
@@ -89,6 +89,7 @@ module _ (G : Goal → St → Ans Node → St → Type 0) (L : (l : Loop) → St
     )
     on-the-way Q s s′ (refused n) l h k = tt
 
+    -- if the precondition of an act holds, Q holds after a run without errors; so for loops, calls and the module
     pub clean-sound : {A : Type 0} (Q : A → St → Type 0) (m : Act A) (s : St) → I (s .tokens) → cwp m Q s → After (Kept s Q) (run c o m s)
     unfolding run
     clean-sound Q (done a) s i h = (later-refl s, λ k. h)

@@ -1,5 +1,5 @@
--- A tree has at most two records more than there are tokens, and no list, body or module more items than tokens.
--- A token pays for one record, and the last of the input for one more: `fn f` has the records 11, 40 and 50.
+-- A tree has at most two records more than there are tokens, and no list, body or module has more items than tokens.
+-- A token accounts for one record, and the last token for one more: `fn f` has the records 11, 40 and 50.
 -- Assumes nothing.
 use mathlib.Core.Path.{_≡_, subst}
 use mathlib.Core.Bool.{false}
@@ -19,19 +19,19 @@ use Rattle.definition.proofs.Tests.{clash, is-kind, not-end}
 use Rattle.definition.proofs.Later.{Later, next-state, later-left, After, weaken}
 use Rattle.definition.proofs.Ind.{EachAns, mapping-positive, comparisons-positive, wp, wp-mono, follow, try, via, wp-find, wp-bitwise-or, wp-cascade, module-ind}
 
--- 1 where a token is left
+-- 1 if a token is left, else 0
 pub one : List Tok → ℕ
 one [] = 0
 one (t ∷ ts) = 1
 
--- what the tokens left pay for
+-- how many records the tokens left account for
 pub pay : List Tok → ℕ
 pay ts = length ts + one ts
 
 abbrev budget : St → ℕ
 budget s = pay (s .tokens)
 
--- a token that is there is paid with; and its kind tells that it is
+-- reading a token uses up its share, and it is there if its kind is not 0
 abbrev Paid : List Tok → Type 0
 Paid ts = (one ts + pay (tail ts) ≤ pay ts) × (min (next-token ts .kind) 1 ≤ one ts) × (length (tail ts) ≤ length ts)
 
@@ -41,14 +41,14 @@ paid [] = omega arith
 paid (t ∷ []) = omega arith
 paid (t ∷ (u ∷ ts)) = omega arith
 
--- the last token pays for two records
+-- the last token accounts for two records
 last-pays : (ts : List Tok) → 2 * one ts + pay (tail ts) ≤ pay ts + one (tail ts)
 unfolding pay one
 last-pays [] = omega arith
 last-pays (t ∷ []) = omega arith
 last-pays (t ∷ (u ∷ ts)) = omega arith
 
--- what pays less is less
+-- a smaller share means fewer tokens
 fewer : (ts us : List Tok) → pay us < pay ts → length us < length ts
 unfolding pay one
 fewer [] [] h = omega arith
@@ -62,23 +62,23 @@ R s = Paid (s .tokens)
 abbrev M : Err → St → Type 0
 M e s = Unit {0}
 
--- an answer's records are paid for, and there is one
+-- the tokens read account for the records of an answer, of which there is at least one
 abbrev Post : St → Ans Node → St → Type 0
 Post s (ok x) s′ = (length (x .item .recs) + budget s′ ≤ budget s) × (1 ≤ length (x .item .recs))
 Post s (fatal es) s′ = budget s′ ≤ budget s
 
--- and one more for each error that is reported: so the record of an expression statement that ends at once is paid
+-- and for one more for each reported error: it accounts for the record of an expression statement that ends early
 abbrev Spared : St → Ans Node → St → Type 0
 Spared s (ok x) s′ =
     (length (x .item .recs) + length (x .errors) + budget s′ ≤ budget s) × (1 ≤ length (x .item .recs))
 Spared s (fatal es) s′ = budget s′ ≤ budget s
 
--- at most k records more than the tokens read pay for
+-- at most k records more than the tokens read account for
 abbrev Over : ℕ → St → Ans Node → St → Type 0
 Over k s (ok x) s′ = (length (x .item .recs) + budget s′ ≤ k + budget s) × (1 ≤ length (x .item .recs))
 Over k s (fatal es) s′ = budget s′ ≤ budget s
 
--- k records are spared
+-- the tokens read account for k records more
 abbrev PostTyped : ℕ → St → Ans Typed → St → Type 0
 PostTyped k s (ok x) s′ = length (x .item .type) + k + budget s′ ≤ budget s
 PostTyped k s (fatal es) s′ = budget s′ ≤ budget s
@@ -88,7 +88,7 @@ PostItems i s a s′ =
     (length (a .recs) + budget s′ ≤ length (i .recs) + budget s)
     × (a .count + length (s′ .tokens) ≤ i .count + length (s .tokens))
 
--- a list, or a body, and the token that opens it
+-- a list or a body, with the token that opens it
 abbrev PostOpened : St → Items → St → Type 0
 PostOpened s a s′ =
     (length (a .recs) + one (s .tokens) + budget s′ ≤ budget s) × (a .count + length (s′ .tokens) ≤ length (s .tokens))
@@ -464,7 +464,7 @@ statement-count s = (
 
 -- ---- the items of a module
 
--- of a function whose parameters and return type are read, at most two more: its own record and its body's
+-- a function after its parameters and return type: at most two records more, its own and that of its body
 abbrev Built : Items → Fallible Node → St → Ans Node → St → Type 0
 Built ps r s (ok x) s′ =
     (length (x .item .recs) + budget s′ ≤ 2 + length (ps .recs) + length (r .item .recs) + budget s)
@@ -479,8 +479,8 @@ function-body-count p x name ps r s = (
   λ e. follow G L R M P.parse-body _ (PostOpened s) _ _ (body-count s) (simp length-append (omega arith)),
 )
 
--- `fn`, the name, and what opens the parameters pay for the function, its body and the type void; where the name is
--- last, it pays for two
+-- `fn`, the name and the opening parenthesis account for the function, its body and the void type; if the name is the
+-- last token, it accounts for two
 function-count : (p : Place) (x : ℕ) (s : St) → wp′ (P.function p x) (Post s) s
 unfolding P.function _>>=_
 function-count p x s r = (
@@ -579,14 +579,14 @@ turns (Casts e) s = casts-count e s
 turns (Suffixes e) s = suffixes-count e s
 turns (Modifiers w) s = modifiers-count w s
 
--- ---- of a whole reading
+-- ---- the whole reading
 
 pay-bound : (ts : List Tok) → pay ts ≤ 1 + length ts
 unfolding pay one
 pay-bound [] = omega arith
 pay-bound (t ∷ ts) = omega arith
 
--- the records without the module's own, and the items
+-- the records without that of the module, and the items
 abbrev Few : List Tok → Items → St → Type 0
 Few ts i s = (length (i .recs) ≤ 1 + length ts) × (i .count ≤ length ts)
 
@@ -599,7 +599,7 @@ module _ (ts : List Tok) (i : Items) (s : St) (g : parse-module ts ≡ gives i s
   few : Few ts i s
   few = subst (After (Few ts)) g (module-count ts)
 
-  -- with the module's own record, at most two more than there are tokens
+  -- with the record of the module, at most two records more than tokens
   pub few-records : suc (length (i .recs)) ≤ 2 + length ts
   few-records = omega (arith, few .0)
 

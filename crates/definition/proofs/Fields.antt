@@ -1,4 +1,5 @@
--- The walk over a file's fields: it finds the tree, and counts its records and the entries of the full list. Assumes nothing.
+-- Walking over the fields of a file finds the tree, and counts its records and the entries of the full list.
+-- Assumes nothing.
 use mathlib.Core.Path.{_≡_, refl, sym, ap, _∙_}
 use mathlib.Core.Bool.{true, false}
 use mathlib.Core.List.{List, [], _∷_, _++_, append-nil, append-assoc}
@@ -45,7 +46,7 @@ records-on : (tag n : ℕ) (body rest : List ℕ) → length body < 65536 → eq
 unfolding tree-records-from
 records-on tag n body rest h e = rw (e, behind tag body rest h)
 
--- a field of another tag, and one of this
+-- a field of another tag, and one of this tag
 entries-on : (t tag n : ℕ) (body rest : List ℕ) → length body < 65536 → eqb tag t ≡ false
     → entries-from t (suc n) (field tag body ++ rest) ≡ entries-from t n rest
 unfolding entries-from
@@ -137,7 +138,7 @@ module _ (es : List Err) (i : Items) (full : List Err) (h : weight (i .recs) < 6
   unfolding file-bytes tail
   flat = simp append-assoc
 
-  -- all fields of the file but the tree's records
+  -- the steps of the walk that are left after the records of the tree
   others : ℕ
   others = length (recs-bytes (i .recs) ++ (field 0x5F (u16 (i .count)) ++ tail)) - suc (length (i .recs))
 
@@ -145,18 +146,21 @@ module _ (es : List Err) (i : Items) (full : List Err) (h : weight (i .recs) < 6
   unfolding tail others
   all-fields = simp length-append (omega (arith, recs-many (i .recs)))
 
+  -- the tree of a file is the bytes of the records and of the module
   pub tree-of-file : tree (file-bytes es i full) ≡ recs-bytes (i .recs) ++ field 0x5F (u16 (i .count))
   unfolding tree tail
   tree-of-file =
       let walk : ℕ → List ℕ = λ m. tree-from m (recs-bytes (i .recs) ++ (field 0x5F (u16 (i .count)) ++ tail)) in
       rw flat (ap walk all-fields ∙ tree-recs (i .recs) others (u16 (i .count)) tail h (omega arith))
 
+  -- the tree of a file has the records of the items and that of the module
   pub records-of-file : tree-records (file-bytes es i full) ≡ suc (length (i .recs))
   unfolding tree-records tail
   records-of-file =
       let walk : ℕ → ℕ = λ m. tree-records-from m (recs-bytes (i .recs) ++ (field 0x5F (u16 (i .count)) ++ tail)) in
       rw flat (ap walk all-fields ∙ records-recs (i .recs) others (u16 (i .count)) tail h)
 
+  -- the walk counts the entries of the full list
   pub entries-of-file : full-entries (file-bytes es i full) ≡ length full
   unfolding full-entries tail
   entries-of-file =

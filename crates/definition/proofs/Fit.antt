@@ -1,5 +1,5 @@
--- The records of every reading fit their fields: each is a node's, its body is what the table says of its tag, and the
--- body's length fits two bytes. Assumes nothing.
+-- The records of every reading fit their fields: each is a node, its body is as the table has it for its tag, and the
+-- length of the body fits two bytes. Assumes nothing.
 use mathlib.Core.Path.{_≡_, ap}
 use mathlib.Core.Option.{some}
 use mathlib.Core.List.{List, [], _∷_, _++_}
@@ -16,6 +16,7 @@ use Rattle.definition.proofs.Leaves.{Body, Leaves, none-left, also, mad
 unfoldable pub body : Rec → List ℕ
 body r = at-place (r .place) ++ nums-bytes (r .numbers) ++ r .text
 
+-- a record of a node that fits its field
 pub record Fit (r : Rec) : Type 0 where
   pub row : Row
   pub kind : ℕ
@@ -28,6 +29,7 @@ recs-length-append : (xs ys : List Rec)
     → length (recs-bytes (xs ++ ys)) ≡ length (recs-bytes xs) + length (recs-bytes ys)
 recs-length-append xs ys = omega (arith, ap length (recs-append xs ys), length-append (recs-bytes xs) (recs-bytes ys))
 
+-- records that leave nodes fit their fields, if together they are short
 pub leaves-fit : {rs : List Rec} {ks : List ℕ} → Leaves rs ks → length (recs-bytes rs) < 65536 → All Fit rs
 unfolding recs-bytes rec-bytes body
 leaves-fit none-left h = tt

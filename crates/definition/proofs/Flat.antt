@@ -1,4 +1,5 @@
--- The turns that loops are allowed do not show: a loop is one turn of it, and the loops in that turn. Assumes nothing.
+-- The number of turns allowed to a loop does not matter: a loop is one turn, and the loops in that turn.
+-- Assumes nothing.
 use mathlib.Core.Path.{_≡_, refl, sym, _∙_, subst}
 use mathlib.Core.Bool.{Bool, true, false}
 use mathlib.Core.List.{List, []}
@@ -16,7 +17,7 @@ use Rattle.definition.proofs.Clean.{loops-later}
 use Rattle.definition.proofs.Total.{rank, rank-le, Enough, any, turn-enough, parse-after, Called}
 use Rattle.definition.proofs.Bind.{run-bind}
 
--- what follows an answer needs to agree only on answers that can be
+-- continuations need to agree only on answers that can occur
 same-after : {A B : Type 0} (r r′ : Res A) (f g : A → St → Res B) (P : A → St → Type 0) → r ≡ r′ → After P r
     → ((a : A) (s : St) → P a s → f a s ≡ g a s) → after r f ≡ after r′ g
 same-after (gives a s) r′ f g P e p h = subst (λ (x : Res _). f a s ≡ after x g) e (h a s p)
@@ -28,7 +29,7 @@ same-cut : {A : Type 0} (b : Bool) (r r′ : Res A) → r ≡ r′
 same-cut true r r′ e = e
 same-cut false r r′ e = refl
 
--- two ways to carry loops out that agree where a loop has its turns
+-- two ways to run loops that agree where a loop has enough turns
 module _ (n : ℕ) (c : Goal → St → Res (Ans Node)) (o o′ : (l : Loop) → St → Res (Left l))
     (c-after : (g : Goal) (s : St) → After (λ a s′. Later s s′ × Called s s′) (c g s))
     (o-after : (l : Loop) (s : St) → After (λ a s′. Later s s′) (o l s)) (agree : (l : Loop) (s : St) → rank l + length (s .tokens) ≤ n → o l s ≡ o′ l s) where
@@ -99,11 +100,12 @@ pub go-loop : (n : ℕ) (l : Loop) (s : St) → go n (loop l done) s ≡ go n (t
 unfolding go turns run
 go-loop n l s = nothing _ ∙ once (λ h t. parse n h t) (λ h t. parse-after n h t) l s
 
--- a call is a goal
+-- a call is the parse of its goal
 pub go-call : (n : ℕ) (g : Goal) (s : St) → go n (call g done) s ≡ parse n g s
 unfolding go turns run
 go-call n g s = nothing _
 
+-- a counted function is its rule, with one call less to open
 pub go-rule : (n : ℕ) (g : Goal) (s : St) → parse (suc n) g s ≡ go n (rule g) s
 unfolding go turns parse
 go-rule n g s = refl

@@ -1,4 +1,5 @@
--- What is known of a token's kind, base and text: the rules of its record that ask for no other record and no place. Assumes nothing.
+-- The kind, base and text of a token that the tokenizer makes: the rules for its record that concern neither another
+-- record nor its place. Assumes nothing.
 use mathlib.Core.Path.{_≡_, refl, sym, _∙_}
 use mathlib.Core.Bool.{Bool, true, false, _&&_, _||_}
 use mathlib.Core.List.{List, [], _∷_}
@@ -20,11 +21,11 @@ use Rattle.definition.proofs.Tests.{clash, both-true, parts-true, and-f
 use Rattle.definition.proofs.Codes.{CodedAs, coded-same}
 use Rattle.definition.proofs.Characters.{Utf8, utf8-none, utf8-byte, utf8-true}
 
--- a kind with no text has none
+-- a kind without text has an empty text
 abbrev pub Textless : Tok → Type 0
 Textless t = has-text (t .kind) ≡ false → t .text ≡ []
 
--- each rule of a record, as far as it asks for kind, base and text
+-- the rules for a record that concern kind, base and text
 pub record Formed (t : Tok) : Type 0 where
   pub low : 1 ≤ t .kind
   pub high : t .kind ≤ 54
@@ -35,7 +36,7 @@ pub record Formed (t : Tok) : Type 0 where
 
 -- ---- keywords and symbols
 
--- none, or the kind of a keyword or a symbol: those stand between the three first kinds and the last
+-- 0, or the kind of a keyword or symbol: 4 to 53
 pub record Plain (k : ℕ) : Type 0 where
   pub plain : eqb k 0 || between 4 53 k ≡ true
 
@@ -72,13 +73,14 @@ plain-textless k p =
     ))
     (p .plain)
 
+-- a token of a keyword or symbol is well formed
 pub plain-formed : (k : ℕ) (p : Place) → Plain k → 0 < k → Formed (tok k p [] 0)
 plain-formed k p f h =
     let b : (4 ≤ k) × (k ≤ 53) = plain-bounds k f h in
     let e : eqb k 2 ≡ false = ne-eqb k 2 (λ z. omega arith) in
     record { low = omega arith; high = omega arith; base = rw e; textless = λ _. refl; utf8 = utf8-true [] utf8-none; integer = rw e }
 
--- what the class of a character says of it, by the one after it
+-- what the class of a character says of it and the next one
 pub data Classed (c d : ℕ) : Class → Type 0 where
   is-foreign : Classed c d Foreign
   is-white : Classed c d White
@@ -121,7 +123,7 @@ coded-class q d = coded-same q (λ n. Z.class n d) Foreign (λ n e. rw (Z.class,
 
 -- ---- texts
 
--- a name, a string or inline assembly
+-- an identifier, a string or inline assembly
 pub text-formed : (k : ℕ) (p : Place) (text : List ℕ) → has-text k ≡ true → eqb k 2 ≡ false → 1 ≤ k → k ≤ 54 → Utf8 text
     → Formed (tok k p text 0)
 text-formed k p text h e l m u =
@@ -134,7 +136,7 @@ text-formed k p text h e l m u =
       integer = rw e;
     }
 
--- a letter, and what a word goes on with, stands between 0 and z
+-- the characters of a word are from `0` to 127
 pub letter-bounds : (c : ℕ) → C.is-letter c ≡ true → (48 ≤ c) × (c < 128)
 letter-bounds c =
     either-true (between 65 90 c || between 97 122 c) (eqb c 95)
@@ -144,7 +146,7 @@ letter-bounds c =
 pub word-bounds : (c : ℕ) → C.is-word c ≡ true → (48 ≤ c) × (c < 128)
 word-bounds c = either-true (C.is-letter c) (C.is-digit c) (letter-bounds c) (λ d. omega (arith, between-bounds 48 57 c d))
 
--- a digit of any base stands between 0 and f
+-- the digits of any base are from `0` to 127
 pub digit-bounds : (base d : ℕ) → C.is-digit-of base d ≡ true → (48 ≤ d) × (d < 128)
 digit-bounds base d e = go (eqb base 2) (eqb base 10) e
   where
@@ -194,7 +196,7 @@ numeral base (d ∷ ds) e h =
       utf8 = all-digits-utf8 base (d ∷ ds) e;
     }
 
--- no digits at all are the number 0
+-- no digits at all become `0`
 pub or-zero-numeral : (base : ℕ) (ds : List ℕ) → C.is-digit-of base 48 ≡ true → all-digits base ds ≡ true → Numeral base (Z.or-zero ds)
 unfolding all-digits
 or-zero-numeral base [] z e = numeral base (48 ∷ []) (both-true z refl) (omega arith)

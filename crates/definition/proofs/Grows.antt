@@ -1,4 +1,4 @@
--- A call reads a token, where there is one. Assumes nothing.
+-- A call reads a token, if there is one. Assumes nothing.
 use mathlib.Core.Path.{_≡_, refl}
 use mathlib.Core.Bool.{Bool, true, false}
 use mathlib.Core.List.{List, [], _∷_}
@@ -19,6 +19,7 @@ use Rattle.definition.proofs.Ind.{wp, wp-always, wp-mono, to-each}
 abbrev pub Shorter : St → St → Type 0
 Shorter s₀ s = length (s .tokens) < length (s₀ .tokens)
 
+-- the invariants for `wp`: a call leaves fewer tokens, if there were any
 abbrev pub G : Goal → St → Ans Node → St → Type 0
 G g s a s′ = next-token (s .tokens) is K.End ≡ false → Shorter s s′
 
@@ -39,12 +40,12 @@ pub tail-lt : (ts : List Tok) → next-token ts is K.End ≡ false → length (t
 tail-lt [] e = clash e
 tail-lt (t ∷ ts) e = omega arith
 
--- a token of kind k is there
+-- if the next token is of the kind k, reading it leaves fewer tokens
 pub there : (k : ℕ) → T (ltb 0 k) → (ts : List Tok) → next-token ts is k ≡ true → length (tail ts) < length ts
 there k h [] i = absurd (omega (arith, is-kind end-token k i, ltb→lt 0 k h))
 there k h (t ∷ ts) i = omega arith
 
--- what is shorter stays so
+-- fewer tokens stay fewer
 stays : {A : Type 0} (s₀ : St) (m : Act A) (s : St) → Shorter s₀ s → wp G L R M m (λ a s′. Shorter s₀ s′) s
 stays s₀ (done a) s h = h
 stays s₀ (peek k) s h = stays s₀ (k (next-token (s .tokens))) s h
@@ -61,7 +62,7 @@ stays s₀ (loop g k) s h =
     (λ a s′ l p. stays s₀ (k a) s′ (omega (arith, later-left l)))
 stays s₀ panic s h = tt
 
--- the first thing that an act does, where a token is there, is to read it or to make a call
+-- the first step of an act, if there is a token, is to read it or to make a call
 abbrev Reads : {A : Type 0} → Act A → Type 0
 Reads (done a) = ⊥
 Reads (peek k) = (t : Tok) → t is K.End ≡ false → Reads (k t)
@@ -122,6 +123,7 @@ reads-first Unary =
     )
 reads-first Type' = tt
 
+-- each rule reads a token, if there is one; of turns nothing is said
 pub rules : (g : Goal) (s : St) → wp G L R M (rule g) (G g s) s
 rules g s = given (λ a s′. Shorter s s′) (rule g) s (next-token (s .tokens) is K.End) (λ e. reads s (rule g) e (reads-first g))
 

@@ -1,4 +1,5 @@
--- The induction over the parser: what is shown of each rule and each turn, given the same of the calls and loops in it, holds of all. Assumes nothing.
+-- The induction over the parser: what is proved of each rule and each turn, assuming it of the calls and loops in
+-- them, holds of all. Assumes nothing.
 use mathlib.Core.Path.{_≡_, refl}
 use mathlib.Core.Bool.{Bool, true, false}
 use mathlib.Core.List.{List, [], _∷_}
@@ -14,22 +15,23 @@ use Rattle.definition.specs.Parser.{rule, turn, loops, parse, parse-modu
 use Rattle.definition.proofs.Tests.{is-kind}
 use Rattle.definition.proofs.Later.{Later, later-refl, later-trans, later-advance, later-push, After}
 
--- an answer of a call or a loop, and what follows it
+-- the answer of a call or a loop, and the continuation
 pub join : {A B : Type 0} (P : A → St → Type 0) (Q : B → St → Type 0) (r : Res A) (f : A → St → Res B) → After P r
     → ((a : A) (s : St) → P a s → After Q (f a s)) → After Q (after r f)
 join P Q (gives a s) f p h = h a s p
 join P Q (refused n) f p h = tt
 
--- an error is made where there is room for it
+-- an error is made if the full list has room
 pub limit : {A : Type 0} (Q : A → St → Type 0) (b : Bool) (r : Res A) → (T b → After Q r)
     → After Q (elim b as (λ _. Res A) [ true ↦ r | false ↦ refused 12 ])
 limit Q true r h = h tt
 limit Q false r h = tt
 
--- a statement about each answer: an `Ans` by its two cases
+-- a predicate on each answer, `Ans` by its two cases
 abbrev pub EachAns : (Ans Node → Type 0) → Type 0
 EachAns P = ((x : Fallible Node) → P (ok x)) × ((es : List Err) → P (fatal es))
 
+-- a predicate on each result of a loop, by cases
 abbrev pub Each : (l : Loop) → (Left l → Type 0) → Type 0
 Each (Module i) P = (a : Items) → P a
 Each (Body i) P = (a : Items) → P a
@@ -61,12 +63,12 @@ to-each (Casts e) P h = (λ x. h (ok x), λ es. h (fatal es))
 to-each (Suffixes e) P h = (λ x. h (ok x), λ es. h (fatal es))
 to-each (Modifiers w) P h = h
 
--- an answer that is there, with an item of which W holds
+-- a good answer, whose item satisfies W
 abbrev pub Sure : {A : Type 0} → (Fallible A → St → Type 0) → Ans A → St → Type 0
 Sure W (ok x) s = W x s
 Sure W (fatal es) s = ⊥
 
--- a list of operators, each a token's kind
+-- a list of operators, whose kinds are not 0
 abbrev pub Positive : List P.Op → Type 0
 Positive [] = Unit {0}
 Positive (o ∷ os) = T (ltb 0 (o .kind)) × Positive os
@@ -82,10 +84,10 @@ mapping-positive Mul = (tt, tt)
 pub comparisons-positive : Positive P.comparisons
 comparisons-positive = (tt, (tt, (tt, (tt, (tt, tt)))))
 
--- G and L: what holds of a call's answer and of a loop's; R and M: what may be taken for granted where a token is read and where an error is made
+-- G, L: what holds after a call, after a loop; R, M: what may be assumed where a token is read, an error is made
 module _ (G : Goal → St → Ans Node → St → Type 0) (L : (l : Loop) → St → Left l → St → Type 0) (R : St → Type 0)
     (M : Err → St → Type 0) where
-  -- what has to hold before an act, for Q to hold after it
+  -- the weakest precondition of an act, for Q to hold after it
   abbrev pub wp : {A : Type 0} → Act A → (A → St → Type 0) → St → Type 0
   wp (done a) Q s = Q a s
   wp (peek k) Q s = wp (k (next-token (s .tokens))) Q s
@@ -141,7 +143,7 @@ module _ (G : Goal → St → Ans Node → St → Type 0) (L : (l : Loop) → St
       (each g (λ a. (s′ : St) → Later s s′ → L g s a s′ → wp (k a) (λ a s′. wp (f a) Q s′) s′) h a s′ l p))
   wp-bind panic f Q s h = tt
 
-  -- with where the act began
+  -- Q may use that the state after the act is later
   pub wp-later : {A : Type 0} (P Q : A → St → Type 0) (m : Act A) (s₀ s : St) → Later s₀ s
       → ((a : A) (s′ : St) → Later s₀ s′ → P a s′ → Q a s′) → wp m P s → wp m Q s
   wp-later P Q (done a) s₀ s l h w = h a s l w
@@ -160,7 +162,7 @@ module _ (G : Goal → St → Ans Node → St → Type 0) (L : (l : Loop) → St
       (each g (λ a. (s′ : St) → Later s s′ → L g s a s′ → wp (k a) P s′) w a s′ k′ p))
   wp-later P Q panic s₀ s l h w = tt
 
-  -- an act of which P is known, and what follows it
+  -- an act after which P holds, and its continuation
   pub follow : {A B : Type 0} (m : Act A) (f : A → Act B) (P : A → St → Type 0) (Q : B → St → Type 0) (s : St) → wp m P s
       → ((a : A) (s′ : St) → Later s s′ → P a s′ → wp (f a) Q s′) → wp (m >>= f) Q s
   follow m f P Q s w h = wp-bind m f Q s (wp-later P (λ a s′. wp (f a) Q s′) m s s (later-refl s) h w)
@@ -175,7 +177,7 @@ module _ (G : Goal → St → Ans Node → St → Type 0) (L : (l : Loop) → St
       go (ok x) s′ l p = h x s′ p
       go (fatal es) s′ l p = e es s′ p
 
-  -- and where the answer is there
+  -- the same under `?`, where the answer is good
   pub try-sure : {A B : Type 0} (W : Fallible A → St → Type 0) (m : Act (Ans A)) (f : Fallible A → Act (Ans B))
       (Q : Ans B → St → Type 0) (s : St)
       → wp m (Sure W) s → ((x : Fallible A) (s′ : St) → Later s s′ → W x s′ → wp (f x) Q s′) → wp (m >>? f) Q s
@@ -185,7 +187,7 @@ module _ (G : Goal → St → Ans Node → St → Type 0) (L : (l : Loop) → St
       go (ok x) s′ l p = h x s′ l p
       go (fatal es) s′ l p = absurd p
 
-  -- a law of an act whose answer may be fatal, for another statement
+  -- from P to Q, by the two cases of an answer
   pub via : {A : Type 0} (m : Act (Ans A)) (P Q : Ans A → St → Type 0) (s : St) → wp m P s
       → ((x : Fallible A) (s′ : St) → P (ok x) s′ → Q (ok x) s′)
       → ((es : List Err) (s′ : St) → P (fatal es) s′ → Q (fatal es) s′) → wp m Q s
@@ -204,7 +206,7 @@ module _ (G : Goal → St → Ans Node → St → Type 0) (L : (l : Loop) → St
     λ _. wp-find os y n Q s t (p .1) h e,
   )
 
-  -- what holds of parse_cast, and stays through the loop of a level, holds of each level
+  -- what holds after parse_cast, and is kept by the loop of a level, holds after each level
   module _ (Q : Ans Node → St → Type 0) (s : St)
       (more : (l : Level) (x : Fallible Node) (s′ : St) → Q (ok x) s′
       → EachAns (λ a. (s″ : St) → Later s′ s″ → L (Operators l x) s′ a s″ → Q a s″))
@@ -248,6 +250,7 @@ module _ (G : Goal → St → Ans Node → St → Type 0) (L : (l : Loop) → St
     module _ (c : Goal → St → Res (Ans Node)) (o : (l : Loop) → St → Res (Left l))
         (c-ok : (g : Goal) (s : St) → After (λ a s′. Later s s′ × G g s a s′) (c g s))
         (o-ok : (l : Loop) (s : St) → After (λ a s′. Later s s′ × L l s a s′) (o l s)) where
+      -- if the precondition of an act holds, Q holds after its run
       pub sound : {A : Type 0} (Q : A → St → Type 0) (m : Act A) (s₀ s : St) → Later s₀ s → wp m Q s
           → After (λ a s′. Later s₀ s′ × Q a s′) (run c o m s)
       unfolding run
@@ -270,6 +273,7 @@ module _ (G : Goal → St → Ans Node → St → Type 0) (L : (l : Loop) → St
       sound Q panic s₀ s l h = tt
 
     module _ (rules : (g : Goal) (s : St) → wp (rule g) (G g s) s) (turns : (l : Loop) (s : St) → wp (turn l) (L l s) s) where
+      -- the induction: if each rule and turn meets its precondition, G holds after every call and L after every loop
       pub loops-ind : (c : Goal → St → Res (Ans Node)) → ((g : Goal) (s : St) → After (λ a s′. Later s s′ × G g s a s′) (c g s))
           → (n : ℕ) (l : Loop) (s : St) → After (λ a s′. Later s s′ × L l s a s′) (loops c n l s)
       unfolding loops

@@ -1,4 +1,4 @@
--- The bytes of a tree determine its records, where these fit. Assumes nothing.
+-- The bytes of a tree determine its records, if these fit their fields. Assumes nothing.
 use mathlib.Core.Path.{_≡_, refl, sym, ap, ap₂, _∙_, subst}
 use mathlib.Core.Option.{Option, none, some}
 use mathlib.Core.List.{List, [], _∷_, _++_, append-assoc}
@@ -68,7 +68,7 @@ cancel (x ∷ xs) (y ∷ ys) r q h e =
     let c : Both (xs ≡ ys) (r ≡ q) = cancel xs ys r q (omega arith) (tails e) in
     record { left = ap₂ {C = List ℕ} (λ a b. a ∷ b) (heads e) (c .left); right = c .right }
 
--- the numbers and the text, of the same parts
+-- equal bytes of the same parts have equal numbers and texts
 same-parts : {ps : List Part} {ms ns : List Num} {t u : List ℕ} → Suits ps ms t → Suits ps ns u
     → nums-bytes ms ++ t ≡ nums-bytes ns ++ u → Both (ms ≡ ns) (t ≡ u)
 unfolding nums-bytes
@@ -99,7 +99,7 @@ same-place p q r t h k e =
     let c : p .column ≡ q .column = u16-inj _ _ (omega arith) (omega arith) (heads e₂) (heads (tails e₂)) in
     record { left = λ i. record { line = l i; column = c i }; right = tails (tails e₂) }
 
--- and the place
+-- and equal places
 same-body : {ps : List Part} {p q : Option Place} {ms ns : List Num} {t u : List ℕ} → Body ps p ms t → Body ps q ns u
     → at-place p ++ (nums-bytes ms ++ t) ≡ at-place q ++ (nums-bytes ns ++ u)
     → Both (p ≡ q) (Both (ms ≡ ns) (t ≡ u))
@@ -121,14 +121,14 @@ sort-of : Option Row → Sort
 sort-of none = F.node 0
 sort-of (some w) = w .sort
 
--- no node has the module's tag
+-- no node has the tag of the module
 never : (r : Rec) → Fit r → Tag.Module ≡ r .tag → ⊥
 unfolding find rows sort-of
 never r f e =
     let m : F.root ≡ F.node (f .kind) = ap (λ (u : ℕ). sort-of (find u rows)) e ∙ ap sort-of (f .found) ∙ f .node in
     let z : _≡_ {A = ℕ} 0 1 = cc in absurd (omega arith)
 
--- fields
+-- equal fields have equal tags and bodies
 fields : (t u : ℕ) (b c r q : List ℕ) → length b < 65536 → length c < 65536 → field t b ++ r ≡ field u c ++ q
     → Both (t ≡ u) (Both (b ≡ c) (r ≡ q))
 fields t u b c r q h k e =
@@ -138,6 +138,7 @@ fields t u b c r q h k e =
           (tails (tails (tails e)));
     }
 
+-- equal trees have equal records and equal counts of items
 pub same-tree : (xs ys : List Rec) (m n : ℕ) → All Fit xs → All Fit ys → m < 65536 → n < 65536
     → recs-bytes xs ++ field Tag.Module (u16 m) ≡ recs-bytes ys ++ field Tag.Module (u16 n) → Both (xs ≡ ys) (m ≡ n)
 unfolding recs-bytes rec-bytes body

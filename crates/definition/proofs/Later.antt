@@ -1,4 +1,4 @@
--- How a state goes on: it reads tokens off the front of those left, and makes errors. Assumes nothing.
+-- A later state: it has read tokens from the front of those left, and made errors. Assumes nothing.
 use mathlib.Core.Path.{_≡_, refl, sym, ap, _∙_}
 use mathlib.Core.List.{List, [], _∷_, _++_, map, append-nil, append-assoc, map-append}
 use Prim.Native.Nat.{_≤_}
@@ -8,9 +8,11 @@ use Rattle.definition.specs.Fallible.{Err}
 use Rattle.definition.specs.Token.{Tok, tail}
 use Rattle.definition.specs.Act.{Role, plain, Consumed, St, Res, gives, refused, now-read, advance, push}
 
+-- the tokens that were read, without their roles
 abbrev pub toks : List Consumed → List Tok
 toks cs = map (λ c. c .tok) cs
 
+-- eaten are the tokens read from s to s′, made the errors made
 pub record Later (s s′ : St) : Type 0 where
   pub eaten : List Consumed
   pub made : List Err
@@ -50,18 +52,18 @@ later-advance r s =
 pub later-push : (e : Err) (s : St) → Later s (push e s)
 later-push e s = record { eaten = []; made = e ∷ []; read = sym (append-nil (s .read)); tokens = refl; full = refl }
 
--- a token is read, with no role of its own
+-- the state after a token is read in the plain role
 abbrev pub next-state : St → St
 next-state s = advance (λ _. plain) s
 
--- the tokens left never grow in number, the errors made never fall
+-- the tokens left never become more, the errors made never fewer
 pub later-left : {s s′ : St} → Later s s′ → length (s′ .tokens) ≤ length (s .tokens)
 later-left {s} {s′} p = omega (arith, simp length-append at (ap length (p .tokens)))
 
 pub later-full : {s s′ : St} → Later s s′ → length (s .full) ≤ length (s′ .full)
 later-full {s} {s′} p = omega (arith, simp length-append at (ap length (p .full)))
 
--- what holds of an answer and the state after it, where there is one
+-- what holds of an answer and the state after it, if not refused
 abbrev pub After : {A : Type 0} → (A → St → Type 0) → Res A → Type 0
 After P (gives a s) = P a s
 After P (refused n) = Unit {0}

@@ -1,4 +1,4 @@
--- What the invariant says of answers and loops, what is known of the tokens, and how calls are followed. Assumes nothing.
+-- The invariant for answers and loops, what is known of the tokens, and the laws for calls. Assumes nothing.
 use mathlib.Core.Path.{_≡_}
 use mathlib.Core.Bool.{true, false}
 use mathlib.Core.List.{List, [], _∷_, _++_}
@@ -21,6 +21,7 @@ use Rattle.definition.proofs.Leaves.{Leaves}
 
 -- ---- what is known of the tokens
 
+-- the tokens left are good, and at most 2,048
 abbrev pub Known : List Tok → Type 0
 Known ts = All Good ts × (length ts ≤ 2048)
 
@@ -35,7 +36,7 @@ drop-good (x ∷ xs) ys h = drop-good xs ys (h .1)
 pub known-later : (s s′ : St) → Later s s′ → Known (s .tokens) → Known (s′ .tokens)
 known-later s s′ l h = (drop-good (toks (l .eaten)) (s′ .tokens) (rw (l .tokens) at (h .0)), omega (arith, later-left l))
 
--- a token that is there is well formed
+-- a token that is not the end is good
 pub good : (ts : List Tok) → Known ts → next-token ts is K.End ≡ false → Good (next-token ts)
 good [] h e = clash e
 good (t ∷ ts) h e = h .0 .0
@@ -46,32 +47,33 @@ good-of k z (t ∷ ts) h i = h .0 .0
 
 -- ---- what holds of answers
 
--- one node of the kind is left, and a token was read
+-- the answer leaves one node of the kind k, and a token was read
 pub record Item (k : ℕ) (s : St) (x : Fallible Node) (s′ : St) : Type 0 where
   pub leaves : Leaves (x .item .recs) (k ∷ [])
   pub less : length (s′ .tokens) < length (s .tokens)
 
--- and its place is one of the script's
+-- and its place is within the limits
 pub record Whole (k : ℕ) (s : St) (x : Fallible Node) (s′ : St) : Type 0 where
   pub leaves : Leaves (x .item .recs) (k ∷ [])
   pub place : Placed 1 (x .item .place)
   pub less : length (s′ .tokens) < length (s .tokens)
 
--- an expression goes on in a loop
+-- a loop continues the expression e
 pub record Onward (e : Fallible Node) (x : Fallible Node) (s′ : St) : Type 0 where
   pub leaves : Leaves (e .item .recs) (F.expression ∷ []) → Leaves (x .item .recs) (F.expression ∷ [])
   pub place : Placed 1 (e .item .place) → Placed 1 (x .item .place)
 
--- a list goes on: as many nodes as are counted, and no more than tokens were read
+-- a loop continues the list i: it leaves as many nodes as it counts, and no more than tokens are read
 pub record Listing (k : ℕ) (i : Items) (s : St) (a : Items) (s′ : St) : Type 0 where
   pub leaves : Leaves (i .recs) (replicate (i .count) k) → Leaves (a .recs) (replicate (a .count) k)
   pub count : a .count + length (s′ .tokens) ≤ i .count + length (s .tokens)
 
--- nothing is said of a fatal answer
+-- a predicate on good answers only
 abbrev pub If : {A : Type 0} → (Fallible A → St → Type 0) → Ans A → St → Type 0
 If W (ok x) s = W x s
 If W (fatal es) s = Unit {0}
 
+-- the kind of node that a goal, and that the items of a list, leave
 abbrev pub kind-of : Goal → ℕ
 kind-of Statement = F.statement
 kind-of Expression = F.expression
@@ -85,6 +87,7 @@ kind-in StructFields = F.named-type
 kind-in ArrayValues = F.expression
 kind-in StructValues = F.compound-field
 
+-- the invariants for `wp`
 abbrev pub G : Goal → St → Ans Node → St → Type 0
 G g s a s′ = If (Whole (kind-of g) s) a s′
 
@@ -106,10 +109,11 @@ M e s = Unit {0}
 abbrev pub awp : {A : Type 0} → Act A → (A → St → Type 0) → St → Type 0
 awp m Q s = wp G L R M m Q s
 
--- a node of the kind is read, or the answer is fatal
+-- the act leaves a node of the kind k, or its answer is fatal
 abbrev pub reads : ℕ → Act (Ans Node) → St → Type 0
 reads k m s = awp m (If (Whole k s)) s
 
+-- `expect(..)?`, `expect_identifier()?` and a call under `?`, with their continuation
 pub expects : {B : Type 0} (r : Role) (k : ℕ) → T (ltb 0 k)
     → (f : Fallible Tok → Act (Ans B)) (W : Fallible B → St → Type 0) (s : St)
     → (Good (next-token (s .tokens)) → length (tail (s .tokens)) < length (s .tokens)

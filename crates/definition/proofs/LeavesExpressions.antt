@@ -1,4 +1,5 @@
--- The records of a list's item, an expression and a type leave one node, whatever errors are made. Assumes nothing.
+-- The records of an item of a list, of an expression and of a type leave one node, whatever errors are made.
+-- Assumes nothing.
 use mathlib.Core.Path.{_≡_, refl}
 use mathlib.Core.Bool.{Bool, true, false, not, _||_}
 use mathlib.Core.List.{List, [], _∷_}
@@ -160,7 +161,7 @@ sizeof-leaves s d = (
 
 -- ---- lists
 
--- a list, or a body, after the token that opens it
+-- a list or a body, after the token that opens it
 pub record Opened (k : ℕ) (s : St) (a : Items) (s′ : St) : Type 0 where
   pub leaves : Leaves (a .recs) (replicate (a .count) k)
   pub count : a .count + length (s′ .tokens) ≤ length (tail (s .tokens))
@@ -358,7 +359,7 @@ cascade-leaves Shift s = add-sub-leaves s
 cascade-leaves AddSub s = mul-leaves s
 cascade-leaves Mul s = cast-leaves s
 
--- operators by number, each a token that is there
+-- operators with numbers up to n, whose kinds are not 0
 abbrev UpTo : ℕ → List P.Op → Type 0
 UpTo n [] = Unit {0}
 UpTo n (o ∷ os) = T (ltb 0 (o .kind)) × (o .op ≤ n) × UpTo n os

@@ -1,4 +1,4 @@
--- The records of a declaration, a statement and an item leave one node, and those of a module one for each item,
+-- The records of a declaration, a statement and an item leave one node, and those of a module one node for each item,
 -- whatever errors are made. Assumes nothing.
 use mathlib.Core.Path.{_≡_, refl, subst}
 use mathlib.Core.Bool.{true, false}
@@ -58,7 +58,7 @@ compound-leaves s d = expects plain K.Hash tt _ _ _ (λ h b. (
     e : Known (t .tokens)
     e = known-tail (s .tokens) d
 
--- a declaration: its type, and an initial value
+-- a declaration: its type, and its initial value
 record Declared (s : St) (x : Fallible P.Typed) (s′ : St) : Type 0 where
   leaves : Leaves (x .item .type) (F.type ∷ F.initial-value ∷ [])
   name : utf8 (x .item .name) ≡ true
@@ -126,7 +126,7 @@ body-turn-leaves i s = (
   ),
 )
 
--- what is read after a first token, of the same answer
+-- what holds after the first token holds for the whole
 more : (k : ℕ) (s : St) (m : Act (Ans Node)) → awp m (If (Whole k (advance (λ _. plain) s))) (advance (λ _. plain) s)
     → awp m (If (Whole k s)) (advance (λ _. plain) s)
 more k s m w = wp-mono G L R M (If (Whole k (advance (λ _. plain) s))) (If (Whole k s)) m (advance (λ _. plain) s) go w
@@ -430,7 +430,7 @@ turns (Casts e) s d = casts-leaves e s
 turns (Suffixes e) s d = suffixes-leaves e s d
 turns (Modifiers w) s d = modifiers-leaves w s
 
--- the records of a whole reading leave the items that the module's record counts
+-- the records of a whole reading leave the items that the record of the module counts
 pub module-leaves : (ts : List Tok) → Known ts → (i : Items) (s : St) → P.parse-module ts ≡ gives i s
     → Rooted (i .recs) (module-rec (i .count)) × (i .count ≤ 2048)
 unfolding find rows
@@ -442,7 +442,7 @@ module-leaves ts d i s e =
     let h = bare (with-count n nothing) in
     (record { row = _; found = refl; root = refl; holds = h; leaves = q .leaves none-left }, n)
 
--- it is what a file has there
+-- the bytes of the module's record are its field in a file
 pub module-written : (n : ℕ) → rec-bytes (module-rec n) ≡ field Tag.Module (u16 n)
 unfolding rec-bytes nums-bytes
 module-written n = refl

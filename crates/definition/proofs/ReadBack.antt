@@ -1,4 +1,5 @@
--- What Tokenise writes, Read takes: the records of a script's tokens and token errors pass Read's test, and are those tokens and errors again. Assumes nothing.
+-- Read accepts what Tokenise writes: the records of a script's tokens and token errors pass validation, and decode to
+-- the same tokens and errors. Assumes nothing.
 use mathlib.Core.Path.{_≡_, refl, sym, ap, ap₂, _∙_, subst}
 use mathlib.Core.Bool.{Bool, true, false, _&&_}
 use mathlib.Core.Option.{Option, none, some}
@@ -23,7 +24,7 @@ use Rattle.definition.proofs.Tokens.{Placed, Good, Fault, ReadsAfter, t
 
 -- ---- records in a slice
 
--- the j-th word of those after others
+-- word j of ws, after other words
 word-after : (before ws : List ℕ) (k j : ℕ) → k ≡ length before + j → getD (before ++ ws) k 0 ≡ getD ws j 0
 word-after before ws k j e = rw e (getD-append-add before ws j 0)
 
@@ -48,7 +49,7 @@ error-after before ws i l =
       fourth = word-after before ws (4 * i + 3) 3 (omega arith) x;
     }
 
--- a list in three parts: the second's front goes to the first
+-- regroups a list of three parts
 regroup : (before xs ys rest : List ℕ) → before ++ ((xs ++ ys) ++ rest) ≡ (before ++ xs) ++ (ys ++ rest)
 regroup before xs ys rest = simp append-assoc
 
@@ -64,7 +65,7 @@ errors-length (e ∷ es) = omega (arith, errors-length es)
 
 -- ---- one token
 
--- the record of a token whose text has n bytes before it
+-- the record of a token whose text starts at n
 abbrev words : ℕ → Tok → TokenWords
 words n t =
     record {
@@ -84,7 +85,7 @@ line-fits p h = between-true (h .line-low) (omega arith)
 column-fits : (p : Place) → Placed 1 p → between 1 16384 (p .column) ≡ true
 column-fits p h = between-true (h .column-low) (omega arith)
 
--- in the text slice, after n bytes
+-- a token whose text is in the text slice, after n bytes
 module _ (t : Tok) (g : Good t) (text before rest : List ℕ) (n : ℕ) (e : text ≡ before ++ (t .text ++ rest))
     (l : length before ≡ n) (m : n + length (t .text) ≤ 16384) where
   part-is : part text (words n t) ≡ t .text
@@ -138,7 +139,7 @@ text-ends t n e h = go (has-text (t .kind))
 
 -- ---- all tokens
 
--- a record that is read and good
+-- a valid record adds its token
 token-step : (ws text : List ℕ) (p : Place) (e i m : ℕ) (w : TokenWords) → words-at ws i ≡ w → valid-alone text w ≡ true
     → valid-after p e w ≡ true
     → tokens-of ws text p e i (suc m)
@@ -150,7 +151,8 @@ token-step ws text p e i m w q a b =
     ≡ token-before (token-of text w) (tokens-of ws text (place-of w) (text-end e w) (suc i) m)) q
     (λ a b. rw (tokens-of, both-true a b)) a b
 
--- The tokens of records from the i-th on, and texts after n bytes: those that were written. The previous token's place is p, its text ends at e.
+-- Records from index i on, with texts after n bytes, decode to the tokens that were written. The token before is at
+-- the place p, its text ends at e.
 module _ (ws text : List ℕ) where
   tokens-back : (ts : List Tok) (p : Place) (e n i : ℕ) (before rest before′ rest′ : List ℕ)
       → ws ≡ before ++ (tokens-words n ts ++ rest) → length before ≡ 8 * i
@@ -204,7 +206,7 @@ errors-back ws (e ∷ es) i before rest w l f =
     same : _≡_ {A = Err} (record { number = e .number; place = e .place; expected = 0; got = 0 }) e
     same = λ x. record { number = e .number; place = e .place; expected = sym (f .0 .expected) x; got = sym (f .0 .got) x }
 
--- ---- what Tokenise writes, before any words
+-- ---- what Tokenise writes, followed by any words
 
 made-validated : (ts : List Tok) (es : List Err) → Made ts es → (u v w : List ℕ)
     → validate (tokens-words 0 ts ++ u) (length ts) (errors-words es ++ v) (length es) (tokens-text ts ++ w)
@@ -232,6 +234,7 @@ made-validated ts es m u v w =
     longer : (k : ℕ) (xs ys : List ℕ) → length xs ≡ k → k ≤ length (xs ++ ys)
     longer k xs ys e = simp length-append (omega arith)
 
+-- the records of a script's tokens and errors, followed by any words, decode to these tokens and errors
 pub read-back : (bs : List ℕ) (cs : List Ch) (ts : List Tok) (es : List Err) → length bs ≤ 16384 → characters bs ≡ some cs
     → tokenize cs ≡ Z.tokens ts es → (u v w : List ℕ)
     → validate (tokens-words 0 ts ++ u) (length ts) (errors-words es ++ v) (length es) (tokens-text ts ++ w)

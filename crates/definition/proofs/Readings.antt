@@ -1,5 +1,5 @@
--- Readings that mislead, each ruled out by a law or by a small script. This module is checked before the proofs, so that
--- it is what fails where a definition is read so. Assumes nothing.
+-- Misreadings of the scope, each excluded by a law or by a small script. This module is checked before the other
+-- proofs, so that it is the one that fails if a definition is misread. Assumes nothing.
 use mathlib.Core.Path.{_≡_, refl, sym, subst}
 use mathlib.Core.Bool.{true, false}
 use mathlib.Core.List.{List, [], _∷_, map}
@@ -14,13 +14,16 @@ use Rattle.definition.specs.Act.{Items, Res, gives, refused}
 use Rattle.definition.specs.Parser.{parse-module}
 use Rattle.definition.specs.Demand.{tokens-of-script}
 
--- an escape other than `\r`, `\n`, `\t` is unknown, a backslash and a quote too
+-- an escape other than `
+-- r`, `
+-- n`, `
+-- t` is unknown, also a backslash or a quote
 pub unknown-escape : (c : Ch) (cs : List Ch) → (c .byte ≡ 114 → ⊥) → (c .byte ≡ 110 → ⊥) → (c .byte ≡ 116 → ⊥)
     → quoted true (c ∷ cs) ≡ one-unknown (quoted false cs)
 unfolding quoted
 unknown-escape c cs r n t = rw (quoted, ne-eqb (c .byte) 114 r, ne-eqb (c .byte) 110 n, ne-eqb (c .byte) 116 t)
 
--- of the zeros before a number one is dropped: a second stays
+-- one leading zero is dropped, a second one is kept
 pub second-zero : (p : Place) (c : Ch) (cs : List Ch) → c .byte ≡ 48
     → zero-turn p (c ∷ cs) ≡ token-text (digits 10 cs .rest) K.Integer p (48 ∷ digits 10 cs .text) 10
 unfolding zero-turn digits
@@ -42,12 +45,12 @@ pub numbers : codes (characters (0x41 ∷ 0xE2 ∷ 0x89 ∷ 0xA2 ∷ 0xCE ∷ 0x
 unfolding characters
 numbers = refl
 
--- the columns of the errors reported
+-- the columns of the reported errors
 abbrev reported : Res Items → List ℕ
 reported (gives i s) = map (λ e. e .place .column) (i .errors)
 reported (refused n) = []
 
--- they are in no order of places: a body's come before its parameters'
+-- errors are not sorted by place: those of the body come before those of the parameters
 pub unsorted : reported (parse-module (tokens-of-script (ascii "fn f(1:T){+;}"))) ≡ 11 ∷ 12 ∷ 6 ∷ []
 unfolding tokens-of-script parse-module ascii
 unsorted = refl

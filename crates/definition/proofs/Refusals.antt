@@ -1,4 +1,4 @@
--- The numbers with which Tokenise refuses once it works, and Read. Assumes nothing.
+-- The numbers of the refusals of Tokenise after its first tests, and of Read. Assumes nothing.
 use mathlib.Core.Path.{_≡_, subst}
 use mathlib.Core.Option.{some}
 use mathlib.Core.List.{List, _∷_}
@@ -20,12 +20,12 @@ use Rattle.definition.proofs.Tests.{passed, between-bounds}
 use Rattle.definition.proofs.Total.{Moves, module-moves}
 use Rattle.definition.proofs.Tokens.{TokensOf, script-tokens}
 
--- a script's characters are refused with 4 to 7
+-- the tokenizer refuses with 4 to 7
 pub tokenize-refuses : (s : List ℕ) (cs : List Ch) → length s ≤ 16384 → characters s ≡ some cs → (n : ℕ)
     → tokenize cs ≡ Z.refused n → (4 ≤ n) × (n ≤ 7)
 tokenize-refuses s cs h e n r = between-bounds 4 7 n (passed _ (subst TokensOf r (script-tokens s cs h e)))
 
--- tokens are refused with 10 to 12
+-- the parser refuses with 10 to 12
 pub read-refuses : (t : Tok) (ts : List Tok) (es : List Err) (n : ℕ) → read-tokens (t ∷ ts) es ≡ refused n → (10 ≤ n) × (n ≤ 12)
 unfolding read-tokens
 read-refuses t ts es n e = between-bounds 10 12 n (passed _ (go (parse-module (t ∷ ts)) (module-moves (t ∷ ts)) e))

@@ -1,4 +1,4 @@
--- The errors that are reported are entries of the full list, and none is reported more often than it stands there. Assumes nothing.
+-- The reported errors are entries of the full list, and none is reported more often than it is made. Assumes nothing.
 use mathlib.Core.Path.{_≡_, refl, subst}
 use mathlib.Core.Bool.{Bool, true, _&&_}
 use mathlib.Core.List.{List}
@@ -14,17 +14,17 @@ use Rattle.definition.proofs.Tests.{both-true, parts-true}
 use Rattle.definition.proofs.Later.{After}
 use Rattle.definition.proofs.Size.{weight, budget, tally, module-size}
 
--- field by field
+-- equality of errors, field by field
 abbrev pub same-error : Err → Err → Bool
 same-error e x =
     eqb (e .number) (x .number) && (eqb (e .place .line) (x .place .line)
     && (eqb (e .place .column) (x .place .column) && (eqb (e .expected) (x .expected) && eqb (e .got) (x .got))))
 
--- how often the error stands in the list
+-- how often the error is in the list
 abbrev pub times : Err → List Err → ℕ
 times e es = tally (λ x. pick (same-error e x) 1 0) es
 
--- the test passes for equal errors, and for no others
+-- the test holds for equal errors only
 pub same-error-equal : (e x : Err) → same-error e x ≡ true → e ≡ x
 same-error-equal e x t =
     parts-true _ _ t λ n t. parts-true _ _ t λ l t. parts-true _ _ t λ c t. parts-true _ _ t λ k g. equal
@@ -40,6 +40,7 @@ same-error-self e =
     (both-true (eq-eqb (e .place .line) _ refl) (both-true (eq-eqb (e .place .column) _ refl)
     (both-true (eq-eqb (e .expected) _ refl) (eq-eqb (e .got) _ refl))))
 
+-- an error is reported at most as often as it is in the full list
 pub reported-is-made : (e : Err) (ts : List Tok) (i : Items) (s : St) → parse-module ts ≡ gives i s
     → times e (i .errors) ≤ times e (s .full)
 reported-is-made e ts i s g =

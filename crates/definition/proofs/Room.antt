@@ -1,4 +1,4 @@
--- An accepted reading has read every token; and its file has room in 65,536 bytes. Assumes nothing.
+-- An accepted reading has read every token, and its file fits into 65,536 bytes. Assumes nothing.
 use mathlib.Core.Path.{_≡_, refl, sym, ap, _∙_, subst}
 use mathlib.Core.Bool.{true, false}
 use mathlib.Core.Option.{Option, none, some}
@@ -65,6 +65,7 @@ at-end : (ts : List Tok) → Kinds ts → next-token ts is K.End ≡ true → ts
 at-end [] k e = refl
 at-end (t ∷ ts) k e = absurd (omega (arith, is-kind t K.End e, k .0))
 
+-- a reading that is not refused has read all tokens
 pub all-read : (ts : List Tok) → Kinds ts → (i : Items) (s : St) → parse-module ts ≡ gives i s → toks (s .read) ≡ ts
 all-read ts k i s e =
     go (subst (After (λ i s′. Later (begin ts) s′ × (next-token (s′ .tokens) is K.End ≡ true))) e
@@ -158,11 +159,11 @@ unfolding Z.budget
 budget-bound [] = omega arith
 budget-bound (t ∷ ts) = omega (arith, budget-bound ts)
 
--- the records weigh less than 65,536, and no more errors are reported than made
+-- the records weigh at most 49,152 bytes, and at most as many errors are reported as made, which are at most 255
 abbrev pub Light : Items → St → Type 0
 Light i s = (Z.weight (i .recs) ≤ 49152) × (length (i .errors) ≤ length (s .full)) × (length (s .full) ≤ 255)
 
--- of tokens and texts that fit their slices
+-- readings of tokens within the limits are light
 pub light-reading : (ts : List Tok) → length ts ≤ 2048 → texts ts ≤ 16384 → (i : Items) (s : St) → parse-module ts ≡ gives i s
     → Light i s
 light-reading ts n x i s e =
@@ -175,7 +176,7 @@ light-reading ts n x i s e =
     Paid : Items → St → Type 0
     Paid i s = (Z.weight (i .recs) ≤ Z.budget ts) × (Z.tally (λ _. 1) (i .errors) ≤ Z.tally (λ _. 1) (s .full))
 
--- and the file has room in 65,536 bytes
+-- the file of a light reading fits into 65,536 bytes
 pub file-room : (es : List Err) (i : Items) (s : St) → length es ≤ 255 → Light i s
     → length (file-bytes es i (s .full)) ≤ 65536
 unfolding file-bytes
@@ -187,7 +188,7 @@ file-room es i s h l =
 pub light : {s o : List ℕ} (a : Accepted s o) → Light (a .items) (a .last)
 light a = light-reading (a .toks) (a .made .tokens) (a .made .text) (a .items) (a .last) (a .parsed)
 
--- an accepted script's file has room in 65,536 bytes
+-- the file of an accepted script fits into 65,536 bytes
 pub room : (s o : List ℕ) → whole s o .number ≡ 0 → whole s o .bytes ≤ 65536
 room s o e =
     let a : Accepted s o = accepted s o e in

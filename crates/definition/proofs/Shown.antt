@@ -1,4 +1,4 @@
--- What it is for records to show tokens, and the laws by which shown parts make a shown whole. Assumes nothing.
+-- Records that show stripped tokens, and the laws that combine the parts of a record. Assumes nothing.
 use mathlib.Core.Path.{_≡_, refl, sym, ap, _∙_, subst}
 use mathlib.Core.Bool.{Bool, true, false, not, _&&_, _||_}
 use mathlib.Core.List.{List, [], _∷_, _++_, append-nil, append-assoc}
@@ -19,8 +19,9 @@ use Rattle.definition.specs.Demand.{is-modifier}
 use Rattle.definition.proofs.Later.{Later, toks}
 use Rattle.definition.proofs.Unparse.{Entry, entry, Gathered, gathered, gather, unparse, unparse-append, step, same-place, sym1, extend, gather-one-more}
 
--- ---- places: no two tokens left have the same
+-- ---- places: no two tokens left have the same place
 
+-- p is the place of none of the tokens
 abbrev pub Apart : Place → List Tok → Type 0
 Apart p [] = Unit {0}
 Apart p (t ∷ ts) = (same-place p (t .place) ≡ false) × Apart p ts
@@ -61,15 +62,16 @@ fresh-later {p} {s} {s′} l h =
 pub distinct-later : (s s′ : St) → Later s s′ → Distinct (s .tokens) → Distinct (s′ .tokens)
 distinct-later s s′ l h = distinct-drop (toks (l .eaten)) (s′ .tokens) (subst Distinct (l .tokens) h)
 
--- the token that is read has a place of its own
+-- the place of the token that is read is not that of a later token
 pub fresh-head : (ts : List Tok) → Distinct ts → Fresh (next-token ts .place) (tail ts)
 fresh-head [] h = record { apart = tt }
 fresh-head (t ∷ ts) h = record { apart = h .0 }
 
--- there is a token
+-- a token of the kind k is not the end
 not-none : (k : ℕ) → T (ltb 0 k) → end-token is k ≡ true → ⊥
 not-none k h i = omega (arith, is-kind end-token k i, ltb→lt 0 k h)
 
+-- the next token is not at a place that is fresh
 pub differs : (p : Place) (ts : List Tok) (k : ℕ) → T (ltb 0 k) → next-token ts is k ≡ true → Fresh p ts → same-place p (next-token ts .place) ≡ false
 differs p [] k z i h = absurd (not-none k z i)
 differs p (t ∷ ts) k z i h = h .apart .0
@@ -77,7 +79,7 @@ differs p (t ∷ ts) k z i h = h .apart .0
 pub same-self : (p : Place) → same-place p p ≡ true
 same-self p = rw (passed (eqb (p .line) (p .line)) (eqb-refl (p .line))) (passed (eqb (p .column) (p .column)) (eqb-refl (p .column)))
 
--- ---- tokens read, stripped
+-- ---- the tokens read, stripped
 
 pub strip-append : (xs ys : List Consumed) → strip (xs ++ ys) ≡ strip xs ++ strip ys
 unfolding strip
@@ -86,7 +88,7 @@ strip-append (x ∷ xs) ys =
     ap (λ (l : List Norm). norm (x .role) (x .tok) ++ l) (strip-append xs ys)
     ∙ sym (append-assoc (norm (x .role) (x .tok)) (strip xs) (strip ys))
 
--- from s to s′ the tokens ts were read
+-- between s and s′ the tokens ts were read
 pub record Grew (s : St) (ts : List Norm) (s′ : St) : Type 0 where
   pub by : strip (s′ .read) ≡ strip (s .read) ++ ts
 
@@ -94,14 +96,15 @@ pub grew-refl : (s : St) → Grew s [] s
 grew-refl s = record { by = sym (append-nil (strip (s .read))) }
 
 infixl 60 _▸_
+-- first xs, then ys were read
 pub _▸_ : {s t u : St} {xs ys : List Norm} → Grew s xs t → Grew t ys u → Grew s (xs ++ ys) u
 _▸_ {s} {t} {u} {xs} {ys} p q = record { by = q .by ∙ ap (λ (l : List Norm). l ++ ys) (p .by) ∙ append-assoc (strip (s .read)) xs ys }
 
--- the same under another spelling
+-- the same with an equal list
 pub grew-as : {s u : St} {xs ys : List Norm} → Grew s xs u → xs ≡ ys → Grew s ys u
 grew-as {s} {u} p e = subst (λ (l : List Norm). Grew s l u) e p
 
--- a token of kind k is read
+-- reading a token of the kind k adds its stripped form
 pub took : (r : Tok → Role) (k : ℕ) → T (ltb 0 k) → (s : St) → next-token (s .tokens) is k ≡ true
     → Grew s (norm (r (next-token (tail (s .tokens)))) (next-token (s .tokens))) (advance r s)
 unfolding strip
@@ -115,7 +118,7 @@ took r k h s i =
     go [] i = absurd (not-none k h i)
     go (t ∷ ts) i = append-nil (norm (r (next-token ts)) t)
 
--- the kinds that are shown by themselves
+-- the kinds without text, apart from the modifiers
 abbrev pub is-symbol : ℕ → Bool
 is-symbol k = ltb 0 k && not (is-named k || eqb k K.Integer || is-modifier k)
 
@@ -140,7 +143,7 @@ took-symbol k h s i =
     grew-as (took (λ _. plain) k (and-left (ltb 0 k) _ h) s i)
     (symbol-norm k h (next-token (s .tokens)) (is-kind (next-token (s .tokens)) k i))
 
--- `distinct` or `internal`
+-- `distinct` or `internal`: stripped
 pub took-modifier : (k : ℕ) → T (ltb 0 k && is-modifier k) → (s : St) → next-token (s .tokens) is k ≡ true → Grew s [] (advance (λ _. plain) s)
 took-modifier k h s i =
     grew-as (took (λ _. plain) k (and-left (ltb 0 k) _ h) s i)
@@ -173,7 +176,7 @@ pub took-integer : (s : St) → next-token (s .tokens) is K.Integer ≡ true
     → Grew s (integer (next-token (s .tokens) .base) (next-token (s .tokens) .text) ∷ []) (advance (λ _. plain) s)
 took-integer s i = grew-as (took (λ _. plain) K.Integer tt s i) (rw (is-kind (next-token (s .tokens)) K.Integer i) refl)
 
--- an array's size
+-- the size of an array
 pub took-size : (s : St) → next-token (s .tokens) is K.Integer ≡ true
     → Grew s (sized K.Integer (number (next-token (s .tokens) .base) 0 (next-token (s .tokens) .text)) ∷ [])
     (advance (λ _. size) s)
@@ -181,13 +184,14 @@ took-size s i = grew-as (took (λ _. size) K.Integer tt s i) (rw (is-kind (next-
 
 -- ---- records that show tokens
 
+-- unparsing the records rs pushes one entry, with the place p and the tokens ts
 pub record Shows (rs : List Rec) (p : Place) (ts : List Norm) : Type 0 where
   pub on : (st : List Entry) → unparse rs st ≡ entry p ts ∷ st
 
 pub shows-as : {rs : List Rec} {p : Place} {ts us : List Norm} → Shows rs p ts → ts ≡ us → Shows rs p us
 shows-as {rs} {p} h e = subst (λ (l : List Norm). Shows rs p l) e h
 
--- a record after no part, one, two and three
+-- unparsing a record after none, one, two and three parts
 pub after0 : (r : Rec) (st : List Entry) → unparse (r ∷ []) st ≡ step r st
 unfolding unparse
 after0 r st = refl
@@ -216,7 +220,7 @@ after3 {xs} {ys} {zs} {p} {q} {w} {ts} {us} h k j r st =
     (unparse-append (xs ++ ys) zs st ∙ ap (λ (l : List Entry). unparse zs l) (shows2 h k st)
     ∙ j .on (entry q us ∷ entry p ts ∷ st))
 
--- items: so many entries, with a separator between
+-- unparsing the items leaves `count` entries, which gather to the tokens ts, with a separator between items
 pub record ShowsItems (sep : List Norm) (i : Items) (ts : List Norm) : Type 0 where
   pub on : (st : List Entry) → gather sep (i .count) (unparse (i .recs) st) ≡ gathered ts st
 
@@ -232,7 +236,7 @@ items-more sep i x {ts} {us} {p} h k = record {
       ∙ gather-one-more sep (i .count) (entry p us) (unparse (i .recs) st) st ts (h .on st);
 }
 
--- with no separator
+-- without a separator
 pub items-join : (i : Items) (x : Fallible Node) {ts us : List Norm} {p : Place} → ShowsItems [] i ts
     → Shows (x .item .recs) p us → ShowsItems [] (P.integrate i (ok x)) (ts ++ us)
 items-join i x {ts} {us} h k =

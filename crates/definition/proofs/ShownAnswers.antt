@@ -1,4 +1,4 @@
--- What each answer of a reading that makes no error shows, and the steps of such a reading. Assumes nothing.
+-- What the answers of a reading without errors show, and the steps of such a reading. Assumes nothing.
 use mathlib.Core.Path.{_≡_}
 use mathlib.Core.Bool.{true, false}
 use mathlib.Core.List.{List, [], _++_}
@@ -19,12 +19,14 @@ use Rattle.definition.proofs.Shown.{Fresh, Distinct, Grew, _▸_, Shows
 
 -- ---- what is shown of an answer
 
+-- what else holds of a goal: an expression's place is fresh, a type is not empty
 abbrev pub Extra : Goal → Place → List Norm → St → Type 0
 Extra Statement p ts s = Unit {0}
 Extra Expression p ts s = Fresh p (s .tokens)
 Extra Unary p ts s = Fresh p (s .tokens)
 Extra Type' p ts s = 0 < length ts
 
+-- the records of an answer show the tokens that were read, and no error is reported
 pub record Shown (g : Goal) (s : St) (x : Fallible Node) (s′ : St) : Type 0 where
   pub toks : List Norm
   pub grew : Grew s toks s′
@@ -32,7 +34,7 @@ pub record Shown (g : Goal) (s : St) (x : Fallible Node) (s′ : St) : Type 0 wh
   pub none : x .errors ≡ []
   pub extra : Extra g (x .item .place) toks s′
 
--- an operand that a loop goes on with
+-- a loop continues the operand e
 pub record Tail (e : Fallible Node) (s : St) (x : Fallible Node) (s′ : St) : Type 0 where
   pub toks : List Norm
   pub grew : Grew s toks s′
@@ -41,14 +43,14 @@ pub record Tail (e : Fallible Node) (s : St) (x : Fallible Node) (s′ : St) : T
   pub fresh : Fresh (e .item .place) (s .tokens) → Fresh (x .item .place) (s′ .tokens)
   pub none : e .errors ≡ [] → x .errors ≡ []
 
--- items that a loop goes on with, up to a last token
+-- a loop continues the items i, up to the tokens `end`
 pub record Sequel (end : List Norm) (i : Items) (s : St) (a : Items) (s′ : St) : Type 0 where
   pub toks : List Norm
   pub grew : Grew s (toks ++ end) s′
   pub shows : (ts : List Norm) → ShowsItems [] i ts → ShowsItems [] a (ts ++ toks)
   pub none : i .errors ≡ [] → a .errors ≡ []
 
--- items of a list: what is read, from the tokens that are due before the next one
+-- the tokens of a list, with those that come before the next item
 abbrev pub lead : ℕ → List Norm → List Norm
 lead zero ts = []
 lead (suc n) ts = ts ++ comma
@@ -56,11 +58,13 @@ lead (suc n) ts = ts ++ comma
 abbrev pub start : Listed → Items → List Norm → Tok → List Norm
 start k i ts t = pick (t is P.closer k) ts (lead (i .count) ts)
 
+-- the tokens due are those of the items and the closer
 pub record Rest (k : Listed) (a : Items) (due : List Norm) : Type 0 where
   pub all : List Norm
   pub shows : ShowsItems comma a all
   pub whole : due ≡ all ++ sym1 (P.closer k)
 
+-- a loop continues the items i of a list
 pub record ListSequel (k : Listed) (i : Items) (s : St) (a : Items) (s′ : St) : Type 0 where
   pub toks : List Norm
   pub grew : Grew s toks s′
@@ -68,6 +72,7 @@ pub record ListSequel (k : Listed) (i : Items) (s : St) (a : Items) (s′ : St) 
   pub shows : (ts : List Norm) → ShowsItems comma i ts → Rest k a (start k i ts (next-token (s .tokens)) ++ toks)
   pub none : i .errors ≡ [] → a .errors ≡ []
 
+-- the invariants for `wp`: no token has the place of another, and no error is made
 abbrev pub G : Goal → St → Ans Node → St → Type 0
 G g s a s′ = Sure (Shown g s) a s′
 
@@ -123,7 +128,7 @@ uses g m f Q s w h = try-sure G L R M (Shown g s) m f Q s w h
 pub joined : {e x : List Err} → e ≡ [] → x ≡ [] → e ++ x ≡ []
 joined p q = rw (p, q)
 
--- an operand and the loop that goes on with it
+-- an operand, and the loop that continues it
 pub goes-on : (s t u : St) (e x : Fallible Node) → Shown Expression s e t → Tail e t x u → Shown Expression s x u
 goes-on s t u e x p q =
     record {

@@ -1,4 +1,5 @@
--- In a reading that makes no error, the records of a list, an expression and a type show the stripped tokens that were read. Assumes nothing.
+-- In a reading without errors, the records of a list, an expression and a type show the stripped tokens that were
+-- read. Assumes nothing.
 use mathlib.Core.Path.{_≡_, refl, sym, ap, _∙_, subst}
 use mathlib.Core.Bool.{Bool, true, false}
 use mathlib.Core.Option.{some}
@@ -23,7 +24,7 @@ use Rattle.definition.proofs.Unparse.{Entry, entry, Gathered, gathered,
 use Rattle.definition.proofs.Shown.{fresh-tail, fresh-later, fresh-head, differs, same-self, Grew, grew-refl, _▸_, grew-as, took, symbol-norm, took-size, is-symbol, took-symbol, took-name, took-integer, Shows, shows-as, after0, after1, after2, ShowsItems, items-none, items-more}
 use Rattle.definition.proofs.ShownAnswers.{lead, start, Rest, ListSequel, G, TailOf, L, R, M, cwp, expects, identifier, calls, uses, joined, goes-on}
 
--- ---- parse_atom and what stands around it
+-- ---- parse_atom and its suffixes
 
 group-shown : (s : St) → next-token (s .tokens) is K.LParen ≡ true → cwp P.parse-group (G Expression s) s
 unfolding P.parse-group _>>=_
@@ -183,7 +184,7 @@ closer-symbol StructFields = tt
 closer-symbol ArrayValues = tt
 closer-symbol StructValues = tt
 
--- a whole list
+-- a whole list, with its opener and closer
 pub record List-shown (k : Listed) (s : St) (a : Items) (s′ : St) : Type 0 where
   pub toks : List Norm
   pub grew : Grew s (sym1 (P.opener k) ++ toks ++ sym1 (P.closer k)) s′
@@ -212,7 +213,7 @@ list-shown k s = λ d. (λ i a t l p. found i a t p (p .shows [] (items-none com
           none = p .none refl;
         }
 
--- an item: its place does not matter
+-- an item, at any place
 pub record Item-shown (s : St) (x : Fallible Node) (s′ : St) : Type 0 where
   pub toks : List Norm
   pub at : Place
@@ -223,7 +224,7 @@ pub record Item-shown (s : St) (x : Fallible Node) (s′ : St) : Type 0 where
 abbrev pub ItemOf : St → Ans Node → St → Type 0
 ItemOf s a s′ = Sure (Item-shown s) a s′
 
--- after an item: the tokens that are due are those shown, and a comma is not yet read
+-- after an item: a comma may follow that is not read yet
 record After-item (k : Listed) (i : Items) (s : St) (a : Items) (s′ : St) : Type 0 where
   toks : List Norm
   grew : Grew s toks s′
@@ -262,7 +263,7 @@ after-item-shown k i n c s = (
   ),
 )
 
--- ---- parse_type and what is typed
+-- ---- parse_type and typed identifiers
 
 pub record Typed-shown (s : St) (x : Fallible P.Typed) (s′ : St) : Type 0 where
   pub at : Place
@@ -322,7 +323,7 @@ item-shown ArrayValues s = (
 )
 item-shown StructValues s = struct-field-shown s
 
--- what is due, then the item
+-- the tokens before the item, then those of the item
 due-item : (n : ℕ) (ts us : List Norm) → extend comma n ts us ≡ lead n ts ++ us
 due-item zero ts us = refl
 due-item (suc n) ts us = refl
@@ -469,7 +470,7 @@ casts-shown e s = (
   λ _. record { toks = []; grew = grew-refl s; shows = λ ts f h. shows-as h (sym (append-nil ts)); fresh = λ f. f; none = λ h. h },
 )
 
--- one level more
+-- the loop of one more level
 level-shown : (l : Level) (m : Act (Ans Node)) (s : St) → cwp m (G Expression s) s
     → cwp (m >>? λ e. loop (Operators l e) done) (G Expression s) s
 level-shown l m s w = uses Expression m _ _ _ w (λ e t k p. (λ x u l₂ q. goes-on s t u e x p q, λ es u l₂ q. absurd q))
@@ -506,7 +507,7 @@ cascade-shown Shift s = add-sub-shown s
 cascade-shown AddSub s = mul-shown s
 cascade-shown Mul s = cast-shown s
 
--- the operators of a list stand in a table at their numbers
+-- the operators of a list are in the table at their numbers
 abbrev Tabled : (ℕ → ℕ) → List P.Op → Type 0
 Tabled f [] = Unit {0}
 Tabled f (o ∷ os) = (f (o .op) ≡ o .kind) × T (is-symbol (o .kind)) × Tabled f os

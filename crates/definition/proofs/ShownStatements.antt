@@ -1,4 +1,5 @@
--- In a reading that makes no error, the records of a declaration, a body and a statement show the stripped tokens that were read. Assumes nothing.
+-- In a reading without errors, the records of a declaration, a body and a statement show the stripped tokens that
+-- were read. Assumes nothing.
 use mathlib.Core.Path.{_≡_, refl, sym, ap, _∙_, subst}
 use mathlib.Core.Bool.{true}
 use mathlib.Core.Option.{some}
@@ -60,7 +61,7 @@ compound-shown s = expects plain K.Hash _ _ _ (λ i d. (
     t : St
     t = next-state s
 
--- a declaration's name, type and value
+-- the name, type and value of a declaration
 record Declared-shown (s : St) (x : Fallible P.Typed) (s′ : St) : Type 0 where
   at₁ : Place
   at₂ : Place
@@ -207,7 +208,7 @@ if-shown s i = calls Expression _ _ _ (λ c t l p. calls Statement _ _ _ (λ a u
       },
 )))
 
--- the expression is read, and shows ts
+-- after an expression that shows ts
 after-expression-shown : (s t : St) (p : Place) (e : Node) (ts : List Norm) → Grew s ts t → Shows (e .recs) (e .place) ts
     → cwp (P.after-expression p e) (G Statement s) t
 unfolding P.after-expression step

@@ -1,5 +1,6 @@
--- Two facts of every call and loop. The records of a tree take at most 16 bytes for each token, and the tokens' texts. The errors that are reported are among those made, none more often
--- than it was made: so for the sum over any weights of errors, `f`. Assumes nothing.
+-- Two facts about every call and loop. The records of a tree take at most 16 bytes for each token, and the bytes of
+-- the texts. The reported errors are among those made, none more often than it was made: hence the sums over any
+-- weight `f` of errors. Assumes nothing.
 use mathlib.Core.Path.{_≡_, refl}
 use mathlib.Core.Option.{Option, none, some}
 use mathlib.Core.List.{List, [], _∷_, _++_}
@@ -30,7 +31,7 @@ nums-size (byte n ∷ ns) = 1 + nums-size ns
 nums-size (two n ∷ ns) = 2 + nums-size ns
 nums-size (eight n ∷ ns) = 8 + nums-size ns
 
--- more than all tokens of a script pay for, where the tag is none that a record of the tree has
+-- for tags that no record of the tree has, more than all tokens of a script account for
 abbrev pub excess : ℕ → ℕ
 excess tag = 65536 * (tag - 0x54)
 
@@ -65,21 +66,21 @@ module _ (f : Err → ℕ) where
 
   ruleset sums = (weight-append, tally-append)
 
-  -- k bytes are spared
+  -- the tokens read account for k bytes more
   abbrev Post : ℕ → St → Ans Node → St → Type 0
   Post k s (ok x) s′ =
       (weight (x .item .recs) + k + budget (s′ .tokens) ≤ budget (s .tokens))
       × (tally (x .errors) + tally (s .full) ≤ tally (s′ .full))
   Post k s (fatal es) s′ = (budget (s′ .tokens) ≤ budget (s .tokens)) × (tally es + tally (s .full) ≤ tally (s′ .full))
 
-  -- at most k bytes more than the tokens read pay for
+  -- at most k bytes more than the tokens read account for
   abbrev Over : ℕ → St → Ans Node → St → Type 0
   Over k s (ok x) s′ =
       (weight (x .item .recs) + budget (s′ .tokens) ≤ k + budget (s .tokens))
       × (tally (x .errors) + tally (s .full) ≤ tally (s′ .full))
   Over k s (fatal es) s′ = (budget (s′ .tokens) ≤ budget (s .tokens)) × (tally es + tally (s .full) ≤ tally (s′ .full))
 
-  -- of a function whose parameters and return type are read, at most k bytes more
+  -- a function after its parameters and return type: at most k bytes more
   abbrev Built : ℕ → Items → Fallible Node → St → Ans Node → St → Type 0
   Built k ps r s (ok x) s′ =
       (weight (x .item .recs) + budget (s′ .tokens) ≤ k + weight (ps .recs) + weight (r .item .recs) + budget
@@ -99,7 +100,7 @@ module _ (f : Err → ℕ) where
       × (tally (x .errors) + tally (s .full) ≤ tally (s′ .full))
   PostTyped′ s (fatal es) s′ = (budget (s′ .tokens) ≤ budget (s .tokens)) × (tally es + tally (s .full) ≤ tally (s′ .full))
 
-  -- of the name that is read already
+  -- a typed identifier after its name
   abbrev PostNamed : List ℕ → List Err → St → Ans Typed → St → Type 0
   PostNamed name es s (ok x) s′ =
       (weight (x .item .type) + 16 + budget (s′ .tokens) ≤ budget (s .tokens))
@@ -112,7 +113,7 @@ module _ (f : Err → ℕ) where
       (weight (a .recs) + budget (s′ .tokens) ≤ weight (i .recs) + budget (s .tokens))
       × (tally (a .errors) + tally (s .full) ≤ tally (i .errors) + tally (s′ .full))
 
-  -- a list, or a body, and the token that opens it
+  -- a list or a body, with the token that opens it
   abbrev PostOpened : St → Items → St → Type 0
   PostOpened s a s′ =
       (weight (a .recs) + cost (next-token (s .tokens)) + budget (s′ .tokens) ≤ budget (s .tokens))
@@ -573,6 +574,7 @@ module _ (f : Err → ℕ) where
       go (ok x) s′ l p = simp sums (omega arith)
       go (fatal es) s′ l p = simp sums (omega arith)
 
+  -- each rule and each turn keeps to the bounds
   pub rules : (g : Goal) (s : St) → wp′ (rule g) (G g s) s
   rules Statement s = statement-size s
   rules Expression s = expression-size s
@@ -588,10 +590,10 @@ module _ (f : Err → ℕ) where
   turns (Suffixes e) s = suffixes-size e s
   turns (Modifiers w) s = modifiers-size w s
 
-  -- of a call
+  -- for a call
   pub goal-size : (n : ℕ) (g : Goal) (s : St) → After (λ a s′. Later s s′ × G g s a s′) (parse n g s)
   goal-size n g s = parse-ind G L R M (λ s. r-ok (s .tokens)) (λ e s. tt) rules turns n g s
 
-  -- of a whole reading
+  -- for a whole reading: the bytes of the records are within the budget, and the reported errors among those made
   pub module-size : (ts : List Tok) → After (λ i s′. (weight (i .recs) ≤ budget ts) × (tally (i .errors) ≤ tally (s′ .full))) (parse-module ts)
   module-size ts = weaken (parse-module ts) (λ i s′ p. omega arith) (module-ind G L R M (λ s. r-ok (s .tokens)) (λ e s. tt) rules turns ts)

@@ -1,5 +1,6 @@
--- Tests joined by `&&` and `||`, the bounds of `between`, a token's kind, what holds of an answer that a test chooses, and of all entries of a list. Assumes nothing.
--- The two modules that are imported first have facts alone: where a definition is misread, they fail before a proof.
+-- Laws about `&&`, `||`, `between`, the kind of a token, a choice by a test, and predicates on all entries of a list.
+-- Assumes nothing.
+-- The first two imports are only checked: if a definition is misread, they fail before any proof.
 use Rattle.definition.specs.Table.{holds}
 use Rattle.definition.proofs.Readings.{unsorted}
 use mathlib.Core.Path.{_≡_, refl}
@@ -14,7 +15,7 @@ use Rattle.definition.specs.Choice.{pick}
 use Rattle.definition.specs.Classes.{between}
 use Rattle.definition.specs.Token.{Tok, _is_}
 
--- a test that passes and fails
+-- a test cannot both hold and fail
 pub never-both : {A : Type 0} {b : Bool} → b ≡ true → b ≡ false → A
 never-both p q = let z : _≡_ {A = ℕ} 0 1 = cc in absurd (omega arith)
 
@@ -32,7 +33,7 @@ pub right-true : (a b : Bool) → a && b ≡ true → b ≡ true
 right-true true b e = e
 right-true false b e = clash (cc)
 
--- from both
+-- a fact from both parts
 pub parts-true : {A : Type 0} (a b : Bool) → a && b ≡ true → (a ≡ true → b ≡ true → A) → A
 parts-true a b e f = f (left-true a b e) (right-true a b e)
 
@@ -40,7 +41,7 @@ pub and-false : (a b : Bool) → b ≡ false → a && b ≡ false
 and-false true b e = e
 and-false false b e = refl
 
--- from either side of a choice
+-- a fact from either part
 pub either-true : {A : Type 0} (a b : Bool) → (a ≡ true → A) → (b ≡ true → A) → a || b ≡ true → A
 either-true true b f g e = f refl
 either-true false b f g e = g e
@@ -51,7 +52,7 @@ passed true t = refl
 pub is-kind : (t : Tok) (k : ℕ) → t is k ≡ true → t .kind ≡ k
 is-kind t k e = eqb-true (t .kind) k e
 
--- a token that is there
+-- a token that is not the end has a kind above 0
 pub not-end : (t : Tok) → t is 0 ≡ false → 0 < t .kind
 not-end t e = go (t .kind) e
   where
@@ -65,7 +66,7 @@ between-bounds lo hi n e = parts-true (leb lo n) (leb n hi) e λ p q. (leb-true 
 pub between-true : {lo hi n : ℕ} → lo ≤ n → n ≤ hi → between lo hi n ≡ true
 between-true {lo} {hi} {n} p q = both-true (le-leb lo n p) (le-leb n hi q)
 
--- ---- what holds of each answer holds of the one chosen
+-- ---- what holds of each alternative holds of the one chosen
 
 module _ {A : Type 0} (P : A → Type 0) where
   pub chosen : (b : Bool) (x y : A) → (b ≡ true → P x) → (b ≡ false → P y) → P (elim b as (λ _. A) [ true ↦ x | false ↦ y ])

@@ -1,4 +1,4 @@
--- The induction over the parser, where something is known of the tokens left, whatever is read. Assumes nothing.
+-- The induction over the parser with an invariant of the tokens left. Assumes nothing.
 use mathlib.Core.List.{List, []}
 use Rattle.definition.specs.Fallible.{Err, Ans, ok, fatal}
 use Rattle.definition.specs.Token.{Tok, next-token, tail}
@@ -7,7 +7,7 @@ use Rattle.definition.specs.Parser.{rule, turn, parse-module, no-items}
 use Rattle.definition.proofs.Later.{Later, After, weaken}
 use Rattle.definition.proofs.Ind.{wp, each, to-each, module-ind}
 
--- I: what is known of the tokens left
+-- I: an invariant of the tokens left
 module _ (G : Goal → St → Ans Node → St → Type 0) (L : (l : Loop) → St → Left l → St → Type 0) (I : List Tok → Type 0)
     (I-tail : (ts : List Tok) → I ts → I (tail ts)) (I-later : (s s′ : St) → Later s s′ → I (s .tokens) → I (s′ .tokens))
   where
@@ -46,6 +46,7 @@ module _ (G : Goal → St → Ans Node → St → Type 0) (L : (l : Loop) → St
 
     module _ (rules : (g : Goal) (s : St) → I (s .tokens) → wp G L Known Any (rule g) (G g s) s)
         (turns : (l : Loop) (s : St) → I (s .tokens) → wp G L Known Any (turn l) (L l s) s) where
+      -- what holds after a whole reading, if the invariant I holds of its tokens
       pub module-known : (ts : List Tok) → I ts
           → After (λ i s′. L (Module (no-items [])) (begin ts) i s′) (parse-module ts)
       module-known ts i =

@@ -1,4 +1,5 @@
--- The tokens and token errors of a script: each is well formed, the tokens stand one after the other, and all fit their records. Assumes nothing.
+-- The tokens and token errors of a script: each is well formed, the tokens are in the order of their places, and all
+-- fit their records. Assumes nothing.
 use mathlib.Core.Path.{_≡_, refl, sym, ap, subst}
 use mathlib.Core.Bool.{Bool, true, false, _&&_, _||_}
 use mathlib.Core.Option.{some}
@@ -27,11 +28,11 @@ use Rattle.definition.proofs.Formed.{Formed, Plain, plain-formed, pair-
 
 -- ---- a script's characters
 
--- places in order
+-- places as numbers, in their order
 abbrev key : Place → ℕ
 key p = p .line * 65536 + p .column
 
--- from the place on, n lines and n columns are left up to 16,384
+-- the place is at least 1:1, and n lines and n columns from it on are within 16,384
 pub record Placed (n : ℕ) (p : Place) : Type 0 where
   pub line-low : 1 ≤ p .line
   pub line-high : p .line + n ≤ 16385
@@ -41,7 +42,7 @@ pub record Placed (n : ℕ) (p : Place) : Type 0 where
 placed-less : (m n : ℕ) (p : Place) → m ≤ n → Placed n p → Placed m p
 placed-less m n p h r = omega arith
 
--- each after the previous, the first after the key k, at places that records may have, and sound
+-- characters in the order of their places, the first after the key k, within the limits, and each whole
 abbrev Chars : ℕ → List Ch → Type 0
 Chars k [] = Unit {0}
 Chars k (c ∷ cs) = (k < key (c .place)) × Placed 1 (c .place) × Sound c × Chars (key (c .place)) cs
@@ -94,7 +95,7 @@ script bs cs h e =
 
 -- ---- what each part of the tokenizer leaves
 
--- n bytes of text, and the characters left
+-- a scan that leaves rest, with n bytes of text
 record Ran (cs rest : List Ch) (n : ℕ) : Type 0 where
   keeps : (k : ℕ) → Chars k cs → Chars k rest
   size : n + bytes rest ≤ bytes cs
@@ -113,7 +114,7 @@ ran-drop (c ∷ cs) = ran-one c cs
 ran-less : {xs ys : List Ch} {n : ℕ} → Ran xs ys n → Ran xs ys 0
 ran-less p = record { keeps = p .keeps; size = omega (arith, p .size); fewer = p .fewer }
 
--- what is passed over first counts for no text
+-- characters that are skipped first add no text
 ran-trans : {xs ys zs : List Ch} {m n : ℕ} → Ran xs ys m → Ran ys zs n → Ran xs zs n
 ran-trans p q =
     record {
@@ -138,7 +139,7 @@ comment-ran (c ∷ cs) =
     chosen (λ (rest : List Ch). Ran (c ∷ cs) rest 0) (eqb (c .byte) 10) _ _ (λ _. ran-one c cs)
     (λ _. ran-char c cs (comment cs) 0 0 0 (omega arith) (omega arith) (comment-ran cs))
 
--- a text of characters that are whole is UTF-8
+-- a scan whose text is UTF-8, if the characters are whole
 record Spans (cs : List Ch) (text : List ℕ) (rest : List Ch) : Type 0 where
   ran : Ran cs rest (length text)
   utf8 : (k : ℕ) → Chars k cs → Utf8 text
@@ -149,7 +150,7 @@ SpanOf cs s = Spans cs (s .text) (s .rest)
 spans-none : (cs rest : List Ch) → Ran cs rest 0 → Spans cs [] rest
 spans-none cs rest r = record { ran = r; utf8 = λ _ _. utf8-none }
 
--- a character that is passed over, one whose bytes all are text, and one that is a byte of text
+-- a character that is skipped, one whose bytes are all text, and one that is one byte of text
 spans-skip : (c : Ch) (cs : List Ch) (text : List ℕ) (rest : List Ch) → Spans cs text rest → Spans (c ∷ cs) text rest
 spans-skip c cs text rest s =
     record {
@@ -224,7 +225,7 @@ run-skip : (c : Ch) (cs : List Ch) (r : Run) → RunOf cs r → RunOf (c ∷ cs)
 run-skip c cs (ends s) p = spans-skip c cs (s .text) (s .rest) p
 run-skip c cs foreign p = tt
 
--- after characters that are passed over
+-- a run after characters that are skipped
 run-after : (cs rest : List Ch) (n : ℕ) (r : Run) → Ran cs rest n → RunOf rest r → RunOf cs r
 run-after cs rest n (ends s) p q = record { ran = ran-trans p (q .ran); utf8 = λ k h. q .utf8 k (p .keeps k h) }
 run-after cs rest n foreign p q = tt
@@ -246,9 +247,9 @@ white-spans (c ∷ cs) =
     (λ _. chosen (RunOf (c ∷ cs)) (C.is-white (code c)) _ _ (λ _. run-skip c cs (white cs) (white-spans cs))
     (λ _. spans-none (c ∷ cs) (c ∷ cs) (ran-none (c ∷ cs))))
 
--- ---- one turn: at most one token, and errors, at the place of its first character
+-- ---- one turn: at most one token, and errors, placed at its first character
 
--- a token at the place p, where of n bytes at most r are left after its text
+-- a token at the place p; n bytes were left before its text, at most r are left after it
 record New (p : Place) (r n : ℕ) (t : Tok) : Type 0 where
   place : t .place ≡ p
   size : length (t .text) + r ≤ n
@@ -284,7 +285,7 @@ TurnOf c cs (goes rest es ts) = Turned c cs rest es ts
 TurnOf c cs (refused n) = T (C.between 4 7 n)
 
 module _ (c : Ch) (cs : List Ch) where
-  -- a turn that makes a token, its text of one byte more than are passed at most; one that makes none
+  -- a turn that makes a token, whose text has at most one byte more than were scanned; a turn that makes none
   gives-token : (rest : List Ch) (n : ℕ) (es : List Err) (t : Tok) → Ran cs rest n → t .place ≡ c .place
       → length (t .text) ≤ 1 + n → Formed t → All (ErrorAt (c .place)) es → Turned c cs rest es (t ∷ [])
   gives-token rest n es t r e l f a =
@@ -351,7 +352,7 @@ module _ (c : Ch) (cs : List Ch) where
       → length text ≤ 1 + n → Numeral base text → TurnOf c cs (Z.token-text rest K.Integer (c .place) text base)
   integer-turned base text rest n b r l t = gives-token rest n [] _ r refl l (integer-formed base (c .place) text b t) tt
 
-  -- of digits after a prefix that is no text
+  -- digits after a prefix that is not text
   based-turned : (base : ℕ) (rest : List Ch) → base-fits 2 base ≡ true → C.is-digit-of base 48 ≡ true → Ran cs rest 0
       → TurnOf c cs (Z.integer (c .place) base [] (digits base rest))
   based-turned base rest b z r =
@@ -415,7 +416,7 @@ turned c cs k q h =
 
 -- ---- all the tokens
 
--- each after the previous, from the key j to the key k
+-- tokens in the order of their places, from the key j to the key k
 abbrev Rising : ℕ → List Tok → ℕ → Type 0
 Rising j [] k = j ≤ k
 Rising j (t ∷ ts) k = (j < key (t .place)) × Rising (key (t .place)) ts k
@@ -425,11 +426,13 @@ rising-append j k l [] [] r q = omega arith
 rising-append j k l [] (u ∷ us) r q = (omega (arith, q .0), q .1)
 rising-append j k l (t ∷ ts) us r q = (r .0, rising-append (key (t .place)) k l ts us (r .1) q)
 
+-- a token that its record can hold
 pub record Good (t : Tok) : Type 0 where
   pub formed : Formed t
   pub placed : Placed 1 (t .place)
   pub short : length (t .text) ≤ 16384
 
+-- a token error that its record can hold
 pub record Fault (e : Err) : Type 0 where
   pub low : 1 ≤ e .number
   pub high : e .number ≤ 4
@@ -437,15 +440,16 @@ pub record Fault (e : Err) : Type 0 where
   pub expected : e .expected ≡ 0
   pub got : e .got ≡ 0
 
--- none is the end
+-- no token is the end
 abbrev pub Kinds : List Tok → Type 0
 Kinds ts = All (λ t. 0 < t .kind) ts
 
--- each token comes after the previous, the first after the place p
+-- each token comes after the one before, the first after the place p
 abbrev pub ReadsAfter : Place → List Tok → Type 0
 ReadsAfter p [] = Unit {0}
 ReadsAfter p (t ∷ ts) = (comes-after p (t .place .line) (t .place .column) ≡ true) × ReadsAfter (t .place) ts
 
+-- the length of all texts
 abbrev pub texts : List Tok → ℕ
 texts [] = 0
 texts (t ∷ ts) = length (t .text) + texts ts
@@ -499,7 +503,7 @@ pub record Made (ts : List Tok) (es : List Err) : Type 0 where
   pub tokens : length ts ≤ 2048
   pub errors : length es ≤ 255
 
--- a script has tokens, or is refused with 4 to 7
+-- a script has such tokens, or is refused with 4 to 7
 abbrev pub TokensOf : Tokens → Type 0
 TokensOf (tokens ts es) = Made ts es
 TokensOf (refused n) = T (C.between 4 7 n)
@@ -592,6 +596,7 @@ tokens-from (suc n) (x ∷ cs) ts es k f c b h m w =
         (λ y. chosen TokensOf (leb (length ts + length ts′) 2048) _ _
         (λ z. f cs′ ts′ es′ p (leb-true _ _ z) (leb-true _ _ y)) (λ _. tt)) (λ _. tt)
 
+-- the tokenizer gives tokens and errors that fit their records, or refuses with 4 to 7
 pub script-tokens : (bs : List ℕ) (cs : List Ch) → length bs ≤ 16384 → characters bs ≡ some cs → TokensOf (tokenize cs)
 unfolding tokenize
 script-tokens bs cs h e =

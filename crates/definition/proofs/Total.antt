@@ -1,4 +1,4 @@
--- The turns that loops are allowed are enough: a reading answers, or is refused with 10, 11 or 12. Assumes nothing.
+-- The turns allowed to loops are enough: a reading gives an answer, or is refused with 10, 11 or 12. Assumes nothing.
 use mathlib.Core.Path.{_≡_, refl, ap, subst}
 use mathlib.Core.Bool.{Bool, true, false}
 use mathlib.Core.List.{List, [], _∷_, _++_}
@@ -21,7 +21,7 @@ use Rattle.definition.proofs.Clean.{loops-later, parse-later}
 use Rattle.definition.proofs.Grows.{there}
 use Rattle.definition.proofs.Grows as Gr
 
--- how many turns a loop may want
+-- how many turns a loop may need beyond the tokens left
 abbrev pub rank : Loop → ℕ
 rank (Module i) = 2
 rank (Body i) = 2
@@ -40,15 +40,16 @@ rank-le (Casts e) = omega arith
 rank-le (Suffixes e) = omega arith
 rank-le (Modifiers w) = omega arith
 
+-- an answer, or a refusal with 10, 11 or 12
 abbrev pub Moves : {A : Type 0} → Res A → Type 0
 Moves (gives a s) = Unit {0}
 Moves (refused n) = T (between 10 12 n)
 
--- a call reads a token, where there is one
+-- a call reads a token, if there is one
 abbrev pub Called : St → St → Type 0
 Called s s′ = next-token (s .tokens) is K.End ≡ false → length (s′ .tokens) < length (s .tokens)
 
--- every loop in an act has its turns, of n, and Q holds in the end
+-- every loop in an act has enough of n turns, and Q holds at the end
 module _ (n : ℕ) where
   abbrev pub Enough : {A : Type 0} → Act A → (St → Type 0) → St → Type 0
   Enough (done a) Q s = Q s
@@ -60,7 +61,7 @@ module _ (n : ℕ) where
   Enough (loop l k) Q s = (rank l + length (s .tokens) ≤ n) × ((a : Left l) (s′ : St) → Later s s′ → Enough (k a) Q s′)
   Enough panic Q s = Unit {0}
 
-  -- where two more turns than tokens are left, every loop has its turns
+  -- if n is at least two more than the tokens left, every loop has enough turns
   pub plenty : {A : Type 0} (m : Act A) (Q : St → Type 0) (s₀ s : St) → Later s₀ s → 2 + length (s .tokens) ≤ n
       → ((s′ : St) → length (s′ .tokens) ≤ length (s .tokens) → Q s′) → Enough m Q s
   plenty (done a) Q s₀ s z h q = q s (omega arith)
@@ -92,7 +93,7 @@ module _ (n : ℕ) where
   enough-bind (loop g k) f P Q s h q = (h .0, λ a s′ l. enough-bind (k a) f P Q s′ (h .1 a s′ l) q)
   enough-bind panic f P Q s h q = tt
 
-  -- what reads or calls first, where a token is there
+  -- the first step is to read a token or to make a call
   abbrev First : {A : Type 0} → Act A → Type 0
   First (done a) = ⊥
   First (peek k) = (t : Tok) → First (k t)
@@ -265,8 +266,9 @@ turn-enough n (Modifiers w) s h = (
       (λ i. (omega (arith, there K.KwInternal tt (s .tokens) i), λ a s′ l. tt), λ _. tt),
 )
 
--- ---- a reading answers, or is refused with 10, 11 or 12
+-- ---- a reading gives an answer, or is refused with 10, 11 or 12
 
+-- after a call the state is later, and a token was read if there was one
 pub parse-after : (n : ℕ) (g : Goal) (s : St) → After (λ a s′. Later s s′ × Called s s′) (parse n g s)
 parse-after n g s = parse-ind Gr.G Gr.L Gr.R Gr.M (λ s. tt) (λ e s. tt) Gr.rules Gr.turns n g s
 

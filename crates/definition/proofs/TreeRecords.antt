@@ -1,4 +1,5 @@
--- The tree of a file has at most two records more than there are tokens, and `fn f` has two more. Assumes nothing.
+-- The tree of a file has at most two records more than there are tokens; that of `fn f` has two more.
+-- Assumes nothing.
 use mathlib.Core.Path.{_≡_, refl, ap, _∙_}
 use mathlib.Core.List.{List}
 use Prim.Native.Nat.{ℕ, suc, _+_, _≤_}
@@ -16,7 +17,7 @@ use Rattle.definition.proofs.Accepted.{Accepted, accepted}
 use Rattle.definition.proofs.AcceptedRead.{AcceptedRead, accepted-read, read-light}
 use Rattle.definition.proofs.Claim.{file-is, tokens-are}
 
--- of an accepted script
+-- for an accepted script
 pub script-records : (s o : List ℕ) → whole s o .number ≡ 0
     → tree-records (file-of s o) ≤ 2 + length (tokens-of-script s)
 script-records s o e =
@@ -26,7 +27,7 @@ script-records s o e =
     ∙ records-of-file (a .errors) (a .items) (a .last .full) (omega (arith, light a .0)) in
     omega (arith, r, few-records (a .toks) (a .items) (a .last) (a .parsed), ap length (tokens-are s o a))
 
--- of n tokens that Read accepts
+-- for n tokens that Read accepts
 module _ (T : List ℕ) (n : ℕ) (E : List ℕ) (m : ℕ) (X o : List ℕ) (z : read T n E m X o .number ≡ 0) where
   a : AcceptedRead T n E m X o
   a = accepted-read T n E m X o z

@@ -1,4 +1,5 @@
--- In a reading that makes no error, the tree's records show the stripped tokens that were read, and so determine them. Assumes nothing.
+-- In a reading without errors, the records of the tree show the stripped tokens that were read, and so determine
+-- them. Assumes nothing.
 use mathlib.Core.Path.{_≡_, refl, sym, ap, _∙_, subst}
 use mathlib.Core.Bool.{Bool}
 use mathlib.Core.Option.{some}
@@ -31,14 +32,14 @@ use Rattle.definition.proofs.ShownStatements.{declaration-shown, items-
 abbrev before : ℕ → List Norm
 before x = pick (leb 1 x) (sym1 K.KwExtern) []
 
--- a return type's tokens, and its arrow
+-- the tokens of a return type, after its arrow
 arrow : (ts : List Norm) → 0 < length ts → sym1 K.RArrow ++ ts ≡ returning ts
 arrow [] h = absurd (omega arith)
 arrow (t ∷ ts) h = refl
 
 module _ (s t : St) (p : Place) (name : Tok) (ps : Items) (r : Fallible Node) (us rs : List Norm) (q : Place)
     (hp : ShowsItems comma ps us) (hr : Shows (r .item .recs) q rs) (ep : ps .errors ≡ []) (er : r .errors ≡ []) where
-  -- the parameters, the return type and perhaps a body, below a function's record
+  -- the parts of a function, before its record: parameters, return type, and a body if there is one
   parts : (st : List Entry) → unparse (ps .recs ++ r .item .recs) st ≡ entry q rs ∷ unparse (ps .recs) st
   parts st = unparse-append (ps .recs) (r .item .recs) st ∙ hr .on (unparse (ps .recs) st)
 
@@ -246,7 +247,7 @@ turns (Modifiers w) s = modifiers-shown w s
 
 -- ---- the theorem
 
--- a clean reading's tree shows all the tokens read
+-- the tree of a reading without errors shows all tokens read
 clean-shows : (ts : List Tok) → Distinct ts → (i : Items) (s : St) → P.parse-module ts ≡ gives i s → s .full ≡ []
     → gather [] (i .count) (unparse (i .recs) []) ≡ gathered (strip (s .read)) []
 unfolding strip
@@ -264,7 +265,7 @@ clean-shows ts d i s e f =
         q .shows [] (items-none [] []) .on [] ∙ ap (λ (l : List Norm). gathered l [])
         (sym (append-nil (q .toks)) ∙ sym (q .grew .by))
 
--- Two clean readings with one tree have the same tokens, stripped
+-- two readings without errors and with equal trees have the same stripped tokens
 pub unique : (ts us : List Tok) → Distinct ts → Distinct us → (i j : Items) (s t : St) → P.parse-module ts ≡ gives i s
     → P.parse-module us ≡ gives j t → s .full ≡ [] → t .full ≡ []
     → i .recs ≡ j .recs → i .count ≡ j .count → strip (s .read) ≡ strip (t .read)

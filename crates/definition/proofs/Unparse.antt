@@ -1,4 +1,4 @@
--- A stack machine that runs over a tree's records and rebuilds the stripped tokens. Assumes nothing.
+-- A stack machine that runs over the records of a tree and rebuilds the stripped tokens. Assumes nothing.
 use mathlib.Core.Path.{_≡_, refl, ap}
 use mathlib.Core.Bool.{Bool, true, false, _&&_}
 use mathlib.Core.Option.{Option, none, some}
@@ -13,7 +13,7 @@ use Rattle.definition.specs.Source.{Place, nowhere}
 use Rattle.definition.specs.Node.{Num, byte, two, eight, Rec}
 use Rattle.definition.proofs.Strip.{Norm, symbol, named, integer, sized}
 
--- a subtree's place, and its tokens
+-- the place and the tokens of a subtree
 pub record Entry : Type 0 where
   pub place : Place
   pub toks : List Norm
@@ -30,7 +30,7 @@ value (byte n) = n
 value (two n) = n
 value (eight n) = n
 
--- the i-th number of a record
+-- number i of a record
 abbrev pub number-at : ℕ → List Num → ℕ
 number-at i [] = 0
 number-at zero (n ∷ ns) = value n
@@ -39,7 +39,7 @@ number-at (suc i) (n ∷ ns) = number-at i ns
 abbrev pub same-place : Place → Place → Bool
 same-place p q = eqb (p .line) (q .line) && eqb (p .column) (q .column)
 
--- n entries off the stack, the first of them deepest, with a separator between
+-- entries popped from the stack and joined, with a separator between them; the stack left
 pub record Gathered : Type 0 where
   pub toks : List Norm
   pub rest : List Entry
@@ -50,6 +50,7 @@ gathered ts st = record { toks = ts; rest = st }
 abbrev pub add : List Norm → Entry → Gathered → Gathered
 add sep e g = gathered (g .toks ++ sep ++ e .toks) (g .rest)
 
+-- pops n entries; the first of them is the deepest
 abbrev pub gather : List Norm → ℕ → List Entry → Gathered
 gather sep zero st = gathered [] st
 gather sep (suc n) [] = gathered [] []
@@ -62,6 +63,7 @@ sym1 k = symbol k ∷ []
 abbrev pub comma : List Norm
 comma = sym1 K.Comma
 
+-- pushes an entry for a record without children, and with one, two, three children or a list of them
 abbrev pub leaf : Place → List Norm → List Entry → List Entry
 leaf p ts st = entry p ts ∷ st
 
@@ -83,10 +85,11 @@ on3 p f (c ∷ b ∷ a ∷ st) = entry p (f (a .toks) (b .toks) (c .toks)) ∷ s
 abbrev pub on-list : Place → (List Norm → List Norm) → Gathered → List Entry
 on-list p f g = entry p (f (g .toks)) ∷ g .rest
 
--- a call: the arguments, and below them what is called
+-- a call: the arguments are on the stack above what is called
 abbrev pub on-call : Place → Gathered → List Entry
 on-call p g = on1 p (λ e. e .toks ++ sym1 K.LParen ++ g .toks ++ sym1 K.RParen) (g .rest)
 
+-- a function: its keyword and name, parameters, `->` and the return type if it is not void, then a body or `;`
 abbrev pub returning : List Norm → List Norm
 returning [] = []
 returning (t ∷ ts) = sym1 K.RArrow ++ (t ∷ ts)
@@ -107,16 +110,18 @@ external p name n (r ∷ st) =
     on-function p (sym1 K.KwExtern ++ sym1 K.KwFn ++ (named K.Identifier name ∷ []))
     (λ ret. ret ++ sym1 K.Semicolon) (r .toks) (gather comma n st)
 
+-- `*e` if the operand has the place of the record, else `e.*`
 abbrev pub dereference : Place → Entry → List Norm
 dereference p e = pick (same-place (e .place) p) (sym1 K.Star ++ e .toks) (e .toks ++ sym1 K.DotStar)
 
+-- the kinds of the operators by their numbers
 abbrev pub arithmetic : ℕ → ℕ
 arithmetic n = getD (K.Plus ∷ K.Minus ∷ K.Star ∷ K.Ampersand ∷ K.Caret ∷ K.Bar ∷ K.LeftShift ∷ K.RightShift ∷ []) n 0
 
 abbrev pub comparison : ℕ → ℕ
 comparison n = getD (K.DoubleEquals ∷ K.RAngle ∷ K.RAngleEquals ∷ K.LAngle ∷ K.LAngleEquals ∷ []) n 0
 
--- what the machine does at a tag
+-- what the machine does for a tag
 pub record Handler : Type 0 where
   pub tag : ℕ
   pub act : List Entry → List Entry
@@ -124,6 +129,7 @@ pub record Handler : Type 0 where
 abbrev pub at : ℕ → (List Entry → List Entry) → Handler
 at t f = record { tag = t; act = f }
 
+-- the table of the machine, for a record with this place, numbers and text
 unfoldable pub handlers : Place → List Num → List ℕ → List Handler
 handlers p ns tx =
     at Tag.Name (leaf p (named K.Identifier tx ∷ [])) ∷
@@ -181,10 +187,12 @@ handlers p ns tx =
     (on2 p (λ a b. sym1 K.KwVar ++ (named K.Identifier tx ∷ []) ++ sym1 K.Colon ++ a ++ b ++ sym1 K.Semicolon)) ∷
     at Tag.TopLevelAssembly (leaf p (named K.InlineAssemblyFragment tx ∷ [])) ∷ []
 
+-- runs the handler of a tag; without one the stack is emptied
 unfoldable pub handle : ℕ → List Handler → List Entry → List Entry
 handle t [] st = []
 handle t (h ∷ hs) st = elim (eqb t (h .tag)) [ true ↦ h .act st | false ↦ handle t hs st ]
 
+-- one step: a record pops the entries of its children and pushes its own
 unfoldable pub step : Rec → List Entry → List Entry
 unfolding handle handlers
 step r st = handle (r .tag) (handlers (place-of (r .place)) (r .numbers) (r .text)) st
@@ -198,11 +206,12 @@ unfolding unparse
 unparse-append [] ys st = refl
 unparse-append (x ∷ xs) ys st = unparse-append xs ys (step x st)
 
--- the tokens of one more item
+-- the tokens with those of one more item
 abbrev pub extend : List Norm → ℕ → List Norm → List Norm → List Norm
 extend sep zero ts us = us
 extend sep (suc n) ts us = ts ++ sep ++ us
 
+-- gathering one more entry adds its tokens
 pub gather-one-more : (sep : List Norm) (n : ℕ) (e : Entry) (st st₀ : List Entry) (ts : List Norm)
     → gather sep n st ≡ gathered ts st₀ → gather sep (suc n) (e ∷ st) ≡ gathered (extend sep n ts (e .toks)) st₀
 gather-one-more sep zero e st st₀ ts h = ap (λ (g : Gathered). gathered (e .toks) (g .rest)) h

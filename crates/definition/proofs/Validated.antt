@@ -1,4 +1,5 @@
--- What Read has tested, once it accepts what it is handed: each record, the texts, and all together. Assumes nothing.
+-- What is known of the records once Read has validated them: of each, of the texts, and of all together.
+-- Assumes nothing.
 use mathlib.Core.Path.{_≡_, refl, sym, ap}
 use mathlib.Core.Bool.{Bool, true, false, _&&_}
 use mathlib.Core.Option.{Option, none, some}
@@ -20,7 +21,7 @@ use Rattle.definition.proofs.Tests.{left-true, right-true, between-boun
 pub never : {A B : Type 0} {x : A} → none ≡ some x → B
 never e = let z : _≡_ {A = ℕ} 0 1 = cc in absurd (omega arith)
 
--- an answer that is there: its test has passed
+-- an answer that is present: its test has passed
 pub passed : {A : Type 0} {x : A} (b : Bool) (o : Option A)
     → _≡_ {A = Option A} (elim b as (λ _. Option A) [ true ↦ o | false ↦ none ]) (some x) → (b ≡ true) × (o ≡ some x)
 passed true o q = (refl, q)
@@ -28,7 +29,7 @@ passed false o q = never q
 
 -- ---- one token record
 
--- the tests of a good record, as numbers
+-- the tests of a valid record, as inequalities
 pub record Fits (X : List ℕ) (w : TokenWords) : Type 0 where
   pub kind : (1 ≤ w .kind) × (w .kind ≤ 54)
   pub line : (1 ≤ w .line) × (w .line ≤ 16384)
@@ -59,7 +60,7 @@ fits X w g =
       text = right-true (k && l && c && b && x && y) z t;
     }
 
--- a text lies in the slice, after the previous one's end e, and ends within byte 16,384
+-- a text lies in the slice, after the end e of the text before, and ends within byte 16,384
 pub record Lies (X : List ℕ) (e : ℕ) (w : TokenWords) : Type 0 where
   pub inside : w .start + w .size ≤ length X
   pub up : e + w .size ≤ text-end e w
@@ -90,7 +91,7 @@ lies X p e w h f g =
 
 -- ---- all token records
 
--- the first record is good, and so are those after it
+-- the first record is valid, and so are the others
 pub record First (T X : List ℕ) (p : Place) (e i n : ℕ) (ts : List Tok) : Type 0 where
   pub alone : valid-alone X (words-at T i) ≡ true
   pub behind : valid-after p e (words-at T i) ≡ true
@@ -134,12 +135,13 @@ errors-many E (suc n) i es q =
     more none r b = never b
     more (some vs) r b = let z : error-of w ∷ vs ≡ es = cc in rw (sym z) (ap suc (r vs refl))
 
--- ---- all that is handed in
+-- ---- all records together
 
--- the four tests of counts
+-- the four tests of the counts
 abbrev pub counted : List ℕ → ℕ → List ℕ → ℕ → Bool
 counted T n E m = leb n 2048 && leb m 255 && leb (8 * n) (length T) && leb (4 * m) (length E)
 
+-- all that validated records satisfy
 pub record Split (T : List ℕ) (n : ℕ) (E : List ℕ) (m : ℕ) (X : List ℕ) (h : Validated) : Type 0 where
   pub few : n ≤ 2048
   pub few-errors : m ≤ 255

@@ -1,4 +1,5 @@
--- What a function of the parser does, step by step, and the answers it gives: the vocabulary of `Parser.antt`. Assumes nothing.
+-- The steps of a function of the parser, its answers, and what the steps do to the state: the terms of `Parser.antt`.
+-- Assumes nothing.
 use mathlib.Core.Bool.{Bool, true, false}
 use mathlib.Core.List.{List, [], _∷_, _++_}
 use Prim.Native.Nat.{ℕ}
@@ -9,12 +10,12 @@ use Rattle.definition.specs.Node.{Rec}
 use Rattle.definition.specs.Fallible.{Err, Fallible, Ans, ok, fatal}
 use Rattle.definition.specs.Token.{Tok, next-token, tail}
 
--- what a node of the tree is to the functions above it: its place, and its records, children first
+-- a node of the tree, as the functions above it see it: its place, and its records, children first
 pub record Node : Type 0 where
   pub place : Place
   pub recs : List Rec
 
--- `Fallible<Vec<T>>`: how many nodes, their records, and the errors reported
+-- `Fallible<Vec<T>>`: the number of nodes, their records, and the errors reported
 pub record Items : Type 0 where
   pub count : ℕ
   pub recs : List Rec
@@ -36,7 +37,7 @@ pub record Words : Type 0 where
   pub distinct : ℕ
   pub internal : ℕ
 
--- The loops of the parser, each with the variables that it changes
+-- the loops of the parser, each with the variables that it changes
 pub data Loop : Type 0 where
   Module : Items → Loop
   Body : Items → Loop
@@ -46,7 +47,7 @@ pub data Loop : Type 0 where
   Suffixes : Fallible Node → Loop
   Modifiers : Words → Loop
 
--- what a loop leaves
+-- the result of a loop
 abbrev pub Left : Loop → Type 0
 Left (Module i) = Items
 Left (Body i) = Items
@@ -56,15 +57,15 @@ Left (Casts e) = Ans Node
 Left (Suffixes e) = Ans Node
 Left (Modifiers w) = Words
 
--- What a token is to the reading: a grouping parenthesis; a comma directly before the end of its list; an array's size; or none of these
+-- the role of a token: a grouping parenthesis, a comma right before the end of its list, an array's size, or none
 pub data Role : Type 0 where
   plain group final size : Role
 
--- What a function does next
+-- the next step of a function
 pub data Act (A : Type 0) : Type 0 where
   done : A → Act A  -- return
   peek : (Tok → Act A) → Act A  -- self.tokens.peek()
-  consume : (Tok → Role) → (Tok → Act A) → Act A  -- self.tokens.next(), and the token's role, by the token after it
+  consume : (Tok → Role) → (Tok → Act A) → Act A  -- self.tokens.next(); the next token decides its role
   make : Err → Act A → Act A  -- ParseError::new(..)
   if_then_else_ : Bool → Act A → Act A → Act A
   call : Goal → (Ans Node → Act A) → Act A  -- a call of one of the four
@@ -98,7 +99,7 @@ infixr 20 _>>?_
 abbrev pub _>>?_ : {A B : Type 0} → Act (Ans A) → (Fallible A → Act (Ans B)) → Act (Ans B)
 m >>? f = m >>= or-return f
 
--- The state: the tokens left, those read and what each was, and every error made
+-- the state: the tokens left, the tokens read with the role of each, and every error made
 pub record Consumed : Type 0 where
   pub tok : Tok
   pub role : Role
@@ -112,7 +113,7 @@ pub record St : Type 0 where
 abbrev pub begin : List Tok → St
 begin ts = record { tokens = ts; read = []; full = [] }
 
--- a token is read; at the end nothing is
+-- what is read of the tokens left: the first one, or nothing at the end
 abbrev pub now-read : (Tok → Role) → List Tok → List Consumed
 now-read r [] = []
 now-read r (t ∷ ts) = record { tok = t; role = r (next-token ts) } ∷ []
@@ -132,7 +133,7 @@ abbrev pub after : {A B : Type 0} → Res A → (A → St → Res B) → Res B
 after (gives a s) f = f a s
 after (refused n) f = refused n
 
--- carry an act out, given what calls and loops answer
+-- runs an act, where c and o give the results of calls and of loops
 unfoldable pub run : {A : Type 0} → (Goal → St → Res (Ans Node)) → ((l : Loop) → St → Res (Left l)) → Act A → St → Res A
 run c o (done a) s = gives a s
 run c o (peek k) s = run c o (k (next-token (s .tokens))) s

@@ -1,4 +1,4 @@
--- A choice between two values, and among several: the first test that passes decides. Assumes nothing.
+-- Defines a choice between two values, and among several: the first test that holds decides. Assumes nothing.
 use mathlib.Core.Bool.{Bool, true, false}
 use mathlib.Core.List.{List, [], _∷_}
 

@@ -1,4 +1,5 @@
--- The classes of characters, by their numbers. Below 128 a character's number is its first byte; from 128 on, neither is in a class but `is-foreign`. Assumes nothing.
+-- Classes of characters, by their numbers. Below 128 a number is the first byte; from 128 on only `is-foreign` holds.
+-- Assumes nothing.
 use mathlib.Core.Bool.{Bool, _&&_, _||_}
 use Prim.Native.Nat.{ℕ}
 use lib.Dec.{eqb, ltb, leb}
@@ -18,11 +19,11 @@ is-white c = between 9 13 c || eqb c 32
 abbrev pub is-digit : ℕ → Bool
 is-digit c = between (char "0") (char "9") c
 
--- a letter, or `_`
+-- a letter or `_`
 abbrev pub is-letter : ℕ → Bool
 is-letter c = between (char "A") (char "Z") c || between (char "a") (char "z") c || eqb c (char "_")
 
--- what a word goes on with
+-- a character after the first of a word
 abbrev pub is-word : ℕ → Bool
 is-word c = is-letter c || is-digit c
 

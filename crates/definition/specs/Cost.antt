@@ -1,4 +1,5 @@
--- What a token pays for in the file. No part of what is right: contracts and the law of room cite it. Assumes nothing.
+-- An upper bound of the file bytes for each token. Not part of the operations' definition: contracts and the law of
+-- room cite it. Assumes nothing.
 use mathlib.Core.List.{List, [], _∷_}
 use Prim.Native.Nat.{ℕ, _+_, _*_, min}
 use lib.ListN.{length}

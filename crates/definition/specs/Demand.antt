@@ -1,4 +1,4 @@
--- Demand 3, two scripts with one tree: the terms it is stated in. The theorem stands in proofs/Claim.antt. Assumes nothing.
+-- Demand 3, two scripts with one tree: the terms that state it. The theorem is in proofs/Claim.antt. Assumes nothing.
 use mathlib.Core.Path.{_≡_}
 use mathlib.Core.Bool.{Bool, true, false, _&&_, _||_}
 use mathlib.Core.List.{List, [], _∷_, _++_, map}
@@ -18,11 +18,11 @@ use Rattle.definition.specs.Operations.{whole}
 
 -- ---- the file
 
--- the length of the field that begins the bytes: one byte of tag, two of length, the body
+-- the length of the first field: one byte of tag, two of length, the body
 abbrev pub field-size : List ℕ → ℕ
 field-size bs = 3 + getD bs 1 0 * 256 + getD bs 2 0
 
--- the bytes up to the end of the first field 5F, among n fields
+-- the bytes to the end of the first field 5F, within n fields
 unfoldable pub tree-from : ℕ → List ℕ → List ℕ
 tree-from zero bs = []
 tree-from (suc n) bs =
@@ -40,18 +40,18 @@ entries-from tag zero bs = 0
 entries-from tag (suc n) [] = 0
 entries-from tag (suc n) (b ∷ bs) = elim (eqb b tag) [ true ↦ 1 | false ↦ 0 ] + entries-from tag n (drop (field-size (b ∷ bs)) (b ∷ bs))
 
--- how many entries the full list of a file has
+-- the length of the full list in a file
 unfoldable pub full-entries : List ℕ → ℕ
 unfolding entries-from
 full-entries bs = entries-from Tag.FullError (length bs) bs
 
--- the file that the whole operation writes of a script
+-- the file that the whole operation writes for a script
 abbrev pub file-of : List ℕ → List ℕ → List ℕ
 file-of s o = take (whole s o .bytes) (whole s o .file)
 
 -- ---- the script's tokens
 
--- Tokenise's tokens
+-- the tokens that Tokenise gives for a script
 unfoldable pub tokens-of-script : List ℕ → List Tok
 unfolding characters tokenize
 tokens-of-script s = elim (characters s) [ none ↦ [] | some cs ↦ elim (tokenize cs) [ Z.tokens ts es ↦ ts | Z.refused n ↦ [] ] ]
@@ -60,7 +60,7 @@ abbrev pub read-by : Res Items → List Consumed
 read-by (gives i st) = st .read
 read-by (refused n) = []
 
--- each with what it is to the Rust's steps
+-- each token with its role in the Rust's steps
 unfoldable pub reading : List ℕ → List Consumed
 reading s = read-by (parse-module (tokens-of-script s))
 
@@ -68,7 +68,7 @@ reading s = read-by (parse-module (tokens-of-script s))
 abbrev pub is-modifier : ℕ → Bool
 is-modifier k = eqb k K.KwDistinct || eqb k K.KwInternal
 
--- what is struck: grouping parentheses, commas directly before the end of a list, and these words
+-- the tokens that are struck: grouping parentheses, commas right before the end of a list, and these two words
 abbrev pub is-struck : Role → ℕ → Bool
 is-struck plain k = is-modifier k
 is-struck group k = true
@@ -93,19 +93,19 @@ both-sizes c d = is-size (c .role) && is-size (d .role)
 abbrev pub value : Consumed → ℕ
 value c = number (c .tok .base) 0 (c .tok .text)
 
--- the same kind, the same text and the same base; two array sizes need only have the same value
+-- the same kind, text and base; two array sizes need only have the same value
 pub record Same (c d : Consumed) : Type 0 where
   pub kind : c .tok .kind ≡ d .tok .kind
   pub text : both-sizes c d ≡ false → c .tok .text ≡ d .tok .text
   pub base : both-sizes c d ≡ false → c .tok .base ≡ d .tok .base
   pub value : both-sizes c d ≡ true → value c ≡ value d
 
--- as many in the one as in the other, and the same at every position
+-- lists of the same length that agree at every position
 pub data Agree : List Consumed → List Consumed → Type 0 where
   none-left : Agree [] []
   one-more : {c d : Consumed} {cs ds : List Consumed} → Same c d → Agree cs ds → Agree (c ∷ cs) (d ∷ ds)
 
--- Each reading has the script's own tokens, and what is left of the two once struck agrees.
+-- Each reading has the tokens of its script, and after striking the two agree.
 pub record OneReading (s t : List ℕ) : Type 0 where
   pub first : map (λ c. c .tok) (reading s) ≡ tokens-of-script s
   pub second : map (λ c. c .tok) (reading t) ≡ tokens-of-script t

@@ -1,4 +1,4 @@
--- The format of a tree file's records, in one table by tag: what the body of a field holds, and the kinds of its
+-- The format of the records of a tree file, in one table by tag: the parts of each body, and the kinds of its
 -- children as `node.rs` types them. The body of an error field is `err-body`. Assumes nothing.
 use mathlib.Core.Bool.{true, false}
 use mathlib.Core.List.{List, [], _∷_, _++_}
@@ -10,8 +10,8 @@ use Rattle.definition.specs.Tag as T
 use Rattle.definition.specs.Node as N
 use Rattle.definition.specs.Node.{Num, Rec}
 
--- A part of a body: a place; a number in one byte, from the one bound to the other; the base of an Integer, in one
--- byte; a count, in two; a number in eight; a text, up to the body's end
+-- A part of a body: a place; a number in one byte, within two bounds; the base of an Integer, in one byte; a count,
+-- in two bytes; a number in eight bytes; a text, up to the end of the body
 pub data Part : Type 0 where
   place : Part
   byte : ℕ → ℕ → Part
@@ -46,13 +46,12 @@ item = T.FunctionDefinition
 
 -- ---- the table
 
--- What a field is to the tree: a node of a kind; or the root, which is the module
+-- A node of a kind; or the root, which is the module
 pub data Sort : Type 0 where
   node : ℕ → Sort
   root : Sort
 
--- A tag, what its fields are, what their body holds, and the kinds of their children in order, where the body's byte is
--- b and its count is c
+-- The row of a tag: its sort, the parts of its body, and the kinds of its children, for the body's byte b and count c
 pub record Row : Type 0 where
   pub tag : ℕ
   pub sort : Sort
@@ -120,7 +119,7 @@ find t (r ∷ rs) = elim (eqb t (r .tag)) [ true ↦ some r | false ↦ find t r
 
 -- ---- the children of a record
 
--- the last byte and the last count of a body, 0 where it has none
+-- the last byte and the last count of a body, 0 if it has none
 pub record Numbers : Type 0 where
   pub byte : ℕ
   pub count : ℕ
@@ -128,7 +127,7 @@ pub record Numbers : Type 0 where
 abbrev pub no-numbers : Numbers
 no-numbers = record { byte = 0; count = 0 }
 
--- of a record's numbers, after those of n
+-- those of a record's numbers, where n is what came before
 abbrev pub numbers-of : List Num → Numbers → Numbers
 numbers-of [] n = n
 numbers-of (N.byte b ∷ ns) n = numbers-of ns (record { byte = b; count = n .count })
@@ -139,6 +138,6 @@ numbers-of (N.eight x ∷ ns) n = numbers-of ns n
 abbrev pub children-of : Row → Rec → List ℕ
 children-of w r = let n = numbers-of (r .numbers) no-numbers in w .children (n .byte) (n .count)
 
--- the module's record, which stands last
+-- the module's record, which comes last
 abbrev pub module-rec : ℕ → Rec
 module-rec n = record { tag = T.Module; place = none; numbers = N.two n ∷ []; text = [] }

@@ -1,4 +1,4 @@
--- A function of the parser carried out, where n more calls of the four may be opened. Assumes nothing.
+-- Runs a function of the parser, where n more counted calls may be opened. Assumes nothing.
 use Prim.Native.Nat.{ℕ, suc}
 use lib.ListN.{length}
 use Rattle.definition.specs.Act.{Loop, Left, Act, St, Res, run}

@@ -1,4 +1,5 @@
--- The operations: for all that is handed in, the number, the counts and each slice at exit. Token text stands in Records.antt. Assumes nothing.
+-- The operations: for all arguments the number, the counts and each slice at exit. Token text is in Records.antt.
+-- Assumes nothing.
 use mathlib.Core.Bool.{true, false, _&&_}
 use mathlib.Core.List.{List, [], _∷_, _++_}
 use mathlib.Core.Option.{Option, none, some}
@@ -17,7 +18,7 @@ use Rattle.definition.specs.Act.{Items}
 use Rattle.definition.specs.Parser.{parse-module-within, parse-module}
 use Rattle.definition.specs.Records.{tokens-words, tokens-text, errors-words, tokens-of, errors-of}
 
--- a slice of n words or bytes: what is written, then zeros
+-- a slice of n words or bytes: what was written, then zeros
 abbrev pub filled : ℕ → List ℕ → List ℕ
 filled n xs = xs ++ replicate (n - length xs) 0
 
@@ -57,14 +58,14 @@ pub data Outcome : Type 0 where
   file : List ℕ → Outcome
   refused : ℕ → Outcome
 
--- the tree, the token errors, the reported errors, the full list
+-- the bytes of a file: the tree, the token errors, the reported errors, the full list
 unfoldable pub file-bytes : List Err → Items → List Err → List ℕ
 unfolding recs-bytes errs-bytes
 file-bytes es i full =
     recs-bytes (i .recs) ++ field Tag.Module (u16 (i .count)) ++ errs-bytes Tag.TokenError es
     ++ errs-bytes Tag.ReportedError (i .errors) ++ errs-bytes Tag.FullError full
 
--- where at most n calls of the parser's four functions may be open
+-- reads tokens, where at most n counted calls of the parser may be open
 unfoldable pub read-tokens-within : ℕ → List Tok → List Err → Outcome
 unfolding parse-module-within file-bytes
 read-tokens-within n [] es = refused 9
@@ -81,7 +82,7 @@ pub record Written : Type 0 where
   pub bytes : ℕ
   pub file : List ℕ
 
--- refused before any work
+-- a refusal before any work
 abbrev pub kept : ℕ → List ℕ → Written
 kept n o = record { number = n; bytes = 0; file = o }
 
@@ -89,7 +90,7 @@ abbrev pub written : List ℕ → Outcome → Written
 written o (file f) = record { number = 0; bytes = length f; file = filled (length o) f }
 written o (refused n) = record { number = n; bytes = 0; file = filled (length o) [] }
 
--- what is handed in, if it is there and each record is good
+-- the tokens and errors passed to Read, if the slices hold them and each record is valid
 pub record Validated : Type 0 where
   pub tokens : List Tok
   pub errors : List Err
@@ -99,7 +100,7 @@ both none es = none
 both (some ts) none = none
 both (some ts) (some es) = some (record { tokens = ts; errors = es })
 
--- where at most `most` tokens are allowed
+-- validates the slices, where at most `most` tokens are allowed
 unfoldable pub validate-within : ℕ → List ℕ → ℕ → List ℕ → ℕ → List ℕ → Option Validated
 unfolding tokens-of errors-of
 validate-within most T n E m X =
@@ -112,7 +113,7 @@ unfoldable pub validate : List ℕ → ℕ → List ℕ → ℕ → List ℕ →
 unfolding validate-within
 validate T n E m X = validate-within 2048 T n E m X
 
--- with no tokens the slice is still untouched
+-- a list without tokens leaves the slice untouched
 abbrev pub read-validated-within : ℕ → List ℕ → List Tok → List Err → Written
 read-validated-within n o [] es = kept 9 o
 read-validated-within n o (t ∷ ts) es = written o (read-tokens-within n (t ∷ ts) es)
@@ -120,8 +121,8 @@ read-validated-within n o (t ∷ ts) es = written o (read-tokens-within n (t ∷
 abbrev pub read-validated : List ℕ → List Tok → List Err → Written
 read-validated o ts es = read-validated-within 96 o ts es
 
--- The token slice and its count, the error slice and its count, the text slice, the file slice; at most `most` tokens
--- and `nesting` open calls
+-- Read: the token slice and its count, the error slice and its count, the text slice, the file slice; at most `most`
+-- tokens and `nesting` open calls
 unfoldable pub read-within : ℕ → ℕ → List ℕ → ℕ → List ℕ → ℕ → List ℕ → List ℕ → Written
 unfolding validate-within read-tokens-within
 read-within most nesting T n E m X o =
@@ -146,7 +147,7 @@ read-tokenised-within n (Z.refused k) = refused k
 abbrev pub read-tokenised : Z.Tokens → Outcome
 read-tokenised t = read-tokenised-within 96 t
 
--- the script, the file slice; at most `most` tokens and `nesting` open calls
+-- the whole operation: the script, the file slice; at most `most` tokens and `nesting` open calls
 unfoldable pub whole-within : ℕ → ℕ → List ℕ → List ℕ → Written
 unfolding characters tokenize-within read-tokens-within
 whole-within most nesting s o =

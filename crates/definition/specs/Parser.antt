@@ -1,4 +1,4 @@
--- The parser, function by function as in `parser.rs`. Assumes nothing.
+-- The parser, one definition for each function of `parser.rs`. Assumes nothing.
 use mathlib.Core.Bool.{Bool, true, false, _||_, not}
 use mathlib.Core.List.{List, [], _∷_, _++_}
 use mathlib.Core.Option.{none, some}
@@ -21,7 +21,7 @@ use Rattle.definition.specs.Act.{Node, Items, Goal, Statement, Expressio
 abbrev pub good : {A : Type 0} → A → List Err → Act (Ans A)
 good a es = done (ok (record { item = a; errors = es }))
 
--- an error is made, and the answer is fatal
+-- makes an error, and answers with it as fatal
 abbrev pub raise : {A : Type 0} → Err → Act (Ans A)
 raise e = make e (done (fatal (e ∷ [])))
 
@@ -32,18 +32,18 @@ abbrev pub errors-of : {A : Type 0} → Ans A → List Err
 errors-of (ok x) = x .errors
 errors-of (fatal es) = es
 
--- one record at a place, after its children's; the node has that place
+-- a node whose record comes after its children's, at the place p
 abbrev pub node : List Rec → ℕ → Place → List Num → List ℕ → Node
 node rs tag p ns text = record { place = p; recs = rs ++ (record { tag = tag; place = some p; numbers = ns; text = text } ∷ []) }
 
--- a record with no place
+-- a node whose record has no place
 abbrev pub bare : List Rec → ℕ → List ℕ → Node
 bare rs tag text = record { place = nowhere; recs = rs ++ (record { tag = tag; place = none; numbers = []; text = text } ∷ []) }
 
 abbrev pub no-items : List Err → Items
 no-items es = record { count = 0; recs = []; errors = es }
 
--- `integrate_if_ok`: one more item, unless the answer is fatal; its errors in any case
+-- `integrate_if_ok`: adds an item, unless the answer is fatal; adds its errors in both cases
 abbrev pub integrate : Items → Ans Node → Items
 integrate i (ok x) = record { count = suc (i .count); recs = i .recs ++ x .item .recs; errors = i .errors ++ x .errors }
 integrate i (fatal es) = record { count = i .count; recs = i .recs; errors = i .errors ++ es }
@@ -185,19 +185,20 @@ type-rule =
 
 -- ---- expressions
 
--- an operator's record, after both operands', at the operator's place
+-- a binary operator: its record after those of both operands, at its own place
 abbrev pub binary : ℕ → List Num → Place → Fallible Node → Fallible Node → Fallible Node
 binary tag ns p l r = record { item = node (l .item .recs ++ r .item .recs) tag p ns []; errors = l .errors ++ r .errors }
 
--- a record after its one operand's
+-- a node with one operand, whose records come first
 abbrev pub wrap : ℕ → Place → List ℕ → Fallible Node → Fallible Node
 wrap tag p text e = record { item = node (e .item .recs) tag p [] text; errors = e .errors }
 
+-- an answer, and the errors of its closing parenthesis
 abbrev pub both : Ans Node → Ans Tok → Ans Node
 both (ok e) c = ok (record { item = e .item; errors = e .errors ++ errors-of c })
 both (fatal es) c = fatal (es ++ errors-of c)
 
--- the parentheses of parse_atom, which group; no `?` here
+-- the grouping parentheses of parse_atom; without `?`
 unfoldable pub parse-group : Act (Ans Node)
 parse-group =
     next-as group λ _.
@@ -244,7 +245,7 @@ parse-sizeof =
     good (node (ty .item .recs) T.Sizeof (op .place) [] []) (ty .errors)) else
     parse-field-access-or-index
 
--- the errors of the arguments are dropped
+-- the errors of the arguments are not reported
 unfoldable pub parse-call : Act (Ans Node)
 parse-call =
     parse-sizeof >>? λ e.
@@ -275,7 +276,7 @@ casts-turn e =
     if t is K.KwAs then (next λ op. parse-type >>? λ ty. loop (Casts (binary T.Cast [] (op .place) e ty)) done) else
     done (ok e)
 
--- an operator's token, and its position in its enum
+-- the kind of an operator's token, and its position in the Rust's enum
 pub record Op : Type 0 where
   pub kind : ℕ
   pub op : ℕ
@@ -291,7 +292,7 @@ mapping Shift = on K.LeftShift 6 ∷ on K.RightShift 7 ∷ []
 mapping AddSub = on K.Plus 0 ∷ on K.Minus 1 ∷ []
 mapping Mul = on K.Star 2 ∷ []
 
--- where the token is one of the operators, go on with its number
+-- if the token is one of the operators, continues with its number
 abbrev pub find : {A : Type 0} → Tok → List Op → (ℕ → Act A) → Act A → Act A
 find t [] found other = other
 find t (o ∷ os) found other = if t is (o .kind) then found (o .op) else find t os found other
@@ -314,7 +315,7 @@ parse-bitwise-xor = parse-bitwise-and >>? λ e. loop (Operators BitXor e) done
 unfoldable pub parse-bitwise-or : Act (Ans Node)
 parse-bitwise-or = parse-bitwise-xor >>? λ e. loop (Operators BitOr e) done
 
--- the operands of a level
+-- an operand of a level
 abbrev pub cascade : Level → Act (Ans Node)
 cascade BitOr = parse-bitwise-xor
 cascade BitXor = parse-bitwise-and
@@ -379,7 +380,7 @@ parse-var-like-declaration =
     (next λ _. parse-compound >>? λ c. declared x (bare (c .item .recs) T.CompoundValue []) (c .errors)) else
     declared x (bare [] T.NoValue []) []
 
--- a declaration's record, after those of its type and its value
+-- a declaration: its record after those of its type and its value
 unfoldable pub declaration : ℕ → Place → Act (Ans Node)
 declaration tag p =
     parse-var-like-declaration >>? λ x.
@@ -388,7 +389,7 @@ declaration tag p =
 
 -- ---- parse_body, parse_statement
 
--- what follows the brace, if it is there
+-- the statements after the opening brace, if that was there
 abbrev pub statements : Ans Tok → Act Items
 statements (ok x) = loop (Body (no-items [])) done
 statements (fatal es) = done (no-items es)
@@ -421,7 +422,7 @@ parse-if p =
     (c .errors ++ a .errors ++ b .errors)) else
     good (node (c .item .recs ++ a .item .recs) T.If p (byte 2 ∷ []) []) (c .errors ++ a .errors)
 
--- an expression with errors ends the statement at once
+-- what follows an expression without errors: an assignment, a compound assignment, or the end of the statement
 unfoldable pub after-expression : Place → Node → Act (Ans Node)
 after-expression p e =
     peek λ t.
@@ -437,6 +438,7 @@ abbrev pub is-empty : List Err → Bool
 is-empty [] = true
 is-empty (e ∷ es) = false
 
+-- an expression with errors ends the statement
 unfoldable pub expression-statement : Place → Act (Ans Node)
 expression-statement p =
     parse-expression >>? λ e.
@@ -461,7 +463,7 @@ statement-rule =
 
 -- ---- the items of a module
 
--- body, then return type, then parameters: the order in which their errors are reported
+-- errors are reported in this order: body, return type, parameters
 unfoldable pub function-body : Place → ℕ → Tok → Items → Fallible Node → Act (Ans Node)
 function-body p external name ps r =
     if leb 1 external then
@@ -496,7 +498,7 @@ modifiers-turn w =
     if t is K.KwInternal then (next λ _. loop (Modifiers (record { distinct = w .distinct; internal = 2 })) done) else
     done w
 
--- after `type`
+-- an alias after `type`
 unfoldable pub alias-rule : ℕ → Place → Act (Ans Node)
 alias-rule words p =
     next λ n.
@@ -514,7 +516,7 @@ parse-type-alias =
     expect K.KwType >>? λ _.
     alias-rule (w .distinct + w .internal) (t .place)
 
--- after `use`
+-- a path after `use`
 unfoldable pub path-rule : Place → Act (Ans Node)
 path-rule p =
     next λ n.
@@ -547,12 +549,14 @@ module-turn i =
 
 -- ---- the whole parser
 
+-- the definition of each counted function, without the count
 abbrev pub rule : Goal → Act (Ans Node)
 rule Statement = statement-rule
 rule Expression = expression-rule
 rule Unary = unary-rule
 rule Type' = type-rule
 
+-- one turn of each loop
 abbrev pub turn : (l : Loop) → Act (Left l)
 turn (Module i) = module-turn i
 turn (Body i) = body-turn i
@@ -562,17 +566,18 @@ turn (Casts e) = casts-turn e
 turn (Suffixes e) = suffixes-turn e
 turn (Modifiers w) = modifiers-turn w
 
--- A loop, for at most n turns. Each turn reads a token, so a turn for each token left and two more are enough: `refused 0` is met by no script (proofs/Total.antt).
+-- A loop of at most n turns. Each turn reads a token, so one turn for each token left and two more are enough: no
+-- script reaches `refused 0`
 unfoldable pub loops : (Goal → St → Res (Ans Node)) → ℕ → (l : Loop) → St → Res (Left l)
 loops c zero l s = refused 0
 loops c (suc n) l s = run c (λ m t. loops c n m t) (turn l) s
 
--- one of the four functions, where n more calls of them may be opened
+-- a counted function, where at most n counted calls may be open
 unfoldable pub parse : ℕ → Goal → St → Res (Ans Node)
 parse zero g s = refused 10
 parse (suc n) g s = run (λ h t. parse n h t) (λ l t. loops (λ h u. parse n h u) (suc (suc (length (t .tokens)))) l t) (rule g) s
 
--- the whole parser, where at most n calls of the four may be open
+-- the whole parser, where at most n counted calls may be open
 unfoldable pub parse-module-within : ℕ → List Tok → Res Items
 unfolding run _>>=_ number ascii typed parse-typed-identifier parse-named-type parse-compound-struct-field parse-list after-item list-turn parse-array-type type-rule parse-group parse-atom parse-field-access-or-index suffixes-turn parse-sizeof parse-call prefix unary-rule parse-cast casts-turn parse-mul parse-add-sub parse-bit-shift parse-bitwise-and parse-bitwise-xor parse-bitwise-or operators-turn parse-comparison expression-rule parse-compound parse-var-like-declaration declaration parse-body body-turn parse-return parse-if after-expression expression-statement statement-rule function-body function parse-function-definition modifiers-turn alias-rule parse-type-alias path-rule parse-use parse-top-level-var-declaration parse-top-level-item module-turn loops parse
 parse-module-within n ts = loops (λ g s. parse n g s) (suc (suc (length ts))) (Module (no-items [])) (begin ts)

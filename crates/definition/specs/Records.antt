@@ -1,4 +1,4 @@
--- Token and error records as words: what Tokenise writes, what Read tests, and Token text. Assumes nothing.
+-- Token and error records as words: what Tokenise writes, what Read validates, and Token text. Assumes nothing.
 use mathlib.Core.Bool.{Bool, true, false, _&&_, _||_}
 use mathlib.Core.List.{List, [], _∷_, _++_}
 use mathlib.Core.Option.{Option, none, some}
@@ -12,12 +12,12 @@ use Rattle.definition.specs.Fallible.{Err}
 use Rattle.definition.specs.Kind as K
 use Rattle.definition.specs.Token.{Tok, tok, dashed}
 
--- ---- written
+-- ---- writing
 
 abbrev pub has-text : ℕ → Bool
 has-text k = eqb k K.Identifier || eqb k K.Integer || eqb k K.String || eqb k K.InlineAssemblyFragment
 
--- kind, line, column, text start, text length, base, 0, 0; n bytes of text stand before this token's
+-- kind, line, column, text start, text length, base, 0, 0; n is the length of the text before this token's
 abbrev pub token-words : ℕ → Tok → List ℕ
 token-words n t = t .kind ∷ t .place .line ∷ t .place .column ∷ pick (has-text (t .kind)) n 0 ∷ length (t .text) ∷ t .base ∷ 0 ∷ 0 ∷ []
 
@@ -34,7 +34,7 @@ unfoldable pub errors-words : List Err → List ℕ
 errors-words [] = []
 errors-words (e ∷ es) = e .number ∷ e .place .line ∷ e .place .column ∷ 0 ∷ errors-words es
 
--- ---- a token record, tested
+-- ---- validating a token record
 
 pub record TokenWords : Type 0 where
   pub kind : ℕ
@@ -46,11 +46,11 @@ pub record TokenWords : Type 0 where
   pub seventh : ℕ
   pub eighth : ℕ
 
--- the i-th record of a slice
+-- the record at index i of a slice
 abbrev pub words-at : List ℕ → ℕ → TokenWords
 words-at ws i = record { kind = getD ws (8 * i) 0; line = getD ws (8 * i + 1) 0; column = getD ws (8 * i + 2) 0; start = getD ws (8 * i + 3) 0; size = getD ws (8 * i + 4) 0; base = getD ws (8 * i + 5) 0; seventh = getD ws (8 * i + 6) 0; eighth = getD ws (8 * i + 7) 0 }
 
--- its part of the text slice
+-- the part of the text slice that a record names
 abbrev pub part : List ℕ → TokenWords → List ℕ
 part text w = take (w .size) (drop (w .start) text)
 
@@ -64,15 +64,15 @@ all-digits base (c ∷ cs) = is-digit-of base c && all-digits base cs
 abbrev pub some-digits : ℕ → List ℕ → Bool
 some-digits base ds = ltb 0 (length ds) && all-digits base ds
 
--- digits of the base, at least one, in base 10 with at most a dash before them
+-- an integer's text: digits of the base, at least one, in base 10 with at most a dash before them
 abbrev pub integer-text : ℕ → List ℕ → Bool
 integer-text base ds = pick (eqb base 10 && dashed ds) (some-digits base (drop 1 ds)) (some-digits base ds)
 
--- a text ends within byte 16,384 and the slice, and is UTF-8
+-- the text ends within byte 16,384 and the slice, and is UTF-8
 abbrev pub text-fits : List ℕ → TokenWords → Bool
 text-fits text w = leb (w .start + w .size) 16384 && leb (w .start + w .size) (length text) && utf8 (part text w)
 
--- the rules that need no other record
+-- the rules that concern this record alone
 unfoldable pub valid-alone : List ℕ → TokenWords → Bool
 unfolding utf8 all-digits
 valid-alone text w =
@@ -83,14 +83,14 @@ valid-alone text w =
 abbrev pub comes-after : Place → ℕ → ℕ → Bool
 comes-after p l c = ltb (p .line) l || (eqb (p .line) l && ltb (p .column) c)
 
--- the others: the previous token's place is p, the previous text's end is e
+-- the rules that compare it with the former records: p is the place of the former token, e the end of the former text
 abbrev pub valid-after : Place → ℕ → TokenWords → Bool
 valid-after p e w = comes-after p (w .line) (w .column) && pick (has-text (w .kind)) (leb e (w .start)) true
 
 abbrev pub place-of : TokenWords → Place
 place-of w = record { line = w .line; column = w .column }
 
--- where the previous text ends, after this record
+-- the end of the last text, after this record
 abbrev pub text-end : ℕ → TokenWords → ℕ
 text-end e w = pick (has-text (w .kind)) (w .start + w .size) e
 
@@ -101,7 +101,7 @@ abbrev pub token-before : Tok → Option (List Tok) → Option (List Tok)
 token-before t none = none
 token-before t (some ts) = some (t ∷ ts)
 
--- the tokens of n records from the i-th on, if each is good
+-- the tokens of n records from index i on, if each is valid
 unfoldable pub tokens-of : List ℕ → List ℕ → Place → ℕ → ℕ → ℕ → Option (List Tok)
 unfolding valid-alone
 tokens-of ws text p e i zero = some []
@@ -111,7 +111,7 @@ tokens-of ws text p e i (suc n) =
       | false ↦ none
     ]
 
--- ---- an error record, tested
+-- ---- validating an error record
 
 pub record ErrorWords : Type 0 where
   pub number : ℕ
@@ -132,14 +132,14 @@ abbrev pub error-before : Err → Option (List Err) → Option (List Err)
 error-before e none = none
 error-before e (some es) = some (e ∷ es)
 
--- the errors of n records from the i-th on, if each is good
+-- the errors of n records from index i on, if each is valid
 unfoldable pub errors-of : List ℕ → ℕ → ℕ → Option (List Err)
 errors-of ws i zero = some []
 errors-of ws i (suc n) = elim (valid-error (error-at ws i)) [ true ↦ error-before (error-of (error-at ws i)) (errors-of ws (suc i) n) | false ↦ none ]
 
 -- ---- Token text
 
--- the text of the i-th token; empty where the slice ends before the record does, the kind has no text, or the record is bad
+-- the text of token i; empty if the slice ends before the record does, the kind has no text, or the record is bad
 unfoldable pub text-of : List ℕ → List ℕ → ℕ → List ℕ
 unfolding valid-alone
 text-of ws text i = pick (leb (8 * i + 8) (length ws) && has-text (words-at ws i .kind) && valid-alone text (words-at ws i)) (part text (words-at ws i)) []

@@ -1,5 +1,5 @@
--- Slices as contracts name them: in a `requires` a parameter is a slice, in an `ensures` a slice at both moments.
--- Assumes nothing.
+-- Names for slices in contracts: a parameter is a `Slice` in a `requires`, and `Lent`, a slice at entry and at exit,
+-- in an `ensures`. Assumes nothing.
 use mathlib.Core.List.{List}
 use Prim.Native.Nat.{ℕ}
 use denote.Ref.{RefT, now}
@@ -11,7 +11,7 @@ Slice = RefT (List ℕ)
 abbrev pub Lent : Type 0
 Lent = Both Slice Slice
 
--- what it holds at entry and at exit
+-- the contents at entry and at exit
 abbrev pub at-entry : Lent → List ℕ
 at-entry x = now (x .entry)
 

@@ -1,4 +1,5 @@
--- `source.rs`, and what Rust's `str` gives it: places, UTF-8 (RFC 3629), and a script's characters with their places. Assumes nothing.
+-- `source.rs`, and what Rust's `str` does for it: places, UTF-8 (RFC 3629), and a script's characters with their
+-- places. Assumes nothing.
 use mathlib.Core.Bool.{Bool, true, false, _&&_}
 use mathlib.Core.List.{List, [], _∷_, _++_}
 use mathlib.Core.Option.{Option, none, some}
@@ -27,7 +28,7 @@ after b p = pick (eqb b 10) (record { line = suc (p .line); column = 1 }) (recor
 
 -- ---- characters
 
--- A character: its first byte, its other bytes, the offset of the first in the script, its place
+-- a character: its first byte, its other bytes, the offset of the first in the script, and its place
 pub record Ch : Type 0 where
   pub byte : ℕ
   pub more : List ℕ
@@ -59,7 +60,7 @@ char-at p b m = record { byte = b; more = m; offset = p .offset; place = p .plac
 abbrev pub past : At → ℕ → List ℕ → At
 past p b m = record { offset = suc (length m) + p .offset; place = after b (p .place) }
 
--- What a first byte asks for: how many more bytes, and the bounds of the next of them; those after that are 128 to 191
+-- what must follow a first byte: how many more bytes, and the bounds of the next one; those after it are 128 to 191
 pub data Lead : Type 0 where
   single : Lead
   with-more : ℕ → ℕ → ℕ → Lead
@@ -73,7 +74,7 @@ lead b =
     (ltb b 0xF0 ⇒ with-more 2 0x80 0xBF) ∷ (eqb b 0xF0 ⇒ with-more 3 0x90 0xBF) ∷ (ltb b 0xF4 ⇒ with-more 3 0x80 0xBF) ∷ (eqb b 0xF4 ⇒ with-more 3 0x80 0x8F) ∷ [])
     wrong
 
--- Between two characters; or within one: its first byte, those read since, how many are missing, the bounds of the next
+-- between two characters; or within one: its first byte, the bytes since, how many are missing, bounds of the next
 pub data Pending : Type 0 where
   fresh : Pending
   within : ℕ → List ℕ → ℕ → ℕ → ℕ → Pending
@@ -82,7 +83,7 @@ abbrev pub and-then : Ch → Option (List Ch) → Option (List Ch)
 and-then c none = none
 and-then c (some cs) = some (c ∷ cs)
 
--- the characters that the bytes are, the next one at p
+-- decodes the bytes to characters, the first of them at p
 unfoldable pub decode : Pending → At → List ℕ → Option (List Ch)
 unfolding lead
 decode fresh p [] = some []
@@ -102,11 +103,11 @@ decode (within l m n lo hi) p (b ∷ bs) =
       | false ↦ none
     ]
 
--- where a script starts
+-- the place of the first character
 abbrev pub start : At
 start = record { offset = 0; place = place-at 1 1 }
 
--- `add_locations` of a script's characters, if the script is UTF-8
+-- `add_locations`: the characters of a script with their places, if the script is UTF-8
 unfoldable pub characters : List ℕ → Option (List Ch)
 unfolding decode
 characters bs = decode fresh start bs

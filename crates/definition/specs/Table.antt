@@ -1,4 +1,5 @@
--- The ten starred lines of the scope in one table: of each script what Tokenise gives, where the line speaks of tokens, and what the whole operation gives. Assumes nothing.
+-- The ten starred lines of the scope in one table: for each script the result of the whole operation and, where the
+-- line is about tokens, that of Tokenise. Assumes nothing.
 use mathlib.Core.Path.{_≡_, refl}
 use mathlib.Core.Bool.{true, false}
 use mathlib.Core.List.{List, [], _∷_, map}
@@ -15,25 +16,25 @@ use Rattle.definition.specs.Operations.{Tokenised, tokenise, Written, wh
 
 -- ---- how a row is written
 
--- bytes in hexadecimal, two digits each; spaces count for nothing
+-- bytes in hexadecimal, two digits each; spaces are skipped
 hex-from : Option ℕ → String → List ℕ
 hex-from h S.[] = []
 hex-from none (S._∷_ c s) = elim (eqb (code c) 32) [ true ↦ hex-from none s | false ↦ hex-from (some (digit (code c))) s ]
 hex-from (some h) (S._∷_ c s) = (h * 16 + digit (code c)) ∷ hex-from none s
 
--- decimal numbers, one space between two
+-- decimal numbers, separated by one space
 decimal-from : ℕ → String → List ℕ
 decimal-from n S.[] = n ∷ []
 decimal-from n (S._∷_ c s) = elim (eqb (code c) 32) [ true ↦ n ∷ decimal-from 0 s | false ↦ decimal-from (n * 10 + digit (code c)) s ]
 
--- the records, the errors and the text, as far as they are counted
+-- the result of Tokenise: token records, error records and text, up to their counts
 pub record Lists : Type 0 where
   pub number : ℕ
   pub toks : List ℕ
   pub errs : List ℕ
   pub text : List ℕ
 
--- the file's bytes
+-- the result of the whole operation: the number and the bytes of the file
 pub record File : Type 0 where
   pub number : ℕ
   pub bytes : List ℕ
@@ -49,7 +50,7 @@ lists t = record { number = t .number; toks = take (8 * t .tokens) (t .toks); er
 abbrev pub file : Written → File
 file w = record { number = w .number; bytes = take (w .bytes) (w .file) }
 
--- what the definitions give in place of a row's answers, on slices of the least length
+-- a row with the results that the definitions compute, on slices of the least length
 unfoldable pub answered : Row → Row
 unfolding tokenise whole
 answered r = record {

@@ -1,4 +1,4 @@
--- A token, and the value of a number's text. Assumes nothing.
+-- A token, and the value of an integer's text. Assumes nothing.
 use mathlib.Core.Bool.{Bool, true, false}
 use mathlib.Core.List.{List, [], _∷_}
 use Prim.Native.Nat.{ℕ, _+_, _*_, _-_}
@@ -7,18 +7,18 @@ use Rattle.definition.specs.Ascii.{char}
 use Rattle.definition.specs.Source.{Place, nowhere}
 use Rattle.definition.specs.Kind as K
 
--- `Token`: the text is that of the four kinds that have one, the base that of an Integer
+-- `Token`: four kinds have a text, Integer has a base; else they are empty and 0
 pub record Tok : Type 0 where
   pub kind : ℕ
   pub place : Place
   pub text : List ℕ
   pub base : ℕ
 
--- by kind, place, text and base; all tokens are made so
+-- the constructor by kind, place, text and base
 abbrev pub tok : ℕ → Place → List ℕ → ℕ → Tok
 tok k p text base = record { kind = k; place = p; text = text; base = base }
 
--- what `peek` and `next` give where no token is left
+-- what `peek` and `next` give if no token is left
 abbrev pub end-token : Tok
 end-token = tok K.End nowhere [] 0
 
@@ -38,12 +38,12 @@ tail (t ∷ ts) = ts
 abbrev pub digit : ℕ → ℕ
 digit c = elim (leb c (char "9")) [ true ↦ c - char "0" | false ↦ elim (leb c (char "Z")) [ true ↦ c - 55 | false ↦ c - 87 ] ]
 
--- digits read in a base, after those of the value n
+-- the value of digits in a base, where n is the value of the digits before them
 unfoldable pub number : ℕ → ℕ → List ℕ → ℕ
 number base n [] = n
 number base n (c ∷ cs) = number base (n * base + digit c) cs
 
--- the text begins with a dash
+-- whether the text begins with a dash
 abbrev pub dashed : List ℕ → Bool
 dashed [] = false
 dashed (c ∷ cs) = eqb c (char "-")

@@ -1,4 +1,4 @@
--- `tokenize` of `tokenizer.rs`, one turn of its loop after the other. Assumes nothing.
+-- `tokenize` of `tokenizer.rs`: what each turn of its loop does, and the loop. Assumes nothing.
 use mathlib.Core.Bool.{Bool, true, false, _&&_}
 use mathlib.Core.List.{List, [], _∷_, _++_}
 use Prim.Native.Nat.{ℕ, zero, suc, _+_}
@@ -14,7 +14,7 @@ use Rattle.definition.specs.Fallible.{Err}
 use Rattle.definition.specs.Kind as K
 use Rattle.definition.specs.Token.{Tok, tok}
 
--- ---- the fixed spellings; 0 where the bytes are none of them
+-- ---- fixed spellings; 0 for bytes that are none of them
 
 -- symbols of two characters
 unfoldable pub pair : ℕ → ℕ → ℕ
@@ -64,7 +64,7 @@ keyword w =
 abbrev pub escape : ℕ → ℕ
 escape c = pick (eqb c (char "r")) 13 (pick (eqb c (char "n")) 10 (pick (eqb c (char "t")) 9 0))
 
--- ---- one turn: the characters left, the errors and then the tokens that it pushes; or a refusal
+-- ---- one turn: the characters left, the errors it pushes, then the tokens it pushes; or a refusal
 
 pub data Turn : Type 0 where
   goes : List Ch → List Err → List Tok → Turn
@@ -82,7 +82,7 @@ token cs k p = token-text cs k p [] 0
 abbrev pub token-error : ℕ → Place → Err
 token-error n p = record { number = n; place = p; expected = 0; got = 0 }
 
--- the first byte of what is left, 0 at the end (and at a zero character, which no test here asks for)
+-- the first byte of what is left; 0 at the end, and at a zero character, which no test looks for
 abbrev pub look : List Ch → ℕ
 look [] = 0
 look (c ∷ cs) = c .byte
@@ -91,12 +91,12 @@ abbrev pub drop-one : List Ch → List Ch
 drop-one [] = []
 drop-one (c ∷ cs) = cs
 
--- after `//`
+-- what is left after a comment: the characters after its newline
 unfoldable pub comment : List Ch → List Ch
 comment [] = []
 comment (c ∷ cs) = elim (eqb (c .byte) 10) [ true ↦ cs | false ↦ comment cs ]
 
--- a text, and what is left after it
+-- a text that was scanned, and the characters left
 pub record Span : Type 0 where
   pub text : List ℕ
   pub rest : List Ch
@@ -110,7 +110,7 @@ unfoldable pub digits : ℕ → List Ch → Span
 digits base [] = record { text = []; rest = [] }
 digits base (c ∷ cs) = elim (is-digit-of base (c .byte)) [ true ↦ ahead (c .byte ∷ []) (digits base cs) | false ↦ record { text = []; rest = c ∷ cs } ]
 
--- no digits left: the number is `0`
+-- a number with no digits is `0`
 abbrev pub or-zero : List ℕ → List ℕ
 or-zero [] = char "0" ∷ []
 or-zero (d ∷ ds) = d ∷ ds
@@ -118,7 +118,7 @@ or-zero (d ∷ ds) = d ∷ ds
 abbrev pub integer : Place → ℕ → List ℕ → Span → Turn
 integer p base before s = token-text (s .rest) K.Integer p (or-zero (before ++ s .text)) base
 
--- after a dash; where it is Minus, the next character is swallowed
+-- after a dash: an arrow, an integer, or Minus, which consumes the next character too
 unfoldable pub dash-turn : Place → List Ch → Turn
 unfolding digits
 dash-turn p [] = refused 5
@@ -128,7 +128,7 @@ dash-turn p (c ∷ cs) =
       | false ↦ elim (is-digit (c .byte)) [ true ↦ integer p 10 (char "-" ∷ []) (digits 10 (c ∷ cs)) | false ↦ token cs K.Minus p ]
     ]
 
--- after a `0` that opens the number, and is dropped
+-- after a `0` that begins a number; the `0` is dropped
 unfoldable pub zero-turn : Place → List Ch → Turn
 unfolding digits
 zero-turn p cs =
@@ -139,7 +139,7 @@ zero-turn p cs =
 
 -- ---- strings
 
--- after the opening quote: the text, how many escapes were unknown, whether the closing quote was there
+-- a string after its opening quote: the text, how many escapes were unknown, whether it is closed, characters left
 pub record Quoted : Type 0 where
   pub text : List ℕ
   pub unknown : ℕ
@@ -155,7 +155,7 @@ one-unknown q = record { text = q .text; unknown = suc (q .unknown); closed = q 
 abbrev pub cut-off : Quoted
 cut-off = record { text = []; unknown = 0; closed = false; rest = [] }
 
--- the flag: a backslash stands before
+-- the flag: whether the last character was a backslash
 unfoldable pub quoted : Bool → List Ch → Quoted
 quoted false [] = cut-off
 quoted true [] = one-unknown cut-off
@@ -176,7 +176,7 @@ string-turn p q =
 
 -- ---- words
 
--- what runs over characters and may meet one that is foreign
+-- the result of a scan that refuses a foreign character
 pub data Run : Type 0 where
   ends : Span → Run
   foreign : Run
@@ -204,7 +204,7 @@ unfoldable pub assembly : List Ch → Span
 assembly [] = record { text = []; rest = [] }
 assembly (c ∷ cs) = elim (eqb (c .byte) (char "}")) [ true ↦ record { text = []; rest = cs } | false ↦ ahead (c .byte ∷ c .more) (assembly cs) ]
 
--- after `asm` and white space: what comes is `{`, or is consumed
+-- after `asm` and white space: `{` and the text; another character is consumed, with an error
 unfoldable pub assembly-turn : Place → Run → Turn
 unfolding assembly
 assembly-turn p foreign = refused 4
@@ -260,7 +260,8 @@ pub data Tokens : Type 0 where
   tokens : List Tok → List Err → Tokens
   refused : ℕ → Tokens
 
--- At most `most` tokens and 255 errors, in at most n turns. Each turn passes a character, so a turn for each and one more are enough: `refused 0` is met by no script (proofs/Tokens.antt).
+-- The loop: at most `most` tokens and 255 errors, in at most n turns. Each turn consumes a character, so one turn for
+-- each and one more are enough: no script reaches `refused 0`
 unfoldable pub tokenize-from : ℕ → ℕ → List Ch → List Tok → List Err → Tokens
 unfolding turn
 tokenize-from most zero cs ts es = refused 0
@@ -274,7 +275,7 @@ tokenize-from most (suc n) (c ∷ cs) ts es =
       ]
     ]
 
--- where at most so many tokens are allowed
+-- the tokenizer with at most `most` tokens
 unfoldable pub tokenize-within : ℕ → List Ch → Tokens
 unfolding tokenize-from
 tokenize-within most cs = tokenize-from most (suc (length cs)) cs [] []

@@ -7,7 +7,7 @@ use lib.ListN.{length, drop, getD}
 use Rattle.definition.specs.Tag as Tag
 use Rattle.definition.specs.Demand.{field-size}
 
--- the fields up to the first 5F, and that one, among n fields
+-- the number of fields up to the first 5F, that one included, within n fields
 unfoldable pub tree-records-from : ℕ → List ℕ → ℕ
 tree-records-from zero bs = 0
 tree-records-from (suc n) bs =

@@ -1,4 +1,4 @@
-// The kinds of tokens: their positions in the Rust's `TokenKind`, from 1. 0 stands for the end of the input.
+// The kinds of tokens: their positions in the Rust's `TokenKind`, from 1. 0 is the end of the input.
 pub const END: u32 = 0;
 
 pub const IDENTIFIER: u32 = 1;

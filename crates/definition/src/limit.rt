@@ -1,4 +1,4 @@
-// The limits, and the least lengths of slices.
+// The limits, and the least lengths of the slices.
 pub const SCRIPT_BYTES: usize = 16384;
 
 pub const TOKENS: usize = 2048;

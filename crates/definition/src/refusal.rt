@@ -1,4 +1,4 @@
-// The numbers of refusals; those that the parser answers with are bytes.
+// The numbers of refusals. Those of the parser are bytes.
 pub const SCRIPT_LENGTH: u32 = 1;
 
 pub const NOT_UTF8: u32 = 2;

@@ -1,4 +1,4 @@
--- The file of an accepted script is a part of the slice that `read_script` was lent. Assumes nothing.
+-- The file of an accepted script is a part of the slice lent to `read_script`. Assumes nothing.
 use mathlib.Core.Path.{_≡_, ap, sym, _∙_}
 use mathlib.Core.List.{List}
 use Prim.Native.Nat.{ℕ, _≤_}
@@ -8,7 +8,7 @@ use lib.Seq.{length-take-le}
 use Rattle.definition.specs.Operations.{Written, whole}
 use Rattle.definition.proofs.Room.{room}
 
--- the script s, the slice o at entry, the answer w with the slice at exit
+-- s is the script, o the slice at entry, w the answer with the slice at exit
 module _ (s o : List ℕ) {w : Written} (e : w ≡ whole s o) (z : w .number ≡ 0) (l : length (w .file) ≡ 65536) where
   pub file-fits : w .bytes ≤ length (w .file)
   file-fits = omega (arith, l, ap (λ (w : Written). w .bytes) e, room s o (ap (λ (w : Written). w .number) (sym e) ∙ z))

@@ -1,18 +1,18 @@
-// Reads a script from standard input and writes its tree file to standard output. Refused, it writes 7F 00 01 and
-// the number. Where standard input cannot be read to its end, it writes nothing. It says on standard error where
-// a read or a write failed: a program has no exit status.
+// Reads a script from standard input and writes its tree file to standard output; if refused, 7F 00 01 and the
+// number. Writes nothing if standard input cannot be read to its end. Reports a failed read or write on standard
+// error: a program has no exit status.
 use definition::limit;
 use libc::STDERR_FILENO;
 use libc::STDIN_FILENO;
 use libc::STDOUT_FILENO;
 
-// Whether standard input has ended: one more read does not fail, and finds nothing.
+// Whether standard input has ended: one more read does not fail and returns nothing.
 fn at_end() -> bool {
     let mut b = [0u8; 1];
     libc::read(STDIN_FILENO, &mut b) == 0
 }
 
-// Errors stand last in a tree file, so one that is cut can look clean.
+// Writes the file. Errors come last in it, so a file that is cut short can look clean: a failed write is reported.
 fn write_file(file: &[u8]) {
     if !io::write_all(STDOUT_FILENO, file) {
         io::write_all(
@@ -28,7 +28,7 @@ fn write_refusal(number: u32) {
 }
 
 fn main() {
-    // A byte more than a script may have, so that a longer input is refused and not cut.
+    // One byte more than the longest script, so that a longer input is refused and not cut.
     let mut script = [0u8; 16385];
     let mut file = [0u8; 65536];
     let n = io::read_full(STDIN_FILENO, &mut script);

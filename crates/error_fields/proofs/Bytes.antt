@@ -1,4 +1,4 @@
--- An entry's seven bytes are the body of its error's field. Assumes nothing.
+-- The seven bytes of an entry are the body of its error's field. Assumes nothing.
 use mathlib.Core.Path.{_≡_, sym, ap, _∙_}
 use mathlib.Core.List.{List, [], _∷_, _++_, append-nil}
 use Prim.Native.Nat.{ℕ, _/_, _%_}
@@ -26,6 +26,7 @@ body-is e =
     let cl : e / 65536 % 4294967296 % 65536 % 256 ≡ e / 65536 % 256 = omega arith in
     sym (rw (lh, ll, ch, cl))
 
+-- writing the seven bytes of an entry writes the field of its error
 pub fielded-one : {o o′ : List ℕ} {p tag q : ℕ} (e : ℕ) → Wrote o p (bare-of tag None (seven e)) 10 o′ q
     → Fielded o p tag (unpack e ∷ []) o′ q
 unfolding rec-bytes nums-bytes errs-bytes

@@ -1,4 +1,4 @@
--- The loops that write a field for each error of a list; f n are the first n. Assumes nothing.
+-- The loops that write a field for each error of a list; f n are its first n errors. Assumes nothing.
 use mathlib.Core.Path.{_≡_, refl, sym, ap, _∙_}
 use mathlib.Core.List.{List, [], _∷_, _++_, append-assoc, append-nil}
 use Prim.Native.Nat.{ℕ, _+_, _*_, _≤_, _<_}
@@ -18,7 +18,7 @@ bytes-append tag (e ∷ es) fs =
     ap (λ (x : List ℕ). err-bytes tag e ++ x) (bytes-append tag es fs)
     ∙ sym (append-assoc (err-bytes tag e) (errs-bytes tag es) (errs-bytes tag fs))
 
--- some fields, then some more
+-- fields written one list after the other are the fields of both
 pub fielded-more : {o o1 o2 : List ℕ} {p tag q r : ℕ} {es fs : List Err} → Fielded o p tag es o1 q → Fielded o1 q tag fs o2 r
     → Fielded o p tag (es ++ fs) o2 r
 fielded-more {o} {p = p} {tag = tag} {es = es} {fs = fs} a b = record {
@@ -29,7 +29,7 @@ fielded-more {o} {p = p} {tag = tag} {es = es} {fs = fs} a b = record {
       ∙ ap (λ (x : List ℕ). take p o ++ x) (sym (bytes-append tag es fs));
 }
 
--- the fields of the first i stand, up to p
+-- the invariant: the fields of the first i errors are written, up to p
 pub record Fielding (f : ℕ → List Err) (o₀ : List ℕ) (pos tag count : ℕ) (o : List ℕ) (i p : ℕ) : Type 0 where
   pub room : pos + 10 * count + 13 ≤ length o₀
   pub upto : i ≤ count
@@ -64,6 +64,6 @@ module _ {f : ℕ → List Err} {o₀ : List ℕ} {pos tag count : ℕ} where
     pub fields-done : count ≤ i → Fielded o₀ pos tag (f count) o p
     fields-done g = let e : i ≡ count = omega arith in (rw e at (h .is))
 
--- one entry more of a list
+-- one more entry of a list
 pub errs-next : (l : List ℕ) (i : ℕ) → i < length l → errs l (i + 1) ≡ errs l i ++ (unpack (getD l i 0) ∷ [])
 errs-next l i h = errs-more l l i (i + 1) (getD l i 0) (rw add-one (take-suc l i 0 h))

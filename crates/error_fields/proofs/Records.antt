@@ -1,4 +1,4 @@
--- The errors that good token error records hold, one by one, and their fields. Assumes nothing.
+-- The errors in valid token error records, one by one, and their fields. Assumes nothing.
 use mathlib.Core.Path.{_≡_, refl, sym, ap, _∙_}
 use mathlib.Core.Bool.{Bool, true, false, _&&_}
 use mathlib.Core.Option.{Option, none, some, Option·some-injective}
@@ -19,7 +19,7 @@ use Rattle.fallible.specs.Lists as L
 use Rattle.error_fields.specs.Errors.{Fielded, TokenFields}
 use Rattle.error_fields.proofs.Fielding.{Fielding, fields-more, fields-done}
 
--- what n records hold, from the i-th on
+-- the errors in n records from index i on
 unfoldable pub listed : List ℕ → ℕ → ℕ → List Err
 listed ws i zero = []
 listed ws i (suc n) = error-of (error-at ws i) ∷ listed ws (suc i) n
@@ -35,7 +35,7 @@ listed-more ws i n = ap (λ (k : ℕ). listed ws i k) (add-one n) ∙ go i n
         ap (λ (x : List Err). error-of (error-at ws i) ∷ x)
         (go (suc i) n ∙ ap (λ (k : ℕ). listed ws (suc i) n ++ (error-of (error-at ws k) ∷ [])) e)
 
--- a good record's numbers are small
+-- the numbers of a valid record are within their bounds
 pub record Small (w : ErrorWords) : Type 0 where
   pub number : w .number ≤ 4
   pub line : w .line ≤ 16384
@@ -53,7 +53,7 @@ small w g =
           (right-true (between 1 4 (w .number) && between 1 16384 (w .line)) (between 1 16384 (w .column)) nlc) .1;
     }
 
--- a good record before others that are good
+-- a valid record before valid records
 good-first : (b : Bool) (e : Err) (o : Option (List Err))
     → is-some {A = List Err} (elim b as (λ _. Option (List Err)) [ true ↦ error-before e o | false ↦ none ])
     ≡ true
@@ -79,7 +79,7 @@ unfolding errors-of listed
 listed-is ws i zero h = refl
 listed-is ws i (suc n) h = let s = good-next ws i n h in rw (errors-of, s .0, listed-is ws (suc i) n (s .1))
 
--- so the errors are those listed
+-- hence the decoded errors are those listed
 errors-are : (ws : List ℕ) (n : ℕ) (es : List Err) → errors-of ws 0 n ≡ some es → listed ws 0 n ≡ es
 errors-are ws n es e = Option·some-injective (listed ws 0 n) es (sym (listed-is ws 0 n (rw e)) ∙ e)
 
@@ -88,6 +88,7 @@ errors-are ws n es e = Option·some-injective (listed ws 0 n) es (sym (listed-is
 module _ (ws : List ℕ) (i : ℕ) where
   pub place-fits : (count : ℕ) → is-some (errors-of ws 0 count) ≡ true → i < count
       → (getD ws (4 * i + 1) 0 < 65536) × (getD ws (4 * i + 2) 0 < 65536)
+  -- the numbers of record i fit an entry
   place-fits count h g = let s = rw zero-add at (small-at ws 0 count i h g) in (omega (arith, s .line), omega (arith, s .column))
 
   pub number-fits : {a : ℕ} → a ≡ getD ws (4 * i) 0 → (count : ℕ) → is-some (errors-of ws 0 count) ≡ true → i < count → a < 256
@@ -95,6 +96,7 @@ module _ (ws : List ℕ) (i : ℕ) where
 
   pub token-more : {a : ℕ} (place : ℕ) → a ≡ getD ws (4 * i) 0
       → unpack-place place ≡ place-at (getD ws (4 * i + 1) 0) (getD ws (4 * i + 2) 0)
+      -- one more record, and the end
       → {o₀ o o1 : List ℕ} {pos count p q : ℕ} (x : ℕ) → Fielding (λ n. listed ws 0 n) o₀ pos 0x62 count o i p
       → i < count → L.unpack x ≡ L.error-at a place 0 0 → Fielded o p 0x62 (L.unpack x ∷ []) o1 q
       → length o1 ≡ length o

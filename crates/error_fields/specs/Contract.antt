@@ -1,4 +1,4 @@
--- The records of Errors over the parameters of the functions. Assumes nothing.
+-- The records of Errors, stated over the parameters of the functions. Assumes nothing.
 use mathlib.Core.Path.{_≡_}
 use mathlib.Core.Bool.{true}
 use mathlib.Core.List.{List}
@@ -11,12 +11,12 @@ use Rattle.definition.specs.Fallible.{Err}
 use Rattle.definition.specs.Records.{errors-of}
 use Rattle.error_fields.specs.Errors as E
 
--- so many records of token errors, each good
+-- `count` records of token errors, each valid
 abbrev pub GoodErrors : Slice → ℕ → Type 0
 GoodErrors errors count =
     (4 * count ≤ length (now errors)) × (is-some (errors-of (now errors) 0 count) ≡ true)
 
--- the fields of the errors es
+-- the fields of the errors es are written
 abbrev pub Fielded : List Err → Lent → ℕ → ℕ → ℕ → Type 0
 Fielded es file pos tag r = E.Fielded (at-entry file) pos tag es (at-exit file) r
 

@@ -1,5 +1,5 @@
-// The errors as fields after the tree: token errors (tag 62), reported errors (60) and the full list (61).
-// The body of each is seven bytes: number, line and column in two bytes each, expected kind, kind got.
+// Writes the errors as fields after the tree: token errors (tag 62), reported errors (60) and the full list (61).
+// The body of each has seven bytes: number, line and column in two bytes each, expected kind, kind got.
 use definition::tag;
 use fallible::entry;
 use node::Numbers;
@@ -13,7 +13,7 @@ ghost use lib.ListN.{length};
 ghost use Rattle.fallible.specs.Lists.{unpack, errs};
 ghost use Rattle.error_fields.specs.Contract.{GoodErrors, Fielded, TokenFields};
 
-// An error's field; the entry's seven bytes are its body.
+// Writes the field of one error, which is packed into one number.
 fn error_field(file: &mut [u8], pos: usize, tag: u8, e: usize) -> usize
     requires { ⌜ pos + 23 ≤ length (now file) ⌝ }
     ensures { λ r. ⌜ Fielded (unpack e ∷ []) file pos tag r ⌝ }
@@ -30,7 +30,7 @@ fn error_field(file: &mut [u8], pos: usize, tag: u8, e: usize) -> usize
     write_bare(file, &body, pos, tag, Numbers::None, 0, 7)
 }
 
-// The fields of a list of `count` errors.
+// Writes the fields of a list of `count` errors.
 pub fn error_fields(file: &mut [u8], pos: usize, tag: u8, list: &[usize], count: usize) -> usize
     requires { ⌜ (pos + 10 * count + 13 ≤ length (now file)) × (count ≤ length (now list)) ⌝ }
     ensures { λ r. ⌜ Fielded (errs (now (list .entry)) count) file pos tag r ⌝ }
@@ -44,7 +44,7 @@ pub fn error_fields(file: &mut [u8], pos: usize, tag: u8, list: &[usize], count:
     p
 }
 
-// The fields of the token errors, whose records are good: number, place, 0, 0.
+// Writes the fields of `count` token errors, whose records are valid.
 pub fn token_error_fields(file: &mut [u8], pos: usize, errors: &[u32], count: usize) -> usize
     requires { ⌜ (pos + 10 * count + 13 ≤ length (now file)) × GoodErrors errors count ⌝ }
     ensures { λ r. ⌜ TokenFields file pos errors count r ⌝ }

@@ -1,4 +1,4 @@
-// Expressions and types, and the lists that stand in them: the functions of parser.rs that call one another in a cycle.
+// Expressions, types and the lists in them: the functions of parser.rs that call one another in a cycle.
 use definition::kind;
 use definition::parse_error;
 use definition::refusal;
@@ -46,7 +46,7 @@ ghost use Rattle.expression_laws.specs.Post.{operators-on};
 ghost use Rattle.steps.specs.Contract.{Asked, GoesOn, Parses, ParsesOn};
 ghost use Rattle.expression_laws.specs.Contract.{NameRoom, BareNamed, ReadsTyped, TypedOn, ReadsList};
 
-// parse_expression, one of the four functions whose open calls are counted.
+// parse_expression, one of the four functions whose open calls are counted: refuses where `nesting` is 0.
 pub fn expression(
     tokens: &[u32],
     text: &[u8],
@@ -96,7 +96,7 @@ fn boolean(
     write_node(file, text, c, t.place, tag::BOOLEAN_AND, Numbers::None)
 }
 
-// bit_or [(`==` | `<` | `<=` | `>` | `>=`) bit_or]
+// parse_comparison: bit_or [(`==` | `<` | `<=` | `>` | `>=`) bit_or]
 fn comparison(
     tokens: &[u32],
     text: &[u8],
@@ -128,8 +128,8 @@ fn comparison(
     write_node(file, text, c, t.place, tag::COMPARISON_BIN_OP, numbers)
 }
 
-// parse_bitwise_or: bit_xor {`|` bit_xor}. All levels begin with the operand that is read here: where no operator of theirs
-// is after it, it is the answer of each; else the loop of each goes on after the answer of the level below, the tightest first.
+// parse_bitwise_or: bit_xor {`|` bit_xor}. The six levels share their first operand, so it is parsed once; if an
+// operator of a level follows, the loop of each level continues the answer of the level below, the tightest first.
 fn bit_or(
     tokens: &[u32],
     text: &[u8],
@@ -219,7 +219,7 @@ fn shift(
     operators(tokens, text, n, file, reported, full, level, a, st, nesting)
 }
 
-// mul {(`+` | `-`) mul}
+// parse_add_sub: mul {(`+` | `-`) mul}
 fn add_sub(
     tokens: &[u32],
     text: &[u8],
@@ -248,7 +248,7 @@ fn add_sub(
     )
 }
 
-// cast {`*` cast}
+// parse_mul: cast {`*` cast}
 fn mul(
     tokens: &[u32],
     text: &[u8],
@@ -277,7 +277,7 @@ fn mul(
     )
 }
 
-// The operands of a level.
+// Parses an operand of a level: the next tighter level, or a cast.
 fn cascade(
     tokens: &[u32],
     text: &[u8],
@@ -302,7 +302,7 @@ fn cascade(
     }
 }
 
-// The loop of parse_arithmetic_binop, after an operand.
+// The loop of parse_arithmetic_binop: {operator operand}, continuing the answer `first`.
 fn operators(
     tokens: &[u32],
     text: &[u8],
@@ -338,7 +338,7 @@ fn operators(
     }
 }
 
-// unary {`as` type}
+// parse_cast: unary {`as` type}
 fn cast(
     tokens: &[u32],
     text: &[u8],
@@ -370,7 +370,7 @@ fn cast(
     }
 }
 
-// unary. A name alone, as most operands are, is read here: it is what each of the functions below gives.
+// unary, with a short cut: a name with no suffix and no call, the most common operand, is written at once.
 fn operand(
     tokens: &[u32],
     text: &[u8],
@@ -392,7 +392,7 @@ fn operand(
     name(file, text, st, t)
 }
 
-// (`&` | `*` | `~` | `!`) unary | call; counted.
+// parse_unary: (`&` | `*` | `~` | `!`) unary | call. Open calls are counted.
 fn unary(
     tokens: &[u32],
     text: &[u8],
@@ -419,7 +419,7 @@ fn unary(
     write_node(file, text, a, a.place, tag, Numbers::None)
 }
 
-// sizeof [arguments]; what the arguments report is dropped.
+// parse_call: sizeof [arguments]. Errors in the arguments are not reported.
 fn call(
     tokens: &[u32],
     text: &[u8],
@@ -458,7 +458,7 @@ fn call(
     write_node(file, text, c, a.place, tag::CALL, Numbers::Two(b.count))
 }
 
-// `sizeof` `(` type `)` | field_access_or_index
+// parse_sizeof: `sizeof` `(` type `)` | field_access_or_index
 fn sizeof(
     tokens: &[u32],
     text: &[u8],
@@ -574,7 +574,7 @@ fn access(
     }
 }
 
-// A literal, or a group.
+// parse_atom: literal | `(` expression `)`
 fn atom(
     tokens: &[u32],
     text: &[u8],
@@ -599,7 +599,7 @@ fn atom(
 
 // ---- names
 
-// A record with no place after an answer, whose text is the name at the place `at`, or `<?>` where none stands there.
+// Writes a record without a place after the answer `a`, with the name at index `at`, or `<?>` if none is there.
 fn bare_name(
     tokens: &[u32],
     text: &[u8],
@@ -638,7 +638,7 @@ fn bare_name(
 
 // ---- types
 
-// parse_type; counted.
+// parse_type: name | `*` type | `[` array | `struct` fields. Open calls are counted.
 pub fn ty(
     tokens: &[u32],
     text: &[u8],
@@ -706,7 +706,7 @@ pub fn ty(
     raise(n, reported, full, on, error)
 }
 
-// Behind `[`: the size, `]`, the type.
+// Parses what follows the `[` of an array type: size `]` type. Errors in the size are at `place`.
 fn array(
     tokens: &[u32],
     text: &[u8],
@@ -743,7 +743,8 @@ fn array(
     write_node(file, text, b, place, tag::ARRAY, numbers)
 }
 
-// A typed identifier, after its name, in a construct that began in the state `from`.
+// Parses what follows the name of a typed identifier: `:` type,
+// in a construct that began in the state `from`.
 fn typed(
     tokens: &[u32],
     text: &[u8],
@@ -769,7 +770,7 @@ fn typed(
     abandon(reported, c, from, s)
 }
 
-// parse_typed_identifier: name `:` type. The name is that of the first token.
+// parse_typed_identifier: name `:` type. The caller takes the name from the first token.
 pub fn typed_name(
     tokens: &[u32],
     text: &[u8],
@@ -804,7 +805,7 @@ pub fn typed_name(
 
 // ---- lists
 
-// A parameter, or a field of a struct type.
+// A parameter, or a field of a struct type: typed_name and its record.
 fn named(
     tokens: &[u32],
     text: &[u8],
@@ -822,7 +823,7 @@ fn named(
     bare_name(tokens, text, n, file, a, tag::NAMED_TYPE, st.at)
 }
 
-// parse_compound_struct_field: name `=` expression.
+// parse_compound_struct_field: name `=` expression
 fn field(
     tokens: &[u32],
     text: &[u8],
@@ -857,7 +858,7 @@ fn field(
     )
 }
 
-// An item of a list.
+// Parses one item of a list.
 fn item(
     tokens: &[u32],
     text: &[u8],
@@ -881,7 +882,7 @@ fn item(
     }
 }
 
-// parse_bounded_list_of: opener {item [`,`]} closer. The answer's `line` is the count, and it is never fatal.
+// parse_bounded_list_of: opener {item [`,`]} closer. Never fatal; `count` of the answer is that of the items.
 pub fn list(
     tokens: &[u32],
     text: &[u8],

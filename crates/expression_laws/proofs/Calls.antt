@@ -1,4 +1,4 @@
--- Prefix operators, calls, `sizeof`, groups. Assumes nothing.
+-- The laws of prefix operators, calls, `sizeof` and groups. Assumes nothing.
 use mathlib.Core.Path.{_≡_, refl, sym, ap, _∙_, subst}
 use mathlib.Core.Option.{some}
 use mathlib.Core.List.{List, [], _∷_, _++_, append-nil}
@@ -40,11 +40,12 @@ use Rattle.expression_laws.specs.Post.{ReadsList}
 use Rattle.expression_laws.proofs.Types.{past, drops, dropping}
 use Rattle.expression_laws.proofs.Joins.{goes-none}
 
--- ---- a token, an operand, and the record after it
+-- ---- a token, an operand, and the record after them
 
 module _ {A : Type 0} {K : View A} {w x : List ℕ} {n d : ℕ} {o r f o1 r1 f1 o2 : List ℕ} {s : State} {b y : Answer} {t : Token} {v : Record} {m : Act (Ans A)} {M : Act (Ans Node)} (p : A → Place) (ns : A → List Num) (text : List ℕ)
     (q : Asked w x n o r f s) (u : Seen w x n (s .at) t) (B : Reads K w x n d m o r f (fore s t) o1 r1 f1 b) (F : Finished x o1 b v o2 y)
     (paid : size-of v ≤ 16 * min (t .kind) 1 + t .len) (made : (i : A) → K .fine (b .place) (b .count) i → rec-of x v ≡ record { tag = v .tag; place = some (p i); numbers = ns i; text = text }) where
+  -- an act that reads the token t, then m, and writes the record v, reads a node
   pub wraps-token : (rd′ : List Consumed → List Consumed)
       → ((rd : List Consumed)
       → go d M (st-of w x n f rd s)
@@ -74,6 +75,7 @@ module _ {A : Type 0} {K : View A} {w x : List ℕ} {n d : ℕ} {o r f o1 r1 f1 
 
 module _ {w x : List ℕ} {n d : ℕ} {o r f : List ℕ} {s : State} {t : Token} {tag : ℕ} (q : Asked w x n o r f s)
     (nz : d ≡ 0 → ⊥) (u : Seen w x n (s .at) t) (k : Prefix (t .kind) tag) where
+  -- no prefix operator: a call; else the prefix, its operand and its record
   pub unary-none : {o1 r1 f1 : List ℕ} {a : Answer} → tag ≡ 0 → Reads node w x n (d - 1) P.parse-call o r f s o1 r1 f1 a
       → Reads node w x n d P.parse-unary o r f s o1 r1 f1 a
   unary-none h B =
@@ -98,6 +100,7 @@ module _ {w x : List ℕ} {n d : ℕ} {o r f : List ℕ} {s : State} {t : Token}
 
 -- ---- calls: the arguments after what is called; their errors are dropped
 
+-- the arguments and the record of a call, if `(` follows
 abbrev pub call-on : Fallible Node → Act (Ans Node)
 call-on e =
     A.peek λ t. A.if_then_else_ (t is K.LParen) (P.parse-list Arguments >>= λ i. P.good
@@ -105,7 +108,7 @@ call-on e =
     (done (ok e))
 
 module _ {A : Type 0} {K : View A} {w x : List ℕ} {n : ℕ} {o r f : List ℕ} {b : Answer} {q : Res (Ans A)} (never : b .status ≡ Fatal → ⊥) where
-  -- after what the construct has before
+  -- an answer that is not fatal, seen after what the construct has so far
   pub rebased : {T T′ : List ℕ} {E E′ : List Err} (rs : List Rec) (es : List Err) → T′ ≡ T ++ recs-bytes rs → E′ ≡ E ++ es
       → Shows K T′ E′ [] [] w x n o r f b q → Shows K T E rs es w x n o r f b q
   rebased {T} {T′} {E} {E′} rs es t e v = record { told = one (b .status) refl (v .told) }
@@ -126,6 +129,7 @@ module _ {A : Type 0} {K : View A} {w x : List ℕ} {n : ℕ} {o r f : List ℕ}
 
 module _ {w x : List ℕ} {n d i j : ℕ} {o r f : List ℕ} {a : Answer} {t : Token} (q : GoesOn w x n o r f a i j)
     (z : a .status ≡ Done) (u : Seen w x n (a .state .at) t) where
+  -- no `(` follows
   pub call-none : (t .kind ≡ 41 → ⊥) → Goes node node w x n d call-on i j o r f a o r f a
   unfolding go run
   call-none h = goes-none q z (λ e rd. rw (run, no u h))
@@ -147,6 +151,7 @@ module _ {w x : List ℕ} {n d i j : ℕ} {o r f : List ℕ} {a : Answer} {t : T
           few = omega (arith, F .full, B .moved);
         }
 
+    -- `(` follows: the arguments and the record are read
     pub call-found : Goes node node w x n d call-on i j o r f a o2 r1 f1 y
     unfolding go run
     call-found = record {
@@ -162,7 +167,7 @@ module _ {w x : List ℕ} {n d i j : ℕ} {o r f : List ℕ} {a : Answer} {t : T
           (drops d (B .never) (errs-length r (a .state .reported) (omega arith)) (B .moved .reported) (B .is (g .read)))));
     }
 
-  -- with the answer that `silence` gives
+  -- the same with the answer that `silence` gives
   pub call-done : {o1 r1 f1 o2 : List ℕ} {b c y : Answer} → t .kind ≡ 41
       → ReadsList w x n d Arguments o r f (a .state) o1 r1 f1 b → c ≡ silent b (a .state .reported)
       → Finished x o1 c
@@ -174,7 +179,7 @@ module _ {w x : List ℕ} {n d i j : ℕ} {o r f : List ℕ} {a : Answer} {t : T
       (record { tag = 0x24; place = a .place; numbers = Two (b .count); start = 0; len = 0 })
       o2 y) C F)
 
--- what the list is asked with: a place after the operand's, and room for the record after it
+-- what the list requires: a later token, and room for the record after it
 pub call-later : {w x : List ℕ} {n d : ℕ} {m : Act (Ans Node)} {o r f o1 r1 f1 : List ℕ} {s : State} {a : Answer} {t : Token}
     → Asked w x n o r f s → Reads node w x n d m o r f s o1 r1 f1 a → Seen w x n (a .state .at) t → t .kind ≡ 41
     → s .at < a .state .at
@@ -189,7 +194,7 @@ call-room q u v e l = rw e (record { room = omega (arith, q .room, u .room, v .r
 
 -- ---- `sizeof`
 
--- an item, `expect`, and what follows: two ways to say it
+-- `expect` after an item, then g: the same as continuing with `expecting`, then with g
 pub expect-seam : {A B : Type 0} (d : ℕ) (role : Role) (k : ℕ) (g : Fallible A → Act (Ans B)) (q : Res (Ans A))
     → after q (λ z S. go d (or-return (λ e. P.expect-as role k >>? λ _. g e) z) S)
     ≡ after (after q (λ z S. go d (or-return (expecting role k) z) S)) (λ z S. go d (or-return g z) S)
@@ -227,6 +232,7 @@ sizeof-step {w} {x} {n} d f s u h rd =
     _)
 
 module _ {w x : List ℕ} {n d : ℕ} {o r f : List ℕ} {s : State} {t : Token} (q : Asked w x n o r f s) (u : Seen w x n (s .at) t) where
+  -- no `sizeof` follows
   pub sizeof-other : {o1 r1 f1 : List ℕ} {a : Answer} → (t .kind ≡ 17 → ⊥)
       → Reads node w x n d P.parse-field-access-or-index o r f s o1 r1 f1 a
       → Reads node w x n d P.parse-sizeof o r f s o1 r1 f1 a
@@ -234,6 +240,7 @@ module _ {w x : List ℕ} {n d : ℕ} {o r f : List ℕ} {s : State} {t : Token}
   sizeof-other h B = record { moved = B .moved; on = B .on; is = λ rd. say (rw (run, no u h)) (B .is rd) }
 
   module _ {r1 f1 : List ℕ} {a : Answer} (h : t .kind ≡ 17) (X : Expects w x n (λ role. P.expect-as role 41) r f (fore s t) r1 f1 a) where
+    -- `sizeof` with no `(` after it
     pub sizeof-stop : Stopped a → Reads node w x n d P.parse-sizeof o r f s o r1 f1 a
     sizeof-stop nd =
         record {
@@ -242,6 +249,7 @@ module _ {w x : List ℕ} {n d : ℕ} {o r f : List ℕ} {s : State} {t : Token}
           is = λ rd. say (sizeof-step d f s u h rd) (stops d _ _ nd (X .is plain d (past w x n (s .at) rd) o));
         }
 
+    -- what `and_expect` requires after the type
     pub sizeof-asks : {o1 r2 f2 : List ℕ} {b : Answer} → a .status ≡ Done
         → Reads node w x n d P.parse-type o r1 f1 (a .state) o1 r2 f2 b → length r2 ≡ length r
         → length f2 ≡ length f → Follows w x n r2 f2 b (s .pos) (s .reported)
@@ -253,6 +261,7 @@ module _ {w x : List ℕ} {n d : ℕ} {o r f : List ℕ} {s : State} {t : Token}
           reported = omega (arith, B .moved, X .kept z .0);
         }
 
+    -- `sizeof` with its type, `)` and record
     pub sizeof-done : {o1 r2 f2 r3 f3 o2 : List ℕ} {b c y : Answer} → a .status ≡ Done
         → Reads node w x n d P.parse-type o r1 f1 (a .state) o1 r2 f2 b → length r2 ≡ length r
         → length f2 ≡ length f → Expected w x n 42 (s .pos) (s .reported) r2 f2 b r3 f3 c
@@ -294,14 +303,14 @@ module _ {w x : List ℕ} {n d : ℕ} {o r f : List ℕ} {s : State} {t : Token}
               (errs-length r (s .reported) (omega arith)) v));
         }
 
--- ---- groups: both parentheses, and no `?`
+-- ---- groups: both parentheses, without `?`
 
--- what follows the expression
+-- the closing parenthesis after the expression
 abbrev pub closing : Ans Node → Act (Ans Node)
 closing e = P.expect-as group 42 >>= λ c. done (P.both e c)
 
 module _ {w x : List ℕ} {n : ℕ} {o r f r1 f1 : List ℕ} {a y : Answer} (d : ℕ) {T : List ℕ} {E : List Err} {q : Res (Ans Node)} where
-  -- a node with the errors of the parenthesis after its own
+  -- a good answer keeps its node, and the errors of the parenthesis are added
   pub closes-good : a .status ≡ Done → Good node T E [] [] w x n o r f a q → Closing w x n r f a r1 f1 y
       → Shows node T E [] [] w x n o r1 f1 y (after q (λ z S. go d (closing z) S))
   unfolding go run
@@ -352,7 +361,7 @@ module _ {w x : List ℕ} {n : ℕ} {o r f r1 f1 : List ℕ} {a y : Answer} (d :
           })
       one (Refused k) h m t = rw m (record { told = rw h (step ∙ rw t) })
 
-  -- a fatal answer with them
+  -- a fatal answer stays fatal, and they are added
   pub closes-bad : a .status ≡ Fatal → Bad T E w x n o r f a q → Closing w x n r f a r1 f1 y
       → Shows node T E [] [] w x n o r1 f1 y (after q (λ z S. go d (closing z) S))
   unfolding go run
@@ -398,6 +407,7 @@ module _ {w x : List ℕ} {n : ℕ} {o r f r1 f1 : List ℕ} {a y : Answer} (d :
           })
       one (Refused k) h m t = rw m (record { told = rw h (step ∙ rw t) })
 
+  -- the same for every answer
   pub closes : Closed w x n r f a r1 f1 y → Shows node T E [] [] w x n o r f a q
       → Shows node T E [] [] w x n o r1 f1 y (after q (λ z S. go d (closing z) S))
   unfolding go run
@@ -410,6 +420,7 @@ module _ {w x : List ℕ} {n : ℕ} {o r f r1 f1 : List ℕ} {a y : Answer} (d :
       one (Refused k) z m g = rw (m .0, m .1 .0, m .1 .1) (record { told = rw (z, g) })
 
 module _ {w x : List ℕ} {n d : ℕ} {o r f : List ℕ} {s : State} {t : Token} (q : Asked w x n o r f s) (u : Seen w x n (s .at) t) where
+  -- parse_atom of a group
   pub atom-group : {o1 r1 f1 r2 f2 : List ℕ} {a y : Answer} → t .kind ≡ 41
       → Reads node w x n d P.parse-expression o r f (fore s t) o1 r1 f1 a → Closed w x n r1 f1 a r2 f2 y
       → Reads node w x n d P.parse-atom o r f s o1 r2 f2 y

@@ -1,4 +1,5 @@
--- What follows an operand: nothing, another operand and the record of both, or that and the next turn of a loop. Assumes nothing.
+-- What follows an operand: nothing; another operand and the record of both; or these and the next turn of a loop.
+-- Assumes nothing.
 use mathlib.Core.Path.{_≡_, refl, sym, ap, _∙_}
 use mathlib.Core.Option.{some}
 use mathlib.Core.List.{List, []}
@@ -26,7 +27,7 @@ use Rattle.steps.proofs.Moves.{asked-moved, moved-trans}
 use Rattle.steps.proofs.Answers.{Stopped, say, good-of, is-good, stops, follows, abandons, wrapped, finishes}
 use Rattle.steps.proofs.Constructs.{seam, then-goes}
 
--- a function and what goes on from its answer
+-- a function, and the one that continues its answer
 pub then-asked : {A B : Type 0} {K : View A} {L : View B} {w x : List ℕ} {n d : ℕ} {m : Act (Ans A)}
     (k : Fallible A → Act (Ans B)) {o r f o1 r1 f1 o2 r2 f2 : List ℕ} {s : State} {a y : Answer}
     → Asked w x n o r f s → Reads K w x n d m o r f s o1 r1 f1 a
@@ -34,7 +35,7 @@ pub then-asked : {A B : Type 0} {K : View A} {L : View B} {w x : List ℕ} {n d 
     → Reads L w x n d (m >>? k) o r f s o2 r2 f2 y
 then-asked k q u v = then-goes k u (omega arith) (omega arith) v
 
--- it asks for what the answer has
+-- what the continuation requires of the answer
 pub goes-on : {A : Type 0} {K : View A} {w x : List ℕ} {n d : ℕ} {m : Act (Ans A)} {o r f o1 r1 f1 : List ℕ} {s : State}
     {a : Answer}
     → Asked w x n o r f s → Reads K w x n d m o r f s o1 r1 f1 a → length o1 ≡ length o → length r1 ≡ length r
@@ -57,10 +58,12 @@ module _ {w x : List ℕ} {n i j : ℕ} {o r f : List ℕ} {a : Answer} (q : Goe
         few = q .asked .asks .few;
       }
 
+  -- a fatal or refused answer is returned
   pub goes-stops : {A B : Type 0} {K : View A} {L : View B} {d : ℕ} {k : Fallible A → Act (Ans B)} → Stopped a
       → Goes K L w x n d k i j o r f a o r f a
   goes-stops {d = d} {k = k} nd = record { moved = stays-on; is = λ T E p li lj h. stops d k p nd h }
 
+  -- a good answer is returned, where the continuation gives it unchanged
   pub goes-none : {A : Type 0} {K : View A} {d : ℕ} {k : Fallible A → Act (Ans A)} → a .status ≡ Done
       → ((e : Fallible A) (rd : List Consumed)
       → go d (k e) (st-of w x n f rd (a .state)) ≡ gives (ok e) (st-of w x n f rd (a .state)))
@@ -98,20 +101,21 @@ module _ {A : Type 0} {K : View A} {w x : List ℕ} {n d i j : ℕ} {o r f o1 r1
         few = omega (arith, F .full, C .full, B .moved);
       }
 
-  -- the next turn may go on from it
+  -- the next turn may continue it
   pub joined-on : length o2 ≡ length o → length r2 ≡ length r → length f1 ≡ length f → GoesOn w x n o2 r2 f1 y i j
   joined-on e g h = record { asked = asked-moved (q .asked) joined-moved e g h; pos = joined-moved .pos; reported = joined-moved .reported }
 
--- Behind the answer a, the token t is read and then b by the act m; what `?` leaves of it is c; y has the record v.
+-- After the answer a, the token t is read and the act m gives b; c is what `?` makes of b; y has the record v.
 module _ {A : Type 0} {K : View A} {w x : List ℕ} {n d i j : ℕ} {o r f o1 r1 f1 r2 o2 : List ℕ} {a b c y : Answer} {t : Token} {v : Record} {m : Act (Ans A)} (p : Place) (ns : List Num)
     (q : GoesOn w x n o r f a i j) (z : a .status ≡ Done) (u : Seen w x n (a .state .at) t)
     (B : Reads K w x n d m o r f (fore (a .state) t) o1 r1 f1 b)
     (C : Abandoned r1 b i j (a .state .reported) r2 c) (F : Finished x o1 c v o2 y)
     (paid : size-of v ≤ 16 * min (t .kind) 1) (made : rec-of x v ≡ record { tag = v .tag; place = some p; numbers = ns; text = [] }) where
-  -- the record of the operand e and the other
+  -- the node of the operand e and the other
   abbrev pub both : Fallible Node → Fallible A → Act (Ans Node)
   both e = wrapped K (e .item .recs) (e .errors) (v .tag) (λ _. p) (λ _. ns) []
 
+  -- the joined answer represents the second operand and the record of both
   pub joined : {T : List ℕ} {E : List Err} {h : Res (Ans Node)} → length T ≡ i → length E ≡ j
       → (g : Good node T E [] [] w x n o r f a h) (rd : List Consumed)
       → Shows node T E [] [] w x n o2 r2 f1 y
@@ -123,7 +127,7 @@ module _ {A : Type 0} {K : View A} {w x : List ℕ} {n d i j : ℕ} {o r f o1 r1
       (omega (arith, q .pos, B .moved .pos)) (omega (arith, q .reported, B .moved .reported)) (B .is rd)))
 
   module _ {k : Fallible Node → Act (Ans Node)} (past : List Consumed → List Consumed) where
-    -- it ends there
+    -- the continuation ends there
     pub goes-joined : ((e : Fallible Node) (rd : List Consumed)
         → go d (k e) (st-of w x n f rd (a .state))
         ≡ go d (m >>? both e) (st-of w x n f (past rd) (fore (a .state) t)))
@@ -135,7 +139,7 @@ module _ {A : Type 0} {K : View A} {w x : List ℕ} {n d i j : ℕ} {o r f o1 r1
               say (follows d k (g .is) ∙ step _ _) (joined li lj g (past (g .read)));
         }
 
-    -- it goes on with the next turn
+    -- the continuation goes on with the next turn
     pub goes-turn : {o3 r3 f3 : List ℕ} {y′ : Answer} (bin : Fallible Node → Fallible A → Fallible Node)
         → ((e : Fallible Node) (b : Fallible A) → both e b ≡ done (ok (bin e b)))
         → ((e : Fallible Node) (rd : List Consumed)
@@ -154,7 +158,7 @@ module _ {A : Type 0} {K : View A} {w x : List ℕ} {n d i j : ℕ} {o r f o1 r1
           (G .is T E _ li lj (joined li lj g (past (g .read))));
     }
 
--- ---- what the steps ask for
+-- ---- what the steps require
 
 module _ {A : Type 0} {K : View A} {w x : List ℕ} {n d i j : ℕ} {o r f o1 r1 f1 : List ℕ} {a b : Answer}
     {t : Token} {m : Act (Ans A)} (q : GoesOn w x n o r f a i j) (u : Seen w x n (a .state .at) t)
@@ -172,11 +176,12 @@ module _ {A : Type 0} {K : View A} {w x : List ℕ} {n d i j : ℕ} {o r f o1 r1
       → Room o1 x (c .state .pos) (16 + 0) 0 0
   join-room C e = record { room = omega (arith, C .high, B .moved .room, u .pays, q .asked .room); part = omega arith }
 
--- room for a record with no text, at a later state
+-- room for a record without text, in a later state
 pub room-at : {w x : List ℕ} {n i j : ℕ} {o r f o1 : List ℕ} {s t : State} → Asked w x n o r f s → Moved w x n i j s t
     → length o1 ≡ length o → Room o1 x (t .pos) (16 + 0) 0 0
 room-at q m e = record { room = omega (arith, q .room, m .room); part = omega arith }
 
+-- what the next turn requires, after a turn that moved on, and after one that continued the answer by k
 pub turn-on : {w x : List ℕ} {n i j : ℕ} {o r f o2 r2 f2 : List ℕ} {a y : Answer} → GoesOn w x n o r f a i j
     → Moved w x n i j (a .state) (y .state) → length o2 ≡ length o → length r2 ≡ length r → length f2 ≡ length f
     → GoesOn w x n o2 r2 f2 y i j

@@ -1,4 +1,4 @@
--- The levels of an expression: boolean and, comparison, the arithmetic operators, casts. Assumes nothing.
+-- The levels of an expression: boolean and, comparison, arithmetic operators, casts. Assumes nothing.
 use mathlib.Core.Path.{_≡_, refl, ap, _∙_}
 use mathlib.Core.List.{List, [], _∷_}
 use Prim.Native.Nat.{ℕ, zero, suc, _+_, _-_, _<_, _≤_}
@@ -46,7 +46,7 @@ compare-on e = A.peek λ t. P.find t P.comparisons (compared e) (done (ok e))
 abbrev operated : A.Level → Fallible Node → ℕ → Act (Ans Node)
 operated l e o = next λ op. P.cascade l >>? λ r. operators-on l (P.binary 0x2D (byte o ∷ []) (op .place) e r)
 
--- which way the definition goes at a token
+-- which branch the definition takes at a token
 module _ {ops : List P.Op} {c op : ℕ} (k : Operator ops c op) (t : Tok) (e : t .kind ≡ c) (d : ℕ)
     (found : ℕ → Act (Ans Node)) (other : Act (Ans Node)) (S : St) where
   none-found : op ≡ 0 → go d (P.find t ops found other) S ≡ go d other S
@@ -142,7 +142,7 @@ module _ {w x : List ℕ} {n d i j : ℕ} {o r f : List ℕ} {a : Answer} {t : T
 
 -- ---- the six levels, the tightest first
 
--- after an operand a, at k levels: what was read stands for an operand of these levels
+-- after the operand a and the loops of k levels: the answer y is an operand of these levels
 pub record Levelled (w x : List ℕ) (n d : ℕ) (s : State) (o r f : List ℕ) (a : Answer) (o1 r1 f1 : List ℕ) (y : Answer) (k : ℕ) : Type 0 where
   pub few : k ≤ 6
   pub forward : s .at ≤ y .state .at
@@ -185,7 +185,7 @@ module _ {w x : List ℕ} {n d : ℕ} {s : State} {o r f : List ℕ} {a : Answer
         → Reads node w x n d P.parse-bitwise-or o0 r0 f0 s o1 r1 f1 y
     levels-end h q R = let e : k ≡ 6 = omega (arith, z .few) in all-levels (rw e at (z .reads q R))
 
--- each gives what it is given
+-- no level has an operator here: the operand is the answer of all
 module _ {w x : List ℕ} {n d : ℕ} {o r f o1 r1 f1 : List ℕ} {s : State} {a : Answer} (q : Asked w x n o r f s)
     (R : Reads node w x n d P.parse-cast o r f s o1 r1 f1 a) where
   pub levels-pass : ((l : A.Level) → Goes node node w x n d (operators-on l) (s .pos) (s .reported) o1 r1 f1 a o1 r1 f1 a)

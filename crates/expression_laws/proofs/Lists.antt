@@ -61,7 +61,7 @@ module _ {w x : List ℕ} {n d : ℕ} {o r f o1 r1 f1 : List ℕ} {s : State} {a
 
 -- ---- `list`
 
--- a list is its opener, and the loop with what that reports
+-- a list is its opener, and the loop that starts with the errors of the opener
 listing : (k : A.Listed) (d : ℕ) (S : St)
     → go d (P.parse-list k >>= as-answer) S
     ≡ after (go d (P.expect (P.opener k)) S)
@@ -88,6 +88,7 @@ module _ {w x : List ℕ} {n wanted : ℕ} (k : A.Listed) {o r f r1 f1 : List �
       (go d (P.expect (P.opener k)) (st-of w x n f rd s))
   opens d rd = rw (← c .0) (e .is plain d rd o)
 
+  -- a refusal at the opener is returned; else the loop runs
   pub list-refused : {d : ℕ} → Ended a → ReadsList w x n d k o r f s o r1 f1 a
   list-refused {d} h = record {
     moved = e .moved;
@@ -123,7 +124,7 @@ module _ {w x : List ℕ} {n wanted : ℕ} (k : A.Listed) {o r f r1 f1 : List �
           (i .tree ∙ sym (append-nil (take (s .pos) o))) (i .reported) refl)
       one rd (Refused m) h i = absurd (⊎-elim (λ z. omega arith) (λ z. omega arith) h)
 
--- ---- its loop
+-- ---- its loop: one law for each way in which a turn ends
 
 module _ {w x : List ℕ} {n count : ℕ} (k : A.Listed) {o r f : List ℕ} {s : State} {t : Token}
     (q : Asked w x n o r f s × (count ≤ s .at)) (v : Seen w x n (s .at) t) where
@@ -198,7 +199,7 @@ module _ {w x : List ℕ} {n count : ℕ} (k : A.Listed) {o r f : List ℕ} {s :
               (errs-join E (j .list .errors) (i .errors) (j .reported) (i .reported)) (j .counts ∙ sym (cm .is)));
         }
 
--- ---- what their calls ask for
+-- ---- what their calls require
 
 module _ {w x : List ℕ} {n d count : ℕ} {act : Act (Ans Node)} {o r f o1 r1 f1 : List ℕ} {s : State} {t : Token}
     {b : Answer} (q : Asked w x n o r f s × (count ≤ s .at)) (v : Seen w x n (s .at) t) (m0 : t .kind ≡ 0 → ⊥)

@@ -42,7 +42,7 @@ answered d q = after q (λ i S. go d (as-answer i) S)
 pub not-fatal : (h : Status) → tagOf the-type h ≡ 2 → h ≡ Fatal → ⊥
 not-fatal h e z = let y : tagOf the-type h ≡ 1 = rw z in omega arith
 
--- a refusal is one for what follows, too
+-- a refusal is also the answer of what follows
 pub refusal : {A : Type 0} {K : View A} {T : List ℕ} {E : List Err} {w x : List ℕ} {n : ℕ} {o r f o′ r′ f′ : List ℕ}
     {T′ : List ℕ} {E′ : List Err} {a : Answer} {q : Res (Ans A)} {q′ : Res (Ans Items)}
     → Ended a → ((m : ℕ) → q ≡ refused m → q′ ≡ refused m)
@@ -58,7 +58,7 @@ refusal {A} {K} {T} {E} {w} {x} {n} {o} {r} {f} {o′} {r′} {f′} {T′} {E�
 
 module _ {w x : List ℕ} {n d count : ℕ} (on : Items → Act Items) {o r f : List ℕ} {s : State} {t : Token}
     (q : Asked w x n o r f s × (count ≤ s .at)) (v : Seen w x n (s .at) t) where
-  -- after the token that closes it
+  -- the closing token is read
   pub loop-closed : ((rd : List Consumed) (l : Items)
       → go d (on l) (st-of w x n f rd s) ≡ gives l (st-of w x n f (past w x n (s .at) rd) (fore s t)))
       → LoopOn on w x n d count o r f s o r f (record { status = Done; state = fore s t; place = 0; count = count })
@@ -80,7 +80,7 @@ module _ {w x : List ℕ} {n d count : ℕ} (on : Items → Act Items) {o r f : 
         };
   }
 
-  -- with an error, at the end of the script
+  -- the end of the script, with an error
   pub loop-ended : {e : ℕ} {r1 f1 : List ℕ} {b : Answer} → Raised (noted n s) r f s e r1 f1 b
       → ((rd : List Consumed) (l : Items)
       → go d (on l) (st-of w x n f rd s)
@@ -114,7 +114,7 @@ module _ {w x : List ℕ} {n d count : ℕ} (on : Items → Act Items) {o r f : 
 
 -- ---- a turn that reads an item
 
--- an item's answer has joined those before it, and the loop goes on with `next`
+-- the answer of an item is added to the items before it, and the loop continues with `next`
 pub record Joined (w x : List ℕ) (n d : ℕ) (next : Items → Act Items) (T : List ℕ) (E : List Err) (o r f : List ℕ) (b : Answer) (count : ℕ) (q : Res (Ans Items)) : Type 0 where
   pub list : Items
   pub read : List Consumed
@@ -123,7 +123,7 @@ pub record Joined (w x : List ℕ) (n d : ℕ) (next : Items → Act Items) (T :
   pub reported : errs r (b .state .reported) ≡ E ++ list .errors
   pub counts : list .count ≡ count-of (b .status) count
 
--- Of the loop `on`, where a turn at s reads an item by the act m and goes on with `next`.
+-- For a loop `on`, whose turn at s reads an item by the act m and continues with `next`.
 module _ {w x : List ℕ} {n d : ℕ} {o r f o1 r1 f1 : List ℕ} {s : State} {b : Answer} (on next : Items → Act Items) (m : Act (Ans Node)) (step : (rd : List Consumed) (l : Items) → go d (on l) (st-of w x n f rd s) ≡ go d (m >>= λ a. next (P.integrate l a)) (st-of w x n f rd s))
     (u : Reads node w x n d m o r f s o1 r1 f1 b) where
   -- the item, and what follows it
@@ -134,6 +134,7 @@ module _ {w x : List ℕ} {n d : ℕ} {o r f o1 r1 f1 : List ℕ} {s : State} {b
       go-bind d (on l) as-answer (st-of w x n f rd s)
       ∙ ap (answered d) (step rd l ∙ go-bind d m (λ a. next (P.integrate l a)) (st-of w x n f rd s))
 
+  -- an item that is refused is returned
   pub loop-refused : {count : ℕ} → Ended b → LoopOn on w x n d count o r f s o1 r1 f1 b
   loop-refused h =
       record {
@@ -171,7 +172,7 @@ module _ {w x : List ℕ} {n d : ℕ} {o r f o1 r1 f1 : List ℕ} {s : State} {b
           }
       one (Refused m) z h i = absurd (⊎-elim (λ z. omega arith) (λ z. omega arith) h)
 
--- a loop that goes on with itself
+-- a loop that continues with itself
 module _ {w x : List ℕ} {n d : ℕ} {o r f o1 r1 f1 : List ℕ} {s : State} {b : Answer} (on : Items → Act Items) (m : Act (Ans Node)) (step : (rd : List Consumed) (l : Items) → go d (on l) (st-of w x n f rd s) ≡ go d (m >>= λ a. on (P.integrate l a)) (st-of w x n f rd s))
     (u : Reads node w x n d m o r f s o1 r1 f1 b) where
   pub loop-next : {count k : ℕ} {o3 r3 f3 : List ℕ} {y : Answer} → Alive b → Counted (b .status) count k
@@ -185,7 +186,7 @@ module _ {w x : List ℕ} {n d : ℕ} {o r f o1 r1 f1 : List ℕ} {s : State} {b
         (h .is (j .read) T E (j .list) (j .tree) (j .reported) (j .counts ∙ sym (ck .is)));
   }
 
--- what the next turn asks for: an item that a token begins passes it
+-- what the next turn requires: an item consumes the token that begins it
 pub loop-asked : {w x : List ℕ} {n d count k : ℕ} {m : Act (Ans Node)} {o r f o1 r1 f1 : List ℕ} {s : State} {b : Answer}
     {t : Token}
     → Asked w x n o r f s × (count ≤ s .at) → Seen w x n (s .at) t → (t .kind ≡ 0 → ⊥)

@@ -40,11 +40,11 @@ use Rattle.expression_laws.proofs.Types.{moved-onward, past, paid, reco
 
 -- ---- `bare_name`
 
--- the text of a token is as long as its record says
+-- the length of a token's text is the one in its record
 pub text-length : {w x : List ℕ} {n at : ℕ} {t : Token} → Seen w x n at t → length (next-token (rest w x n at) .text) ≡ t .len
 text-length {x = x} {t = t} v = rw (v .text) (length-take-le (t .len) (drop (t .start) x) (simp length-drop (omega arith)))
 
--- what is put in place of a name
+-- the text in place of a missing name
 abbrev pub unknown : List ℕ
 unknown = 60 ∷ 63 ∷ 62 ∷ []
 
@@ -114,7 +114,7 @@ module _ {w x : List ℕ} {n : ℕ} {o : List ℕ} {a : Answer} {at : ℕ} (q : 
 
 -- ---- `typed`
 
--- what `?` leaves there is as it was
+-- what `?` makes of a good answer is the same answer
 pub kept-done : {r r′ : List ℕ} {b c : Answer} {i j k : ℕ} → Abandoned r b i j k r′ c → c .status ≡ Done → (c ≡ b) × (r′ ≡ r)
 kept-done {r} {r′} {b} {c} {i} {j} {k} v z = one (b .status) refl (v .is)
   where
@@ -123,7 +123,7 @@ kept-done {r} {r′} {b} {c} {i} {j} {k} v z = one (b .status) refl (v .is)
     one Fatal y m = let g = m .status in let e : _≡_ {A = ℕ} 0 1 = cc in absurd (omega arith)
     one (Refused u) y m = m
 
--- after the type, and after `:`
+-- the continuations after the type, and after `:`
 abbrev type-on : List ℕ → List Err → Fallible Node → Act (Ans P.Typed)
 type-on name es y = P.good (record { name = name; type = y .item .recs }) (es ++ y .errors)
 
@@ -153,7 +153,7 @@ typed-shows {T} {E} {es} {w} {x} {n} {o} {r} {f} {a} {q} d name v = record { tol
     one (Refused u) g = rw g
 
 module _ {w x : List ℕ} {n : ℕ} {o r f : List ℕ} {s : State} (q : Asked w x n o r f s) where
-  -- all that stands is there
+  -- the file up to the position, and the reported errors, have these lengths
   pub len-pos : length (take (s .pos) o) ≡ s .pos
   len-pos = length-take-le (s .pos) o (omega (arith, q .room))
 
@@ -164,6 +164,7 @@ module _ {w x : List ℕ} {n d j : ℕ} {o r f r1 f1 r2 : List ℕ} {s : State} 
     (q : Asked w x n o r f s × (j ≤ s .reported))
     (e : Expects w x n (λ role. P.expect-as role 49) r f s r1 f1 a)
     (v : Abandoned r1 a (s .pos) j (s .reported) r2 b) where
+  -- `:` is missing: returned by `?`; else the type follows
   pub typed-colon : Stopped b → TypedOn w x n d j o r f s o r2 f1 b
   unfolding P.typed recs-bytes
   typed-colon nd =
@@ -179,7 +180,7 @@ module _ {w x : List ℕ} {n d j : ℕ} {o r f r1 f1 r2 : List ℕ} {s : State} 
       }
 
   module _ {o3 r3 f3 r4 : List ℕ} {c y : Answer} where
-    -- where `:` is there, it is as it was
+    -- where `:` is there, `?` changes nothing
     typed-there : a .status ≡ Done → Reads node w x n d P.parse-type o r1 f1 (a .state) o3 r3 f3 c
         → Abandoned r3 c (s .pos) j (a .state .reported) r4 y → TypedOn w x n d j o r f s o3 r4 f3 y
     unfolding P.typed recs-bytes
@@ -207,7 +208,7 @@ module _ {w x : List ℕ} {n d j : ℕ} {o r f r1 f1 r2 : List ℕ} {s : State} 
         → Abandoned r3 c (s .pos) j (b .state .reported) r4 y → TypedOn w x n d j o r f s o3 r4 f3 y
     typed-type z u k = let h = kept-done v z in typed-there (rw (h .0) at z) (rw (h .0, h .1) at u) (rw (h .0) at k)
 
--- ---- an error noted
+-- ---- an error is noted: there is room for it, or not
 
 module _ (n : ℕ) {e : ℕ} {r f r′ f′ : List ℕ} {s : State} {b : Answer} (g : Raised (noted n s) r f s e r′ f′ b) where
   pub note-there : b .status ≡ Done → (s .full < 255) × (b ≡ record { status = Done; state = one-more s; place = 0; count = 0 })
@@ -223,7 +224,7 @@ module _ (n : ℕ) {e : ℕ} {r f r′ f′ : List ℕ} {s : State} {b : Answer}
 
 -- ---- `typed_name`
 
--- the name under another term
+-- the same for an equal name
 renamed : {u u′ : List ℕ} {T : List ℕ} {E : List Err} {w x : List ℕ} {n : ℕ} {o r f : List ℕ} {a : Answer}
     {q : Res (Ans P.Typed)}
     → u ≡ u′ → Shows (typed u′) T E [] [] w x n o r f a q → Shows (typed u) T E [] [] w x n o r f a q
@@ -234,6 +235,7 @@ error-same : (d : ℕ) {X Y : Err} {S S′ : St} → X ≡ Y → S ≡ S′
 error-same d p q = rw (p, q)
 
 module _ {w x : List ℕ} {n : ℕ} {o r f : List ℕ} {s : State} {t : Token} (q : Asked w x n o r f s) (v : Seen w x n (s .at) t) where
+  -- the first token is an identifier, the end, or another token: error 4 is refused or noted
   pub identifier-name : {d : ℕ} {o1 r1 f1 : List ℕ} {a : Answer} → t .kind ≡ 1
       → TypedOn w x n d (s .reported) o r f (fore s t) o1 r1 f1 a → ReadsTyped w x n d o r f s o1 r1 f1 a
   unfolding go run P.parse-typed-identifier
@@ -271,7 +273,7 @@ module _ {w x : List ℕ} {n : ℕ} {o r f : List ℕ} {s : State} {t : Token} (
     module _ {e : ℕ} {r1 f1 : List ℕ} {b : Answer} (m0 : t .kind ≡ 0 → ⊥)
         (i : unpack e ≡ error-at 4 (t .place) 0 0)
         (g : Raised (noted n (fore s t)) r f (fore s t) e r1 f1 b) where
-      -- the error is made
+      -- the definition makes error 4
       unnamed : (d : ℕ) (rd : List Consumed)
           → go d P.parse-typed-identifier (st-of w x n f rd s)
           ≡ go d (make (unpack e) (P.typed (ascii "<?>") (unpack e ∷ [])))
@@ -308,7 +310,7 @@ module _ {w x : List ℕ} {n : ℕ} {o r f : List ℕ} {s : State} {t : Token} (
 
 -- ---- `named`
 
--- after a typed identifier
+-- the continuation after a typed identifier
 abbrev name-on : Fallible P.Typed → Act (Ans Node)
 name-on y = P.good (P.bare (y .item .type) 21 (y .item .name)) (y .errors)
 
@@ -365,7 +367,7 @@ module _ {w x : List ℕ} {n d : ℕ} {o r f o1 r1 f1 : List ℕ} {s : State} {a
 
 -- ---- `expect` after an answer
 
--- it is there
+-- the expected token is there
 pub record Met (w x : List ℕ) (n k : ℕ) (r f : List ℕ) (a : Answer) (r′ f′ : List ℕ) (y : Answer) : Type 0 where
   pub there : a .status ≡ Done
   pub pos : y .state .pos ≡ a .state .pos
@@ -411,7 +413,7 @@ expected-there {w} {x} {n} {k} {i} {j} {r} {f} {r′} {f′} {a} {y} v z = one (
     one Fatal e m = absurd (never e (m .0) (λ u. let c : _≡_ {A = ℕ} 0 1 = cc in omega arith))
     one (Refused p) e m = absurd (never e (m .0) (λ u. let c : _≡_ {A = ℕ} 0 1 = cc in omega arith))
 
--- an answer that is not there has no line
+-- the place of a fatal or refused answer does not matter
 relined : {A : Type 0} {K : View A} {T : List ℕ} {E : List Err} {w x : List ℕ} {n l m : ℕ} {o r f : List ℕ}
     {a : Answer} {q : Res (Ans A)}
     → Stopped a → Shows K T E [] [] w x n o r f a q
@@ -424,6 +426,7 @@ relined {A} {K} {T} {E} {w} {x} {n} {l} {m} {o} {r} {f} {a} {q} nd v = record { 
     one Fatal nd g = record { errors = g .errors; read = g .read; is = g .is; tree = g .tree; reported = g .reported }
     one (Refused u) nd g = g
 
+-- a fatal or refused answer, or a missing token, is the answer of all that follows under `?`
 pub expected-stops : {A B : Type 0} {K : View A} {L : View B} {T : List ℕ} {E : List Err} {w x : List ℕ} {n k i j : ℕ}
     {o r f r′ f′ : List ℕ} {a y : Answer} {q : Res (Ans A)} (d : ℕ)
     (on : Fallible A → Fallible Tok → Act (Ans B))
@@ -450,7 +453,7 @@ expected-stops {A} {B} {K} {L} {T} {E} {w} {x} {n} {k} {i} {j} {o} {r} {f} {r′
 
 -- ---- `field`
 
--- after the value, and after `=`
+-- the continuations after the value, and after `=`
 abbrev value-on : Fallible Tok → Fallible Node → Act (Ans Node)
 value-on id y = wrapped node [] [] 50 (λ _. id .item .place) (λ _. []) (id .item .text) y
 
@@ -483,7 +486,7 @@ module _ {w x : List ℕ} {n : ℕ} {o r f r1 f1 : List ℕ} {s : State} {t : To
 
     module _ {d : ℕ} {o3 r3 f3 : List ℕ} {c : Answer} (z : b .status ≡ Done)
         (h : Reads node w x n d P.parse-expression o r2 f2 (b .state) o3 r3 f3 c) where
-      -- the record is paid for
+      -- the tokens account for the record
       field-paid : c .state .pos + budget w x n (c .state .at) + 16 + t .len ≤ s .pos + budget w x n (s .at)
       field-paid =
           let db : done-of (b .status) ≡ 1 = rw z in
@@ -526,9 +529,9 @@ module _ {w x : List ℕ} {n : ℕ} {o r f r1 f1 : List ℕ} {s : State} {t : To
           (λ z S. go d (or-return (value-on (record { item = k; errors = [] })) z) S)) (g rd .holds .0))
           (λ rd. shown-from h (m .pos ∙ e .pos) (m .kept ∙ e .kept (m .there) .1) (m .read d (g rd .read)))
 
--- ---- what their calls ask for
+-- ---- what their calls require
 
--- what `?` may drop
+-- what `?` requires
 pub cuts-moved : {w x : List ℕ} {n i j : ℕ} {r f r1 : List ℕ} {s : State} {a : Answer} → Asks w x n r f s
     → Moved w x n (s .pos) (s .reported) s (a .state) → i ≤ s .pos → j ≤ s .reported → length r1 ≡ length r
     → Cuts r1 a i j (s .reported)
@@ -555,7 +558,7 @@ module _ {w x : List ℕ} {n j : ℕ} {o r f r1 f1 : List ℕ} {s : State} {a : 
         → Cuts r3 c (s .pos) j (b .state .reported)
     type-cuts u l k g = cuts-moved (type-asked l k .asks) (u .moved) (v .low) (v .first) g
 
--- after an error noted
+-- after an error is noted
 module _ {w x : List ℕ} {n e : ℕ} {o r f r1 f1 : List ℕ} {s : State} {t : Token} {b : Answer}
     (q : Asked w x n o r f s) (v : Seen w x n (s .at) t)
     (g : Raised (noted n (fore s t)) r f (fore s t) e r1 f1 b) where

@@ -1,4 +1,4 @@
--- A name that neither a suffix nor arguments follow is a whole operand. Assumes nothing.
+-- An identifier with no suffix and no arguments is a whole operand. Assumes nothing.
 use mathlib.Core.Path.{_≡_, refl, sym, _∙_, subst}
 use mathlib.Core.Bool.{Bool, false, not, _||_}
 use mathlib.Core.List.{List}

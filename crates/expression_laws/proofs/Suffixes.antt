@@ -41,7 +41,7 @@ use Rattle.expression_laws.proofs.Calls.{expect-seam}
 abbrev past-two : List ℕ → List ℕ → ℕ → ℕ → ℕ → List Consumed → List Consumed
 past-two w x n at next rd = past w x n next (past w x n at rd)
 
--- after the dot, whose place is p
+-- the continuation after the dot, whose place is p
 abbrev dotted : Place → Fallible Node → Tok → Act (Ans Node)
 dotted p e n =
     Act.if_then_else_ (n is K.End) Act.panic
@@ -59,10 +59,11 @@ dot-step {w} {x} {n} d f s u h e rd =
     ∙ rw (run, yes u h)
     (ap (λ (S : St). go d (Act.next (dotted (next-token (rest w x n (s .at)) .place) e)) S) (adv s u (λ _. plain) f rd))
 
--- ---- a record after the operand itself, and the next turn
+-- ---- a record after the operand alone, and the next turn
 
 module _ {w x : List ℕ} {n d i j : ℕ} {o r f o2 o3 r3 f3 : List ℕ} {a y y′ : Answer} {on : State} {v : Record} (p : Place) (text : List ℕ) (q : GoesOn w x n o r f a i j) (z : a .status ≡ Done)
     (F : Finished x o (record { status = a .status; state = on; place = a .place; count = a .count }) v o2 y) (made : rec-of x v ≡ record { tag = v .tag; place = some p; numbers = []; text = text }) where
+  -- the operand gets the record v, and the loop continues
   pub goes-wrapped : (rd′ : List Consumed → List Consumed) → on .pos ≡ a .state .pos → on .reported ≡ a .state .reported
       → on .full ≡ a .state .full → Moved w x n i j (a .state) (y .state)
       → ((e : Fallible Node) (rd : List Consumed)
@@ -88,7 +89,7 @@ module _ {w x : List ℕ} {n d i j : ℕ} {o r f o2 o3 r3 f3 : List ℕ} {a y y�
         }))));
   }
 
--- where a turn without an index leads
+-- how the state moves in a turn without an index
 module _ {w x : List ℕ} {n i j : ℕ} {o r f : List ℕ} {a : Answer} {t : Token} (q : GoesOn w x n o r f a i j)
     (u : Seen w x n (a .state .at) t) where
   pub star-moved : {o2 : List ℕ} {y : Answer} → t .kind ≡ 35
@@ -129,6 +130,7 @@ module _ {w x : List ℕ} {n i j : ℕ} {o r f : List ℕ} {a : Answer} {t : Tok
 
 module _ {w x : List ℕ} {n d i j : ℕ} {o r f : List ℕ} {a : Answer} {t : Token} (q : GoesOn w x n o r f a i j)
     (z : a .status ≡ Done) (u : Seen w x n (a .state .at) t) where
+  -- no suffix follows
   pub suffix-none : (t .kind ≡ 34 → ⊥) → (t .kind ≡ 35 → ⊥) → (t .kind ≡ 43 → ⊥) → Goes node node w x n d suffixes-on i j o r f a o r f a
   unfolding go run P.suffixes-turn
   suffix-none h k l = goes-none q z (λ e rd. go-loop d (Suffixes e) (st-of w x n f rd (a .state)) ∙ rw (run, no u h, no u k, no u l))
@@ -150,6 +152,7 @@ module _ {w x : List ℕ} {n d i j : ℕ} {o r f : List ℕ} {a : Answer} {t : T
   -- ---- `.name`
 
   module _ {v : Token} (h : t .kind ≡ 34) (s : Seen w x n (t .next) v) where
+    -- the end after the dot is refused
     pub dot-end : {y : Answer} → v .kind ≡ 0 → y ≡ refused-at n (a .state) 11 → Goes node node w x n d suffixes-on i j o r f a o r f y
     unfolding go run P.suffixes-turn
     dot-end k e =
@@ -196,7 +199,7 @@ module _ {w x : List ℕ} {n d i j : ℕ} {o r f : List ℕ} {a : Answer} {t : T
         (P.wrap 0x29 (next-token (rest w x n (a .state .at)) .place) (next-token (rest w x n (t .next)) .text) e)) S)
         (adv (fore (a .state) t) s (λ _. plain) f (past w x n (a .state .at) rd)))) G
 
-    -- another token: error 4, and the loop ends
+    -- another token than a name: error 4, and the loop ends
     pub dot-other : {e : ℕ} {r1 f1 : List ℕ} {b : Answer} → (v .kind ≡ 0 → ⊥) → (v .kind ≡ 1 → ⊥)
         → unpack e ≡ error-at 4 (v .place) 0 0
         → Raised (noted n (fore (fore (a .state) t) v)) r f (fore (fore (a .state) t) v) e r1 f1 b
@@ -250,6 +253,7 @@ module _ {w x : List ℕ} {n d i j : ℕ} {o r f : List ℕ} {a : Answer} {t : T
 
   -- ---- `[index]`
 
+  -- what `and_expect` requires after the index
   pub index-asks : {o1 r1 f1 r2 : List ℕ} {b c : Answer}
       → Reads node w x n d P.parse-expression o r f (fore (a .state) t) o1 r1 f1 b
       → Abandoned r1 b i j (a .state .reported) r2 c → length r2 ≡ length r → length f1 ≡ length f

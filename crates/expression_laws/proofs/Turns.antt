@@ -1,4 +1,4 @@
--- A loop of the parser, from its start to one of its turns. Assumes nothing.
+-- The invariant of the parser's loops, from their start to any turn. Assumes nothing.
 use mathlib.Core.Path.{_≡_, refl}
 use mathlib.Core.List.{List}
 use Prim.Native.Nat.{ℕ, _≤_}
@@ -10,11 +10,12 @@ use Rattle.fallible.specs.declared.State.{State}
 use Rattle.fallible.specs.declared.Answer.{Answer}
 use Rattle.steps.specs.Shows.{Asked, Goes, GoesOn, node}
 
--- what is shown of the three slices at exit and of the answer
+-- a predicate on the three slices at exit and the answer
 abbrev pub Shown : Type 1
 Shown = List ℕ → List ℕ → List ℕ → Answer → Type 0
 
--- The slices are as long as they were, no token is read again, and what the rest of the loop shows from here (Q), the whole shows from its start (P).
+-- The slices keep their lengths, no token is read again, and if the rest of the loop ensures Q from here, the whole
+-- loop ensures P from its start.
 pub record Turned (P Q : Shown) (o r f o1 r1 f1 : List ℕ) (from at : ℕ) : Type 0 where
   pub file : length o1 ≡ length o
   pub reported : length r1 ≡ length r
@@ -22,6 +23,7 @@ pub record Turned (P Q : Shown) (o r f o1 r1 f1 : List ℕ) (from at : ℕ) : Ty
   pub on : from ≤ at
   pub rest : {o′ r′ f′ : List ℕ} {y : Answer} → Q o′ r′ f′ y → P o′ r′ f′ y
 
+-- at the start, and after one more turn
 pub at-start : {P : Shown} {o r f : List ℕ} {k : ℕ} → Turned P P o r f o r f k k
 at-start = record { file = refl; reported = refl; full = refl; on = omega arith; rest = λ g. g }
 
@@ -37,7 +39,7 @@ one-turn t a b c h q =
       rest = λ g. t .rest (q _ _ _ _ g);
     }
 
--- the loops after an operand
+-- for the loops after an operand
 abbrev pub GoesTurned : (k : Fallible Node → Act (Ans Node)) (w x : List ℕ) (n d i j : ℕ) (o r f : List ℕ) (a : Answer)
     (o1 r1 f1 : List ℕ) (b : Answer)
     → Type 0
@@ -45,7 +47,7 @@ GoesTurned k w x n d i j o r f a o1 r1 f1 b =
     GoesOn w x n o1 r1 f1 b i j × Turned (Goes node node w x n d k i j o r f a)
     (Goes node node w x n d k i j o1 r1 f1 b) o r f o1 r1 f1 (a .state .at) (b .state .at)
 
--- the loops that count what they read: L is what the rest shows of the count, the slices and the state
+-- for the loops that count items: L is what the rest ensures of the count, the slices and the state
 abbrev pub ItemsTurned : (L : ℕ → List ℕ → List ℕ → List ℕ → State → Shown) (w x : List ℕ) (n c : ℕ) (o r f : List ℕ) (s : State)
     (c1 : ℕ) (o1 r1 f1 : List ℕ) (s1 : State)
     → Type 0

@@ -1,4 +1,4 @@
--- The steps that types, names and lists share; one law for each return of `ty` and `array`. Assumes nothing.
+-- Steps that types, names and lists share; one law for each return of `ty` and `array`. Assumes nothing.
 use mathlib.Core.Path.{_≡_, refl, sym, ap, _∙_}
 use mathlib.Core.Bool.{Bool, true, false, not}
 use mathlib.Core.Option.{some}
@@ -43,7 +43,7 @@ use Rattle.expression_laws.specs.Post.{as-answer, ReadsList}
 
 -- ---- numbers
 
--- a part within a construct that began earlier
+-- a part of a construct that began earlier
 pub moved-onward : {w x : List ℕ} {n i j : ℕ} {s t u : State} → Moved w x n i j s t → Moved w x n (t .pos) (t .reported) t u
     → Moved w x n i j s u
 moved-onward p q =
@@ -58,7 +58,7 @@ moved-onward p q =
       few = q .few;
     }
 
--- what was read, and the token at `at`
+-- the tokens read, with the token at `at`
 abbrev pub past-as : Role → List ℕ → List ℕ → ℕ → ℕ → List Consumed → List Consumed
 past-as role w x n at rd = rd ++ now-read (λ _. role) (rest w x n at)
 
@@ -73,7 +73,7 @@ either {C} n i p q = one (ltb i n) (λ e. ltb-true i n e) (λ e. ltb-false i n e
     one true g h = q (g refl)
     one false g h = p (h refl)
 
--- tokens passed are paid for no more
+-- the budget does not grow as tokens are read
 passed : (w x : List ℕ) (n i k : ℕ) → budget w x n (i + k) ≤ budget w x n i
 unfolding spend
 passed w x n i zero = let e : i + 0 ≡ i = omega arith in rw e (omega arith)
@@ -82,7 +82,7 @@ passed w x n i (suc k) =
     either n i (λ h. rw (rest-nil w x n (i + suc k) (omega arith)) (omega arith))
     (λ h. rw (e, rest-cons w x n i h) (omega (arith, passed w x n (i + 1) k)))
 
--- once the token at i is passed, what it pays for is spent
+-- after the token at i its part of the budget is used up
 pub paid : {w x : List ℕ} {n : ℕ} (i j : ℕ) → Held w x n → i + min (next-token (rest w x n i) .kind) 1 ≤ j
     → budget w x n j + 16 * min (next-token (rest w x n i) .kind) 1 + length (next-token (rest w x n i) .text) ≤ budget w x n
     i
@@ -99,7 +99,7 @@ paid {w} {x} {n} i j q h = either n i end on
         let p : budget w x n j ≤ budget w x n (i + 1) = rw (← e) (passed w x n (i + 1) (j - (i + 1))) in
         rw (rest-cons w x n i g) (omega arith)
 
--- where nothing was written or reported before it
+-- the same, where nothing was written or reported in between
 pub shown-from : {A : Type 0} {K : View A} {w x : List ℕ} {n d p : ℕ} {E : List Err} {m : Act (Ans A)}
     {o r f o′ r′ f′ : List ℕ} {s : State} {a : Answer}
     → Reads K w x n d m o r f s o′ r′ f′ a → s .pos ≡ p → errs r (s .reported) ≡ E
@@ -108,7 +108,7 @@ shown-from u e h rd = rw (← e, ← h) (u .is rd)
 
 -- ---- a record after one answer
 
--- the numbers, where the record is paid for
+-- how the state moves, where the budget has room for the record
 pub finished-moved : {w x : List ℕ} {n i j : ℕ} {o o′ : List ℕ} {s : State} {a y : Answer} {v : Record}
     → Moved w x n i j s (a .state)
     → a .state .pos + budget w x n (a .state .at) + size-of v ≤ s .pos + budget w x n (s .at)
@@ -126,10 +126,11 @@ finished-moved {w} {x} {n} m h u =
       few = omega arith;
     }
 
--- Of an act m, what is left is the answer b and the record v after it.
+-- For an act m that comes down to the answer b and the record v after it.
 module _ {A : Type 0} {K : View A} {w x : List ℕ} {n d : ℕ} {m : Act (Ans Node)} {o r f o1 r1 f1 o2 : List ℕ}
     {s : State} {b y : Answer} {v : Record} (p : Place) (ns : A → List Num) (text : List ℕ)
     (F : Finished x o1 b v o2 y) where
+  -- the act reads a node
   pub record-reads : Moved w x n (s .pos) (s .reported) s (b .state)
       → s .at + min (next-token (rest w x n (s .at)) .kind) 1 ≤ b .state .at
       → b .state .pos + budget w x n (b .state .at) + size-of v ≤ s .pos + budget w x n (s .at)
@@ -149,7 +150,7 @@ module _ {A : Type 0} {K : View A} {w x : List ℕ} {n d : ℕ} {m : Act (Ans No
 
 -- ---- the answer of a list
 
--- an act that gives items, and what follows: two ways to say it
+-- continuing the items of m with k is continuing the answer of `m >>= as-answer` with h
 pub through : {B : Type 0} (d : ℕ) (m : Act Items) (k : Items → Act (Ans B)) (h : Fallible Items → Act (Ans B))
     → ((i : Items) → k i ≡ h (record { item = i; errors = i .errors })) → (S : St)
     → go d (m >>= k) S ≡ after (go d (m >>= as-answer) S) (λ z T. go d (or-return h z) T)
@@ -162,7 +163,7 @@ through d m k h e S =
     one (gives i T) = ap (λ (a : Act (Ans _)). go d a T) (e i)
     one (refused n) = refl
 
--- its errors are dropped
+-- the errors of the answer are dropped
 pub drops : {A : Type 0} {K : View A} {T : List ℕ} {E : List Err} {w x : List ℕ} {n j : ℕ} {o r f : List ℕ} {a : Answer}
     {q : Res (Ans A)} (d : ℕ)
     → (a .status ≡ Fatal → ⊥) → length E ≡ j → j ≤ a .state .reported → Shows K T E [] [] w x n o r f a q
@@ -187,7 +188,7 @@ drops {A} {K} {T} {E} {w} {x} {n} {j} {o} {r} {f} {a} {q} d nf le hj v = record 
     one Fatal nf g = absurd (nf refl)
     one (Refused u) nf g = rw g
 
--- so they are for what follows
+-- dropping the errors is what the definition does
 pub dropping : {B : Type 0} (d : ℕ) (m : Act Items) (k : Items → Act (Ans B)) (h : Fallible Items → Act (Ans B))
     → ((i : Items) → k i ≡ h (record { item = i; errors = [] })) → (S : St)
     → go d (m >>= k) S
@@ -214,7 +215,7 @@ module _ {w x : List ℕ} {n d : ℕ} {o r f : List ℕ} {s : State} (q : Asked 
         (d - 1) (λ rd. rw (run, yes v z)))
 
     module _ (m1 : t .kind ≡ 1 → ⊥) where
-      -- after `*`
+      -- the continuation after `*`
       abbrev star-on : Fallible Node → Act (Ans Node)
       star-on e = wrapped node [] [] 18 (λ _. next-token (rest w x n (s .at)) .place) (λ _. []) [] e
 
@@ -246,7 +247,7 @@ module _ {w x : List ℕ} {n d : ℕ} {o r f : List ℕ} {s : State} (q : Asked 
         })
 
         module _ (m43 : t .kind ≡ 43 → ⊥) where
-          -- after a list of fields
+          -- the continuation after the fields
           abbrev struct-on : Fallible Items → Act (Ans Node)
           struct-on e = wrapped items [] [] 20 (λ _. next-token (rest w x n (s .at)) .place) (λ i. two (i .count) ∷ []) [] e
 
@@ -289,7 +290,7 @@ module _ {w x : List ℕ} {n d : ℕ} {o r f : List ℕ} {s : State} (q : Asked 
                 (λ rd. rw (run, no v m1, no v m24, no v m43, no v m16, no v z)
                 (raise-same (d - 1) (rw (v .place, v .kind) (sym i)) (adv s v (λ _. plain) f rd))))
 
--- ---- `array`, after `[`, of a type at a place
+-- ---- `array`, after `[`; with the place of the type
 
 not-false : (b : Bool) → not b ≡ false → b ≡ true
 not-false true e = refl
@@ -306,7 +307,7 @@ module _ {w x : List ℕ} {n : ℕ} (place : ℕ) {o r f : List ℕ} {s : State}
       (λ rd. rw (run, no v m) (raise-same d (sym i) (adv s v (λ _. size) f rd)))
 
   module _ {u : Size} (z : t .kind ≡ 2) (k : Valued (take (t .len) (drop (t .start) x)) (t .base) u) where
-    -- the size as the definition has it
+    -- the size, as the definition has it
     fit : unfit (next-token (rest w x n (s .at)) .base) (next-token (rest w x n (s .at)) .text) ≡ not (u .fits)
     fit = rw (v .text, v .base) (k .fits)
 
@@ -320,7 +321,7 @@ module _ {w x : List ℕ} {n : ℕ} (place : ℕ) {o r f : List ℕ} {s : State}
 
     module _ {r1 f1 : List ℕ} {a : Answer} (fits : not (u .fits) ≡ false)
         (e : Expects w x n (λ role. P.expect-as role 44) r f (fore s t) r1 f1 a) where
-      -- after the type, and after `]`
+      -- the continuations after the type, and after `]`
       abbrev array-on : Fallible Node → Act (Ans Node)
       array-on b =
           wrapped node [] [] 19 (λ _. unpack-place place)
@@ -367,19 +368,19 @@ module _ {w x : List ℕ} {n : ℕ} (place : ℕ) {o r f : List ℕ} {s : State}
           (λ rd. bracket d rd ∙ follows d bracket-on (g rd .is) ∙ go-bind d P.parse-type (or-return array-on) _)
           (λ rd. shown-from c (e .pos) (e .kept za .1) (g rd .read))
 
--- ---- what their calls ask for
+-- ---- what their calls require
 
--- an error after a token
+-- room for an error in both lists
 pub raise-asked : {w x : List ℕ} {n : ℕ} {o r f : List ℕ} {s : State} → Asked w x n o r f s → (s .reported < length r) × (255 ≤ length f)
 raise-asked q = (omega (arith, q .asks), omega (arith, q .asks))
 
 module _ {w x : List ℕ} {n : ℕ} {o r f : List ℕ} {s : State} (q : Asked w x n o r f s) where
-  -- a record with no text, at a later state
+  -- room for a record without text, in a later state
   pub room-moved : {i j : ℕ} {o1 : List ℕ} {t : State} → Moved w x n i j s t → length o1 ≡ length o → Room o1 x (t .pos) (16 + 0) 0 0
   room-moved m l = record { room = omega (arith, q .room, m .room); part = omega arith }
 
   module _ {t : Token} (v : Seen w x n (s .at) t) where
-    -- a record with the token's text
+    -- room for a record with the token's text
     pub room-token : Room o x (s .pos) (16 + t .len) (t .start) (t .len)
     room-token = record { room = omega (arith, q .room, v .pays); part = v .part }
 

@@ -1,4 +1,4 @@
--- What the functions of the cycle show beyond `Reads` and `Goes`. Assumes nothing.
+-- What the functions of `expression` ensure beyond `Reads` and `Goes`. Assumes nothing.
 use mathlib.Core.Path.{_≡_}
 use mathlib.Core.List.{List, [], _++_}
 use Prim.Native.Nat.{ℕ, zero, suc, min, _+_, _*_, _≤_}
@@ -27,12 +27,12 @@ use Rattle.steps.specs.Tokens.{rest, budget, Held}
 use Rattle.leaves.specs.Leaves.{level-at}
 use Rattle.steps.specs.Shows.{st-of, Moved, Shows, done-of, typed, items}
 
--- ---- the loops, after an operand
+-- ---- loops after an operand
 
 abbrev pub operators-on : A.Level → Fallible Node → Act (Ans Node)
 operators-on l e = loop (Operators l e) done
 
--- an operand of the k tightest levels
+-- an operand after the loops of the k tightest levels
 unfoldable pub levels-at : ℕ → Act (Ans Node)
 levels-at zero = P.parse-cast
 levels-at (suc k) = levels-at k >>? operators-on (level-at k)
@@ -45,7 +45,7 @@ suffixes-on e = loop (Suffixes e) done
 
 -- ---- names
 
--- the name that a token gives
+-- the name in a token's place: its text, or `<?>` if it is no identifier
 abbrev pub name-of : Tok → List ℕ
 name-of t = pick (eqb (t .kind) K.Identifier) (t .text) (ascii "<?>")
 
@@ -75,7 +75,7 @@ pub record ReadsTyped (w x : List ℕ) (n d : ℕ) (o r f : List ℕ) (s : State
   pub spare : a .state .pos + budget w x n (a .state .at) + 32 * done-of (a .status) + length (next-token (rest w x n (s .at)) .text) ≤ s .pos + budget w x n (s .at)
   pub is : (rd : List Consumed) → Shows (typed (name-of (next-token (rest w x n (s .at))))) (take (s .pos) o) (errs r (s .reported)) [] [] w x n o′ r′ f′ a (go d P.parse-typed-identifier (st-of w x n f rd s))
 
--- after the name: the construct has the errors since j
+-- after the name, in a construct whose errors begin at j
 pub record TypedOn (w x : List ℕ) (n d j : ℕ) (o r f : List ℕ) (s : State) (o′ r′ f′ : List ℕ) (a : Answer) : Type 0 where
   pub moved : Moved w x n (s .pos) j s (a .state)
   pub spare : a .state .pos + budget w x n (a .state .at) + 16 * done-of (a .status) ≤ s .pos + budget w x n (s .at)
@@ -84,7 +84,7 @@ pub record TypedOn (w x : List ℕ) (n d j : ℕ) (o r f : List ℕ) (s : State)
 
 -- ---- lists
 
--- the items of a list, as an answer
+-- the items of a list as an answer
 abbrev pub as-answer : Items → Act (Ans Items)
 as-answer i = done (ok (record { item = i; errors = i .errors }))
 
@@ -97,7 +97,7 @@ pub record ReadsList (w x : List ℕ) (n d : ℕ) (k : A.Listed) (o r f : List �
 
 -- ---- loops that collect items
 
--- the loop `on`, where so many items are read
+-- the loop `on`, after `count` items
 pub record LoopOn (on : Items → Act Items) (w x : List ℕ) (n d : ℕ) (count : ℕ) (o r f : List ℕ) (s : State) (o′ r′ f′ : List ℕ) (a : Answer) : Type 0 where
   pub moved : Moved w x n (s .pos) (s .reported) s (a .state)
   pub never : a .status ≡ Fatal → ⊥

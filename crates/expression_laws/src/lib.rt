@@ -1,1 +1,1 @@
-// What the functions of the cycle of parser.rs show, and the laws by which they show it: see specs/ and proofs/.
+// No code: specs/ has what the functions of `expression` ensure, proofs/ the laws that prove it.

@@ -1,4 +1,4 @@
--- How an answer is made, and what `abandon` makes of one. Assumes nothing.
+-- The laws of `make` and `abandon`. Assumes nothing.
 use mathlib.Core.Path.{_≡_, refl, sym, ap, _∙_}
 use mathlib.Core.List.{List, [], _∷_}
 use mathlib.Core.Logic.{⊎-elim}
@@ -16,7 +16,7 @@ use Rattle.fallible.proofs.Status.{the-type}
 use Rattle.fallible.specs.Tallies.{Pushed, Propagated}
 use Rattle.fallible.specs.Answers.{refused-at, making, Raised, AbandonedOf, Abandoned, Cuts}
 
--- there is room for an error, and it is entered
+-- `make`, where the full list has room: the error is appended
 pub made : (h : Status) (n : ℕ) (s : State) {r f r′ f′ : List ℕ} {e : ℕ} {t : Tally} → s .full < 255
     → Pushed r f (record { reported = s .reported; full = s .full }) e r′ f′ t
     → Raised (making h n s) r f s e r′ f′ (record {
@@ -38,7 +38,7 @@ made h n s l p = record {
   full = λ _. p .full;
 }
 
--- there is none
+-- `make`, where it has none: refused
 pub none-made : (h : Status) (n : ℕ) (s : State) {r f : List ℕ} {e : ℕ} {a : Answer} → 255 ≤ s .full → a ≡ refused-at n s 12
     → Raised (making h n s) r f s e r f a
 none-made h n s l z =
@@ -48,7 +48,7 @@ none-made h n s l z =
       full = λ k. absurd (omega (arith, k));
     }
 
--- an answer that is not fatal stays as it is
+-- `abandon`: an answer that is not fatal stays the same
 pub same : {r : List ℕ} {a : Answer} {i j k : ℕ} → Cuts r a i j k → OneOf (0 ∷ 2 ∷ []) (tagOf the-type (a .status)) → Abandoned r a i j k r a
 same {r} {a} {i} {j} {k} c h =
     record {
@@ -66,7 +66,7 @@ same {r} {a} {i} {j} {k} c h =
     go Fatal h = absurd (⊎-elim (λ z. omega arith) (λ z. omega arith) h)
     go (Refused m) h = (refl, refl)
 
--- a fatal one is cut
+-- `abandon`: a fatal answer is cut
 pub cut : {r r′ : List ℕ} {a : Answer} {i j k : ℕ} {t : Tally} → Cuts r a i j k → a .status ≡ Fatal
     → Propagated r (record { reported = j; full = a .state .full }) k (a .state .reported) r′ t
     → Abandoned r a i j k r′ (record {

@@ -1,4 +1,4 @@
--- An entry holds its numbers. Assumes nothing.
+-- Unpacking an entry gives the numbers it was packed from. Assumes nothing.
 use mathlib.Core.Path.{_≡_}
 use Prim.Native.Nat.{ℕ, _+_, _*_, _/_, _%_, _<_}
 use native.Mathlib.Omega.{arith}

@@ -1,4 +1,4 @@
--- The loop of `copy`, and what `exchange` does to the errors. Assumes nothing.
+-- The laws of `copy` and `exchange`. Assumes nothing.
 use mathlib.Core.Path.{_≡_, refl, sym, ap, _∙_}
 use mathlib.Core.List.{List, [], _++_, map, map-append, append-assoc, append-cancel-left, append-nil}
 use Prim.Native.Nat.{ℕ, _+_, _-_, _≤_, _<_}
@@ -11,7 +11,7 @@ use Rattle.definition.specs.Fallible.{Err}
 use Rattle.fallible.specs.Lists.{unpack, errs}
 use Rattle.fallible.specs.Orders.{Copied, Exchanged}
 
--- ---- copy: i entries stand
+-- ---- copy: the invariant after i entries, at its start, after one more, and at its end
 
 pub record Copying (l : List ℕ) (at : ℕ) (t₀ : List ℕ) (place len : ℕ) (t : List ℕ) (i : ℕ) : Type 0 where
   pub source : at + len ≤ length l
@@ -43,12 +43,13 @@ module _ {l t₀ t : List ℕ} {at place len i : ℕ} (h : Copying l at t₀ pla
 
 -- ---- exchange
 
--- some entries of a part
+-- entries of a part of a part
 part-is : (l : List ℕ) (j n k : ℕ) → j + n ≡ k → k ≤ length l → take n (drop j l) ≡ drop j (take k l)
 part-is l j n k e h =
     sym (ap (λ (x : ℕ). drop j (take x l)) (sym e) ∙ ap (λ (x : List ℕ). drop j x) (take-add j n l)
     ∙ drop-at (take j l) (take n (drop j l)) j (length-take-le j l (omega arith)))
 
+-- nothing to exchange
 pub exchanged-none : {r : List ℕ} {j k m : ℕ} → j ≤ k → k ≤ m → j ≡ m → Exchanged r j k m r
 exchanged-none {r} {j} {k} {m} jk km e =
     let a : drop k (take m r) ≡ [] = drop-of-length-le (take m r) {i = k} (omega (arith, length-take m r)) in
@@ -56,6 +57,7 @@ exchanged-none {r} {j} {k} {m} jk km e =
     record { same = refl; is = rw (a, b, e) (sym (append-nil (take m r))) }
 
 module _ {r held r₁ r₂ : List ℕ} {j k m : ℕ} (held₀ : List ℕ) where
+  -- three copies exchange the two parts
   pub exchanged : j ≤ k → k ≤ m → m ≤ length r → m ≤ length held₀
       → Copied r j held₀ 0 (m - j) held → Copied held (k - j) r j (m - k) r₁
       → Copied held 0 r₁ (j + (m - k)) (k - j) r₂ → Exchanged r j k m r₂
@@ -86,7 +88,7 @@ module _ {r held r₁ r₂ : List ℕ} {j k m : ℕ} (held₀ : List ℕ) where
             ∙ rw (back, front);
       }
 
--- the errors from n on are those that stand after the first n
+-- the errors from n on are those after the first n
 behind : (r : List ℕ) (n m : ℕ) (E fs : List Err) → n ≤ m → errs r n ≡ E → errs r m ≡ E ++ fs → map (λ e. unpack e) (drop n (take m r)) ≡ fs
 unfolding errs
 behind r n m E fs h p q =
@@ -95,7 +97,7 @@ behind r n m E fs h p q =
     ∙ sym (map-append (λ e. unpack e) (take n (take m r)) (drop n (take m r)))
     ∙ ap (λ (x : List ℕ). map (λ e. unpack e) x) (take-append-drop n (take m r)) ∙ q)
 
--- the errors fs, reported last, stand before the errors es
+-- after the exchange, the errors fs, which were reported last, come before the errors es
 pub exchange-errs : {r r′ : List ℕ} {j k m : ℕ} → Exchanged r j k m r′ → j ≤ k → k ≤ m → (E es fs : List Err)
     → errs r j ≡ E → errs r k ≡ E ++ es → errs r m ≡ (E ++ es) ++ fs → errs r′ m ≡ E ++ (fs ++ es)
 unfolding errs

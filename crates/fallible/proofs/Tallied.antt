@@ -1,13 +1,14 @@
--- A tally in a walk by hand: what it is to the machine, and how a function that is lent one goes with a function that takes and gives one.
---     Call                  a call of a function that takes a tally and others and gives a tally: what its contract says of the others
---     calling               the call, by the function's clauses and by what its triple binds outside
---     Asks, Gives           what the function asks for at entry, with the tally h, and gives at exit, with the machine value v
---     Rest                  what it gives beside its result r, at the others' last values z
---     AsksLent, GivesLent   the same of a function that is lent the tally x for κ, of which there is the share q
+-- A tally in a proof by walking the MIR by hand: its machine value, and how a function that borrows a tally
+-- calls one that takes and returns it by value, and the converse.
+--     Call                  a call from a tally and other arguments to a tally: its contract for the others
+--     calling               the call, from the function's clauses and the variables that its triple binds
+--     Asks, Gives           what it requires at entry, with the tally h, and ensures at exit, with the machine value v
+--     Rest                  what it ensures beside its result r, for the last values z of the others
+--     AsksLent, GivesLent   the same for a function that borrows the tally x for the lifetime κ, with the share q
 --     opens, closes         the borrow is opened, and closed at the new tally r
---     takes                 the function by value is called
---     lends                 a local, entry n after the head, is lent for a new lifetime, the function that is lent it is called, and the local is back
---     given, given-lent     what is left at the end is what is given
+--     takes                 calls the function by value
+--     lends                 lends a local, entry n after the head, to the called function, and takes it back
+--     given, given-lent     what is left at the end is what the function ensures
 -- Assumes `Given`.
 use mir.Syntax.{Place, Opd as Operand, call}
 use mir.Val.{vstruct, vnil, vcons}
@@ -39,7 +40,7 @@ use Rattle.fallible.proofs.Walks.{Seq, Step, step, _$_, move, done, Opd
 use Rattle.fallible.proofs.Tally.{the-row as row, the-type}
 use Rattle.fallible.proofs.Tally.Laws.{mir as ty, the-laws, the-plain}
 
--- ---- its machine value
+-- ---- the machine value of a tally
 abbrev pub mach : Tally → Val
 mach t = vstruct (vcons (vint w64 (t .reported)) (vcons (vint w64 (t .full)) vnil))
 
@@ -55,7 +56,8 @@ tells = LL.tells the-type the-laws
 pub lent-tells : Tells (MutRef erased [] row) (Is (MutRef erased [] row)) ptr-vals
 lent-tells = mut-tells erased [] row
 
--- ---- a call: the lifetimes' tokens, what the others own, what is needed, their last values, what is said of these, and what is ensured
+-- ---- a call: the tokens of its lifetimes, what the other arguments own, what is required, their last values, what
+-- is ensured of these, and of the result
 pub record Call {M : Type 1} (𝓤 : URA M) : Type 2 where
   pub Tokens : SProp 𝓤
   pub Others : Fml
@@ -107,7 +109,7 @@ module _ {M : Type 1} {𝓤 : URA M} (y : Call 𝓤) where
     abbrev pub GivesLent : Val → Item 𝓤
     GivesLent v = later (some (Lent-at v))
 
--- a tally in memory, its open borrow before Γ, a local that is lent, and what its lender has meanwhile
+-- a tally in memory, its open borrow before Γ, a local that is lent, and what its lender holds meanwhile
 abbrev pub cell : {M : Type 1} {𝓤 : URA M} → ℕ × ℕ → Tally → Item 𝓤
 cell l t = ‵ (fat fullShare ty (l .0) (l .1) (mach t))
 
@@ -134,7 +136,7 @@ module _ {M : Type 1} {𝓤 : URA M} {H : Heap 𝓤} {A : Atoms 𝓤} {K : Type 
       move t (2 ∷ 0 ∷ []) $ join t $ feqI t (List Val) (vunit ∷ []) (vunit ∷ []) refl $ move t (1 ∷ 0 ∷ []) $ join t $ frame t $
       show t (λ s. mean 𝓤 H A (EnsuredLent y κ q x s)) (r, z) $ split t $ move t (2 ∷ 0 ∷ []) $ fjoin t $ done t
 
-  -- what is in memory is the tally's machine value
+  -- the memory holds the tally's machine value
   spells : K → {Γ : List (Item 𝓤)} {G : Goal 𝓤 H} (h : Tally) (ws : List Val) (l : ℕ × ℕ) → (Fits h → Seq K W (cell l h ∷ Γ) G)
       → Seq K W (‵ (cellAt fullShare (row .mir) ws (l .0) (l .1)) ∷ ‵ (row .own h ws) ∷ Γ) G
   spells t h ws l k = spelt t row (Is row) (shows 𝓤 H A row) (λ s. mach s ∷ []) tells fullShare h ws (l .0) (l .1) $
@@ -163,7 +165,7 @@ module _ {M : Type 1} {𝓤 : URA M} {H : Heap 𝓤} {A : Atoms 𝓤} {K : Type 
     takes t fm met os k = calls-from t fm (Asks y h) vs (λ w. mean 𝓤 H A (Gives y w)) met os (λ w. use1 W (Gives y w) (id⊢ 𝓤 _) $
         await t tt $ pick t (λ r. split t $ split t $ move t (1 ∷ []) $ facts t row (Is row) (shows 𝓤 H A row) r (w ∷ []) (λ g.
         move t (1 ∷ []) $ pick t (λ z. split t $ fsplit t $ drop t $
-        -- [what is said of the others' last values; what is ensured; the tokens]
+        -- [what is ensured of the others' last values; what is ensured; the tokens]
         join t $ move t (1 ∷ 0 ∷ []) $ join t $ regoal t (λ (v : Val). lands C Λ E d v rest Q) (ap only (tells r (w ∷ []) g)) refl $
         k r (z .1) (subst (Is row r) (tells r (w ∷ []) g) g)))))
 
@@ -184,7 +186,7 @@ module _ {M : Type 1} {𝓤 : URA M} {H : Heap 𝓤} {A : Atoms 𝓤} {K : Type 
         calls-from t fm (AsksLent y (ν ∷ []) fullShare (lent l δ h)) vs (λ w. mean 𝓤 H A (GivesLent y (ν ∷ []) fullShare (lent l δ h) w)) (met ν δ) (os ν δ) (λ w.
         use1 W (GivesLent y (ν ∷ []) fullShare (lent l δ h) w) (id⊢ 𝓤 _) $ await t tt $
         pick t (λ u. split t $ split t $ move t (1 ∷ []) $ feqL t (λ v. split t $ move t (2 ∷ []) $ pick t (λ z. split t $ fsplit t $
-        -- [what says the last tally; what is said of the others' last values; what is ensured; the token; the others' tokens; the lender's part]
+        -- [what determines the last tally; what is ensured of the others' last values; what is ensured; the token; the others' tokens; the lender's part]
         move t (1 ∷ 2 ∷ []) $ join t $ move t (3 ∷ 0 ∷ []) $ join t $ move t (2 ∷ []) $ lft-end t tt $ move t (0 ∷ 3 ∷ 2 ∷ []) $
         use3 W (later (‵ (partAt row fullShare (z .0) l 0))) (ref-back 𝓤 H A W row (ν ∷ []) δ (z .0) l 0) $ await t tt $ fpick t (λ ws. fsplit t $ spells t (z .0) ws (l, 0) (λ g.
         stow t (Rest y (z .0) (z .1) ∷ Γ) (suc n) (cell (l, 0) (z .0)) $ regoal t (λ (u′ : Val). lands C Λ E d u′ rest Q) (ap only v) refl $ k (z .0) (z .1) g))))))))

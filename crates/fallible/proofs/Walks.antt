@@ -1,12 +1,12 @@
--- Steps of a walk by hand that say nothing of this crate, with the kit's names that the walks use.
---     allocs-all       the locals are allocated: local 0, what ends it, local 1, what ends it, … after what is there
---     frees-all        they are freed, whatever they hold. One entry stands before them
---     copied, sets     a local is read, and a local that has room is set
---     pointer, slice   a slice is borrowed again: its pointer, and then the slice at that pointer
+-- Steps of a proof by walking the MIR by hand, independent of this crate, and the kit's names that these proofs use.
+--     allocs-all       allocates the locals, after the present entries: local 0, what ends it, local 1, what ends it, ..
+--     frees-all        frees them, whatever they hold; one entry is before them
+--     copied, sets     reads a local, and sets a local that has room
+--     pointer, slice   reborrows a slice: its pointer, and then the slice at that pointer
 --     number, sliced   a number and a slice fit their types
---     stow             the head goes where entry n was taken out
---     spelled          a contract is met, from a walk with the parameters' machine values written out
---     proved           a function's statement, from a walk that cites the statement of one function
+--     stow             puts the head back where entry n was taken out
+--     spelled          proves a contract, from a walk with the machine values of the parameters written out
+--     proved           proves a function's statement, from a walk that cites the statement of one function
 -- Assumes `Given`.
 pub use mathlib.Core.Path.{_≡_, refl, sym, ap, subst}
 pub use mathlib.Core.List.{List, [], _∷_, _++_}
@@ -47,7 +47,7 @@ use denote.Triple.Spec.{Spec, tripleOf, Meets}
 use denote.Triple.Statement.{Contract, Triple}
 use denote.Triple.Table.{entered, cited}
 
--- ---- the locals: P at their types and blocks, whichever blocks they are; what they hold; room for each, after Γ; and each with what it holds, before Γ
+-- ---- the locals: P for any blocks; their contents; room for each, after Γ; each with its contents, before Γ
 abbrev Each : (ls : List Local) → (List (Ty × ℕ) → Type 1) → Type 1
 Each [] P = P []
 Each (local τ h ∷ ls) P = (b : ℕ) → Each ls (λ E. P ((τ, b) ∷ E))

@@ -1,4 +1,4 @@
--- The records of Tallies, Answers and Orders over the parameters of the functions. Assumes nothing.
+-- The records of Tallies, Answers and Orders, stated over the parameters of the functions. Assumes nothing.
 use mathlib.Core.Path.{_≡_}
 use mathlib.Core.List.{_++_}
 use Prim.Native.Nat.{ℕ, _+_, _-_}
@@ -20,7 +20,7 @@ Pushed t reported full e r = T.Pushed (at-entry reported) (at-entry full) t e (a
 abbrev pub Propagated : Tally → Lent → ℕ → ℕ → Tally → Type 0
 Propagated t reported from end r = T.Propagated (at-entry reported) t from end (at-exit reported) r
 
--- the entries from `from` to `end` stand from `to` on, and end at r
+-- the entries from `from` to `end` are moved to `to`, and end at r
 abbrev pub Shifted : Lent → ℕ → ℕ → ℕ → ℕ → Type 0
 Shifted reported to from end r =
     (r ≡ to + (end - from)) × (take r (at-exit reported) ≡ take to (at-entry reported) ++ drop from (take end (at-entry reported)))
@@ -31,7 +31,7 @@ abbrev pub Raised : Answer → Lent → Lent → State → ℕ → Answer → Ty
 Raised expected reported full st e r =
     A.Raised expected (at-entry reported) (at-entry full) st e (at-exit reported) (at-exit full) r
 
--- what `?` drops: what was written since the state `from`, and the errors from its count to that of `before`
+-- for `?`: what was written since the state `from`, and the errors from its count to that of `before`, are dropped
 abbrev pub Cuts : Slice → Answer → State → State → Type 0
 Cuts reported a from before = A.Cuts (now reported) a (from .pos) (from .reported) (before .reported)
 

@@ -1,4 +1,4 @@
--- Errors as entries of one number each, and the lists that are the front of a slice. Assumes nothing.
+-- Errors packed into one number each, and the list of errors at the start of a slice. Assumes nothing.
 use mathlib.Core.List.{List, map}
 use Prim.Native.Nat.{ℕ, _/_, _%_}
 use lib.ListN.{take}
@@ -8,7 +8,7 @@ use Rattle.definition.specs.Places.{unpack-place}
 abbrev pub error-at : ℕ → ℕ → ℕ → ℕ → Err
 error-at number place expected got = record { number = number; place = unpack-place place; expected = expected; got = got }
 
--- an entry: one byte of number, four of place, one of each kind
+-- unpacks an error: one byte of number, four of place, one byte for each kind
 unfoldable pub unpack : ℕ → Err
 unpack e = error-at (e / 281474976710656 % 256) (e / 65536 % 4294967296) (e / 256 % 256) (e % 256)
 

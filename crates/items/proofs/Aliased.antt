@@ -61,7 +61,7 @@ module _ {w x : List ℕ} {n distinct internal at : ℕ} {t : Token} (u : Seen w
   }
 
   module _ {m : AliasWords} where
-    -- a word is passed
+    -- a modifier is consumed
     modifiers-on : {distinct′ internal′ : ℕ} → Modified w x n distinct′ internal′ (t .next) m
         → ((d : ℕ) (rd : List Consumed) (es : List Err)
         → go d (P.modifiers-turn (record { distinct = distinct; internal = internal }))
@@ -114,7 +114,7 @@ module _ {w x : List ℕ} {n d k : ℕ} {o r f r1 f1 : List ℕ} {s : State} {a 
         (shown-from B (X .pos) (X .kept z .1) (g .read));
   }
 
--- ---- a token by which the construct is named: the end is refused, another token is an error
+-- ---- the token that names the construct: the end is refused, another token is an error
 
 abbrev by : ℕ → ℕ → (Tok → Act (Ans Node)) → Act (Ans Node)
 by k e m = next λ n. if_then_else_ (n is K.End) panic (if_then_else_ (not (n is k)) (P.raise (P.error e (n .place) 0 0)) (m n))
@@ -149,7 +149,7 @@ module _ (d k number : ℕ) (m : Tok → Act (Ans Node)) {w x : List ℕ} {n : �
 
 -- ---- `alias`
 
--- after the type, after `=`, and after the name
+-- the continuations after the type, after `=`, and after the name
 abbrev aliased : ℕ → Place → Tok → Fallible Node → Act (Ans Node)
 aliased words p n ty = wrapped node [] [] 0x51 (λ _. p) (λ _. byte words ∷ []) (n .text) ty
 
@@ -159,7 +159,7 @@ equals-on words p n = P.parse-type >>? λ ty. P.expect 50 >>? λ _. aliased word
 abbrev name-on : ℕ → Place → Tok → Act (Ans Node)
 name-on words p n = P.expect 26 >>? λ _. equals-on words p n
 
--- what follows the name is paid for by it
+-- the name accounts for the records after it
 module _ {w x : List ℕ} {n d : ℕ} {o r f r1 f1 o1 r2 f2 : List ℕ} {s : State} {t : Token} {a b : Answer}
     (q : Asked w x n o r f s) (u : Seen w x n (s .at) t)
     (X : Expects w x n (λ role. P.expect-as role 26) r f (fore s t) r1 f1 a)
@@ -288,6 +288,7 @@ module _ (d : ℕ) {w x : List ℕ} {n : ℕ} {o r f : List ℕ} {s : State} {t 
       ∙ ap (λ (c : ℕ). go d (P.expect 15 >>? λ _. alias-rule c p) S) (M .sum)
       ∙ ap (λ (p : Place). go d (P.expect 15 >>? λ _. alias-rule (m .words) p) S) (u .place)
 
+  -- the modifiers, and what follows them
   pub modified-reads : {o1 r1 f1 : List ℕ} {y : Answer} → Reads node w x n d (P.expect 15 >>? λ _. alias-rule (m .words) (unpack-place (t .place))) o r f (onto s (m .next)) o1 r1 f1 y → Reads node w x n d P.parse-type-alias o r f s o1 r1 f1 y
   modified-reads {y = y} R =
       record {
@@ -296,7 +297,7 @@ module _ (d : ℕ) {w x : List ℕ} {n : ℕ} {o r f : List ℕ} {s : State} {t 
         is = λ rd. say (modified-step rd) (R .is (M .read rd));
       }
     where
-      -- a token was passed before `type`, or none
+      -- a token was consumed before `type`, or none
       passed : (b : Bool) → ltb (s .at) (m .next) ≡ b → s .at + min (next-token (rest w x n (s .at)) .kind) 1 ≤ y .state .at
       passed true e = omega (arith, ltb-true (s .at) (m .next) e, R .moved .at)
       passed false e =
@@ -305,11 +306,11 @@ module _ (d : ℕ) {w x : List ℕ} {n : ℕ} {o r f : List ℕ} {s : State} {t 
 
 -- ---- `path`
 
--- after the string
+-- the continuation after the string
 abbrev string-on : Place → Tok → Act (Ans Node)
 string-on p n = P.expect 50 >>? λ _. P.good (P.node [] 0x52 p [] (n .text)) []
 
--- what follows the string is paid for by it
+-- the string accounts for the record after it
 module _ {w x : List ℕ} {n : ℕ} {o r f r1 f1 : List ℕ} {s : State} {t : Token} {a : Answer}
     (q : Asked w x n o r f s) (u : Seen w x n (s .at) t) (h : t .kind ≡ 3)
     (X : Expects w x n (λ role. P.expect-as role 50) r f (fore s t) r1 f1 a) where

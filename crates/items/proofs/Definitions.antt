@@ -97,7 +97,7 @@ module _ {w x : List ℕ} {n name i j : ℕ} {o r f : List ℕ} {a : Answer} (q 
 
 -- ---- `whole_function`
 
--- a body after the signature e, with the block's record and the function's
+-- a body after the signature e, with the record of the block and that of the function
 abbrev bodied : Place → Tok → Fallible Items → Fallible Items → Act (Ans Node)
 bodied p name e b =
     P.good (P.node (e .item .recs ++ P.node (b .item .recs) 0x40 p (two (b .item .count) ∷ []) [] .recs) 0x50 p
@@ -109,11 +109,11 @@ body-first : (d : ℕ) (p : Place) (name : Tok) (e : Fallible Items) (S : St)
 unfolding go run
 body-first d p name e S = answered d P.parse-body (bodied p name e) S
 
--- the body's items with all errors in the order of the report
+-- the items of the body, with all errors in the order of the report
 abbrev reported : Fallible Items → Fallible Items → Fallible Items
 reported e b = record { item = b .item; errors = b .errors ++ e .errors }
 
--- both records, one by one
+-- the two records, one after the other
 records-seam : (d : ℕ) (p : Place) (name : Tok) (e b : Fallible Items) (S : St)
     → go d (bodied p name e b) S
     ≡ after (after (gives (ok (reported e b)) S)
@@ -128,6 +128,7 @@ records-seam d p name e b S =
     })) S) (sym (append-assoc (e .item .recs) (b .item .recs) _))
 
 module _ {w x : List ℕ} {n d name i j : ℕ} {o r f : List ℕ} {a : Answer} (q : FunctionAsked w x n o r f name a i j) where
+  -- a fatal or refused signature is returned; so is a refused body
   pub whole-stops : {p : Place} → Stopped a → FunctionOn w x n d 0 p name i j o r f a o r f a
   whole-stops {p} nd = record {
     moved =
@@ -167,7 +168,7 @@ module _ {w x : List ℕ} {n d name i j : ℕ} {o r f : List ℕ} {a : Answer} (
           (rebased (B .never) (g .item .recs) (g .errors) (g .tree) (g .reported) (B .is (g .read))));
     }
 
-    -- what `exchange` asks for
+    -- what `exchange` requires
     pub whole-order : length r1 ≡ length r
         → (j ≤ a .state .reported) × ((a .state .reported ≤ b .state .reported)
         × ((b .state .reported ≤ 256) × (b .state .reported ≤ length r1)))
@@ -246,24 +247,24 @@ module _ {w x : List ℕ} {n d name i j : ℕ} {place : ℕ} {o r f : List ℕ} 
           (good-of h (rebased (B .never) (g .item .recs) (g .errors) (g .tree) (g .reported) (B .is (g .read))));
     }
 
--- ---- the signature, and what follows it: two ways to say it
+-- ---- the signature and what follows it, as the code and as the definition divide them
 
 abbrev void-at : Place → Fallible Node
 void-at p = record { item = P.node [] 0x11 p [] []; errors = [] }
 
--- after the parameters
+-- the continuation after the parameters
 abbrev returning : Place → ℕ → Tok → Items → Act (Ans Node)
 returning p external name ps =
     peek λ t. if_then_else_ (t is K.RArrow)
     (next λ _. P.parse-type >>? λ r. P.function-body p external name ps r)
     (P.function-body p external name ps (void-at p))
 
--- after the name
+-- the continuation after the name
 abbrev headed : Place → ℕ → Fallible Tok → Act (Ans Node)
 headed p external name = P.parse-list A.Parameters >>= λ ps. returning p external (name .item) ps
 
 module _ (d : ℕ) (p : Place) (external : ℕ) (name : Tok) where
-  -- the body after the items of a signature
+  -- the body, after the items of a signature
   signed-body : (ps : Items) (r : Fallible Node) (S : St)
       → go d (P.function-body p external name ps r) S
       ≡ go d (function-on p external name (record { item = signed ps r; errors = r .errors ++ ps .errors })) S
@@ -279,7 +280,7 @@ module _ (d : ℕ) (p : Place) (external : ℕ) (name : Tok) where
   typed-body ps (gives (fatal es) S) = refl
   typed-body ps (refused n) = refl
 
-  -- with a type or without
+  -- with a return type or without
   arrowed : (ps : Items) (S : St) (t : Bool)
       → go d (if_then_else_ t (next λ _. P.parse-type >>? λ r. P.function-body p external name ps r)
       (P.function-body p external name ps (void-at p))) S
@@ -316,6 +317,7 @@ fn-first d external p S = go-bind d (P.expect 4) (or-return (λ _. P.expect-iden
 
 module _ {w x : List ℕ} {n d : ℕ} {o r f r1 f1 : List ℕ} {s : State} {a : Answer}
     (X : Expects w x n (λ role. P.expect-as role 4) r f s r1 f1 a) where
+  -- `fn` or the name is missing
   pub function-stops : (external : ℕ) (p : Place) → Stopped a → Reads node w x n d (P.function p external) o r f s o r1 f1 a
   function-stops external p nd =
       record {
@@ -359,7 +361,7 @@ module _ {w x : List ℕ} {n d : ℕ} {o r f r1 f1 : List ℕ} {s : State} {a : 
 
     module _ {p : Place} {o3 r3 f3 : List ℕ} {c : Answer} (q : Asked w x n o r f s) (y : b .status ≡ Done)
         (G : ReadsSignature w x n d p o r2 f2 (b .state) o3 r3 f3 c) where
-      -- `fn` and the name pay for the records of the type, the block and the function
+      -- `fn` and the name account for the records of the type, the block and the function
       function-pays : c .state .pos + budget w x n (c .state .at) + 25 + length (next-token (rest w x n (a .state .at)) .text)
           ≤ s .pos + budget w x n (s .at)
       function-pays =

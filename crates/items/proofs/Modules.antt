@@ -98,7 +98,7 @@ module _ {w x : List ℕ} {n d : ℕ} {o r f : List ℕ} {s : State} {t : Token}
               (λ rd. rw (run, either u 4 19 mf, any u 15 20 21 ma, no u m18, no u m5, no u m54)
               (raise-same d (rw (u .place, u .kind) (sym i)) (adv s u (λ _. plain) f rd)))
 
--- ---- `module`
+-- ---- the loop of `module`
 
 module _ {w x : List ℕ} {n d count : ℕ} {o r f : List ℕ} {s : State} {t : Token}
     (q : Asked w x n o r f s × (count ≤ s .at)) (v : Seen w x n (s .at) t) where
@@ -125,7 +125,7 @@ module _ {w x : List ℕ} {n d count : ℕ} {o r f : List ℕ} {s : State} {t : 
   }
 
   module _ {o1 r1 f1 : List ℕ} {b : Answer} (m0 : t .kind ≡ 0 → ⊥) (u : Reads node w x n d P.parse-top-level-item o r f s o1 r1 f1 b) where
-    -- a turn that reads an item
+    -- a turn that parses an item
     item-turn : (rd : List Consumed) (l : Items)
         → go d (items-on l) (st-of w x n f rd s)
         ≡ go d (P.parse-top-level-item >>= λ a. items-on (P.integrate l a)) (st-of w x n f rd s)

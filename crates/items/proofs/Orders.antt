@@ -24,7 +24,7 @@ use Rattle.steps.specs.Shows.{done-of, ExpectedOf, Expected}
 use Rattle.steps.proofs.Answers.{errs-take}
 use Rattle.expression_laws.specs.Post.{as-answer}
 
--- an act that gives items, and what follows them and their errors
+-- an act that gives items, continued with the items and their errors
 pub answered : {B : Type 0} (d : ℕ) (m : Act Items) (k : Fallible Items → Act (Ans B)) (S : St)
     → go d (m >>= λ i. k (record { item = i; errors = i .errors })) S
     ≡ after (go d (m >>= as-answer) S) (λ z T. go d (or-return k z) T)
@@ -39,7 +39,7 @@ answered d m k S =
     one (gives i T) = refl
     one (refused n) = refl
 
--- where what `?` leaves is there, it is the answer itself
+-- a good answer after `?` is the answer before it
 pub still : {r r′ : List ℕ} {i j k : ℕ} {b c : Answer} → Abandoned r b i j k r′ c → c .status ≡ Done → c ≡ b
 still {r} {r′} {i} {j} {k} {b} {c} v z = one (b .status) (v .is)
   where
@@ -48,7 +48,7 @@ still {r} {r′} {i} {j} {k} {b} {c} v z = one (b .status) (v .is)
     one Fatal m = let y : done-of (c .status) ≡ 0 = rw (m .status) in let u : done-of (c .status) ≡ 1 = rw z in absurd (omega (arith, y, u))
     one (Refused n) m = m .0
 
--- `expect` after an answer keeps its numbers
+-- `expect` after an answer keeps its place
 pub expected-line : {w x : List ℕ} {n k i j : ℕ} {r f r′ f′ : List ℕ} {a y : Answer} → Expected w x n k i j r f a r′ f′ y
     → y .count ≡ a .count
 expected-line {w} {x} {n} {k} {i} {j} {r} {f} {r′} {f′} {a} {y} v = one (a .status) (v .is)
@@ -58,7 +58,7 @@ expected-line {w} {x} {n} {k} {i} {j} {r} {f} {r′} {f′} {a} {y} v = one (a .
     one Fatal m = rw (m .0)
     one (Refused u) m = rw (m .0)
 
--- the errors of the later part stand before those of the earlier
+-- the errors of the later part come before those of the earlier
 pub turned : {r r′ : List ℕ} {j k m : ℕ} (E es fs : List Err) → Exchanged r j k m r′ → j ≤ k → k ≤ m → length E ≡ j
     → length (E ++ es) ≡ k → errs r m ≡ E ++ (es ++ fs) → errs r′ m ≡ E ++ (fs ++ es)
 turned {r} {r′} {j} {k} {m} E es fs x jk km lj lk e =
@@ -67,7 +67,7 @@ turned {r} {r′} {j} {k} {m} E es fs x jk km lj lk e =
     (errs-take r k m km ∙ ap (λ (l : List Err). take k l) (e ∙ sym (append-assoc E es fs)) ∙ take-at (E ++ es) fs k lk)
     (e ∙ sym (append-assoc E es fs))
 
--- a token that pays is of some kind
+-- if the budget from i on is at least 16, the token there is not the end
 pub real : {w x : List ℕ} {n : ℕ} (i : ℕ) → Held w x n → 16 ≤ budget w x n i → 0 < next-token (rest w x n i) .kind
 unfolding spend
 real {w} {x} {n} i q h =

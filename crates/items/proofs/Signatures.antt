@@ -94,11 +94,11 @@ module _ {w x : List ℕ} {n d : ℕ} {place : ℕ} {o r f : List ℕ} {s : Stat
 
 -- ---- `signature`
 
--- the items of a signature: the parameters e, and the type t
+-- the items of a signature: the parameters e and the type t
 abbrev pub signing : Fallible Items → Fallible Node → Act (Ans Items)
 signing e t = as-answer (record { count = e .item .count; recs = e .item .recs ++ t .item .recs; errors = t .errors ++ e .errors })
 
--- what follows the parameters
+-- the continuation after the parameters
 abbrev typing : Place → Fallible Items → Act (Ans Items)
 typing p e = return-rule p >>? signing e
 
@@ -127,6 +127,7 @@ module _ {w x : List ℕ} {n d : ℕ} {p : Place} {o r f o1 r1 f1 : List ℕ} {s
   }
 
   module _ {o2 r2 f2 : List ℕ} {b : Answer} (lr : length r1 ≡ length r) (R : ReadsType w x n d p o1 r1 f1 (a .state) o2 r2 f2 b) where
+    -- what `abandon` requires
     pub signature-cuts : length r2 ≡ length r1 → Cuts r2 b (s .pos) (s .reported) (a .state .reported)
     signature-cuts l =
         record {
@@ -151,7 +152,7 @@ module _ {w x : List ℕ} {n d : ℕ} {p : Place} {o r f o1 r1 f1 : List ℕ} {s
             few = omega (arith, C .full, R .moved);
           }
 
-      -- what `exchange` asks for
+      -- what `exchange` requires
       pub signature-order : c .status ≡ Done → length r3 ≡ length r
           → (s .reported ≤ a .state .reported) × ((a .state .reported ≤ c .state .reported)
           × ((c .state .reported ≤ 256) × (c .state .reported ≤ length r3)))
@@ -185,6 +186,7 @@ module _ {w x : List ℕ} {n d : ℕ} {p : Place} {o r f o1 r1 f1 : List ℕ} {s
             ∙ go-bind d (return-rule p) (or-return (signing (record { item = g .item; errors = g .errors })))
             (st-of w x n f1 (g .read) (a .state))
 
+      -- a fatal or refused type is returned
       pub signature-untyped : a .status ≡ Done → Stopped c → ReadsSignature w x n d p o r f s o2 r3 f2 c
       signature-untyped z nd = record {
         moved = signature-moved;

@@ -1,4 +1,4 @@
--- The records of Items over the parameters of the functions. Assumes nothing.
+-- The records of Items, stated over the parameters of the functions. Assumes nothing.
 use Prim.Native.Nat.{ℕ}
 use denote.Ref.{now}
 use Rattle.definition.specs.Slices.{Slice, Lent, at-entry, at-exit}

@@ -1,4 +1,4 @@
--- What the functions of a module's items show beyond `Reads`. Assumes nothing.
+-- What the functions of `items` ensure beyond `Reads`. Assumes nothing.
 use mathlib.Core.Path.{_≡_}
 use mathlib.Core.Bool.{Bool, true, false}
 use mathlib.Core.List.{List, []}
@@ -28,7 +28,7 @@ abbrev pub flag : Bool → ℕ
 flag false = 0
 flag true = 1
 
--- no token pays for a void type
+-- 7 bytes more: no token accounts for the record of a void type
 pub record ReadsType (w x : List ℕ) (n d : ℕ) (p : Place) (o r f : List ℕ) (s : State) (o′ r′ f′ : List ℕ) (a : Answer) : Type 0 where
   pub moved : Moved w x n (s .pos) (s .reported) (up 7 s) (a .state)
   pub is : (rd : List Consumed) → Shows node (take (s .pos) o) (errs r (s .reported)) [] [] w x n o′ r′ f′ a (go d (return-rule p) (st-of w x n f rd s))
@@ -37,7 +37,7 @@ pub record ReadsSignature (w x : List ℕ) (n d : ℕ) (p : Place) (o r f : List
   pub moved : Moved w x n (s .pos) (s .reported) (up 7 s) (a .state)
   pub is : (rd : List Consumed) → Shows items (take (s .pos) o) (errs r (s .reported)) [] [] w x n o′ r′ f′ a (go d (signature-rule p) (st-of w x n f rd s))
 
--- what a signature leaves for them: `fn` and the name have paid
+-- what the rest of a function requires: room for its own records, for which `fn` and the name account
 pub record FunctionAsked (w x : List ℕ) (n : ℕ) (o r f : List ℕ) (name : ℕ) (a : Answer) (i j : ℕ) : Type 0 where
   pub asked : Asked w x n o r f (a .state)
   pub within : name ≤ n
@@ -52,7 +52,7 @@ pub record FunctionOn (w x : List ℕ) (n d external : ℕ) (p : Place) (name i 
 
 -- ---- aliases and paths
 
--- the loop of the words before `type`, at any nesting: the words, and the place after them
+-- the loop over the words before `type`, at any nesting: the words, and the index of the token after them
 pub record Modified (w x : List ℕ) (n distinct internal at : ℕ) (m : AliasWords) : Type 0 where
   pub words : A.Words
   pub sum : words .distinct + words .internal ≡ m .words
@@ -65,7 +65,7 @@ pub record Modified (w x : List ℕ) (n distinct internal at : ℕ) (m : AliasWo
 
 -- ---- the module
 
--- all n tokens read: the records from the file's first byte on, both lists, and the count of items
+-- after all n tokens: the records from the file's first byte on, both lists, and the count of items
 pub record ReadsModule (w x : List ℕ) (n d : ℕ) (o r f : List ℕ) (a : Answer) : Type 0 where
   pub room : a .state .pos ≤ budget w x n 0
   pub reported : a .state .reported ≤ a .state .full

@@ -1,4 +1,4 @@
--- The parts of the definition's functions that functions of the code are of their own. Assumes nothing.
+-- The parts of the definition's functions for which the code has functions of their own. Assumes nothing.
 use mathlib.Core.List.{[], _∷_, _++_}
 use Prim.Native.Nat.{ℕ}
 use lib.Dec.{leb}
@@ -28,7 +28,7 @@ signature-rule p =
     return-rule p >>? λ r.
     as-answer (signed ps r)
 
--- the body, and the function's record
+-- the body, and the record of the function
 abbrev pub function-on : Place → ℕ → Tok → Fallible Items → Act (Ans Node)
 function-on p external name x =
     if leb 1 external then

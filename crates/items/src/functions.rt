@@ -24,7 +24,7 @@ ghost use Rattle.items.specs.Items.{flag};
 ghost use Rattle.steps.specs.Contract.{Asked, Parses};
 ghost use Rattle.items.specs.Contract.{ReadsType, ReadsSignature, FunctionAsked, FunctionOn};
 
-// [`->` type]; void where none is given, at the function's place.
+// [`->` type]. Without an arrow the type is void, at `place`.
 fn return_type(
     tokens: &[u32],
     text: &[u8],
@@ -53,7 +53,8 @@ fn return_type(
     write_node(file, text, a, place, tag::VOID, Numbers::None)
 }
 
-// parameters return_type. The answer's `line` is the count of parameters; the errors of the type are reported before theirs, and a fatal type drops theirs.
+// parameters return_type. `count` of the answer is that of the parameters. Errors of the type are reported before
+// those of the parameters; a fatal type drops the latter.
 fn signature(
     tokens: &[u32],
     text: &[u8],
@@ -91,7 +92,7 @@ fn signature(
     }
 }
 
-// Behind the signature of an external function that began in the state `from`: `;`. The name is that of the token at `name`.
+// Parses the `;` after the signature of an external function that began in the state `from`; its name is at `name`.
 fn external_function(
     tokens: &[u32],
     text: &[u8],
@@ -122,7 +123,7 @@ fn external_function(
     )
 }
 
-// A function's body and its record. The body's errors are reported before those of the signature.
+// Parses the body of a function and writes its record. Errors of the body are reported before those of the signature.
 fn whole_function(
     tokens: &[u32],
     text: &[u8],
@@ -166,7 +167,7 @@ fn whole_function(
     )
 }
 
-// `fn` name signature (`;` | body), the first where the function is external.
+// `fn` name signature (`;` | body), `;` where the function is external.
 fn function(
     tokens: &[u32],
     text: &[u8],

@@ -1,4 +1,4 @@
-// The items of a module, and the module.
+// The top-level items of a module, and the module.
 mod functions;
 mod others;
 
@@ -23,7 +23,7 @@ ghost use Rattle.steps.specs.Contract.{Asked, Parses};
 ghost use Rattle.expression_laws.specs.Contract.{LoopOn};
 ghost use Rattle.items.specs.Rules.{items-on};
 
-// parse_top_level_item
+// parse_top_level_item: function_definition | type_alias | use_path | top_level_var_declaration | assembly
 fn top_level_item(
     tokens: &[u32],
     text: &[u8],
@@ -75,7 +75,8 @@ fn top_level_item(
 
 // ---- the module
 
-// parse_module: {top_level_item} to the end, from the state `from` on; `nesting` calls may be open at once. The answer's `count` is that of the items.
+// parse_module: {top_level_item} to the end, from the state `from` on; at most `nesting` counted calls may be open.
+// `count` of the answer is that of the items.
 pub fn module(
     tokens: &[u32],
     text: &[u8],

@@ -24,13 +24,13 @@ ghost use Rattle.items.specs.Items.{Modified};
 ghost use Rattle.items.specs.Rules.{alias-rule, path-rule};
 ghost use Rattle.steps.specs.Contract.{Asked, Parses};
 
-// The words before `type`, 1 for `distinct` and 2 for `internal`, and the place after them.
+// The modifiers before `type`, 1 for `distinct` plus 2 for `internal`, and the index of the token after them.
 struct AliasWords {
     words: u8,
     next: usize,
 }
 
-// {`distinct` | `internal`}, from the token `from` on.
+// Parses {`distinct` | `internal`}, from the token at index `from` on.
 fn modifiers(tokens: &[u32], text: &[u8], n: usize, from: usize) -> AliasWords
     requires { ⌜ Held (now tokens) (now text) n × (from ≤ n) ⌝ }
     ensures { λ r. ⌜ Modified (now (tokens .entry)) (now (text .entry)) n 0 0 from r ⌝ }
@@ -57,7 +57,7 @@ fn modifiers(tokens: &[u32], text: &[u8], n: usize, from: usize) -> AliasWords
     }
 }
 
-// An alias after `type`: name `=` type `;`. The end instead of the name is refused.
+// Parses an alias after `type`: name `=` type `;`. Refuses the end in place of the name.
 fn alias(
     tokens: &[u32],
     text: &[u8],
@@ -141,7 +141,7 @@ pub fn type_alias(
     )
 }
 
-// Behind `use`: string `;`. The end instead of the string is refused.
+// Parses what follows `use`: string `;`. Refuses the end in place of the string.
 fn path(
     tokens: &[u32],
     text: &[u8],

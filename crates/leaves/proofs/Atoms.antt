@@ -1,4 +1,4 @@
--- A token that is a node alone, one law for each return of `literal`, and the end of a group. Assumes nothing.
+-- A node of one token; one law for each return of `literal`; the end of a group. Assumes nothing.
 use mathlib.Core.Path.{_≡_, refl, sym, ap, _∙_}
 use mathlib.Core.Option.{some}
 use mathlib.Core.List.{List, [], _∷_, _++_, append-nil}
@@ -33,11 +33,12 @@ use Rattle.steps.proofs.Answers.{say, finishes, raise-same}
 use Rattle.leaves.specs.Leaves.{there, identifier, Literal, ClosingOf, ClosedOf, Closed}
 use Rattle.leaves.proofs.Errors.{raise-reads}
 
--- ---- a token alone is a node: the record z is written after it
+-- ---- a token that is a node: the record z is written for it
 
 module _ {w x : List ℕ} {n : ℕ} {o o′ r f : List ℕ} {s : State} {t : Token} {z : Record} {y : Answer}
     {m : Act (Ans Node)} (q : Asks w x n r f s) (v : Seen w x n (s .at) t) (ns : List Num) (text : List ℕ)
     (u : Finished x o (there s t) z o′ y) where
+  -- an act that reads the token and writes its record reads a node
   pub leaf-reads : size-of z ≤ 16 * min (t .kind) 1 + t .len
       → rec-of x z
       ≡ record { tag = z .tag; place = some (next-token (rest w x n (s .at)) .place); numbers = ns; text = text }
@@ -82,7 +83,7 @@ module _ {w x : List ℕ} {n : ℕ} {o o′ r f : List ℕ} {s : State} {t : Tok
 
 -- ---- `literal`
 
--- `parse_atom`, where any number of calls may be opened
+-- `parse_atom`, at any nesting
 abbrev pub Atom : List ℕ → List ℕ → ℕ → List ℕ → List ℕ → List ℕ → State → List ℕ → List ℕ → List ℕ → Answer → Type 0
 Atom w x n o r f s o′ r′ f′ y = (d : ℕ) → Reads node w x n d P.parse-atom o r f s o′ r′ f′ y
 
@@ -145,7 +146,7 @@ module _ {w x : List ℕ} {n : ℕ} {o r f : List ℕ} {s : State} {t : Token} (
 
 -- ---- `close`
 
--- an answer that is refused, or not
+-- the answer is refused, or it is not
 abbrev pub Ended : Answer → Type 0
 Ended a = tagOf the-type (a .status) ≡ 2
 
@@ -172,7 +173,7 @@ module _ {w x : List ℕ} {n : ℕ} {r f : List ℕ} {a : Answer} (q : Asks w x 
       }
 
   module _ {r′ f′ : List ℕ} {b : Answer} (l : Alive a) (e : Expects w x n (λ role. P.expect-as role 42) r f (a .state) r′ f′ b) where
-    -- what `expect` answers is the rest
+    -- what `expect` answers decides
     closes : (y : Answer) → y .state ≡ b .state → ClosingOf (b .status) a b y → Closed w x n r f a r′ f′ y
     closes y z i =
         record {
@@ -182,6 +183,7 @@ module _ {w x : List ℕ} {n : ℕ} {r f : List ℕ} {a : Answer} (q : Asks w x 
               (record { b = b; expects = e; is = i });
         }
 
+    -- refused at `)`; else the answer a with the state after `)`
     pub close-refused : Ended b → Closed w x n r f a r′ f′ b
     close-refused h = closes b refl (if-ended (λ k. ClosingOf k a b b) (b .status) h (λ m. refl))
 

@@ -17,11 +17,12 @@ use Rattle.definition.proofs.Tests.{clash, parts-true}
 use Rattle.leaves.specs.declared.Level.{Level}
 use Rattle.leaves.specs.Leaves.{level-of, Operator, is-arithmetic, Prefix, is-name-alone}
 
--- where a table has the kind k, at r - 1; nowhere where r is 0
+-- the table has the kind k with the number r - 1, or does not have it and r is 0
 pub record Finds (ops : List P.Op) (k r : ℕ) : Type 0 where
   pub is : (t : Tok) → t .kind ≡ k → (found : ℕ → Act (Ans Node)) (other : Act (Ans Node)) (d : ℕ) (S : St)
       → go d (P.find t ops found other) S ≡ go d (elim (eqb r 0) [ true ↦ other | false ↦ found (r - 1) ]) S
 
+-- the search in a table: its end, an entry of this kind, an entry of another
 pub none : {k : ℕ} → Finds [] k 0
 none = record { is = λ t e found other d S. refl }
 
@@ -41,7 +42,7 @@ module _ {k c p : ℕ} {ops : List P.Op} where
 pub finds : {ops : List P.Op} {k r : ℕ} → r ≤ 8 → min r 1 ≤ k → Finds ops k r → Operator ops k r
 finds h g i = record { small = h; real = g; is = i .is }
 
--- at the code's level
+-- for a level of the code
 pub at-level : {v v′ : Level} {k r : ℕ} → v ≡ v′ → r ≤ 8 → min r 1 ≤ k → Finds (P.mapping (level-of v′)) k r
     → Operator (P.mapping (level-of v)) k r
 at-level {v} {v′} {k} {r} e h g i = subst (λ (z : Level). Operator (P.mapping (level-of z)) k r) (sym e) (finds h g i)
@@ -78,7 +79,7 @@ no-operator k e l =
     (eqb-false k K.RightShift (right .1)) (eqb-false k K.Plus (plus .1)) (eqb-false k K.Minus (minus .1))
     (eqb-false k K.Star (star .1)) l)
 
--- the prefix operators as a table, of their tags
+-- the prefix operators as a table of their tags
 abbrev pub prefixes : List P.Op
 prefixes = P.on K.Ampersand 0x26 ∷ P.on K.Star 0x27 ∷ P.on K.Tilde 0x29 ∷ P.on K.Bang 0x2A ∷ []
 
@@ -104,6 +105,7 @@ no-prefix z =
 
 -- ---- a name alone
 
+-- an identifier, followed by neither a suffix nor `(`
 pub record NameAlone (k next : ℕ) : Type 0 where
   pub name : k ≡ K.Identifier
   pub dot : next ≡ K.Dot → ⊥

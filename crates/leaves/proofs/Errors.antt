@@ -1,4 +1,4 @@
--- An error made, whatever follows it. Assumes nothing.
+-- Making an error, with any continuation. Assumes nothing.
 use mathlib.Core.Path.{_≡_, refl, sym, ap, subst}
 use mathlib.Core.Bool.{Bool, true, false}
 use mathlib.Core.List.{List, _++_}
@@ -26,7 +26,7 @@ use Rattle.steps.proofs.Tokens.{fore}
 use Rattle.steps.proofs.Moves.{asks-fore, fore-moved, making-moved, moved-trans}
 use Rattle.steps.proofs.Answers.{say, raise-shows}
 
--- what holds of both answers holds of the one that is made
+-- what holds of both possible answers holds of the answer made
 pub made-so : {a : Answer} (h : Status) (n : ℕ) (s : State) (C : Answer → Type 0) → a ≡ making h n s
     → (s .full < 255 → C (record { status = h; state = one-more s; place = 0; count = 0 }))
     → (255 ≤ s .full → C (refused-at n s 12)) → C a
@@ -36,7 +36,7 @@ made-so h n s C e p c = subst C (sym e) (one (ltb (s .full) 255) refl)
     one true l = p (ltb-true _ _ l)
     one false l = c (ltb-false _ _ l)
 
--- the definition makes the error, and goes on or is refused
+-- the definition makes the error and continues, or is refused
 module _ {A : Type 0} {w x : List ℕ} {n : ℕ} {r f r′ f′ : List ℕ} {s : State} {e : ℕ} {c a : Answer}
     (q : Asks w x n r f s) (g : Raised c r f s e r′ f′ a) (d : ℕ) (m : Act A) (rd : List Consumed) where
   few : length (errs f (s .full)) ≡ s .full

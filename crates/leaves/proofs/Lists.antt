@@ -30,7 +30,7 @@ make-same : (d : ℕ) (k : Listed) (i : Items) {X Y : Err} {S S′ : St} → X �
 make-same d k i p q = rw (p, q)
 
 module _ {w x : List ℕ} {n : ℕ} {r f : List ℕ} {s : State} {close : ℕ} {t : Token} (q : Asks w x n r f s) (v : Seen w x n (s .at) t) where
-  -- nothing is made, and the list goes on
+  -- no error is made, and the list continues
   goes : {s′ : State} (read : Listed → List Consumed → List Consumed) → Moved w x n (s .pos) (s .reported) s s′
       → s′ .pos ≡ s .pos → s′ .reported ≡ s .reported
       → ((k : Listed) → P.closer k ≡ close → (d : ℕ) (rd : List Consumed) (i : Items)
@@ -64,7 +64,7 @@ module _ {w x : List ℕ} {n : ℕ} {r f : List ℕ} {s : State} {close : ℕ} {
       module _ {e : ℕ} {r′ f′ : List ℕ} {a : Answer} (z : t .kind ≡ 0 → ⊥)
           (u : unpack e ≡ error-at 15 (t .place) 0 (t .kind))
           (g : Raised (noted n (fore s t)) r f (fore s t) e r′ f′ a) where
-        -- the token is passed, and the error made
+        -- the token is consumed, and the error made
         passed : (k : Listed) → P.closer k ≡ close → (d : ℕ) (rd : List Consumed) (i : Items)
             → go d (P.after-item k i) (st-of w x n f rd s)
             ≡ go d (make (unpack e) (loop (ListOf k (P.with-error i (unpack e))) done))

@@ -1,4 +1,4 @@
--- The digits, and the loop of `array_size`. Assumes nothing.
+-- The laws of `digit_value` and `array_size`. Assumes nothing.
 use mathlib.Core.Path.{_≡_, refl, sym, ap, _∙_}
 use mathlib.Core.Bool.{true, false}
 use mathlib.Core.List.{List, [], _∷_}
@@ -15,7 +15,7 @@ use Rattle.definition.proofs.Tests.{clash}
 use Rattle.node.proofs.Laws.{part-length}
 use Rattle.leaves.specs.Leaves.{Valued}
 
--- ---- digits
+-- ---- the value of a character, in each branch
 
 pub no-digit : {c : ℕ} → c ≤ 57 → c < 48 → (0 ≡ digit c) × (0 < 256)
 no-digit {c} h g = (rw (digit, le-leb c 57 h) (omega arith), omega arith)
@@ -58,14 +58,14 @@ first : (t : List ℕ) → 0 < length t → dashed t ≡ eqb (getD t 0 0) 45
 first [] h = absurd (omega arith)
 first (c ∷ cs) h = refl
 
--- the text begins with what stands at its start
+-- the first byte of the text is at its start
 begins : (x : List ℕ) (st len : ℕ) → st + len ≤ length x → (len ≡ 0 → ⊥) → dashed (take len (drop st x)) ≡ eqb (getD x st 0) 45
 begins x st len h z =
     let l = part-length x st len h in
     let s0 : st + 0 ≡ st = omega arith in
     first (take len (drop st x)) (omega arith) ∙ ap (λ (u : ℕ). eqb u 45) (part-at x st len 0 (omega arith) ∙ ap (λ (u : ℕ). getD x u 0) s0)
 
--- ---- the loop: i digits are read, and are the number a
+-- ---- the loop: after i digits, whose value is a
 
 pub record Numbering (x : List ℕ) (st len base i a : ℕ) : Type 0 where
   pub part : st + len ≤ length x
@@ -104,7 +104,7 @@ module _ {x : List ℕ} {st len base i a : ℕ} (k : Numbering x st len base i a
       record { fits = rw (k .plain, v, lt-ltb a (2 ^ 64) (omega arith)); number = λ _. v }
 
   module _ {d : ℕ} (h : i < len) (e : (d ≡ digit (getD x (st + i) 0)) × (d < 256)) where
-    -- one digit more
+    -- one more digit
     next : number base 0 (take len (drop st x)) ≡ number base (a * base + d) (drop (suc i) (take len (drop st x)))
     unfolding number
     next =

@@ -1,4 +1,4 @@
--- The records of Leaves over the parameters of the functions. Assumes nothing.
+-- The records of Leaves, stated over the parameters of the functions. Assumes nothing.
 use Prim.Native.Nat.{ℕ}
 use denote.Ref.{now}
 use Rattle.definition.specs.Slices.{Slice, Lent, at-entry, at-exit}

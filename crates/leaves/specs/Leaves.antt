@@ -1,4 +1,4 @@
--- What the functions below the cycle show. Assumes nothing.
+-- What the functions of `leaves` ensure. Assumes nothing.
 use mathlib.Core.Path.{_≡_}
 use mathlib.Core.Bool.{Bool, true, false, _&&_, _||_, not}
 use mathlib.Core.List.{List, _++_}
@@ -48,11 +48,11 @@ pub record Counted (h : Status) (n r : ℕ) : Type 0 where
   pub low : n ≤ r
   pub high : r ≤ n + 1
 
--- the items with some errors more
+-- the items with the errors es added
 abbrev pub with-errors : Items → List Err → Items
 with-errors i es = record { count = i .count; recs = i .recs; errors = i .errors ++ es }
 
--- after an item the list goes on
+-- the list continues after an item and its separator
 pub record Next (w x : List ℕ) (n : ℕ) (k : A.Listed) (r f : List ℕ) (s : State) (r′ f′ : List ℕ) (s′ : State) (d : ℕ) (rd : List Consumed) (i : Items) : Type 0 where
   pub errors : List Err
   pub read : List Consumed
@@ -71,7 +71,7 @@ pub record Commas (w x : List ℕ) (n : ℕ) (r f : List ℕ) (s : State) (close
 
 -- ---- array sizes
 
--- the text is no size that fits
+-- the text is negative or does not fit 64 bits
 abbrev pub unfit : ℕ → List ℕ → Bool
 unfit base t = dashed t || not (ltb (number base 0 t) (2 ^ 64))
 
@@ -89,11 +89,11 @@ level-of Lv.BitShift = A.Shift
 level-of Lv.AddSub = A.AddSub
 level-of Lv.Mul = A.Mul
 
--- the levels by number, the tightest first
+-- the level of a number, the tightest first
 abbrev pub level-at : ℕ → A.Level
 level-at k = pick (eqb k 0) A.Mul (pick (eqb k 1) A.AddSub (pick (eqb k 2) A.Shift (pick (eqb k 3) A.BitAnd (pick (eqb k 4) A.BitXor A.BitOr))))
 
--- the kind k is the operator r - 1 of the table, or none of them where r is 0: which way the definition goes
+-- the kind k is the operator r - 1 of the table, or none if r is 0: which branch the definition takes
 pub record Operator (ops : List P.Op) (k r : ℕ) : Type 0 where
   pub small : r ≤ 8
   pub real : min r 1 ≤ k
@@ -103,7 +103,7 @@ pub record Operator (ops : List P.Op) (k r : ℕ) : Type 0 where
 abbrev pub is-arithmetic : ℕ → Bool
 is-arithmetic k = eqb k K.Bar || eqb k K.Caret || eqb k K.Ampersand || eqb k K.LeftShift || eqb k K.RightShift || eqb k K.Plus || eqb k K.Minus || eqb k K.Star
 
--- the kind k has the prefix tag r, or none where r is 0
+-- the kind k has the prefix tag r, or none if r is 0
 pub record Prefix (k r : ℕ) : Type 0 where
   pub small : r ≤ Tag.BooleanNot
   pub real : min r 1 ≤ k
@@ -111,24 +111,24 @@ pub record Prefix (k r : ℕ) : Type 0 where
 
 -- ---- literals, groups
 
--- the answer of a token that is read
+-- the answer after the token t is consumed
 abbrev pub there : State → Token → Answer
 there s t = record { status = Done; state = record { at = t .next; pos = s .pos; reported = s .reported; full = s .full }; place = t .place; count = 0 }
 
--- the record of a name
+-- the record of an identifier
 abbrev pub identifier : Token → Record
 identifier t = texted (t .place) Tag.Identifier None (t .start) (t .len)
 
--- a name, and the next token neither a suffix nor the arguments of a call
+-- an identifier, and the next token neither a suffix nor the `(` of a call
 abbrev pub is-name-alone : ℕ → ℕ → Bool
 is-name-alone k next = eqb k K.Identifier && not (eqb next K.Dot) && not (eqb next K.DotStar) && not (eqb next K.LBracket) && not (eqb next K.LParen)
 
--- no parenthesis opens what is read
+-- the next token is not `(`
 pub record Literal (w x : List ℕ) (n : ℕ) (o r f : List ℕ) (s : State) : Type 0 where
   pub asked : Asked w x n o r f s
   pub bare : next-token (rest w x n (s .at)) .kind ≡ K.LParen → ⊥
 
--- after the item a, `)` is asked for: b is that answer
+-- a group: a is the answer inside it, b that of its `)`
 abbrev pub ClosingOf : Status → Answer → Answer → Answer → Type 0
 ClosingOf Done a b y = y ≡ record { status = a .status; state = b .state; place = a .place; count = a .count }
 ClosingOf Fatal a b y = y ≡ record { status = a .status; state = b .state; place = a .place; count = a .count }

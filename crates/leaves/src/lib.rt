@@ -1,4 +1,4 @@
-// The functions of parser.rs that call none of the four counted ones: what lists, levels, literals, sizes and groups are made of.
+// Functions of parser.rs that call none of the four counted ones: parts of lists, levels, literals, sizes, groups.
 use definition::kind;
 use definition::parse_error;
 use definition::tag;
@@ -25,7 +25,7 @@ ghost use Rattle.leaves.specs.Leaves.{is-arithmetic, listed-of, Counted,
 ghost use Rattle.steps.specs.Contract.{Asks, Parses, Finishes};
 ghost use Rattle.leaves.specs.Contract.{Literal, Commas, Closed};
 
-// The lists of parse_bounded_list_of.
+// The kinds of lists that parse_bounded_list_of parses.
 pub enum Listed {
     Parameters,
     Arguments,
@@ -44,7 +44,7 @@ pub enum Level {
     Mul,
 }
 
-// The kind that opens a list.
+// The kind of the token that opens a list.
 pub fn opener(what: Listed) -> u32
     ensures { λ r. ⌜ (r ≡ P.opener (listed-of what)) × ((0 < r) × (r < 256)) ⌝ }
 {
@@ -57,7 +57,7 @@ pub fn opener(what: Listed) -> u32
     }
 }
 
-// The kind that closes it.
+// The kind of the token that closes a list.
 pub fn closer(what: Listed) -> u32
     ensures { λ r. ⌜ r ≡ P.closer (listed-of what) ⌝ }
 {
@@ -70,7 +70,7 @@ pub fn closer(what: Listed) -> u32
     }
 }
 
-// One more where the item is there.
+// Counts an item: one more if it was parsed.
 pub fn counted(status: Status, count: usize) -> usize
     requires { ⌜ count < 65536 ⌝ }
     ensures { λ r. ⌜ Counted status count r ⌝ }
@@ -82,7 +82,7 @@ pub fn counted(status: Status, count: usize) -> usize
     }
 }
 
-// What stands between two items of a list: a comma, the end of the list or of the input, or an error.
+// Parses the separator after a list item: a comma; the closer or the end is left; another token is an error.
 pub fn comma(
     tokens: &[u32],
     text: &[u8],
@@ -125,7 +125,7 @@ pub fn comma(
     note(n, reported, full, on, error)
 }
 
-// The value of a digit.
+// The value of a digit of any base.
 fn digit_value(c: u8) -> usize
     ensures { λ r. ⌜ (r ≡ digit c) × (r < 256) ⌝ }
 {
@@ -141,13 +141,13 @@ fn digit_value(c: u8) -> usize
     (c - 87) as usize
 }
 
-// An array's size, where `fits` is true.
+// The value of an array size; `number` is valid only if `fits` is true.
 pub struct Size {
     pub fits: bool,
     pub number: usize,
 }
 
-// `usize::from_str_radix`: the number that a text is in a base, where no dash stands before it and it is below 2 to the 64.
+// `usize::from_str_radix`: the value of a text in a base. Does not fit after a dash, or from 2 to the 64 on.
 pub fn array_size(text: &[u8], start: usize, len: usize, base: usize) -> Size
     requires { ⌜ (start + len ≤ length (now text)) × ((0 < base) × (base < 256)) ⌝ }
     ensures { λ r. ⌜ Valued (take len (drop start (now (text .entry)))) base r ⌝ }
@@ -180,7 +180,7 @@ pub fn array_size(text: &[u8], start: usize, len: usize, base: usize) -> Size
     Size { fits: true, number }
 }
 
-// The operator of a level that a kind is, one more than its position in `ArithmeticBinOp`; 0 where it is none.
+// The operator of a level for a kind: its position in `ArithmeticBinOp` plus 1, or 0 if the kind is none.
 pub fn operator(level: Level, k: u32) -> u8
     ensures { λ r. ⌜ Operator (P.mapping (level-of level)) k r ⌝ }
 {
@@ -206,7 +206,7 @@ pub fn operator(level: Level, k: u32) -> u8
 
 pub const LEVELS: usize = 6;
 
-// The levels by number, the tightest first.
+// The level of a number, the tightest first.
 pub fn level_at(k: usize) -> Level
     ensures { λ r. ⌜ level-of r ≡ level-at k ⌝ }
 {
@@ -228,7 +228,7 @@ pub fn level_at(k: usize) -> Level
     Level::BitwiseOr
 }
 
-// Whether a kind is an operator of any level.
+// Whether a kind is an operator of some level.
 pub fn arithmetic(k: u32) -> bool
     ensures { λ r. ⌜ r ≡ is-arithmetic k ⌝ }
 {
@@ -242,7 +242,7 @@ pub fn arithmetic(k: u32) -> bool
         | (k == kind::STAR)
 }
 
-// The comparison that a kind is, one more than its position in `ComparisonBinOp`; 0 where it is none.
+// The comparison for a kind: its position in `ComparisonBinOp` plus 1, or 0 if the kind is none.
 pub fn comparison_operator(k: u32) -> u8
     ensures { λ r. ⌜ Operator P.comparisons k r ⌝ }
 {
@@ -261,7 +261,7 @@ pub fn comparison_operator(k: u32) -> u8
     if k == kind::R_ANGLE_EQUALS { 3 } else { 0 }
 }
 
-// The tag of a prefix operator; 0 where the kind is none.
+// The tag of the prefix operator of a kind, or 0 if the kind is none.
 pub fn prefix(k: u32) -> u8
     ensures { λ r. ⌜ Prefix k r ⌝ }
 {
@@ -277,7 +277,7 @@ pub fn prefix(k: u32) -> u8
     if k == kind::BANG { tag::BOOLEAN_NOT } else { 0 }
 }
 
-// A leaf of the tree, at the place of the token `t`: its record, whose text is a part of the text slice, and the state after the token.
+// Consumes the token `t` and writes its record.
 fn leaf(file: &mut [u8], text: &[u8], st: State, t: Token, tag: u8, numbers: Numbers) -> Answer
     requires { ⌜ Room file text (st .pos) (16 + t .len) (t .start) (t .len) ⌝ }
     ensures { λ r. ⌜ Finishes (texted (t .place) tag numbers (t .start) (t .len)) file text (there st t) r ⌝ }
@@ -302,7 +302,7 @@ fn leaf(file: &mut [u8], text: &[u8], st: State, t: Token, tag: u8, numbers: Num
     }
 }
 
-// A name.
+// Consumes an identifier and writes its record.
 pub fn name(file: &mut [u8], text: &[u8], st: State, t: Token) -> Answer
     requires { ⌜ Room file text (st .pos) (16 + t .len) (t .start) (t .len) ⌝ }
     ensures { λ r. ⌜ Finishes (identifier t) file text (there st t) r ⌝ }
@@ -310,7 +310,7 @@ pub fn name(file: &mut [u8], text: &[u8], st: State, t: Token) -> Answer
     leaf(file, text, st, t, tag::IDENTIFIER, Numbers::None)
 }
 
-// Whether a token of the kind `k` is a name, and the next one, of the kind `next`, neither a suffix nor the arguments of a call.
+// Whether the kind `k` is an identifier and `next`, the kind after it, neither a suffix nor the `(` of a call.
 pub fn name_alone(k: u32, next: u32) -> bool
     ensures { λ r. ⌜ r ≡ is-name-alone k next ⌝ }
 {
@@ -321,7 +321,7 @@ pub fn name_alone(k: u32, next: u32) -> bool
         & (next != kind::L_PAREN)
 }
 
-// parse_atom, where no parenthesis opens it.
+// parse_atom without its group: integer | identifier | string | `true` | `false`
 pub fn literal(
     tokens: &[u32],
     text: &[u8],
@@ -365,7 +365,7 @@ pub fn literal(
     raise(n, reported, full, on, error)
 }
 
-// The closing parenthesis of a group: the errors of both stay, and the item of the first, also where it is fatal.
+// Parses the `)` of a group. Keeps the item and errors of `a`, also if it is fatal, and adds the errors of the `)`.
 pub fn close(
     tokens: &[u32],
     text: &[u8],

@@ -1,4 +1,4 @@
--- Laws of a list whose front grows by stores. Assumes nothing.
+-- Laws of writing: a list whose front grows by stores. Assumes nothing.
 use mathlib.Core.Path.{_≡_, refl, sym, ap, _∙_}
 use mathlib.Core.Option.{none, some}
 use mathlib.Core.List.{List, [], _∷_, _++_, append-assoc, append-nil}
@@ -13,11 +13,11 @@ use Rattle.definition.specs.Places.{unpack-place}
 use Rattle.definition.specs.Node.{u16, u64, Num, rec-bytes, nums-bytes}
 use Rattle.node.specs.Put.{Grew, Copying, Wrote}
 
--- one byte
+-- one byte is written
 pub grew-one : {o : List ℕ} {p b : ℕ} → p < length o → Grew o p (b ∷ []) 1 (set o p b) (p + 1)
 grew-one {o} {p} {b} h = record { end = refl; size = refl; is = rw add-one (take-suc-set o p b h) }
 
--- some bytes, then some more
+-- bytes are written after other bytes
 pub then : {o o1 o2 bs cs : List ℕ} {p k m q r : ℕ} → Grew o p bs k o1 q → Grew o1 q cs m o2 r → Grew o p (bs ++ cs) (k + m) o2 r
 then {o} {bs = bs} {cs = cs} {p = p} a b =
     record {
@@ -26,7 +26,7 @@ then {o} {bs = bs} {cs = cs} {p = p} a b =
       is = b .is ∙ ap (λ (l : List ℕ). l ++ cs) (a .is) ∙ append-assoc (take p o) bs cs;
     }
 
--- one byte more of a part
+-- one more byte of a part is copied
 pub copied : (o₀ o x : List ℕ) (p st i : ℕ) → p + i < length o → st + i < length x
     → take (p + i) o ≡ take p o₀ ++ take i (drop st x)
     → take (p + (i + 1)) (set o (p + i) (getD x (st + i) 0)) ≡ take p o₀ ++ take (i + 1) (drop st x)
@@ -42,6 +42,7 @@ pub part-length : (x : List ℕ) (st len : ℕ) → st + len ≤ length x → le
 part-length x st len h = length-take-le len (drop st x) (simp length-drop (omega arith))
 
 module _ {o₀ o x : List ℕ} {p st len i : ℕ} where
+  -- the loop of `put_part`: one more byte, its start, its end
   pub copy-more : Copying o₀ x p st len o i → i < len → Copying o₀ x p st len (set o (p + i) (getD x (st + i) 0)) (i + 1)
   copy-more k h =
       record {
@@ -63,7 +64,7 @@ copy-end {x = x} {st = st} {len = len} {i = i} k h =
 pub nothing : (o : List ℕ) (p : ℕ) → Grew o p [] 0 o p
 nothing o p = record { end = omega arith; size = refl; is = sym (append-nil (take p o)) }
 
--- eight bytes are four times two
+-- eight bytes are four times two bytes
 pub eight-twos : (n : ℕ) → u64 n ≡ u16 (n / 281474976710656) ++ (u16 (n / 4294967296) ++ (u16 (n / 65536) ++ u16 n))
 eight-twos n = rw (div-div-eq-div-mul n 281474976710656 256, div-div-eq-div-mul n 4294967296 256, div-div-eq-div-mul n 65536 256)
 
@@ -78,6 +79,7 @@ packed l c h k =
     (rw (line, column), omega arith)
 
 module _ {o o1 o2 o3 t : List ℕ} {ns : List Num} {pos k len p q r tag : ℕ} where
+  -- the start, the numbers and the text of a record are the record
   pub is-record : {line column : ℕ} → Grew o pos (tag ∷ (u16 (4 + k + len) ++ (u16 line ++ u16 column))) 7 o1 p
       → Grew o1 p (nums-bytes ns) k o2 q → Grew o2 q t len o3 r
       → Wrote o pos

@@ -1,5 +1,5 @@
--- The records of Put over the parameters of the functions: first what is written and its length, then the parameters
--- in order. Assumes nothing.
+-- The records of Put, stated over the parameters of the functions: first what is written and its length, then the
+-- parameters in order. Assumes nothing.
 use mathlib.Core.List.{List}
 use Prim.Native.Nat.{ℕ}
 use denote.Ref.{now}

@@ -1,4 +1,4 @@
--- What writing into the file slice does. Assumes nothing.
+-- What writing to the file slice ensures. Assumes nothing.
 use mathlib.Core.Path.{_≡_}
 use mathlib.Core.Option.{none, some}
 use mathlib.Core.List.{List, [], _∷_, _++_}
@@ -10,18 +10,18 @@ use Rattle.node.specs.declared.Numbers.{Numbers}
 use Rattle.node.specs.declared.Numbers.the-variants.{None, Byte, Two, Eight, ByteTwo}
 use Rattle.node.specs.declared.Record.{Record}
 
--- after what stands up to p, the bytes bs are written; they are k, and end at q
+-- the bytes bs, of length k, are written from p to q
 pub record Grew (o : List ℕ) (p : ℕ) (bs : List ℕ) (k : ℕ) (o′ : List ℕ) (q : ℕ) : Type 0 where
   pub end : q ≡ p + k
   pub size : length bs ≡ k
   pub is : take q o′ ≡ take p o ++ bs
 
--- room for k bytes at p, and a part of the text
+-- room for k bytes at p, and a part within the text
 pub record Room (o x : List ℕ) (p k start len : ℕ) : Type 0 where
   pub room : p + k ≤ length o
   pub part : start + len ≤ length x
 
--- the numbers, and how many bytes they are
+-- the numbers of a record, and their width in bytes
 abbrev pub nums-of : Numbers → List Num
 nums-of None = []
 nums-of (Byte b) = byte b ∷ []
@@ -36,11 +36,11 @@ width-of (Two n) = 2
 width-of (Eight n) = 8
 width-of (ByteTwo b n) = 3
 
--- the front of a record: its tag, the length of its body, its place
+-- the start of a record: its tag, the length of its body, its place
 abbrev pub placed : ℕ → ℕ → ℕ → List ℕ
 placed tag size place = tag ∷ (u16 size ++ (u16 (place / 65536) ++ u16 (place % 65536)))
 
--- the record of the definition, and its length
+-- a record as the definition has it, and its length in bytes
 abbrev pub rec-of : List ℕ → Record → Rec
 rec-of x r = record { tag = r .tag; place = some (unpack-place (r .place)); numbers = nums-of (r .numbers); text = take (r .len) (drop (r .start) x) }
 
@@ -53,12 +53,12 @@ bare-of tag numbers t = record { tag = tag; place = none; numbers = nums-of numb
 abbrev pub bare-size : Numbers → ℕ → ℕ
 bare-size numbers len = 3 + width-of numbers + len
 
--- after what stands up to p, the record r is written, of k bytes
+-- the record r, of k bytes, is written from p to q
 pub record Wrote (o : List ℕ) (p : ℕ) (r : Rec) (k : ℕ) (o′ : List ℕ) (q : ℕ) : Type 0 where
   pub end : q ≡ p + k
   pub is : take q o′ ≡ take p o ++ rec-bytes r
 
--- a part of the text being copied: i bytes of it stand
+-- the invariant of copying a part of the text: i bytes are copied
 pub record Copying (o₀ x : List ℕ) (p start len : ℕ) (o : List ℕ) (i : ℕ) : Type 0 where
   pub room : p + len ≤ length o₀
   pub part : start + len ≤ length x

@@ -1,4 +1,5 @@
-// node.rs: the records of the tree, written as fields into the lent file slice. Each function answers where the next byte goes.
+// node.rs: writes the records of the tree to the lent file slice. Each function returns the offset after what it
+// wrote.
 ghost use mathlib.Core.Path.{_≡_};
 ghost use mathlib.Core.List.{[], _∷_};
 ghost use Prim.Native.Nat.{_+_, _<_, _≤_};
@@ -9,7 +10,7 @@ ghost use Rattle.definition.specs.Node.{u16, u64, nums-bytes};
 ghost use Rattle.node.specs.Put.{nums-of, width-of, placed, rec-of, size-of, bare-of, bare-size};
 ghost use Rattle.node.specs.Contract.{Room, part, Grew, Wrote};
 
-// The numbers of a record: none, one byte, two bytes, eight bytes, or one byte and two.
+// The numbers in a record: none, one byte, two bytes, eight bytes, or one byte and two.
 pub enum Numbers {
     None,
     Byte(u8),
@@ -18,7 +19,7 @@ pub enum Numbers {
     ByteTwo(u8, usize),
 }
 
-// A record with a place; its text is a part of a text slice.
+// A record with a place. Its text is a part of a text slice.
 pub struct Record {
     pub tag: u8,
     pub place: usize,
@@ -27,6 +28,7 @@ pub struct Record {
     pub len: usize,
 }
 
+// Writes one byte.
 fn put(file: &mut [u8], pos: usize, b: u8) -> usize
     requires { ⌜ pos < length (now file) ⌝ }
     ensures { λ r. ⌜ Grew (b ∷ []) 1 file pos r ⌝ }
@@ -35,6 +37,7 @@ fn put(file: &mut [u8], pos: usize, b: u8) -> usize
     pos + 1
 }
 
+// Writes a number in two bytes, the high byte first.
 fn put_two(file: &mut [u8], pos: usize, n: usize) -> usize
     requires { ⌜ pos + 2 ≤ length (now file) ⌝ }
     ensures { λ r. ⌜ Grew (u16 n) 2 file pos r ⌝ }
@@ -43,6 +46,7 @@ fn put_two(file: &mut [u8], pos: usize, n: usize) -> usize
     put(file, p, (n % 256) as u8)
 }
 
+// Writes a number in eight bytes, the high byte first.
 fn put_eight(file: &mut [u8], pos: usize, n: usize) -> usize
     requires { ⌜ pos + 8 ≤ length (now file) ⌝ }
     ensures { λ r. ⌜ Grew (u64 n) 8 file pos r ⌝ }
@@ -69,6 +73,7 @@ fn put_numbers(file: &mut [u8], pos: usize, numbers: Numbers) -> usize
     }
 }
 
+// How many bytes the numbers take.
 fn width(numbers: Numbers) -> usize
     ensures { λ r. ⌜ (r ≡ width-of numbers) × (r ≤ 8) ⌝ }
 {
@@ -81,7 +86,7 @@ fn width(numbers: Numbers) -> usize
     }
 }
 
-// A part of a text slice.
+// Writes a part of a text slice.
 fn put_part(file: &mut [u8], text: &[u8], pos: usize, start: usize, len: usize) -> usize
     requires { ⌜ Room file text pos len start len ⌝ }
     ensures { λ r. ⌜ Grew (part text start len) len file pos r ⌝ }
@@ -109,7 +114,7 @@ pub fn place_at(line: u32, column: u32) -> usize
     wide(line) * 0x1_0000 + wide(column)
 }
 
-// The front of a record with a place, whose body has `size` bytes.
+// Writes the start of a record with a place, whose body has `size` bytes: tag, length, line, column.
 fn opening(file: &mut [u8], pos: usize, tag: u8, size: usize, place: usize) -> usize
     requires { ⌜ pos + 7 ≤ length (now file) ⌝ }
     ensures { λ r. ⌜ Grew (placed tag size place) 7 file pos r ⌝ }
@@ -120,7 +125,7 @@ fn opening(file: &mut [u8], pos: usize, tag: u8, size: usize, place: usize) -> u
     put_two(file, p, place % 0x1_0000)
 }
 
-// A record with a place.
+// Writes a record with a place.
 pub fn write_record(file: &mut [u8], text: &[u8], pos: usize, r: Record) -> usize
     requires { ⌜ Room file text pos (16 + r .len) (r .start) (r .len) ⌝ }
     ensures { λ q. ⌜ Wrote (rec-of (now (text .entry)) r) (size-of r) file pos q ⌝ }
@@ -131,7 +136,7 @@ pub fn write_record(file: &mut [u8], text: &[u8], pos: usize, r: Record) -> usiz
     put_part(file, text, p, r.start, r.len)
 }
 
-// A record with no place.
+// Writes a record without a place.
 pub fn write_bare(
     file: &mut [u8],
     text: &[u8],

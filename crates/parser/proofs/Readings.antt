@@ -1,4 +1,4 @@
--- The answers of Read are the definition's: one law for each return of the functions. Assumes nothing.
+-- The answers of Read are those of the definition: one law for each return of the functions. Assumes nothing.
 use mathlib.Core.Path.{_≡_, refl, sym, ap, _∙_, subst}
 use mathlib.Core.Bool.{Bool, true, false}
 use mathlib.Core.Option.{Option, none, some}
@@ -40,7 +40,7 @@ use Rattle.items.specs.Items.{ReadsModule}
 use Rattle.parser.specs.declared.Written.{Written}
 use Rattle.parser.specs.Answer.{refusal-of, refusal-number, answer, tree-file, RestRoom, RestWritten, ReadValidated}
 
--- ---- the module's answer
+-- ---- the answer of `module`
 
 abbrev answered : ℕ → Res Items → Res (Ans Items)
 answered d q = after q (λ i S. go d (as-answer i) S)
@@ -79,12 +79,12 @@ refuses d (gives i S) n e = absurd (let z : 0 ≡ suc n = ap number-of e in omeg
 refuses d (refused m) n e = let z : suc m ≡ suc n = ap number-of e in let y : m ≡ n = omega (arith, z) in rw y
 
 module _ {w x : List ℕ} {n : ℕ} {o r f : List ℕ} {a : Answer} (B : ReadsModule w x n 96 o r f a) where
-  -- the module's answer, as the parser's
+  -- the answer of `module` is that of the definition's parser
   parsed : answered 96 (parse-module (rest w x n 0))
       ≡ go 96 (items-on (P.no-items []) >>= as-answer) (begin (rest w x n 0))
   parsed = sym (go-bind 96 (items-on (P.no-items [])) as-answer _ ∙ ap (λ (q : Res Items). answered 96 q) (go-module (rest w x n 0)))
 
-  -- a tree: its items, their records from the file's first byte on, and both lists
+  -- the tree: the items, their records from the file's first byte on, and both lists
   pub record Tree : Type 0 where
     pub tree : Items
     pub state : St
@@ -94,6 +94,7 @@ module _ {w x : List ℕ} {n : ℕ} {o r f : List ℕ} {a : Answer} (B : ReadsMo
     pub reported : errs r (a .state .reported) ≡ tree .errors
     pub count : tree .count ≡ a .count
 
+  -- a good answer has a tree; a refused one is refused by the definition; no answer is fatal
   pub tree-of : a .status ≡ Done → Tree
   tree-of z =
       let g = good-of z (B .is) in
@@ -136,7 +137,7 @@ module _ {w x : List ℕ} {n : ℕ} {o r f : List ℕ} {a : Answer} (B : ReadsMo
 
 -- ---- the definition's answer for at least one token
 
--- what becomes of the parser's answer
+-- the outcome of a parse
 outcome : List Err → Res Items → O.Outcome
 outcome es (gives i S) = O.file (file-bytes es i (S .full))
 outcome es (refused n) = O.refused n
@@ -172,7 +173,7 @@ none-of o ts es n h e = opened o ts es h ∙ ap (λ (r : Res Items). O.written o
 some-tokens : (w x : List ℕ) (n : ℕ) → 0 < n → 0 < length (rest w x n 0)
 some-tokens w x n h = rw (rest-cons w x n 0 h) (omega arith)
 
--- the file of equal parts
+-- files of equal parts are equal
 same-file : {A A′ : List ℕ} {c c′ : ℕ} {r r′ f f′ : List Err} (es : List Err) → A ≡ A′ → c ≡ c′ → r ≡ r′ → f ≡ f′
     → tree-file A c es r f ≡ tree-file A′ c′ es r′ f′
 same-file es p q s t = rw (p, q, s, t)
@@ -186,6 +187,7 @@ module _ (T : List ℕ) (n : ℕ) (E : List ℕ) (m : ℕ) (X : List ℕ) (g : i
   good : Tested T n E m X (accepted .value)
   good = tested T n E m X (accepted .value) (accepted .is)
 
+  -- what `module` requires, and what `end_file` requires
   pub module-asked : {o r f : List ℕ} → 65536 ≤ length o → 256 ≤ length r → 256 ≤ length f → Asked T X n o r f (record { at = 0; pos = 0; reported = 0; full = 0 })
   module-asked lo lr lf =
       record {
@@ -242,7 +244,7 @@ module _ (T : List ℕ) (n : ℕ) (E : List ℕ) (m : ℕ) (X o : List ℕ) {o1 
 
 -- ---- `read`
 
--- the tests of the file slice and of the records
+-- Read by the tests of the file slice and of the records
 tested-by : Bool → Option O.Validated → List ℕ → O.Written
 tested-by true x o = O.kept 3 o
 tested-by false none o = O.kept 8 o
@@ -266,7 +268,7 @@ module _ (T : List ℕ) (n : ℕ) (E : List ℕ) (m : ℕ) (X o : List ℕ) wher
   read-short h e = rw e (sym (read-is ∙ ap (λ (b : Bool). tested-by b (O.validate T n E m X) o) (lt-ltb (length o) 65536 h)))
 
   module _ (h : 65536 ≤ length o) where
-    -- with a file slice that is long enough
+    -- the file slice is long enough
     read-long : O.read T n E m X o ≡ tested-by false (O.validate T n E m X) o
     read-long = read-is ∙ ap (λ (b : Bool). tested-by b (O.validate T n E m X) o) (le-ltb (length o) 65536 h)
 
@@ -274,7 +276,7 @@ module _ (T : List ℕ) (n : ℕ) (E : List ℕ) (m : ℕ) (X o : List ℕ) wher
     unfolding tested-by
     read-bad g e = rw e (sym (read-long ∙ ap (λ (x : Option O.Validated). tested-by false x o) (absent (O.validate T n E m X) g)))
 
-    -- with good records it is what is done with their tokens and errors
+    -- for valid records it is what the definition reads of their tokens and errors
     pub read-accepted : {v : O.Validated} → O.validate T n E m X ≡ some v → O.read T n E m X o ≡ O.read-validated o (v .tokens) (v .errors)
     unfolding tested-by
     read-accepted e = read-long ∙ ap (λ (x : Option O.Validated). tested-by false x o) e

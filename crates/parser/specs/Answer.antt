@@ -1,4 +1,4 @@
--- The answer of Read. Assumes nothing.
+-- The answer of Read, and what the end of a file holds. Assumes nothing.
 use mathlib.Core.Path.{_≡_}
 use mathlib.Core.Bool.{true}
 use mathlib.Core.Option.{some}
@@ -30,11 +30,11 @@ answer r o = record { number = r .number; bytes = r .bytes; file = o }
 
 -- ---- after the tree
 
--- the module's field of so many items, the token errors, the reported errors, the full list
+-- a file: the tree, the module's field, the token errors, the reported errors, the full list
 abbrev pub tree-file : List ℕ → ℕ → List Err → List Err → List Err → List ℕ
 tree-file tree count es reported full = tree ++ field Tag.Module (u16 count) ++ errs-bytes Tag.TokenError es ++ errs-bytes Tag.ReportedError reported ++ errs-bytes Tag.FullError full
 
--- there is room for them after p, and m token errors are good
+-- room for what follows the tree after p; the m token errors are valid
 pub record RestRoom (o : List ℕ) (p : ℕ) (E : List ℕ) (m : ℕ) (r : List ℕ) (reported-count : ℕ) (f : List ℕ) (full-count : ℕ) : Type 0 where
   pub room : p + 10 * m + 10 * reported-count + 10 * full-count + 18 ≤ length o
   pub words : 4 * m ≤ length E
@@ -42,13 +42,13 @@ pub record RestRoom (o : List ℕ) (p : ℕ) (E : List ℕ) (m : ℕ) (r : List 
   pub reps : reported-count ≤ length r
   pub fulls : full-count ≤ length f
 
--- they stand there, with zeros after them, and end at q
+-- what follows the tree is written and ends at q, with zeros after it
 pub record RestWritten (o : List ℕ) (p count : ℕ) (E : List ℕ) (m : ℕ) (r : List ℕ) (reported-count : ℕ) (f : List ℕ) (full-count : ℕ) (o′ : List ℕ) (q : ℕ) : Type 0 where
   pub end : (es : List Err) → errors-of E 0 m ≡ some es → q ≡ length (tree-file (take p o) count es (errs r reported-count) (errs f full-count))
   pub is : (es : List Err) → errors-of E 0 m ≡ some es → o′ ≡ filled (length o) (tree-file (take p o) count es (errs r reported-count) (errs f full-count))
 
--- ---- good records
+-- ---- records that are validated
 
--- the answer is that of their tokens and errors
+-- the answer is that of the definition for their tokens and errors
 abbrev pub ReadValidated : List ℕ → ℕ → List ℕ → ℕ → List ℕ → List ℕ → List ℕ → Written → Type 0
 ReadValidated T n E m X o o′ r = (h : O.Validated) → O.validate T n E m X ≡ some h → answer r o′ ≡ O.read-validated o (h .tokens) (h .errors)

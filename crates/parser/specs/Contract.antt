@@ -1,4 +1,4 @@
--- The records of Answer over the parameters of the functions. Assumes nothing.
+-- The records of Answer, stated over the parameters of the functions. Assumes nothing.
 use mathlib.Core.Path.{_≡_}
 use mathlib.Core.Bool.{true}
 use Prim.Native.Nat.{ℕ}
@@ -18,7 +18,7 @@ RestWritten file pos count errors m reported reported-count full full-count r =
     A.RestWritten (at-entry file) pos count (at-entry errors) m (at-entry reported) reported-count (at-entry full) full-count
     (at-exit file) r
 
--- the records that Read is given are good
+-- the records passed to Read are valid
 abbrev pub Accepted : Slice → ℕ → Slice → ℕ → Slice → Type 0
 Accepted tokens count errors m text = is-some (O.validate (now tokens) count (now errors) m (now text)) ≡ true
 

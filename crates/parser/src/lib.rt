@@ -1,4 +1,4 @@
-// Read: token records to a tree file.
+// Read: parses token records to a tree file.
 use definition::limit;
 use definition::refusal;
 use definition::tag;
@@ -18,7 +18,7 @@ ghost use Rattle.definition.specs.Operations as O;
 ghost use Rattle.parser.specs.Answer.{answer, refusal-of, refusal-number};
 ghost use Rattle.parser.specs.Contract.{RestRoom, RestWritten, Accepted, ReadValidated};
 
-// The number of a refusal, or 0, and the count of file bytes.
+// The result: the number of the refusal or 0, and the count of file bytes.
 pub struct Written {
     pub number: u32,
     pub bytes: usize,
@@ -30,7 +30,7 @@ fn refused(number: u32) -> Written
     Written { number, bytes: 0 }
 }
 
-// The number of a refusal; 0 for none.
+// The number of the refusal in an answer, or 0.
 fn number_of(status: Status) -> u32
     ensures { λ r. ⌜ r ≡ refusal-number status ⌝ }
 {
@@ -41,7 +41,8 @@ fn number_of(status: Status) -> u32
     }
 }
 
-// Behind the records of `count` items, which stand up to `pos`: the module's field, the errors, and zeros to the end. The file's bytes are counted.
+// Completes a file that has the records of `count` items up to `pos`: writes the module, the errors, and zeros to the
+// end. Returns the count of file bytes.
 fn end_file(
     file: &mut [u8],
     pos: usize,
@@ -64,7 +65,7 @@ fn end_file(
     end
 }
 
-// Good records, at least one token: the tree, its errors and zeros; of a refusal zeros alone.
+// Read, for valid records and at least one token: writes the tree, the errors and zeros; if refused, zeros only.
 pub fn read_tokens(
     tokens: &[u32],
     count: usize,
@@ -114,7 +115,7 @@ pub fn read_tokens(
     Written { number: 0, bytes }
 }
 
-// Read.
+// Read: validates the records, parses the tokens, and writes the tree file.
 pub fn read(
     tokens: &[u32],
     count: usize,

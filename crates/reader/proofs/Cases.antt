@@ -70,12 +70,12 @@ module _ (s o : List ℕ) where
 pub cleared-is : {o o′ : List ℕ} (k : ℕ) → Cleared o 0 o′ → answer (record { number = k; bytes = 0 }) o′ ≡ written o (O.refused k)
 cleared-is {o} k c = ap (λ (v : List ℕ). answer (record { number = k; bytes = 0 }) v) (cleared-filled o 0 [] c refl refl (omega arith))
 
--- what a slice holds stands before the rest of it
+-- a slice is its first words and the rest
 before-rest : (n : ℕ) (T ws : List ℕ) → take n T ≡ ws → T ≡ ws ++ drop n T
 before-rest n T ws e = sym (take-append-drop n T) ∙ ap (λ (v : List ℕ). v ++ drop n T) e
 
 module _ (s o : List ℕ) (q : Stands s origin × (length s ≤ 16384) × (65536 ≤ length o)) where
-  -- by what the loop comes to
+  -- by the result of the loop
   runs : {t : Z.Tokens} → Z.tokenize-within 2048 (rest s origin) ≡ t → written o (read-tokenised t) ≡ whole s o
   unfolding whole
   runs e =
@@ -94,7 +94,7 @@ module _ (s o : List ℕ) (q : Stands s origin × (length s ≤ 16384) × (65536
       d : Done 2048 (rest s origin) T E X f
       d = ran-done g n
 
-      -- the records are good
+      -- the records of the loop are valid
       validated-back : validate T (f .tokens) E (f .errors) X ≡ some (record { tokens = d .ts; errors = d .es })
       validated-back =
           cc (

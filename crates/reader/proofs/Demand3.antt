@@ -1,4 +1,4 @@
--- Demand 3 of two answers of `read_script`, each by its contract. Assumes nothing.
+-- Demand 3 about two answers of `read_script`, by its contract. Assumes nothing.
 use mathlib.Core.Path.{_≡_, ap, sym, _∙_}
 use mathlib.Core.List.{List}
 use Prim.Native.Nat.{ℕ}
@@ -10,7 +10,7 @@ use Rattle.parser.specs.Answer.{answer}
 use Rattle.reader.specs.OneTree.{OneTree}
 use Rattle.reader.proofs.Answers.{number-is, file-is}
 
--- of the script s on the file slice o the answer is r, with o′ at exit; of t on p it is q, with p′ at exit
+-- for the script s and the file slice o the answer is r, with o′ at exit; for t and p it is q, with p′ at exit
 pub one-tree-of-answers : (s o t p : List ℕ) {o′ p′ : List ℕ} {r q : Written} → answer r o′ ≡ whole s o
     → answer q p′ ≡ whole t p → OneTree s o′ r t p′ q
 one-tree-of-answers s o t p a b x y h k e =

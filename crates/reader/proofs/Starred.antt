@@ -1,4 +1,4 @@
--- The starred scripts over the operation, on any file slice. Assumes nothing.
+-- The starred scripts: the answers of the operation, for any file slice. Assumes nothing.
 use mathlib.Core.Path.{_≡_, refl, sym, ap, _∙_}
 use mathlib.Core.Bool.{Bool, true, false}
 use mathlib.Core.Option.{Option, none, some}
@@ -19,7 +19,7 @@ use Rattle.parser.specs.declared.Written.{Written}
 use Rattle.parser.specs.Answer.{answer}
 use Rattle.reader.proofs.Cases.{whole-by, whole-is}
 
--- ---- the file does not hang on the slice
+-- ---- the file does not depend on the slice
 
 written-anywhere : (o p : List ℕ) (r : O.Outcome) → T.file (written o r) ≡ T.file (written p r)
 written-anywhere o p (O.file f) =
@@ -42,10 +42,11 @@ anywhere s o p h g =
 
 -- ---- the rows
 
--- each answer of `read_script`, by its contract, has the row's number and the row's bytes
+-- each answer of `read_script` has the number and the bytes of the row
 abbrev pub Holds : Row → Type 0
 Holds x = (o o′ : List ℕ) (r : Written) → 65536 ≤ length o → answer r o′ ≡ whole (x .script) o → T.file (answer r o′) ≡ x .file
 
+-- all rows hold
 pub data Each : List Row → Type 0 where
   none-left : Each []
   one-more : {x : Row} {xs : List Row} → Holds x → Each xs → Each (x ∷ xs)

@@ -1,4 +1,4 @@
-// The whole operation: a script to its tree file.
+// The whole operation: reads a script and writes its tree file.
 use definition::limit;
 use definition::refusal;
 use parser::Written;
@@ -16,7 +16,7 @@ ghost use Rattle.tokenizer.specs.Contract.{RunAsks, Ran};
 ghost use Rattle.parser.specs.Answer.{answer};
 ghost use Rattle.reader.specs.OneTree.{OneTree};
 
-// A refusal after the tests: the file is zeros.
+// A refusal after the first three tests: clears the file.
 fn cleared(number: u32, file: &mut [u8]) -> Written
     ensures { λ r. ⌜ answer r (now (file .exit)) ≡ O.written (now (file .entry)) (O.refused number) ⌝ }
 {
@@ -68,7 +68,7 @@ fn read_valid(script: &[u8], file: &mut [u8]) -> Written
     r.written
 }
 
-// The whole operation.
+// The whole operation: tokenises a script, parses it, and writes its tree file.
 pub fn read_script(script: &[u8], file: &mut [u8]) -> Written
     ensures { λ r. ⌜ answer r (now (file .exit)) ≡ O.whole (now (script .entry)) (now (file .entry)) ⌝ }
 {
@@ -93,7 +93,7 @@ pub fn read_script(script: &[u8], file: &mut [u8]) -> Written
     read_valid(script, file)
 }
 
-// The entry for C: the number, the file's bytes through `bytes`.
+// The entry for C: returns the number, and stores the count of file bytes to `bytes`.
 #[no_mangle]
 pub extern "C" fn dn_read(script: &[u8], file: &mut [u8], bytes: &mut usize) -> u32
     ensures { λ r. ⌜ record { number = r; bytes = now (bytes .exit); file = now (file .exit) }
@@ -104,14 +104,14 @@ pub extern "C" fn dn_read(script: &[u8], file: &mut [u8], bytes: &mut usize) -> 
     w.number
 }
 
-// The answers for two scripts.
+// The results for two scripts.
 pub struct TwoAnswers {
     first: Written,
     second: Written,
 }
 
-// Demand 3 of the code itself: two scripts are read, each into a file slice of its own, and the two answers are as
-// the demand says. No program calls this: it is here so that the checker ties the theorem to `read_script`.
+// Demand 3 about the code itself: reads two scripts, each to a file slice of its own; its contract is the demand. No
+// program calls it: it is here so that the checker ties the theorem to `read_script`.
 pub fn two_scripts_one_tree(
     first: &[u8],
     left: &mut [u8],

@@ -1,4 +1,4 @@
-// What the programs share that read a list of cases (beside/README.md has the formats) from standard input.
+// Shared by the programs that read a list of cases from standard input (beside/README.md has the formats).
 use libc::STDIN_FILENO;
 use libc::STDOUT_FILENO;
 
@@ -26,7 +26,7 @@ pub fn long(word: u32) -> usize {
 
 // ---- bytes
 
-// Reads so many bytes to the start of a slice; whether they were there.
+// Reads `n` bytes to the start of a slice; false if there are fewer.
 pub fn fill(space: &mut [u8], n: usize) -> bool {
     if space.len() < n {
         return false;
@@ -37,7 +37,7 @@ pub fn fill(space: &mut [u8], n: usize) -> bool {
 
 // ---- counts
 
-// A list that ends inside a case differs there.
+// The outcome of a case. A list that ends inside a case differs there.
 pub enum Found {
     Agrees,
     Differs,
@@ -52,7 +52,7 @@ pub fn compared(agrees: bool) -> Found {
     }
 }
 
-// `first` is the number, from 0, of the first case that differs.
+// The counts of cases; `first` is the number, from 0, of the first case that differs.
 pub struct Counts {
     pub agree: u64,
     pub differ: u64,
@@ -93,7 +93,7 @@ pub fn is_end(found: Found) -> bool {
     }
 }
 
-// One case more.
+// Counts one more case.
 pub fn counted(counts: Counts, found: Found) -> Counts {
     match found {
         Found::Agrees => one_agrees(counts),

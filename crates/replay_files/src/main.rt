@@ -8,7 +8,7 @@ use replay_cases::long;
 use replay_cases::three;
 use replay_cases::wide;
 
-// What the file slice holds before each call.
+// The bytes of the file slice before each call.
 const FILLER: u8 = 165;
 
 // The most bytes of a script and of a file slice in a list: more than a script may have, or a file needs.
@@ -16,7 +16,7 @@ const SCRIPT: usize = 20000;
 
 const FILE: usize = 70000;
 
-// What opens a case: the lengths of the script and of the file slice, and the answer without the tree file.
+// The header of a case: the lengths of the script and the file slice, and the expected result without the tree file.
 struct Opening {
     script_bytes: usize,
     file_bytes: usize,
@@ -33,7 +33,7 @@ fn opened(b: &[u8; 10]) -> Opening {
     }
 }
 
-// What the file slice has after the tree file: it is untouched where 1, 2 or 3 is given.
+// The bytes that the file slice should have after the tree file: refusals 1 to 3 leave it untouched.
 fn rest(number: u32) -> u8 {
     if (number == 1) | (number == 2) | (number == 3) {
         FILLER
@@ -42,7 +42,7 @@ fn rest(number: u32) -> u8 {
     }
 }
 
-// Whether the whole operation gives the answer of a case; `expected` is the file slice at exit.
+// Whether the whole operation gives the result of a case; `expected` is the file slice at exit.
 fn file_agrees(script: &[u8], file: &mut [u8], expected: &[u8], o: Opening) -> bool {
     let got = reader::read_script(script, file);
     if got.number != o.number {
@@ -54,7 +54,7 @@ fn file_agrees(script: &[u8], file: &mut [u8], expected: &[u8], o: Opening) -> b
     check::same(file, expected)
 }
 
-// The same with the script and the slices cut to their lengths.
+// The same, with the script and the slices cut to their lengths.
 fn parts_agree(script: &[u8], file: &mut [u8], expected: &[u8], o: Opening) -> bool {
     let from = 0;
     let script_bytes = o.script_bytes;
@@ -76,7 +76,7 @@ fn parts_agree(script: &[u8], file: &mut [u8], expected: &[u8], o: Opening) -> b
     )
 }
 
-// Reads the script and the tree file of a case, and compares.
+// Reads the script and the tree file of a case, and compares the results.
 fn script_agrees(o: Opening) -> bool {
     let mut script = [0u8; SCRIPT];
     let mut file = [FILLER; FILE];
@@ -102,7 +102,7 @@ fn case() -> Found {
     replay_cases::compared(script_agrees(opened(&b)))
 }
 
-// A list has fewer cases than this.
+// More than the cases of any list.
 const MOST: u64 = 1000000000;
 
 fn all_cases() -> Counts {

@@ -9,12 +9,12 @@ use replay_cases::pair;
 use replay_cases::three;
 use replay_cases::wide;
 
-// What the file slice holds before each call.
+// The bytes of the file slice before each call.
 const FILLER: u8 = 165;
 
-// ---- what opens a case
+// ---- the header of a case
 
-// The lengths of the slices, the counts that are stated, and the answer without the tree file.
+// The lengths of the slices, the stated counts, and the expected result without the tree file.
 struct Opening {
     token_words: usize,
     error_words: usize,
@@ -52,7 +52,7 @@ fn opened(b: &[u8; 32]) -> Opening {
 
 // ---- slices
 
-// Reads a word to an index; whether it was there.
+// Reads a word to an index; false if the input or the slice is too short.
 fn read_word(words: &mut [u32], at: usize) -> bool {
     if words.len() <= at {
         return false;
@@ -65,7 +65,7 @@ fn read_word(words: &mut [u32], at: usize) -> bool {
     true
 }
 
-// Reads so many words to the start of a slice; whether they were there.
+// Reads `count` words to the start of a slice; false if the input or the slice is too short.
 fn read_words(words: &mut [u32], count: usize) -> bool {
     for at in 0..count {
         if !read_word(words, at) {
@@ -75,7 +75,7 @@ fn read_words(words: &mut [u32], count: usize) -> bool {
     true
 }
 
-// What the file slice has after the tree file: it is untouched where Read refuses before any work.
+// The bytes that the file slice should have after the tree file: refusals 3, 8 and 9 leave it untouched.
 fn rest(number: u32) -> u8 {
     if (number == 3) | (number == 8) | (number == 9) {
         FILLER
@@ -91,7 +91,7 @@ fn textless(tokens: &[u32], text: &[u8], at: usize) -> bool {
     got.len() == 0
 }
 
-// Whether Token text gives so many bytes from the start that a record names; none is the empty part.
+// Whether Token text gives the `size` bytes from the start that a record names; for 0, the empty part.
 fn part_agrees(tokens: &[u32], text: &[u8], at: usize, size: usize) -> bool {
     if size == 0 {
         return textless(tokens, text, at);
@@ -111,7 +111,7 @@ fn part_agrees(tokens: &[u32], text: &[u8], at: usize, size: usize) -> bool {
     check::same(got, &text[start..end])
 }
 
-// Reads the length of a record's text, and compares.
+// Reads the length of a record's text, and compares it with what Token text gives.
 fn text_agrees(tokens: &[u32], text: &[u8], at: usize) -> bool {
     let mut b = [0u8; 2];
     if io::read_full(STDIN_FILENO, &mut b) != 2 {
@@ -120,7 +120,7 @@ fn text_agrees(tokens: &[u32], text: &[u8], at: usize) -> bool {
     part_agrees(tokens, text, at, long(pair(b[0], b[1])))
 }
 
-// The same for each record of the slice, also after one that differs. After the last there is no text.
+// The same for each record of the slice, also after one that differs. Past the last record there is no text.
 fn texts_agree(tokens: &[u32], text: &[u8]) -> bool {
     let count = tokens.len() / 8;
     let mut agree = textless(tokens, text, count) & textless(tokens, text, 18446744073709551615);
@@ -134,7 +134,7 @@ fn texts_agree(tokens: &[u32], text: &[u8]) -> bool {
 
 // ---- cases
 
-// Whether Read and Token text give the answers of a case; `expected` is the file slice at exit.
+// Whether Read and Token text give the results of a case; `expected` is the file slice at exit.
 fn read_agrees(
     tokens: &[u32],
     errors: &[u32],
@@ -150,7 +150,7 @@ fn read_agrees(
         & (got.bytes == o.bytes)
 }
 
-// The same with the slices cut to their lengths.
+// The same, with the slices cut to their lengths.
 fn parts_agree(
     tokens: &[u32],
     errors: &[u32],
@@ -189,7 +189,7 @@ fn parts_agree(
     )
 }
 
-// Reads the slices and the tree file of a case, all of them before the call, and compares.
+// Reads the slices and the tree file of a case, all before the call, and compares the results.
 fn slices_agree(o: Opening) -> bool {
     let mut tokens = [0u32; 17000];
     let mut errors = [0u32; 2000];
@@ -223,7 +223,7 @@ fn case() -> Found {
     replay_cases::compared(slices_agree(opened(&b)))
 }
 
-// A list has fewer cases than this.
+// More than the cases of any list.
 const MOST: u64 = 1000000000;
 
 fn all_cases() -> Counts {

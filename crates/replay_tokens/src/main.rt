@@ -10,14 +10,14 @@ use replay_cases::three;
 use replay_cases::wide;
 use tokenizer::Tokenized;
 
-// What the slices hold before each call.
+// The bytes of the slices before each call.
 const FILLER: u8 = 165;
 
 const FILLER_WORD: u32 = 2779096485;
 
-// ---- what opens a case
+// ---- the header of a case
 
-// The lengths of the script and of the slices, and the answer without the records.
+// The lengths of the script and of the slices, and the expected result without the records.
 struct Opening {
     script_bytes: usize,
     token_words: usize,
@@ -42,24 +42,24 @@ fn opened(b: &[u8; 19]) -> Opening {
     }
 }
 
-// Whether the slices are untouched: Tokenise refuses before any work.
+// Whether a refusal leaves the slices untouched.
 fn untouched(number: u32) -> bool {
     (number == 1) | (number == 2) | (number == 3)
 }
 
-// What a slice of words has after its records.
+// The words that a slice should have after its records.
 fn rest_word(number: u32) -> u32 {
     if untouched(number) { FILLER_WORD } else { 0 }
 }
 
-// What the text slice has after the text.
+// The bytes that the text slice should have after the text.
 fn rest_byte(number: u32) -> u8 {
     if untouched(number) { FILLER } else { 0 }
 }
 
 // ---- slices
 
-// Whether the next twelve bytes of the input are the token record at an index.
+// Whether the next twelve bytes of the input encode the token record at an index.
 fn token_agrees(tokens: &[u32], at: usize) -> bool {
     let mut b = [0u8; 12];
     if io::read_full(STDIN_FILENO, &mut b) != 12 {
@@ -93,7 +93,7 @@ fn token_agrees(tokens: &[u32], at: usize) -> bool {
     tokens[i + 7] == wide(b[11])
 }
 
-// Whether the next six bytes of the input are the token error at an index.
+// Whether the next six bytes of the input encode the token error at an index.
 fn error_agrees(errors: &[u32], at: usize) -> bool {
     let mut b = [0u8; 6];
     if io::read_full(STDIN_FILENO, &mut b) != 6 {
@@ -123,7 +123,7 @@ fn record_agrees(words: &[u32], at: usize, is_token: bool) -> bool {
     }
 }
 
-// Reads so many records, also after one that differs.
+// Compares `count` records with the input. Reads them all, also after one that differs.
 fn records_agree(words: &[u32], count: u32, are_tokens: bool) -> bool {
     let mut agree = true;
     for at in 0..count {
@@ -134,7 +134,7 @@ fn records_agree(words: &[u32], count: u32, are_tokens: bool) -> bool {
     agree
 }
 
-// Whether all words from an index on are one.
+// Whether all words from an index on equal `word`.
 fn words_are(words: &[u32], from: usize, word: u32) -> bool {
     for at in from..words.len() {
         if words[at] != word {
@@ -144,7 +144,7 @@ fn words_are(words: &[u32], from: usize, word: u32) -> bool {
     true
 }
 
-// Whether the token slice begins with the next records of the input, so many, and what stands after them.
+// Whether the token slice has the next `count` records of the input, and the right words after them.
 fn tokens_agree(tokens: &[u32], count: u32, number: u32) -> bool {
     let end = long(count) % 65536 * 8;
     records_agree(tokens, count, true) & words_are(tokens, end, rest_word(number))
@@ -179,14 +179,14 @@ fn counts_agree(got: Tokenized, o: Opening) -> bool {
         & (got.bytes == long(o.bytes))
 }
 
-// Whether the slices at exit are those of a case; reads all of its records, also after one that differs.
+// Whether the slices at exit are those of a case. Reads all of its records, also after one that differs.
 fn slices_agree(tokens: &[u32], errors: &[u32], text: &[u8], o: Opening) -> bool {
     tokens_agree(tokens, o.tokens, o.number)
         & errors_agree(errors, o.errors, o.number)
         & text_agrees(text, o.bytes, o.number)
 }
 
-// Tokenises, then reads the records that should come of it; whether they did.
+// Tokenises, then reads the expected records; whether they agree.
 fn exit_agrees(
     script: &[u8],
     tokens: &mut [u32],
@@ -198,7 +198,7 @@ fn exit_agrees(
     slices_agree(tokens, errors, text, o) & counts_agree(got, o)
 }
 
-// The same with the script and the slices cut to their lengths.
+// The same, with the script and the slices cut to their lengths.
 fn parts_agree(
     script: &[u8],
     tokens: &mut [u32],
@@ -232,7 +232,7 @@ fn parts_agree(
     )
 }
 
-// Reads the script of a case, and compares.
+// Reads the script of a case, and compares the results.
 fn script_agrees(o: Opening) -> bool {
     let mut script = [0u8; 20000];
     let mut tokens = [FILLER_WORD; 17000];
@@ -256,7 +256,7 @@ fn case() -> Found {
     replay_cases::compared(script_agrees(opened(&b)))
 }
 
-// A list has fewer cases than this.
+// More than the cases of any list.
 const MOST: u64 = 1000000000;
 
 fn all_cases() -> Counts {

@@ -1,4 +1,4 @@
--- One law for each way through the scanning loops. Assumes nothing.
+-- The laws of the scanning functions: one for each way through their loops. Assumes nothing.
 use mathlib.Core.Path.{_≡_, refl, sym, ap, _∙_}
 use mathlib.Core.Bool.{Bool, true, false}
 use mathlib.Core.List.{List, [], _∷_, _++_, append-assoc, append-nil}
@@ -45,12 +45,13 @@ skip-on st =
       shorter = omega (arith, ap length (st .chars));
     }
 
--- a test that the code has made
+-- the value of a test that the code has computed
 pub told : {v w : Bool} (t : Bool) → v ≡ t → v ≡ w → t ≡ w
 told t e f = sym e ∙ f
 
--- ---- scans that write nothing
+-- ---- scans that write nothing; F is what the definition leaves
 
+-- the invariant: F leaves the same from the cursor c as from the start
 pub record Passing (F : List Ch → List Ch) (s : List ℕ) (c₀ c : Cursor) : Type 0 where
   pub stands : Stands s c
   pub small : length s ≤ 16384
@@ -62,6 +63,7 @@ pub passing-start : {F : List Ch → List Ch} {s : List ℕ} {c : Cursor} → Pa
 passing-start p = record { stands = p .stands; small = p .small; same = refl; forward = omega arith; shorter = omega arith }
 
 module _ {F : List Ch → List Ch} {s : List ℕ} {c₀ c : Cursor} (q : Passing F s c₀ c) where
+  -- one more character; the scan ends after a character, at the end, or before a character
   pub passing-more : {d : Cursor} → Stepped s c d → F (char s c ∷ rest s d) ≡ F (rest s d) → Passing F s c₀ d
   passing-more st e =
       record {
@@ -99,6 +101,7 @@ module _ {F : List Ch → List Ch} {s : List ℕ} {c₀ c : Cursor} (q : Passing
         shorter = q .shorter;
       }
 
+-- each scan of the definition: at the end, at a character that it consumes, at one where it stops
 pub comment-none : comment [] ≡ []
 unfolding comment
 comment-none = refl
@@ -123,8 +126,9 @@ pub blanks-stop : (c : Ch) (cs : List Ch) → is-white (c .byte) ≡ false → b
 unfolding blanks
 blanks-stop c cs h = rw (h, blanks)
 
--- ---- scans that write
+-- ---- scans that write; F is the definition's scan
 
+-- the invariant: what is written so far and what F scans from the cursor c is what F scans from the start
 pub record Spanning (F : List Ch → Span) (s : List ℕ) (c₀ : Cursor) (x₀ : List ℕ) (n₀ : ℕ) (c : Cursor) (x : List ℕ) (n : ℕ) : Type 0 where
   pub asks : Asks s c x n
   pub on : take n x ++ F (rest s c) .text ≡ take n₀ x₀ ++ F (rest s c₀) .text
@@ -140,7 +144,7 @@ empty cs = record { text = []; rest = cs }
 pub spanning-start : {F : List Ch → Span} {s : List ℕ} {c : Cursor} {x : List ℕ} {n : ℕ} → Asks s c x n → Spanning F s c x n c x n
 spanning-start p = record { asks = p; on = refl; same = refl; size = refl; forward = omega arith; shorter = omega arith; began = p .room }
 
--- what a prefix and a text make up has their lengths
+-- the length of a prefix with a text after it
 pub count-of : (x x₀ : List ℕ) (n n₀ : ℕ) (t : List ℕ) → take n x ≡ take n₀ x₀ ++ t → n ≤ length x → n₀ ≤ length x₀ → n ≡ n₀ + length t
 count-of x x₀ n n₀ t e h k =
     sym (length-take-le n x h) ∙ ap length e ∙ length-append (take n₀ x₀) t
@@ -165,7 +169,7 @@ module _ {F : List Ch → Span} {s : List ℕ} {c₀ : Cursor} {x₀ : List ℕ}
         began = q .began;
       }
 
-  -- past a character of a word or a number
+  -- one more character of a word or a number
   pub spanning-along : {d : Cursor} {x′ : List ℕ} {m : ℕ} → c .at < length s → (48 ≤ getD s (c .at) 0) × (getD s (c .at) 0 < 128)
       → d ≡ along-line c → ((cs : List Ch) → F (char s c ∷ cs) ≡ ahead (getD s (c .at) 0 ∷ []) (F cs))
       → Wrote x n (getD s (c .at) 0 ∷ []) x′ m → Spanning F s c₀ x₀ n₀ d x′ m
@@ -197,6 +201,7 @@ module _ {F : List Ch → Span} {s : List ℕ} {c₀ : Cursor} {x₀ : List ℕ}
         room = omega (arith, q .asks .room);
       }
 
+  -- the scan ends after a character, at the end, or before a character
   pub spanning-past : {d : Cursor} → Stepped s c d → F (char s c ∷ rest s d) ≡ empty (rest s d)
       → Spanned s c₀ x₀ n₀ (F (rest s c₀)) x (record { cursor = d; n = n })
   spanning-past st e = spanning-done (st .stands) (omega (arith, st .wide)) (omega (arith, ap length (st .chars))) (ap F (st .chars) ∙ e)
@@ -212,6 +217,7 @@ module _ {F : List Ch → Span} {s : List ℕ} {c₀ : Cursor} {x₀ : List ℕ}
       spanning-done (q .asks .stands) (omega arith) (omega arith)
       (ap F (rest-head (q .asks .stands) h) ∙ e _ ∙ ap empty (sym (rest-head (q .asks .stands) h)))
 
+-- the same for the scans that write
 pub digits-none : (b : ℕ) → digits b [] ≡ empty []
 unfolding digits
 digits-none b = refl
@@ -248,7 +254,7 @@ pub asm-stop : (c : Ch) (cs : List Ch) → c .byte ≡ 125 → assembly (c ∷ c
 unfolding assembly
 asm-stop c cs h = rw (eq-eqb _ _ h, assembly)
 
--- the bytes from a character's place to the next are the character's
+-- the bytes from the offset of a character to that of the next are the character's
 pub char-copied : {s : List ℕ} {c d : Cursor} {x : List ℕ} {n : ℕ} {x′ : List ℕ} {m : ℕ} → Stepped s c d → c .at < length s
     → Wrote x n (take (d .at - c .at) (drop (c .at) s)) x′ m → Wrote x n (char s c .byte ∷ char s c .more) x′ m
 char-copied {s} {c} {d} st h w =
@@ -260,7 +266,7 @@ pub copied-room : {s : List ℕ} {c d : Cursor} {x : List ℕ} {n : ℕ} {x′ :
     → Wrote x n (take (d .at - c .at) (drop (c .at) s)) x′ m → n ≤ c .at → m ≤ d .at
 copied-room {s} {c} {d} st w h = omega (arith, st .wide, w .count, length-take (d .at - c .at) (drop (c .at) s))
 
--- ---- a string's text
+-- ---- the text of a string
 
 record Steps (t : List ℕ) (k : ℕ) (q q′ : Z.Quoted) : Type 0 where
   text : q .text ≡ t ++ q′ .text
@@ -271,6 +277,7 @@ record Steps (t : List ℕ) (k : ℕ) (q q′ : Z.Quoted) : Type 0 where
 abbrev pub Q : List ℕ → Cursor → Z.Quoted
 Q s c = Z.quoted false (rest s c)
 
+-- the invariant: what is written so far, u unknown escapes, and the string from the cursor c make up the whole string
 pub record Quoting (s : List ℕ) (c₀ : Cursor) (x₀ : List ℕ) (n₀ : ℕ) (c : Cursor) (x : List ℕ) (n u : ℕ) : Type 0 where
   pub asks : Asks s c x n
   pub on : take n x ++ Q s c .text ≡ take n₀ x₀ ++ Q s c₀ .text
@@ -373,6 +380,7 @@ module _ {s : List ℕ} {c₀ : Cursor} {x₀ : List ℕ} {n₀ : ℕ} {c : Curs
         rest = ap (λ (v : Z.Quoted). v .rest) e;
       }
 
+  -- one more character, a known and an unknown escape
   pub quoting-plain : {d : Cursor} {x′ : List ℕ} {m : ℕ} → Stepped s c d → (getD s (c .at) 0 ≡ 34 → ⊥)
       → (getD s (c .at) 0 ≡ 92 → ⊥) → Wrote x n (char s c .byte ∷ char s c .more) x′ m → m ≤ d .at
       → Quoting s c₀ x₀ n₀ d x′ m u
@@ -431,6 +439,7 @@ module _ {s : List ℕ} {c₀ : Cursor} {x₀ : List ℕ} {n₀ : ℕ} {c : Curs
         room = omega (arith, q .asks .room);
       }
 
+  -- the string ends at its quote, at the end, or at the end after a backslash
   pub quoting-close : {d : Cursor} → Stepped s c d → getD s (c .at) 0 ≡ 34
       → QuotedAs s c₀ x₀ n₀ (Q s c₀) x (record { cursor = d; n = n; unknown = u; closed = true })
   quoting-close st b =

@@ -1,5 +1,5 @@
--- The records of Scan over the parameters of the functions: first what is a function's own, then its parameters in
--- order. Assumes nothing.
+-- The records of Scan, stated over the parameters of the functions: first what is specific to a function, then its
+-- parameters in order. Assumes nothing.
 use mathlib.Core.List.{List}
 use Prim.Native.Nat.{ℕ}
 use denote.Ref.{now}
@@ -12,7 +12,7 @@ use Rattle.scan.specs.declared.Scan.{Scan}
 use Rattle.scan.specs.declared.Body.{Body}
 use Rattle.scan.specs.Scan as S
 
--- ---- asked
+-- ---- required
 
 abbrev pub Passes : Slice → Cursor → Type 0
 Passes s c = S.Passes (now s) c

@@ -1,4 +1,4 @@
--- What the scanning functions promise, in the terms of the definition. Assumes nothing.
+-- What the scanning functions ensure, in the terms of the definition. Assumes nothing.
 use mathlib.Core.Path.{_≡_}
 use mathlib.Core.Bool.{true, false}
 use mathlib.Core.List.{List, [], _∷_, _++_}
@@ -18,14 +18,14 @@ pub record Passes (s : List ℕ) (c : Cursor) : Type 0 where
   pub stands : Stands s c
   pub small : length s ≤ 16384
 
--- `r` stands before the characters cs, no nearer to the start than `c`
+-- the cursor `r` is at the characters cs, and not before `c`
 pub record Passed (s : List ℕ) (c : Cursor) (cs : List Ch) (r : Cursor) : Type 0 where
   pub stands : Stands s r
   pub is : rest s r ≡ cs
   pub forward : c .at ≤ r .at
   pub shorter : length (rest s r) ≤ length (rest s c)
 
--- a scan that writes: it has written no more bytes than it has read
+-- a scan that writes requires: no more bytes were written than read
 pub record Asks (s : List ℕ) (c : Cursor) (x : List ℕ) (n : ℕ) : Type 0 where
   pub stands : Stands s c
   pub small : length s ≤ 16384
@@ -37,7 +37,7 @@ pub record Spanned (s : List ℕ) (c : Cursor) (x : List ℕ) (n : ℕ) (d : Spa
   pub wrote : Wrote x n (d .text) x′ (r .n)
   pub room : r .n ≤ r .cursor .at
 
--- the letters and digits of a word, up to what is none, also above 127
+-- the letters and digits of a word, up to another character, also one above 127
 unfoldable pub letters : List Ch → Span
 letters [] = record { text = []; rest = [] }
 letters (c ∷ cs) = elim (is-word (c .byte)) [ true ↦ ahead (c .byte ∷ []) (letters cs) | false ↦ record { text = []; rest = c ∷ cs } ]

@@ -1,4 +1,4 @@
-// Scanning: from a place on, the functions pass characters, and some write what they pass.
+// Scans white space, comments, words, digits, assembly and strings from a cursor on. Some scans write the text.
 use classes::character::is_digit_of;
 use classes::character::is_white;
 use classes::character::is_word;
@@ -20,7 +20,7 @@ ghost use Rattle.scan.specs.Contract.{Passes, Asks, Passed, Spanned, Quo
 
 // ---- looking and skipping
 
-// The first byte of what is left, 0 at the end.
+// The byte at the cursor, or 0 at the end.
 pub fn look(s: &[u8], c: Cursor) -> u8
     requires { ⌜ Stands (now s) c ⌝ }
     ensures { λ r. ⌜ r ≡ Z.look (rest (now (s .entry)) c) ⌝ }
@@ -32,7 +32,7 @@ pub fn look(s: &[u8], c: Cursor) -> u8
     s[at]
 }
 
-// The place after the character at `c`, if there is one.
+// Steps over the character at `c`, if there is one.
 pub fn skip(s: &[u8], c: Cursor) -> Cursor
     requires { ⌜ Passes s c ⌝ }
     ensures { λ r. ⌜ Passed Z.drop-one s c r ⌝ }
@@ -46,7 +46,7 @@ pub fn skip(s: &[u8], c: Cursor) -> Cursor
 
 // ---- scans that write nothing
 
-// Behind the newline that ends a comment, or the end.
+// Skips a comment with the newline that ends it, or to the end.
 pub fn comment(s: &[u8], from: Cursor) -> Cursor
     requires { ⌜ Passes s from ⌝ }
     ensures { λ r. ⌜ Passed Z.comment s from r ⌝ }
@@ -66,7 +66,7 @@ pub fn comment(s: &[u8], from: Cursor) -> Cursor
     }
 }
 
-// Behind white space.
+// Skips white space.
 pub fn white(s: &[u8], from: Cursor) -> Cursor
     requires { ⌜ Passes s from ⌝ }
     ensures { λ r. ⌜ Passed blanks s from r ⌝ }
@@ -87,13 +87,13 @@ pub fn white(s: &[u8], from: Cursor) -> Cursor
 
 // ---- scans that write
 
-// Where a scan stopped, and where what it wrote ends.
+// Where a scan stopped, and the offset after what it wrote.
 pub struct Scan {
     pub cursor: Cursor,
     pub n: usize,
 }
 
-// The digits of a base.
+// Scans the digits of a base.
 pub fn digits(s: &[u8], from: Cursor, base: u32, text: &mut [u8], start: usize) -> Scan
     requires { ⌜ Asks s from text start ⌝ }
     ensures { λ r. ⌜ Spanned (Z.digits base) s from text start r ⌝ }
@@ -115,7 +115,7 @@ pub fn digits(s: &[u8], from: Cursor, base: u32, text: &mut [u8], start: usize) 
     }
 }
 
-// The letters and digits of a word.
+// Scans the letters and digits of a word.
 pub fn word(s: &[u8], from: Cursor, text: &mut [u8], start: usize) -> Scan
     requires { ⌜ Asks s from text start ⌝ }
     ensures { λ r. ⌜ Spanned letters s from text start r ⌝ }
@@ -137,7 +137,7 @@ pub fn word(s: &[u8], from: Cursor, text: &mut [u8], start: usize) -> Scan
     }
 }
 
-// The text of inline assembly, up to `}` or the end; the place is after the `}`.
+// Scans inline assembly up to `}`, which is consumed, or the end.
 pub fn assembly(s: &[u8], from: Cursor, text: &mut [u8], start: usize) -> Scan
     requires { ⌜ Asks s from text start ⌝ }
     ensures { λ r. ⌜ Spanned Z.assembly s from text start r ⌝ }
@@ -161,7 +161,7 @@ pub fn assembly(s: &[u8], from: Cursor, text: &mut [u8], start: usize) -> Scan
 
 // ---- strings
 
-// Behind a string: also how many escapes were unknown, and whether the closing quote was there.
+// Where a string's scan stopped, the offset after its text, the count of unknown escapes, whether a quote closed it.
 pub struct Body {
     pub cursor: Cursor,
     pub n: usize,
@@ -169,7 +169,7 @@ pub struct Body {
     pub closed: bool,
 }
 
-// The text of a string, after its opening quote.
+// Scans the text of a string and its closing quote. Unknown escapes are counted and left out.
 pub fn quoted(s: &[u8], from: Cursor, text: &mut [u8], start: usize) -> Body
     requires { ⌜ Asks s from text start ⌝ }
     ensures { λ r. ⌜ QuotedAs (Z.quoted false) s from text start r ⌝ }

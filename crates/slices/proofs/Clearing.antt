@@ -1,4 +1,4 @@
--- The loops that write zeros to the end of a slice. Assumes nothing.
+-- The laws of `clear_bytes` and `clear_words`. Assumes nothing.
 use mathlib.Core.Path.{_≡_, refl, sym, ap, _∙_}
 use mathlib.Core.List.{List, [], _∷_, _++_, append-assoc, append-nil}
 use Prim.Native.Nat.{ℕ, suc, _+_, _-_, _<_, _≤_}
@@ -9,6 +9,7 @@ use lib.Seq.{drop-cons, set-at, length-take-le}
 use Rattle.definition.specs.Operations.{filled}
 use Rattle.slices.specs.Cleared.{Cleared}
 
+-- the invariant: zeros from `from` to i
 pub record Clearing (x₀ : List ℕ) (from : ℕ) (x : List ℕ) (i : ℕ) : Type 0 where
   pub low : from ≤ i
   pub high : i ≤ length x₀
@@ -59,7 +60,7 @@ module _ {x₀ : List ℕ} {from : ℕ} {x : List ℕ} {i : ℕ} (q : Clearing x
             ∙ ap (λ (v : ℕ). take from x₀ ++ replicate (v - from) 0) z;
       }
 
--- a slice that is cleared after what it holds
+-- a slice that is cleared after the words ws is `filled` with them
 pub cleared-filled : (x : List ℕ) {x′ y : List ℕ} (n : ℕ) (ws : List ℕ) → Cleared x′ n y → take n x′ ≡ ws → length x′ ≡ length x
     → n ≤ length x′ → y ≡ filled (length x) ws
 cleared-filled x {x′} n ws c e l h =

@@ -1,4 +1,4 @@
--- What writing a byte, a word or a part into a slice shows. Assumes nothing.
+-- The laws of `put8`, `put32` and `copy`. Assumes nothing.
 use mathlib.Core.Path.{_≡_, refl, sym, ap, _∙_}
 use mathlib.Core.List.{List, [], _∷_, _++_, append-assoc, append-nil}
 use Prim.Native.Nat.{ℕ, suc, _+_, _-_, _<_, _≤_}

@@ -1,4 +1,4 @@
--- The record of Written over the parameters of the functions. Assumes nothing.
+-- The record of Written, stated over the parameters of the functions. Assumes nothing.
 use mathlib.Core.List.{List}
 use Prim.Native.Nat.{ℕ}
 use Rattle.definition.specs.Slices.{Lent, at-entry, at-exit}

@@ -1,13 +1,13 @@
-// Lent slices of bytes and of words: writing a part, and clearing the rest.
+// Writes to lent slices of bytes and words, and clears the rest of them.
 ghost use mathlib.Core.List.{[], _∷_};
 ghost use Prim.Native.Nat.{_+_, _-_, _<_, _≤_};
 ghost use lib.ListN.{length, take, drop};
 ghost use Rattle.slices.specs.Cleared.{Cleared};
 ghost use Rattle.slices.specs.Contract.{Wrote};
 
-// ---- what is written
+// ---- writing
 
-// One byte.
+// Writes one byte, and returns the offset after it.
 pub fn put8(text: &mut [u8], at: usize, b: u8) -> usize
     requires { ⌜ at < length (now text) ⌝ }
     ensures { λ r. ⌜ Wrote (b ∷ []) text at r ⌝ }
@@ -16,7 +16,7 @@ pub fn put8(text: &mut [u8], at: usize, b: u8) -> usize
     at + 1
 }
 
-// One word.
+// Writes one word, and returns the offset after it.
 pub fn put32(words: &mut [u32], at: usize, v: u32) -> usize
     requires { ⌜ at < length (now words) ⌝ }
     ensures { λ r. ⌜ Wrote (v ∷ []) words at r ⌝ }
@@ -25,7 +25,7 @@ pub fn put32(words: &mut [u32], at: usize, v: u32) -> usize
     at + 1
 }
 
-// The bytes of `s` from `from` to `to`, written at `at`.
+// Copies the bytes of `s` from `from` to `to` to the offset `at` of `text`, and returns the offset after them.
 pub fn copy(s: &[u8], from: usize, to: usize, text: &mut [u8], at: usize) -> usize
     requires { ⌜ (from ≤ to) × (to ≤ length (now s)) × (at + (to - from) ≤ length (now text)) ⌝ }
     ensures { λ r. ⌜ Wrote (take (to - from) (drop from (now (s .entry)))) text at r ⌝ }
@@ -39,7 +39,7 @@ pub fn copy(s: &[u8], from: usize, to: usize, text: &mut [u8], at: usize) -> usi
     n
 }
 
-// ---- zeros from `from` on to the end
+// ---- writing zeros, from `from` to the end
 
 pub fn clear_bytes(bytes: &mut [u8], from: usize)
     requires { ⌜ from ≤ length (now bytes) ⌝ }

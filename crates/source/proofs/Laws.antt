@@ -1,4 +1,5 @@
--- What the decoder does at a byte, in the terms of the code: the fold of needs, and one step of a cursor. Assumes nothing.
+-- What the decoder does at a byte, in terms of the code: the fold of needs, and one step of a cursor.
+-- Assumes nothing.
 use mathlib.Core.Path.{_≡_, refl, sym, ap, _∙_}
 use mathlib.Core.Bool.{Bool, true, false, _&&_}
 use mathlib.Core.List.{List, [], _∷_, _++_, append-assoc}
@@ -36,7 +37,7 @@ lead-small b =
     (pick-small (eqb b 237) _ _ (omega arith) (pick-small (ltb b 240) _ _ (omega arith) (pick-small (eqb b 240) _ _ (omega arith) (pick-small (ltb b 244) _ _ (omega arith)
     (pick-small (eqb b 244) _ _ (omega arith) tt))))))))
 
--- ---- the fold of needs decides as the decoder does
+-- ---- the fold of needs decides like the decoder
 
 and-some : (c : Ch) (o : Option (List Ch)) → is-some (and-then c o) ≡ is-some o
 and-some c none = refl
@@ -109,7 +110,7 @@ oks (b ∷ bs) = record {
       ∙ ok-tests bs (oks bs) l m n lo hi p b h k (ltb b lo) refl (ltb hi b) refl (eqb n 1) refl;
 }
 
--- the loop of `valid`: what is left runs from here as the whole from the start
+-- the invariant of `valid`: the fold over the bytes left, from the need n, gives the same as the fold over all
 pub record Ran (s : List ℕ) (n : Need) (i : ℕ) : Type 0 where
   pub inside : i ≤ length s
   pub same : ran-need n (drop i s) ≡ ran-need start s
@@ -131,6 +132,7 @@ ran-end {s} {n} {i} e h = ap (λ (x : Need). eqb (x .missing) 0) (sym (ap (ran-n
 
 -- ---- one step of a cursor
 
+-- a character ends after n bytes, and the others follow it
 pub record Ended (bs : List ℕ) (n : ℕ) (ch : Ch) (p : At) (cs : List Ch) : Type 0 where
   pub fits : n ≤ length bs
   pub next-token : cs ≡ ch ∷ or-none (decode fresh p (drop n bs))
@@ -201,13 +203,15 @@ module _ {s : List ℕ} {c : Cursor} (z : Stands s c) (h : c .at < length s) whe
   here : Ended (drop (c .at + 1) s) (more (lead (getD s (c .at) 0))) (char s c) next (rest s c)
   here = rw add-one (decode-step _ _ _ _ (rw (drop-cons s (c .at) 0 h) at (z .is)))
 
-  -- what stands here begins with the character here
+  -- the characters from the cursor on begin with the character there
   pub rest-head : rest s c ≡ char s c ∷ or-none (decode fresh next (drop (more (lead (getD s (c .at) 0))) (drop (c .at + 1) s)))
   rest-head = here .next-token
 
+  -- the character at the cursor ends within the script
   pub step-inside : c .at + (more (lead (getD s (c .at) 0)) + 1) ≤ length s
   step-inside = omega (arith, here .fits, length-drop (c .at + 1) s)
 
+  -- a cursor with the next offset and place is a step
   pub step-law : {r : Cursor} → r .at ≡ c .at + (more (lead (getD s (c .at) 0)) + 1)
       → placed r ≡ after (getD s (c .at) 0) (placed c) → r .line ≤ c .line + 1 → r .column ≤ c .column + 1
       → Stepped s c r
@@ -230,7 +234,7 @@ module _ {s : List ℕ} {c : Cursor} (z : Stands s c) (h : c .at < length s) whe
         wide = omega arith;
       }
 
--- a character of one byte that is no newline
+-- the step over a character of one byte that is not a newline
 pub along-law : {s : List ℕ} {c r : Cursor} → Stands s c → c .at < length s → getD s (c .at) 0 < 128
     → (getD s (c .at) 0 ≡ 10 → ⊥) → r ≡ along-line c → Stepped s c r
 unfolding lead first
@@ -238,6 +242,7 @@ along-law {s} {c} {r} z h l n e =
     let w : more (lead (getD s (c .at) 0)) ≡ 0 = rw (lt-ltb (getD s (c .at) 0) 128 l) in
     rw e (step-law z h (omega (arith, w)) (rw (ne-eqb (getD s (c .at) 0) 10 n, add-one)) (omega arith) (omega arith))
 
+-- the width of a byte that begins no character, and of one that does
 pub width-bad : (b : ℕ) (n : Need) → n ≡ need-of (lead b) → n .missing ≡ 9 → 1 ≡ more (lead b) + 1
 width-bad b n e h = go (lead b) (lead-small b) (ap (λ (x : Need). x .missing) (sym e) ∙ h)
   where
@@ -254,7 +259,7 @@ width-good b n e h = ap (λ (x : Need). x .missing + 1) e ∙ go (lead b) (λ k.
     go (with-more n lo hi) k = refl
     go wrong k = absurd (k refl)
 
--- a script that is UTF-8, at its start
+-- the start of a UTF-8 script is a valid cursor
 pub stands-start : (s : List ℕ) (c : Cursor) → utf8 s ≡ true → c .at ≡ 0 → c .line ≡ 1 → c .column ≡ 1 → Stands s c
 unfolding utf8 characters rest
 stands-start s c e x y w = rw (x, y, w) (record { is = go _ e; inside = omega arith; lined = omega arith; columned = omega arith })
@@ -267,6 +272,7 @@ stands-start s c e x y w = rw (x, y, w) (record { is = go _ e; inside = omega ar
 pub stands-coded : {s : List ℕ} {c : Cursor} → Stands s c → All Coded (rest s c)
 stands-coded {s} {c} z = decode-coded (at-of c) (drop (c .at) s) (rest s c) (z .is)
 
+-- no characters are left at the end
 pub rest-end : (s : List ℕ) (c : Cursor) → length s ≤ c .at → rest s c ≡ []
 unfolding rest decode
 rest-end s c h = rw (drop-of-length-le s h)

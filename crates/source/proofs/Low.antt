@@ -1,4 +1,4 @@
--- The highest byte, and UTF-8 below 128. Assumes nothing.
+-- The laws of `highest`; bytes below 128 are UTF-8. Assumes nothing.
 use mathlib.Core.Path.{_≡_, refl, sym, ap, _∙_}
 use mathlib.Core.Bool.{true}
 use mathlib.Core.List.{List, [], _∷_}
@@ -11,7 +11,7 @@ use Rattle.definition.specs.Source.{utf8}
 use Rattle.definition.proofs.Characters.{Utf8, utf8-none, utf8-byte, utf8-true}
 use Rattle.source.specs.Place.{highest-of}
 
--- h is the highest of the first i bytes
+-- the invariant: h is the highest of the first i bytes
 pub record High (s : List ℕ) (h i : ℕ) : Type 0 where
   pub inside : i ≤ length s
   pub same : max h (highest-of (drop i s)) ≡ highest-of s
@@ -35,5 +35,6 @@ unfolding highest-of
 low [] h = utf8-none
 low (b ∷ bs) h = utf8-byte b bs (omega (arith, h)) (low bs (omega (arith, h)))
 
+-- bytes below 128 are UTF-8
 pub low-utf8 : (s : List ℕ) → highest-of s < 128 → true ≡ utf8 s
 low-utf8 s h = sym (utf8-true s (low s h))

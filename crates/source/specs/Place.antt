@@ -1,4 +1,4 @@
--- What a byte asks for, a fold over the bytes; the characters from a cursor on. Assumes nothing.
+-- What must follow each byte of UTF-8, as a fold over the bytes; the characters from a cursor on. Assumes nothing.
 use mathlib.Core.Path.{_≡_}
 use mathlib.Core.List.{List, [], _∷_}
 use mathlib.Core.Option.{Option, none, some}
@@ -16,7 +16,7 @@ unfoldable pub highest-of : List ℕ → ℕ
 highest-of [] = 0
 highest-of (b ∷ bs) = max b (highest-of bs)
 
--- ---- what a byte asks for
+-- ---- what must follow a byte
 
 abbrev pub needed : ℕ → ℕ → ℕ → Need
 needed n lo hi = record { missing = n; lo = lo; hi = hi }
@@ -43,7 +43,7 @@ ran-need n (b ∷ bs) = ran-need (next-need n b) bs
 
 -- ---- places
 
--- the bytes of a character after its first
+-- how many bytes of a character follow its first
 abbrev pub more : Lead → ℕ
 more single = 0
 more (with-more n lo hi) = n
@@ -80,10 +80,10 @@ pub record Stepped (s : List ℕ) (c r : Cursor) : Type 0 where
   pub stands : Stands s r
   pub wide : r .at ≡ more (lead (getD s (c .at) 0)) + 1 + c .at
 
--- after a character of one byte that is no newline
+-- the cursor after a character of one byte that is not a newline
 abbrev pub along-line : Cursor → Cursor
 along-line c = record { at = c .at + 1; line = c .line; column = c .column + 1 }
 
--- where a script starts
+-- the cursor at the start of a script
 abbrev pub origin : Cursor
 origin = record { at = 0; line = 1; column = 1 }

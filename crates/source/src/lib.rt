@@ -1,4 +1,4 @@
-// UTF-8 (RFC 3629) and places: what a byte asks for, and how a character advances line and column.
+// Validates UTF-8 (RFC 3629), and moves a cursor over the characters of a script.
 ghost use mathlib.Core.Path.{_≡_};
 ghost use Prim.Native.Nat.{_+_, _<_, _≤_};
 ghost use lib.ListN.{length};
@@ -7,7 +7,8 @@ ghost use Rattle.source.specs.Place.{highest-of, need-of, next-need, nee
 
 // ---- UTF-8
 
-// What a byte must be: how many are missing of a character (0 between two, WRONG where the bytes are wrong), and the next one's bounds.
+// What the next byte must be: how many bytes of a character are missing (0 between characters, WRONG if the bytes are
+// not UTF-8), and the bounds of the next one.
 pub struct Need {
     pub missing: u8,
     pub lo: u8,
@@ -22,7 +23,7 @@ fn asks(missing: u8, lo: u8, hi: u8) -> Need
     Need { missing, lo, hi }
 }
 
-// What a first byte asks for.
+// What must follow the first byte of a character.
 fn lead_need(b: u8) -> Need
     ensures { λ r. ⌜ r ≡ need-of (lead b) ⌝ }
 {
@@ -56,7 +57,7 @@ fn lead_need(b: u8) -> Need
     asks(WRONG, 0, 0)
 }
 
-// What is asked for after the byte `b`.
+// What must follow the byte `b`, where `n` was needed.
 fn next_need(n: Need, b: u8) -> Need
     ensures { λ r. ⌜ r ≡ next-need n b ⌝ }
 {
@@ -76,7 +77,7 @@ fn next_need(n: Need, b: u8) -> Need
     asks(missing - 1, 0x80, 0xBF)
 }
 
-// The highest byte.
+// The highest byte of a slice.
 fn highest(s: &[u8]) -> u8
     ensures { λ r. ⌜ r ≡ highest-of (now (s .entry)) ⌝ }
 {
@@ -92,7 +93,7 @@ fn highest(s: &[u8]) -> u8
     high
 }
 
-// Whether the bytes are UTF-8. Those below 128 are; else each byte is held to what those before it ask for.
+// Whether the bytes are UTF-8. Bytes below 128 are; otherwise each byte is checked in turn.
 pub fn valid(s: &[u8]) -> bool
     ensures { λ r. ⌜ r ≡ utf8 (now (s .entry)) ⌝ }
 {
@@ -111,14 +112,14 @@ pub fn valid(s: &[u8]) -> bool
 
 // ---- places
 
-// A place in the script: the byte, the line and the column of the character there.
+// A place in the script: the offset, line and column of a character.
 pub struct Cursor {
     pub at: usize,
     pub line: u32,
     pub column: u32,
 }
 
-// How many bytes the character that begins with `b` has.
+// The number of bytes of the character that begins with `b`.
 pub fn width(b: u8) -> u32
     ensures { λ r. ⌜ r ≡ more (lead b) + 1 ⌝ }
 {
@@ -130,7 +131,7 @@ pub fn width(b: u8) -> u32
     missing as u32 + 1
 }
 
-// The place after the character at `c`. A newline belongs to the line it ends.
+// Steps over the character at `c`. A newline belongs to the line it ends.
 pub fn step(s: &[u8], c: Cursor) -> Cursor
     requires { ⌜ Stands (now s) c × (c .at < length (now s)) × (length (now s) ≤ 16384) ⌝ }
     ensures { λ r. ⌜ Stepped (now (s .entry)) c r ⌝ }
@@ -153,7 +154,7 @@ pub fn step(s: &[u8], c: Cursor) -> Cursor
     }
 }
 
-// The place after a character of one byte that is no newline.
+// Steps over a character of one byte that is not a newline.
 pub fn along(mut c: Cursor) -> Cursor
     requires { ⌜ (c .at ≤ 16384) × (c .column ≤ 16385) ⌝ }
     ensures { λ r. ⌜ r ≡ along-line c ⌝ }

@@ -36,19 +36,19 @@ use Rattle.expression_laws.proofs.Calls.{expect-seam}
 use Rattle.statement.specs.Post.{ReadsAfter}
 use Rattle.statement.proofs.Spare.{expression-spares}
 
--- a record of a statement at a place
+-- the record of a statement at a place
 abbrev pub placed : ℕ → ℕ → Record
 placed tag place = record { tag = tag; place = place; numbers = None; start = 0; len = 0 }
 
 -- ---- after the expression
 
--- a node, whatever its place
+-- a node, at any place
 abbrev any-node : View Node
 any-node = record { recs = λ y. y .recs; fine = λ l c y. Unit {0} }
 
 module _ {w x : List ℕ} {n d : ℕ} {o r f : List ℕ} {s : State} {t : Token} {i : ℕ} {place : ℕ}
     (q : Asked w x n o r f s) (hi : i ≤ s .pos) (u : Seen w x n (s .at) t) where
-  -- `=` or `<-`, a value read by m, `;`
+  -- `=` or `<-`, a value parsed by m, `;`
   module _ {o1 r1 f1 r2 r3 f2 o2 : List ℕ} {a b c y : Answer} {m : Act (Ans Node)} (tag : ℕ) (B : Reads node w x n d m o r f (fore s t) o1 r1 f1 a) (C : Abandoned r1 a i (s .reported) (s .reported) r2 b) (lr : length r2 ≡ length r) (lf : length f1 ≡ length f)
       (X : Expected w x n 50 i (s .reported) r2 f1 b r3 f2 c) (F : Finished x o1 c (placed tag place) o2 y) where
     assigned-after : 0 < t .kind
@@ -103,7 +103,7 @@ module _ {w x : List ℕ} {n d : ℕ} {o r f : List ℕ} {s : State} {t : Token}
         (ap (λ (S : St). go d (P.parse-compound >>? λ v. P.expect 50 >>? λ _. wrapped node (e .recs) [] 0x44
         (λ _. unpack-place place) (λ _. []) [] v) S) (adv s u (λ _. plain) f rd)))
 
--- what the steps after a value ask for
+-- what the steps after a value require
 module _ {w x : List ℕ} {n d : ℕ} {o r f : List ℕ} {s : State} {t : Token} {i : ℕ} (q : Asked w x n o r f s)
     (hi : i ≤ s .pos) (u : Seen w x n (s .at) t) where
   module _ {o1 r1 f1 : List ℕ} {a : Answer} {m : Act (Ans Node)} (B : Reads node w x n d m o r f (fore s t) o1 r1 f1 a) where
@@ -117,7 +117,7 @@ module _ {w x : List ℕ} {n d : ℕ} {o r f : List ℕ} {s : State} {t : Token}
         }
 
     module _ {r2 : List ℕ} {b : Answer} (C : Abandoned r1 a i (s .reported) (s .reported) r2 b) where
-      -- from the target's end to the end of the value
+      -- from the end of the target to the end of the value
       assigned-moved : Moved w x n i (s .reported) s (b .state)
       assigned-moved = moved-trans (fore-moved (q .asks) u) (abandoned-moved (B .moved) C)
 
@@ -128,7 +128,7 @@ module _ {w x : List ℕ} {n d : ℕ} {o r f : List ℕ} {s : State} {t : Token}
           → length o1 ≡ length o → Room o1 x (c .state .pos) (16 + 0) 0 0
       assigned-room X l = record { room = omega (arith, q .room, assigned-moved .room, X .high); part = omega arith }
 
--- a record is paid for only where the answer is there
+-- a record is written only after a good answer
 finished-high : {x o o′ : List ℕ} {b y : Answer} {tag : ℕ} {place : ℕ} → Finished x o b (placed tag place) o′ y
     → y .state .pos ≤ b .state .pos + 7 * done-of (b .status)
 finished-high {x} {o} {o′} {b} {y} {tag} {place} F = one (b .status) (F .is)
@@ -189,13 +189,13 @@ is-none : (es : List Err) → length es ≡ 0 → es ≡ []
 is-none [] h = refl
 is-none (e ∷ es) h = absurd (omega arith)
 
--- what follows the expression
+-- the continuation after the expression
 abbrev on : Place → Fallible Node → Act (Ans Node)
 on p e = if_then_else_ (P.is-empty (e .errors)) (P.after-expression p (e .item)) (done (ok (P.wrap 0x41 p [] e)))
 
 module _ {w x : List ℕ} {n d : ℕ} {o r f o1 r1 f1 : List ℕ} {s : State} {a : Answer} (q : Asked w x n o r f s)
     (B : Reads node w x n d P.parse-expression o r f s o1 r1 f1 a) where
-  -- how many errors it has
+  -- the number of its own errors
   own : length r1 ≡ length r → (es : List Err) → errs r1 (a .state .reported) ≡ errs r (s .reported) ++ es
       → a .state .reported ≡ s .reported + length es
   own lr es e =
@@ -209,6 +209,7 @@ module _ {w x : List ℕ} {n d : ℕ} {o r f o1 r1 f1 : List ℕ} {s : State} {a
     statement-stops nd = then-stops (on (unpack-place place)) B nd
 
     module _ (z : a .status ≡ Done) (lo : length o1 ≡ length o) (lr : length r1 ≡ length r) where
+      -- the expression has errors: the statement ends with it; else `after_expression` continues
       pub statement-errors : {o2 : List ℕ} {y : Answer} → s .reported < a .state .reported
           → Finished x o1 a (placed 0x41 place) o2 y
           → Reads node w x n d (P.expression-statement (unpack-place place)) o r f s o2 r1 f1 y

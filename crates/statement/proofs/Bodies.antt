@@ -63,6 +63,7 @@ module _ {w x : List ℕ} {n d : ℕ} {o r f r1 f1 : List ℕ} {s : State} {a : 
     is = λ rd. refusal h (λ m g. opening d _ ∙ rw g) (e .is plain d rd o);
   }
 
+  -- the brace is missing: a body without statements
   pub body-none : a .status ≡ Fatal → ReadsBody w x n d o r f s o r1 f1 (record { status = Done; state = a .state; place = 0; count = 0 })
   unfolding go run recs-bytes _>>=_
   body-none z = record {
@@ -136,7 +137,7 @@ module _ {w x : List ℕ} {n count : ℕ} {o r f : List ℕ} {s : State} {t : To
 
     module _ {d : ℕ} {o1 r1 f1 : List ℕ} {b : Answer} (m0 : t .kind ≡ 0 → ⊥)
         (u : Reads node w x n d P.parse-statement o r f s o1 r1 f1 b) where
-      -- a turn that reads a statement
+      -- a turn that parses a statement
       statement-turn : (rd : List Consumed) (l : Items)
           → go d (statements-on l) (st-of w x n f rd s)
           ≡ go d (P.parse-statement >>= λ a. statements-on (P.integrate l a)) (st-of w x n f rd s)

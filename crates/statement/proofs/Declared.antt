@@ -40,7 +40,7 @@ use Rattle.statement.specs.Post.{Starts, named-of, NamedOf, Named, Reads
 
 -- ---- `values`
 
--- the kind of a list's opener is real
+-- the kind of a list's opener is not 0
 opens : (k : A.Listed) → 0 < P.opener k
 opens A.Parameters = omega arith
 opens A.Arguments = omega arith
@@ -75,7 +75,7 @@ module _ {w x : List ℕ} {n d : ℕ} {o r f o1 r1 f1 o2 : List ℕ} {s : State}
 
 -- ---- `compound`
 
--- after `#`
+-- the continuation after `#`
 abbrev pub hashed : Act (Ans Node)
 hashed =
     peek λ t.
@@ -97,7 +97,7 @@ module _ {w x : List ℕ} {n d : ℕ} {o r f r1 f1 : List ℕ} {s : State} {a : 
       }
 
   module _ (z : a .status ≡ Done) where
-    -- what follows `#` is read by m
+    -- m parses what follows `#`
     compound-on : {o1 r2 f2 : List ℕ} {y : Answer} (m : Act (Ans Node))
         → ((rd : List Consumed)
         → go d hashed (st-of w x n f1 rd (a .state)) ≡ go d m (st-of w x n f1 rd (a .state)))
@@ -215,6 +215,7 @@ module _ {w x : List ℕ} {n : ℕ} {o o2 : List ℕ} {a y : Answer} {tag p : �
             (m .0, (rw (l, e) (m .1 .0), (m .1 .1 .0, m .1 .1 .1)));
       }
 
+  -- the token is an identifier, or not: then the name is `<?>`
   pub named-there : t .kind ≡ 1
       → Finished x o a
       (record { tag = tag; place = place; numbers = None; start = t .start; len = t .len }) o2 y
@@ -236,7 +237,7 @@ module _ {w x : List ℕ} {n : ℕ} {o o2 : List ℕ} {a y : Answer} {tag p : �
 
 -- ---- `declaration`
 
--- a declaration's record after what is declared
+-- the record of a declaration, after its type and value
 abbrev declares : ℕ → Place → Fallible P.Typed → Act (Ans Node)
 declares tag p x = P.good (P.node (x .item .type) tag p [] (x .item .name)) (x .errors)
 

@@ -73,7 +73,7 @@ bare-on {o} {o2} {a} {tag} {p} z v =
 
 -- ---- a value after what is declared
 
--- a record of the value: with the value's own records before it
+-- the record of the value, after the records of the value itself
 valued : {T : List ℕ} {E : List Err} {w x : List ℕ} {n : ℕ} {o o′ r f : List ℕ} {c y : Answer} {tag : ℕ}
     {q : Res (Ans Node)} (name : List ℕ) (d : ℕ) (X : Fallible P.Typed)
     → X .item .name ≡ name → Bared o c tag o′ y → Shows node T E (X .item .type) (X .errors) w x n o r f c q
@@ -120,7 +120,7 @@ module _ {w x : List ℕ} {n d i j : ℕ} {o r f : List ℕ} {a : Answer} (q : G
   }
 
   module _ {t : Token} (z : a .status ≡ Done) (u : Seen w x n (a .state .at) t) where
-    -- a value is given, after the token, by m
+    -- m parses a value, after the token
     module _ {o1 r1 f1 r2 o2 : List ℕ} {b c y : Answer} {m : Act (Ans Node)} {tag : ℕ}
         (B : Reads node w x n d m o r f (fore (a .state) t) o1 r1 f1 b)
         (C : Abandoned r1 b i j (a .state .reported) r2 c) (G : Bared o1 c tag o2 y) where

@@ -1,4 +1,5 @@
--- What a part that is there has used up: an expression spares eight bytes of what its tokens pay for, so there is room for the record of a statement that ends with it; an expected token is passed. Assumes nothing.
+-- What a parsed part leaves of the budget: an expression leaves at least eight bytes of its tokens' share, room for
+-- the record of a statement that ends with it; an expected token is consumed. Assumes nothing.
 use mathlib.Core.Path.{_≡_, refl, sym, ap, _∙_, subst}
 use mathlib.Core.List.{List, [], _∷_}
 use Prim.Native.Nat.{ℕ, _+_, _≤_, _<_}
@@ -23,12 +24,12 @@ use Rattle.steps.specs.Tokens.{rest, spend, budget}
 use Rattle.steps.specs.Shows.{Asked, Good, Reads, Expects, done-of, node}
 use Rattle.steps.proofs.Answers.{good-of}
 
--- what the definition says of it
+-- the definition's law for an expression
 spared : (n : ℕ) (s : St) (x : Fallible Node) (s′ : St) → parse n Expression s ≡ gives (ok x) s′
     → Z.weight (x .item .recs) + 8 + Z.budget (s′ .tokens) ≤ Z.budget (s .tokens)
 spared n s x s′ e = subst (After _) e (Z.goal-size (λ _. 1) n Expression s) .1 .0
 
--- what the tokens pay, as the definition's laws and as the steps have it
+-- the budget of the definition's laws is that of the steps
 spends : (ts : List Tok) → spend ts ≡ Z.budget ts
 unfolding spend
 spends [] = refl
@@ -36,6 +37,7 @@ spends (t ∷ ts) = omega (arith, spends ts)
 
 module _ {w x : List ℕ} {n d : ℕ} {o r f o′ r′ f′ : List ℕ} {s : State} {a : Answer} (q : Asked w x n o r f s)
     (u : Reads node w x n d P.parse-expression o r f s o′ r′ f′ a) where
+  -- an expression leaves at least eight bytes of its tokens' share
   pub expression-spares : length o′ ≡ length o → a .status ≡ Done
       → a .state .pos + budget w x n (a .state .at) + 8 ≤ s .pos + budget w x n (s .at)
   expression-spares l z =
@@ -53,6 +55,7 @@ module _ {w x : List ℕ} {n d : ℕ} {o r f o′ r′ f′ : List ℕ} {s : Sta
         spends (rest w x n (a .state .at)),
       )
 
+-- an expected token that is there is consumed
 pub passed : {w x : List ℕ} {n : ℕ} {m : Role → Act (Ans Tok)} {r f r′ f′ : List ℕ} {s : State} {a : Answer}
     → Expects w x n m r f s r′ f′ a → a .status ≡ Done → s .at < a .state .at
 passed {w} {x} {n} {s = s} {a = a} e z =

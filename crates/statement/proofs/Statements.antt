@@ -1,4 +1,4 @@
--- Statements that a keyword begins: one law for each return of the functions. Assumes nothing.
+-- Statements that begin with a keyword: one law for each return of the functions. Assumes nothing.
 use mathlib.Core.Path.{_≡_, refl, sym, ap, _∙_}
 use mathlib.Core.Bool.{Bool, true, false}
 use mathlib.Core.List.{List, [], _∷_, _++_, append-nil, append-assoc}
@@ -41,11 +41,11 @@ use Rattle.expression_laws.proofs.Calls.{wraps-token, expect-seam}
 use Rattle.statement.specs.Rules.{guarded-rule}
 use Rattle.statement.specs.Post.{Starts, ReadsBody}
 
--- the place of the token that begins a statement
+-- the place of the first token of a statement
 abbrev pub here : List ℕ → List ℕ → ℕ → State → Place
 here w x n s = next-token (rest w x n (s .at)) .place
 
--- ---- which statement the next token begins
+-- ---- which statement the first token begins
 
 miss : (S : St) (k j : ℕ) → next-token (S .tokens) .kind ≡ k → (k ≡ j → ⊥) → next-token (S .tokens) is j ≡ false
 miss S k j h g = ne-eqb _ _ (λ e. g (sym h ∙ e))
@@ -142,13 +142,15 @@ module _ (d : ℕ) (S : St) where
         hit S 54 h,
       )
 
--- ---- a condition and what it guards: two ways to say it
+-- ---- a condition and the statement it guards
 
+-- the condition and the statement as one item
 abbrev pub guarding : Fallible Node → Fallible Node → Fallible Node
 guarding c b = record { item = record { place = b .item .place; recs = c .item .recs ++ b .item .recs }; errors = c .errors ++ b .errors }
 
 module _ (d : ℕ) (m : Fallible Node → Fallible Node → Act (Ans Node)) (k : Fallible Node → Act (Ans Node))
     (e : (c b : Fallible Node) (S : St) → go d (m c b) S ≡ go d (k (guarding c b)) S) where
+  -- parsing both and continuing with m is parsing them by `guarded-rule` and continuing with k
   pub guarded-seam : (S : St) → go d (P.parse-expression >>? λ c. P.parse-statement >>? m c) S ≡ go d (guarded-rule >>? k) S
   unfolding go run
   guarded-seam S =
@@ -203,6 +205,7 @@ joins {T} {E} {w} {x} {n} {o} {r} {f} {c} {q} d y v = record { told = one (c .st
 
 -- ---- `if`, after its first branch
 
+-- `else` and its statement, if it follows; then the record
 abbrev pub else-on : Place → Fallible Node → Act (Ans Node)
 else-on p e =
     peek λ t. if_then_else_ (t is K.KwElse) (next λ _. P.parse-statement >>? λ b. P.good
@@ -221,7 +224,7 @@ if-parts p c a =
 if-joined : (d : ℕ) (p : Place) (c b : Fallible Node) (S : St) → go d (if-parts p c b) S ≡ go d (else-on p (guarding c b)) S
 if-joined d p c b S = simp append-assoc refl
 
--- ---- `expect` reports nothing where the token is there
+-- ---- `expect` reports nothing if the token is there
 
 chosen : (b : Bool) (X Y Z : Res (Ans Node)) → X ≡ Y
     → _≡_ {A = Res (Ans Node)} (elim b as (λ _. Res (Ans Node)) [ true ↦ X | false ↦ Z ])
@@ -229,6 +232,7 @@ chosen : (b : Bool) (X Y Z : Res (Ans Node)) → X ≡ Y
 chosen true X Y Z e = e
 chosen false X Y Z e = refl
 
+-- after `expect(..)?` the item of the token does not matter
 pub clean : (d k : ℕ) (f : Fallible Tok → Act (Ans Node)) (g : Act (Ans Node))
     → ((t : Tok) → f (record { item = t; errors = [] }) ≡ g) → (S : St)
     → go d (P.expect k >>? λ _. g) S ≡ go d (P.expect k >>? f) S
@@ -243,7 +247,7 @@ pub begins : {w x : List ℕ} {n k : ℕ} {o r f : List ℕ} {s : State} {t : To
     → Seen w x n (s .at) t → t .kind ≡ k → Starts k w x n o r f s
 begins q u h = record { asked = q; kind = u .kind ∙ h }
 
--- at the end no token has to be passed
+-- at the end no token is consumed
 ended-on : {w x : List ℕ} {n i j : ℕ} {s s′ : State} → Moved w x n i j s s′ → next-token (rest w x n (s .at)) .kind ≡ 0
     → s .at + min (next-token (rest w x n (s .at)) .kind) 1 ≤ s′ .at
 ended-on m z = omega (arith, m .at, z)
@@ -308,7 +312,7 @@ module _ {w x : List ℕ} {n d : ℕ} {o r f : List ℕ} {s : State} {t : Token}
             (X .is plain d (past w x n (s .at) rd) o));
       }
 
-  -- ---- which of them: the rest is the function's own
+  -- ---- dispatch: the rest is the function's own
 
   pub var-reads : {o1 r1 f1 : List ℕ} {y : Answer} → Starts K.KwVar w x n o r f s
       → Reads node w x n d (P.declaration 0x42 (unpack-place (t .place))) o r f (fore s t) o1 r1 f1 y
@@ -432,7 +436,7 @@ module _ {w x : List ℕ} {n d : ℕ} {o r f : List ℕ} {s : State} {t : Token}
             (errs-length r (s .reported) (omega (arith, q .asked .asks))) (B .is (past w x n (s .at) rd))));
       }
 
-  -- ---- a body that is a statement
+  -- ---- a block: a body as a statement
 
   pub block-reads : {o1 r1 f1 o2 : List ℕ} {b y : Answer} → Starts K.LBrace w x n o r f s
       → ReadsBody w x n d o r f s o1 r1 f1 b → Finished x o1 b (untexted (t .place) 0x40 (Two (b .count))) o2 y
@@ -487,6 +491,7 @@ module _ {w x : List ℕ} {n d : ℕ} {o r f : List ℕ} {s : State} {t : Token}
         }
 
     module _ {t2 : Token} (z : a .status ≡ Done) (v : Seen w x n (a .state .at) t2) where
+      -- without `else`, and with it
       pub if-two : {o2 : List ℕ} {y : Answer} → (t2 .kind ≡ 11 → ⊥) → Finished x o1 a (untexted (t .place) 0x49 (Byte 2)) o2 y
           → Reads node w x n d P.statement-rule o r f s o2 r1 f1 y
       unfolding go run
@@ -554,7 +559,7 @@ module _ {w x : List ℕ} {n d : ℕ} {o r f : List ℕ} {s : State} {t : Token}
                 (D .is (past w x n (a .state .at) (g .read)))));
           }
 
--- ---- a condition and what it guards
+-- ---- a condition and the statement it guards
 
 module _ {w x : List ℕ} {n d : ℕ} {o r f o1 r1 f1 : List ℕ} {s : State} {a : Answer} (q : Asked w x n o r f s)
     (B : Reads node w x n d P.parse-expression o r f s o1 r1 f1 a) where
@@ -595,10 +600,10 @@ module _ {w x : List ℕ} {n d : ℕ} {o r f o1 r1 f1 : List ℕ} {s : State} {a
               (omega (arith, D .moved .reported, B .moved .reported)) (D .is (g .read))));
         }
 
--- ---- what the steps after a first part ask for
+-- ---- what the steps after a first part require
 
 module _ {w x : List ℕ} {n : ℕ} {o r f : List ℕ} {s : State} (q : Asked w x n o r f s) where
-  -- a second part, read from t′, which has the counts of the first part's end t
+  -- a second part, parsed from t′, whose error counts are those at the end t of the first part
   pub later-cuts : {r2 : List ℕ} {t t′ : State} {b : Answer} → Moved w x n (s .pos) (s .reported) s t
       → Moved w x n (t .pos) (t .reported) t′ (b .state) → t′ .reported ≡ t .reported → t′ .full ≡ t .full
       → length r2 ≡ length r → Cuts r2 b (s .pos) (s .reported) (t .reported)

@@ -1,4 +1,4 @@
--- What the functions of statements show beyond `Reads`. Assumes nothing.
+-- What the functions of `statement` ensure beyond `Reads`. Assumes nothing.
 use mathlib.Core.Path.{_≡_}
 use mathlib.Core.Option.{some}
 use mathlib.Core.List.{List, [], _++_}
@@ -23,18 +23,18 @@ use Rattle.steps.specs.Shows.{st-of, Asked, Moved, Shows, done-of, node, typed,
 use Rattle.expression_laws.specs.Post.{name-of, as-answer}
 use Rattle.statement.specs.Rules.{value-on}
 
--- what begins with a token of the kind k
+-- the next token is of the kind k
 pub record Starts (k : ℕ) (w x : List ℕ) (n : ℕ) (o r f : List ℕ) (s : State) : Type 0 where
   pub asked : Asked w x n o r f s
   pub kind : next-token (rest w x n (s .at)) .kind ≡ k
 
--- a state whose file ends k bytes later: what some records cost that no token of their own pays for
+-- the state with k more file bytes: the cost of records that no token accounts for
 abbrev pub up : ℕ → State → State
 up k s = record { at = s .at; pos = s .pos + k; reported = s .reported; full = s .full }
 
 -- ---- declarations
 
--- a record with nothing but its tag after an answer
+-- a record with an empty body after an answer
 abbrev pub BaredOf : Status → List ℕ → Answer → ℕ → List ℕ → Answer → Type 0
 BaredOf Done o a tag o′ y = (y .status ≡ Done) × Wrote o (a .state .pos) (bare-of tag None []) 3 o′ (y .state .pos)
 BaredOf Fatal o a tag o′ y = (y ≡ a) × (o′ ≡ o)
@@ -48,7 +48,7 @@ pub record Bared (o : List ℕ) (a : Answer) (tag : ℕ) (o′ : List ℕ) (y : 
   pub high : y .state .pos ≤ a .state .pos + 3 * done-of (a .status)
   pub is : BaredOf (a .status) o a tag o′ y
 
--- after a typed identifier, of a construct that began at i and j; where no value is given no token pays for its record
+-- after a typed identifier, in a construct that began at i and j; no token accounts for the record of an absent value
 pub record ValueOn (w x : List ℕ) (n d i j : ℕ) (o r f : List ℕ) (a : Answer) (o′ r′ f′ : List ℕ) (y : Answer) : Type 0 where
   pub moved : Moved w x n i j (up (3 * done-of (a .status)) (a .state)) (y .state)
   pub there : done-of (y .status) ≤ done-of (a .status)
@@ -93,7 +93,7 @@ statements-on i = loop (Body i) done
 
 -- ---- statements
 
--- after an expression with no errors, written from i on: what is shown of what follows
+-- after an expression without errors, whose records begin at i
 pub record ReadsAfter (w x : List ℕ) (n d : ℕ) (k : Node → Act (Ans Node)) (i : ℕ) (o r f : List ℕ) (s : State) (o′ r′ f′ : List ℕ) (y : Answer) : Type 0 where
   pub moved : Moved w x n i (s .reported) s (y .state)
   pub is : (rd : List Consumed) (T : List ℕ) (e : Node) → length T ≡ i → take (s .pos) o ≡ T ++ recs-bytes (e .recs)

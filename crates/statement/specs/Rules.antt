@@ -1,4 +1,4 @@
--- The parts of the definition's functions that functions of the code are of their own. Assumes nothing.
+-- The parts of the definition's functions for which the code has functions of their own. Assumes nothing.
 use mathlib.Core.List.{[], _∷_, _++_}
 use Prim.Native.Nat.{ℕ}
 use Rattle.definition.specs.Tag as Tag
@@ -15,7 +15,7 @@ use Rattle.definition.specs.Parser as P
 abbrev pub values-rule : A.Listed → ℕ → Place → Act (Ans Node)
 values-rule k tag p = P.parse-list k >>= λ i. P.good (P.node (i .recs) tag p (two (i .count) ∷ []) []) (i .errors)
 
--- what follows a typed identifier
+-- the initial value after a typed identifier
 abbrev pub value-on : Fallible P.Typed → Act (Ans P.Typed)
 value-on x =
     peek λ t.
@@ -23,7 +23,7 @@ value-on x =
     if t is K.LArrow then (next λ _. P.parse-compound >>? λ c. P.declared x (P.bare (c .item .recs) Tag.CompoundValue []) (c .errors)) else
     P.declared x (P.bare [] Tag.NoValue []) []
 
--- a condition and what it guards, without a record of their own
+-- a condition and the statement it guards, without a record of their own
 abbrev pub guarded-rule : Act (Ans Node)
 guarded-rule =
     P.parse-expression >>? λ c.

@@ -1,4 +1,4 @@
-// Compounds and declarations: the functions of parser.rs between expressions and statements.
+// Compounds and declarations: the functions of parser.rs that statements and items share.
 use definition::kind;
 use definition::parse_error;
 use definition::tag;
@@ -92,7 +92,7 @@ pub fn compound(
     raise(n, reported, full, s, error)
 }
 
-// The values of a compound that opens with `[` or `{`.
+// Parses the values of a compound: a list that opens with `[` or `{`.
 fn values(
     tokens: &[u32],
     text: &[u8],
@@ -113,7 +113,7 @@ fn values(
     write_node(file, text, a, place, tag, Numbers::Two(a.count))
 }
 
-// A record with nothing but its tag after an answer, if it is there.
+// Writes a record with an empty body after the answer `a`, unless it is fatal or refused.
 fn bare(file: &mut [u8], text: &[u8], a: Answer, tag: u8) -> Answer
     requires { ⌜ Room file text (a .state .pos) 16 0 0 ⌝ }
     ensures { λ r. ⌜ Bared file a tag r ⌝ }
@@ -132,7 +132,7 @@ fn bare(file: &mut [u8], text: &[u8], a: Answer, tag: u8) -> Answer
     }
 }
 
-// The initial value after an answer: [`=` expression | `<-` compound]
+// Parses the initial value after the answer `a`: [`=` expression | `<-` compound]
 fn initial_value(
     tokens: &[u32],
     text: &[u8],
@@ -167,7 +167,7 @@ fn initial_value(
     bare(file, text, a, tag::NO_VALUE)
 }
 
-// parse_var_like_declaration: typed_name initial_value. The name is that of the first token.
+// parse_var_like_declaration: typed_name initial_value. The caller takes the name from the first token.
 fn var_like_declaration(
     tokens: &[u32],
     text: &[u8],
@@ -185,7 +185,8 @@ fn var_like_declaration(
     initial_value(tokens, text, n, file, reported, full, a, st, nesting)
 }
 
-// A record with a place after an answer, if it is there; its text is the name at the place `at`, or `<?>` where none stands there.
+// Writes a record with a place after the answer `a`, unless it is fatal or refused. Its text is the identifier at
+// index `at`, or `<?>` if that token is none.
 fn named(
     tokens: &[u32],
     text: &[u8],
@@ -210,7 +211,7 @@ fn named(
     write_text_node(file, b"<?>", a, place, tag, Numbers::None, 0, 3)
 }
 
-// A declaration after `var`: var_like_declaration `;`
+// Parses a declaration after `var`: var_like_declaration `;`
 pub fn declaration(
     tokens: &[u32],
     text: &[u8],

@@ -1,4 +1,4 @@
-// Statements and bodies: the functions of parser.rs that call one another in a cycle, above expressions.
+// Statements and bodies: the functions of parser.rs above expressions that call one another in a cycle.
 pub mod declarations;
 mod simple;
 
@@ -35,7 +35,7 @@ ghost use Rattle.statement.specs.Contract.{Starts, ReadsBody};
 
 // ---- bodies
 
-// parse_body: `{` {statement} `}`. The answer's `line` is the count, and it is never fatal.
+// parse_body: `{` {statement} `}`. Never fatal; `count` of the answer is that of the statements.
 pub fn body(
     tokens: &[u32],
     text: &[u8],
@@ -64,7 +64,7 @@ pub fn body(
     }
 }
 
-// Its loop.
+// The loop of parse_body, after `{`: {statement} `}`
 fn body_rest(
     tokens: &[u32],
     text: &[u8],
@@ -115,7 +115,7 @@ fn body_rest(
 
 // ---- statements
 
-// A body that is a statement.
+// A block: a body as a statement.
 fn block(
     tokens: &[u32],
     text: &[u8],
@@ -154,7 +154,7 @@ fn loop_statement(
     write_node(file, text, a, t.place, tag::LOOP, Numbers::None)
 }
 
-// A condition and what it guards: expression statement
+// A condition and the statement it guards: expression statement
 fn guarded(
     tokens: &[u32],
     text: &[u8],
@@ -230,7 +230,7 @@ fn if_statement(
     write_node(file, text, c, t.place, tag::IF, Numbers::Byte(3))
 }
 
-// The statement that the next token begins.
+// parse_statement without its nesting count: chooses the statement by its first token.
 fn statement_rule(
     tokens: &[u32],
     text: &[u8],
@@ -276,7 +276,7 @@ fn statement_rule(
     expression_statement(tokens, text, n, file, reported, full, t.place, st, nesting)
 }
 
-// parse_statement, one of the four functions whose open calls are counted.
+// parse_statement, one of the four functions whose open calls are counted: refuses where `nesting` is 0.
 pub fn statement(
     tokens: &[u32],
     text: &[u8],

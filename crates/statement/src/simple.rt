@@ -1,4 +1,4 @@
-// Statements that hold no other statement.
+// Statements that contain no other statement.
 use crate::declarations::compound;
 use crate::declarations::declaration;
 use definition::kind;
@@ -103,7 +103,7 @@ pub fn break_statement(
     write_node(file, text, a, t.place, tag::BREAK, Numbers::None)
 }
 
-// A fragment of assembly.
+// A statement of inline assembly: one token.
 pub fn assembly_statement(
     tokens: &[u32],
     text: &[u8],
@@ -135,7 +135,7 @@ pub fn assembly_statement(
     )
 }
 
-// Behind its target, which was written from `i` on: `=` expression `;`
+// Parses an assignment after its target, whose records begin at `i`: `=` expression `;`
 fn assignment(
     tokens: &[u32],
     text: &[u8],
@@ -159,7 +159,7 @@ fn assignment(
     write_node(file, text, c, place, tag::ASSIGNMENT, Numbers::None)
 }
 
-// Behind its target, which was written from `i` on: `<-` compound `;`
+// Parses a compound assignment after its target, whose records begin at `i`: `<-` compound `;`
 fn compound_assignment(
     tokens: &[u32],
     text: &[u8],
@@ -190,7 +190,7 @@ fn compound_assignment(
     )
 }
 
-// Behind an expression with no errors, which was written from `i` on: assignment | compound_assignment | `;`
+// Parses what follows an error-free expression, whose records begin at `i`: assignment | compound_assignment | `;`
 fn after_expression(
     tokens: &[u32],
     text: &[u8],
@@ -245,7 +245,7 @@ fn after_expression(
     write_node(file, text, b, place, tag::EXPRESSION, Numbers::None)
 }
 
-// expression after_expression; where the expression has errors the statement ends with it.
+// expression after_expression. If the expression has errors, the statement ends with it.
 pub fn expression_statement(
     tokens: &[u32],
     text: &[u8],

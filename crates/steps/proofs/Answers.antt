@@ -1,4 +1,5 @@
--- How answers follow one another: an error made, an answer returned by `?`, one abandoned, a record after one. Assumes nothing.
+-- How answers follow one another: an error is made, an answer is returned by `?`, one is abandoned, a record is
+-- written after one. Assumes nothing.
 use mathlib.Core.Path.{_≡_, refl, sym, ap, _∙_, subst}
 use mathlib.Core.Bool.{Bool, true, false}
 use mathlib.Core.Option.{none, some}
@@ -33,18 +34,19 @@ use Rattle.node.specs.declared.Record.{Record}
 use Rattle.steps.specs.Tokens.{rest}
 use Rattle.steps.specs.Shows.{st-of, Asks, View, Good, ShowsOf, Shows, done-of, node, FinishedOf, Finished}
 
--- an answer that is not there
+-- an answer that is fatal or refused
 abbrev pub Stopped : Answer → Type 0
 Stopped a = OneOf (1 ∷ 2 ∷ []) (tagOf the-type (a .status))
 
--- ---- what an answer shows
+-- ---- what an answer represents
 
 module _ {A : Type 0} {K : View A} {T : List ℕ} {E : List Err} {rs : List Rec} {es : List Err} {w x : List ℕ}
     {n : ℕ} {o r f : List ℕ} {a : Answer} {q : Res (Ans A)} where
-  -- the same of another term
+  -- the same for an equal answer of the definition
   pub say : {q′ : Res (Ans A)} → q ≡ q′ → Shows K T E rs es w x n o r f a q′ → Shows K T E rs es w x n o r f a q
   say e v = subst (λ (z : Res (Ans A)). Shows K T E rs es w x n o r f a z) (sym e) v
 
+  -- an answer that is done is good, and the converse
   pub good-of : a .status ≡ Done → Shows K T E rs es w x n o r f a q → Good K T E rs es w x n o r f a q
   good-of z v = subst (λ (h : Status). ShowsOf h K T E rs es w x n o r f a q) z (v .told)
 
@@ -61,7 +63,7 @@ done-le Done = omega arith
 done-le Fatal = omega arith
 done-le (Refused u) = omega arith
 
--- an answer that is not there is the answer of what follows, too
+-- a fatal or refused answer is also the answer of what follows under `?`
 pub stops : {A B : Type 0} {K : View A} {L : View B} {T : List ℕ} {E : List Err} {rs rs′ : List Rec} {es es′ : List Err}
     {w x : List ℕ} {n : ℕ} {o r f : List ℕ} {a : Answer} (d : ℕ) (k : Fallible A → Act (Ans B))
     (q : Res (Ans A))
@@ -76,7 +78,7 @@ stops {K = K} {L = L} {T = T} {E = E} {rs = rs} {rs′ = rs′} {es = es} {es′
     one Fatal nd i = record { errors = i .errors; read = i .read; is = rw (i .is); tree = i .tree; reported = i .reported }
     one (Refused u) nd i = rw i
 
--- one that is there is followed
+-- after a good answer the continuation runs
 pub follows : {A B : Type 0} (d : ℕ) (k : Fallible A → Act (Ans B)) {q : Res (Ans A)} {y : Fallible A} {S : St}
     → q ≡ gives (ok y) S → after q (λ z S. go d (or-return k z) S) ≡ go d (k y) S
 follows d k e = rw e
@@ -88,6 +90,7 @@ raise-same d p q = rw (p, q)
 
 module _ {A : Type 0} (K : View A) {w x : List ℕ} {n : ℕ} {r f r′ f′ : List ℕ} {s : State} {e : ℕ} {a : Answer}
     (q : Asks w x n r f s) (v : Raised (raised n s) r f s e r′ f′ a) (d : ℕ) (rd : List Consumed) (o : List ℕ) where
+  -- `raise` represents the definition's `raise`
   pub raise-shows : Shows K (take (s .pos) o) (errs r (s .reported)) [] [] w x n o r′ f′ a
       (go d (P.raise {A = A} (unpack e)) (st-of w x n f rd s))
   unfolding go run
@@ -113,7 +116,7 @@ module _ {A : Type 0} (K : View A) {w x : List ℕ} {n : ℕ} {r f r′ f′ : L
           }
       one false l = rw (few, l, run)
 
--- ---- records and errors after those that stand
+-- ---- records and errors after others
 
 pub tree-join : {T′ l : List ℕ} (T : List ℕ) (rs ys : List Rec) → T′ ≡ T ++ recs-bytes rs → l ≡ T′ ++ recs-bytes ys
     → l ≡ T ++ recs-bytes (rs ++ ys)
@@ -124,7 +127,7 @@ tree-join T rs ys e h =
 pub errs-join : {E′ l : List Err} (E es ys : List Err) → E′ ≡ E ++ es → l ≡ E′ ++ ys → l ≡ E ++ (es ++ ys)
 errs-join E es ys e h = h ∙ ap (λ (z : List Err). z ++ ys) e ∙ append-assoc E es ys
 
--- one record more
+-- one more record is written
 pub wrote : {o o′ : List ℕ} {p q k : ℕ} {z y : Rec} (T : List ℕ) (rs : List Rec) → Wrote o p z k o′ q
     → take p o ≡ T ++ recs-bytes rs → y ≡ z → take q o′ ≡ T ++ recs-bytes (rs ++ (y ∷ []))
 unfolding recs-bytes
@@ -146,7 +149,7 @@ map-drop zero l = refl
 map-drop (suc j) [] = refl
 map-drop (suc j) (z ∷ l) = map-drop j l
 
--- fewer of those that stand
+-- the first j of the first k errors
 pub errs-take : (l : List ℕ) (j k : ℕ) → j ≤ k → errs l j ≡ take j (errs l k)
 unfolding errs
 errs-take l j k h = ap (λ (z : List ℕ). map (λ e. unpack e) z) (sym (take-take j k l h)) ∙ map-take j (take k l)
@@ -163,9 +166,10 @@ cut-errs {r} {r′} {a} {a′} {i} {j} {k} E es bs c le lk h e =
     ∙ ap (λ (z : List Err). E ++ z)
     (map-drop k (take (a .state .reported) r) ∙ ap (λ (z : List Err). drop k z) e ∙ drop-at (E ++ es) bs k lk)
 
--- The answer b of a call within a construct that has the records rs after T and the errors es after E.
+-- The answer b of a call in a construct that so far has the records rs after T and the errors es after E.
 module _ {A : Type 0} {K : View A} {T T′ : List ℕ} {E E′ : List Err} {rs : List Rec} {es : List Err} {w x : List ℕ} {n : ℕ} {o r r′ f : List ℕ} {b c : Answer} {i j k : ℕ} {q : Res (Ans A)}
     (tree : T′ ≡ T ++ recs-bytes rs) (reps : E′ ≡ E ++ es) (li : length T ≡ i) (lj : length E ≡ j) (lk : length E′ ≡ k) (v : Abandoned r b i j k r′ c) where
+  -- after `abandon`, the answer is that of `?` in the construct
   pub abandons : i ≤ b .state .pos → j ≤ b .state .reported → Shows K T′ E′ [] [] w x n o r f b q → Shows K T E rs es w x n o r′ f c q
   abandons hi hj u = record { told = one (b .status) refl (v .is) (u .told) }
     where
@@ -199,13 +203,15 @@ module _ {A : Type 0} {K : View A} {T T′ : List ℕ} {E E′ : List Err} {rs :
 place-of : Rec → Place
 place-of z = elim (z .place) [ none ↦ nowhere | some p ↦ p ]
 
--- What a record makes of an item, after the records rs and the errors es that the construct has before; its place and numbers may be the item's.
+-- The node made of an item: a record after the records rs and the errors es of the construct so far; its place and
+-- numbers may depend on the item.
 abbrev pub wrapped : {A : Type 0} → View A → List Rec → List Err → ℕ → (A → Place) → (A → List Num) → List ℕ → Fallible A → Act (Ans Node)
 wrapped K rs es tag p ns text e = P.good (P.node (rs ++ K .recs (e .item)) tag (p (e .item)) (ns (e .item)) text) (es ++ e .errors)
 
 module _ {A : Type 0} {K : View A} {T : List ℕ} {E : List Err} {rs : List Rec} {es : List Err} {w x : List ℕ}
     {n : ℕ} {o o′ r f : List ℕ} {a y : Answer} {v : Record} {q : Res (Ans A)} (d : ℕ) (p : A → Place)
     (ns : A → List Num) (text : List ℕ) (u : Finished x o a v o′ y) where
+  -- writing a record after an answer represents wrapping its item
   pub finishes : ((i : A) → K .fine (a .place) (a .count) i
       → rec-of x v ≡ record { tag = v .tag; place = some (p i); numbers = ns i; text = text })
       → Shows K T E rs es w x n o r f a q

@@ -1,4 +1,4 @@
--- Constructs of several parts: what follows an answer, an operand joined to another, a call counted. Assumes nothing.
+-- Constructs of several parts: what follows an answer, an operand joined to another, a counted call. Assumes nothing.
 use mathlib.Core.Path.{_≡_, refl, sym, _∙_}
 use mathlib.Core.List.{List}
 use Prim.Native.Nat.{ℕ, zero, suc, min, _+_, _-_, _≤_}
@@ -22,13 +22,14 @@ use Rattle.steps.proofs.Tokens.{rest-nil}
 use Rattle.steps.proofs.Moves.{refused-moved}
 use Rattle.steps.proofs.Answers.{Stopped, say, stops}
 
--- a token that is there stands within the list
+-- a token that is not the end is before the end of the list
 pub within : (w x : List ℕ) (n i : ℕ) → i ≤ n → i + min (next-token (rest w x n i) .kind) 1 ≤ n
 within w x n i h = elim (decLe n i) [ yes g ↦ rw (rest-nil w x n i g) (omega arith) | no g ↦ omega arith ]
 
 -- ---- the counted calls
 
 module _ {w x : List ℕ} {n d : ℕ} {o r f : List ℕ} {s : State} (g : Goal) where
+  -- no more call may be opened: refused; else the rule is parsed with one less
   pub deep : {a : Answer} → Asks w x n r f s → d ≡ 0 → a ≡ refused-at n s 10 → Reads node w x n d (call g done) o r f s o r f a
   unfolding parse
   deep q z e =
@@ -48,7 +49,7 @@ module _ {w x : List ℕ} {n d : ℕ} {o r f : List ℕ} {s : State} (g : Goal) 
 
 -- ---- what follows an answer
 
--- a part and what follows it: two ways to say it
+-- continuing with `g (h e)` is continuing with f, which gives `h e`, and then with g
 pub seam : {A B C : Type 0} (d : ℕ) (f : Fallible A → Act (Ans B)) (g : Fallible B → Act (Ans C))
     (h : Fallible A → Fallible B)
     → ((e : Fallible A) → f e ≡ done (ok (h e))) → (q : Res (Ans A))
@@ -61,11 +62,11 @@ seam d f g h e (refused n) = refl
 module _ {A B : Type 0} {K : View A} {L : View B} {w x : List ℕ} {n d : ℕ} {m : Act (Ans A)}
     (k : Fallible A → Act (Ans B)) {o r f o′ r′ f′ : List ℕ} {s : State} {a : Answer}
     (u : Reads K w x n d m o r f s o′ r′ f′ a) where
-  -- it is returned by `?`
+  -- the answer is returned by `?`
   pub then-stops : Stopped a → Reads L w x n d (m >>? k) o r f s o′ r′ f′ a
   then-stops nd = record { moved = u .moved; on = u .on; is = λ rd. say (go-bind d m (or-return k) _) (stops d k _ nd (u .is rd)) }
 
-  -- a function goes on from it
+  -- a function continues the answer
   pub then-goes : {o″ r″ f″ : List ℕ} {y : Answer} → s .pos ≤ length o → s .reported ≤ length r
       → Goes K L w x n d k (s .pos) (s .reported) o′ r′ f′ a o″ r″ f″ y
       → Reads L w x n d (m >>? k) o r f s o″ r″ f″ y

@@ -1,4 +1,4 @@
--- `expect(..)?` after an answer: it is asked for of what the answer shows. Assumes nothing.
+-- `expect(..)?` after an answer. Assumes nothing.
 use mathlib.Core.Path.{_≡_, refl, sym, ap, _∙_, subst}
 use mathlib.Core.List.{List, [], _++_}
 use Prim.Native.Nat.{ℕ}
@@ -21,7 +21,7 @@ use Rattle.steps.specs.Tokens.{rest}
 use Rattle.steps.specs.Shows.{st-of, View, Good, Bad, ShowsOf, Shows, token, Follows, Followed, ExpectedOf, Expected}
 use Rattle.steps.proofs.Answers.{abandons, follows}
 
--- what follows the item
+-- the continuation after the item
 abbrev pub expecting : {A : Type 0} → Role → ℕ → Fallible A → Act (Ans A)
 expecting role k e = P.expect-as role k >>? λ _. done (ok e)
 
@@ -29,7 +29,7 @@ module _ {A : Type 0} {K : View A} {w x : List ℕ} {n k i j : ℕ} {r f r′ f�
     (p : Follows w x n r f a i j) (u : Expected w x n k i j r f a r′ f′ y) (role : Role) (d : ℕ) {T : List ℕ}
     {E : List Err} {rs : List Rec} {es : List Err} {o : List ℕ} {q : Res (Ans A)} (li : length T ≡ i)
     (lj : length E ≡ j) where
-  -- the answer was there
+  -- the answer is done
   there : a .status ≡ Done → Good K T E rs es w x n o r f a q → Followed w x n k i j r f a r′ f′ y
       → Shows K T E rs es w x n o r′ f′ y (after q (λ z S. go d (or-return (expecting role k) z) S))
   unfolding go run
@@ -89,6 +89,7 @@ module _ {A : Type 0} {K : View A} {w x : List ℕ} {n k i j : ℕ} {r f r′ f�
           (after q (λ z S. go d (or-return (expecting role k) z) S))) (sym (m .status)) (lost c)
       one (Refused u) h m t = rw (m .0, h) (step ∙ rw t)
 
+  -- `and_expect` represents `expect(..)?` after the answer
   pub expects-after : Shows K T E rs es w x n o r f a q
       → Shows K T E rs es w x n o r′ f′ y (after q (λ z S. go d (or-return (expecting role k) z) S))
   unfolding go run

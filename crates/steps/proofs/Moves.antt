@@ -1,4 +1,4 @@
--- The numbers of states, from one to a later one. Assumes nothing.
+-- How the numbers of a state change, from one state to a later one. Assumes nothing.
 use mathlib.Core.Path.{_≡_, refl, ap}
 use mathlib.Core.List.{List}
 use Prim.Native.Nat.{ℕ, _<_}
@@ -17,7 +17,7 @@ use Rattle.steps.specs.Tokens.{spend, budget, Seen}
 use Rattle.steps.specs.Shows.{Asks, Asked, Moved}
 use Rattle.steps.proofs.Tokens.{rest-nil, fore}
 
--- at the end nothing is left to pay for
+-- at the end the budget is 0
 pub spent : (w x : List ℕ) (n : ℕ) → budget w x n n ≡ 0
 unfolding spend
 spent w x n = rw (rest-nil w x n n (omega arith))
@@ -49,7 +49,7 @@ module _ {w x : List ℕ} {n : ℕ} {r f : List ℕ} {s : State} (q : Asks w x n
         few = q .few;
       }
 
-  -- an error is made, or one too many
+  -- an error is made, or one too many is refused
   pub making-moved : (h : Status) → Moved w x n (s .pos) (s .reported) s (making h n s .state)
   making-moved h = go (ltb (s .full) 255) (λ e. ltb-true _ _ e) refl
     where
@@ -100,7 +100,7 @@ moved-trans p q =
       few = q .few;
     }
 
--- what a later state asks is met
+-- what is required holds in a later state
 pub asks-moved : {w x : List ℕ} {n i j : ℕ} {r f r′ f′ : List ℕ} {s t : State} → Asks w x n r f s → Moved w x n i j s t
     → length r′ ≡ length r → length f′ ≡ length f → Asks w x n r′ f′ t
 asks-moved q m h g = record { held = q .held; at = m .end; reported = omega arith; few = m .few; reps = omega arith; fulls = omega arith }
@@ -124,7 +124,7 @@ module _ {w x : List ℕ} {n : ℕ} {o r f : List ℕ} {s : State} (q : Asked w 
   pub asked-seen : {t : Token} → Seen w x n (s .at) t → Asked w x n o r f (fore s t)
   asked-seen v = record { asks = asks-fore (q .asks) v; room = omega arith }
 
-  -- at a later state, in slices as long
+  -- in a later state, for slices of the same lengths
   pub asked-moved : {i j : ℕ} {o′ r′ f′ : List ℕ} {t : State} → Moved w x n i j s t → length o′ ≡ length o
       → length r′ ≡ length r → length f′ ≡ length f → Asked w x n o′ r′ f′ t
   asked-moved m a b c = record { asks = asks-moved (q .asks) m b c; room = omega arith }

@@ -1,4 +1,4 @@
--- One token asked for: it is there, another is, or none. Assumes nothing.
+-- Expecting one token: it is there, another token is, or the end. Assumes nothing.
 use mathlib.Core.Path.{_≡_, refl, sym, ap, subst}
 use mathlib.Core.Bool.{Bool, true, false}
 use mathlib.Core.List.{List, [], _∷_, _++_, append-nil}
@@ -32,7 +32,7 @@ use Rattle.steps.proofs.Tokens.{yes, no, fore, adv}
 use Rattle.steps.proofs.Moves.{asks-fore, fore-moved, making-moved, moved-trans, abandoned-moved}
 use Rattle.steps.proofs.Answers.{Stopped, say, not-done, raise-same, raise-shows}
 
--- ---- a raised error's answer
+-- ---- the answer of a raised error
 
 raised-status : (n : ℕ) (s : State) → done-of (raised n s .status) ≡ 0
 raised-status n s = go (ltb (s .full) 255)
@@ -149,6 +149,7 @@ module _ {w x : List ℕ} {n : ℕ} {r f : List ℕ} {s : State} {t : Token} (q 
 -- ---- `expect` after an answer
 
 module _ {w x : List ℕ} {n k i j : ℕ} {r f : List ℕ} {a : Answer} (q : Follows w x n r f a i j) where
+  -- a fatal or refused answer is returned; after a good one `expect(..)?` runs
   pub expected-stop : Stopped a → Expected w x n k i j r f a r f a
   expected-stop nd = record {
     moved =
@@ -197,6 +198,7 @@ module _ {w x : List ℕ} {n k i j : ℕ} {r f : List ℕ} {a : Answer} (q : Fol
 -- ---- a record after an answer
 
 module _ {x o : List ℕ} {a : Answer} {v : Record} where
+  -- after a fatal or refused answer nothing is written; after a good one the record is
   pub finish-stop : Stopped a → Finished x o a v o a
   finish-stop nd = record { at = refl; reported = refl; full = refl; low = omega arith; high = omega arith; is = one (a .status) nd }
     where

@@ -1,4 +1,4 @@
--- The tokens of the records, read one by one. Assumes nothing.
+-- The tokens of the records, decoded one by one. Assumes nothing.
 use mathlib.Core.Path.{_≡_, sym, _∙_}
 use mathlib.Core.Bool.{true, false}
 use mathlib.Core.List.{List, [], _∷_, _++_}
@@ -18,6 +18,7 @@ use Rattle.steps.specs.Shows.{st-of}
 
 -- ---- tokens
 
+-- the tokens from an index on: the one there and those after it, or none at the end
 pub rest-cons : (w x : List ℕ) (n at : ℕ) → at < n → rest w x n at ≡ tok-at w x at ∷ rest w x n (at + 1)
 unfolding rest from
 rest-cons w x n at h = let e : n - at ≡ suc (n - (at + 1)) = omega arith in rw e
@@ -31,6 +32,7 @@ pub place-sound : {w x : List ℕ} {n at : ℕ} → Held w x n → at < n
     → (getD w (8 * at + 1) 0 < 65536) × (getD w (8 * at + 2) 0 < 65536)
 place-sound q h = let s = q .each _ h in (omega (arith, s .line), omega (arith, s .column))
 
+-- what `peek` gives within the tokens, and at the end
 pub seen-there : {w x : List ℕ} {n at : ℕ} (place : ℕ) → Held w x n → at < n
     → (unpack-place place ≡ place-at (getD w (8 * at + 1) 0) (getD w (8 * at + 2) 0)) × (place < 0x100000000)
     → Seen w x n at (record {
@@ -92,11 +94,11 @@ seen-end {w} {x} {n} {at} g h =
       based = λ z. omega arith;
     }
 
--- a token that is there is of some kind
+-- a token within the list has a kind above 0
 pub alive : {w x : List ℕ} {n at : ℕ} → Held w x n → at < n → 0 < next-token (rest w x n at) .kind
 alive {w} {x} {n} {at} q h = rw (rest-cons w x n at h) (q .each at h .real)
 
--- a test of a token's kind
+-- a test of the kind in the code decides that of the definition
 pub yes : {w x : List ℕ} {n at k : ℕ} {t : Token} → Seen w x n at t → t .kind ≡ k → next-token (rest w x n at) is k ≡ true
 yes v e = eq-eqb _ _ (v .kind ∙ e)
 
@@ -107,7 +109,7 @@ no v e = ne-eqb _ _ (λ z. e (sym (v .kind) ∙ z))
 abbrev pub fore : State → Token → State
 fore s t = record { at = t .next; pos = s .pos; reported = s .reported; full = s .full }
 
--- a token is read
+-- reading a token advances the definition's state
 pub adv : {w x : List ℕ} {n : ℕ} {t : Token} (s : State) → Seen w x n (s .at) t
     → (role : Tok → Role) (f : List ℕ) (rd : List Consumed)
     → advance role (st-of w x n f rd s) ≡ st-of w x n f (rd ++ now-read role (rest w x n (s .at))) (fore s t)

@@ -1,5 +1,6 @@
--- What the functions of the parser ask and ensure, over their own parameters: the records of Shows, of a slice as it is
--- now, or as it is at entry and at exit. First what is a function's own, then its parameters in order. Assumes nothing.
+-- What the functions of the parser require and ensure: the records of Shows, stated over their parameters, with
+-- slices as they are now, or at entry and at exit. First what is specific to a function, then its parameters in
+-- order. Assumes nothing.
 use Prim.Native.Nat.{ℕ}
 use denote.Ref.{now}
 use Rattle.definition.specs.Slices.{Slice, Lent, at-entry, at-exit}
@@ -11,12 +12,12 @@ use Rattle.fallible.specs.declared.State.{State}
 use Rattle.fallible.specs.declared.Answer.{Answer}
 use Rattle.steps.specs.Shows as S
 
--- ---- asked
+-- ---- required
 
 abbrev pub Asks : Slice → Slice → ℕ → Slice → Slice → State → Type 0
 Asks tokens text n reported full st = S.Asks (now tokens) (now text) n (now reported) (now full) st
 
--- and room in the file
+-- the same with room in the file
 abbrev pub Asked : Slice → Slice → ℕ → Slice → Slice → Slice → State → Type 0
 Asked tokens text n file reported full st = S.Asked (now tokens) (now text) n (now file) (now reported) (now full) st
 
@@ -31,7 +32,7 @@ GoesOn tokens text n file reported full a from =
 
 -- ---- ensured
 
--- a function that reads one token
+-- a function that consumes one token
 abbrev pub Expects : (Role → Act (Ans Tok)) → Lent → Lent → ℕ → Lent → Lent → State → Answer → Type 0
 Expects m tokens text n reported full st r =
     S.Expects (at-entry tokens) (at-entry text) n m (at-entry reported) (at-entry full) st (at-exit reported) (at-exit full) r
@@ -41,19 +42,19 @@ Expected wanted tokens text n reported full a from r =
     S.Expected (at-entry tokens) (at-entry text) n wanted (from .pos) (from .reported) (at-entry reported) (at-entry full) a
     (at-exit reported) (at-exit full) r
 
--- a function that is the rule m: a node, where `left` more calls may be opened
+-- a function that parses a node by the rule m, where `nesting` more counted calls may be opened
 abbrev pub Parses : Act (Ans Node) → Lent → Lent → ℕ → Lent → Lent → Lent → State → ℕ → Answer → Type 0
 Parses m tokens text n file reported full st nesting r =
     S.Reads S.node (at-entry tokens) (at-entry text) n nesting m (at-entry file) (at-entry reported) (at-entry full) st
     (at-exit file) (at-exit reported) (at-exit full) r
 
--- after a node
+-- a function that continues after a node
 abbrev pub ParsesOn :
     (Fallible Node → Act (Ans Node)) → Lent → Lent → ℕ → Lent → Lent → Lent → Answer → State → ℕ → Answer → Type 0
 ParsesOn k tokens text n file reported full a from nesting r =
     S.Goes S.node S.node (at-entry tokens) (at-entry text) n nesting k (from .pos) (from .reported) (at-entry file)
     (at-entry reported) (at-entry full) a (at-exit file) (at-exit reported) (at-exit full) r
 
--- a record after an answer
+-- a record is written after an answer
 abbrev pub Finishes : Record → Lent → Lent → Answer → Answer → Type 0
 Finishes v file text a r = S.Finished (at-entry text) (at-entry file) a v (at-exit file) r

@@ -1,4 +1,7 @@
--- How an answer of the code stands for an answer of the definition. Assumes nothing.
+-- How an answer of the code represents an answer of the definition. Assumes nothing.
+-- Variables, here and in the laws: w, x and n are the token words, the text and the count of tokens; o, r and f the
+-- file, the reported and the full list, o′, r′ and f′ at exit; s is a state, a and y are answers; i and j are the
+-- file offset and the count of reported errors where a construct began; d more counted calls may be opened.
 use mathlib.Core.Path.{_≡_}
 use mathlib.Core.List.{List, [], _++_}
 use Prim.Native.Nat.{ℕ, min, _+_, _*_, _≤_}
@@ -27,7 +30,7 @@ use Rattle.steps.specs.Tokens.{rest, budget, Held}
 abbrev pub st-of : List ℕ → List ℕ → ℕ → List ℕ → List Consumed → State → St
 st-of w x n f rd s = record { tokens = rest w x n (s .at); read = rd; full = errs f (s .full) }
 
--- what each function asks of a state; one that writes asks for room
+-- what each function requires of a state; those that write also require room
 pub record Asks (w x : List ℕ) (n : ℕ) (r f : List ℕ) (s : State) : Type 0 where
   pub held : Held w x n
   pub at : s .at ≤ n
@@ -40,7 +43,7 @@ pub record Asked (w x : List ℕ) (n : ℕ) (o r f : List ℕ) (s : State) : Typ
   pub asks : Asks w x n r f s
   pub room : s .pos + budget w x n (s .at) + 16 ≤ length o
 
--- the numbers from one state to a later one, of a construct that began at i and j
+-- how the numbers change from one state to a later one, in a construct that began at i and j
 pub record Moved (w x : List ℕ) (n i j : ℕ) (s s′ : State) : Type 0 where
   pub at : s .at ≤ s′ .at
   pub end : s′ .at ≤ n
@@ -53,12 +56,13 @@ pub record Moved (w x : List ℕ) (n i j : ℕ) (s s′ : State) : Type 0 where
 
 -- ---- answers
 
--- Of an item: its records, and what it is by the answer's place and count.
+-- how an item is represented: its records, and what the place and the count of the answer say of it
 pub record View (A : Type 0) : Type 1 where
   pub recs : A → List Rec
   pub fine : ℕ → ℕ → A → Type 0
 
--- an answer q of the definition that is there: after T stand the records rs that the construct has before and the item's, after E the errors es and the item's
+-- a good answer q of the definition: after T the file has the records rs of the construct so far and those of the
+-- item; after E the errors es and those of the item
 pub record Good {A : Type 0} (K : View A) (T : List ℕ) (E : List Err) (rs : List Rec) (es : List Err) (w x : List ℕ) (n : ℕ) (o r f : List ℕ) (a : Answer) (q : Res (Ans A)) : Type 0 where
   pub item : A
   pub errors : List Err
@@ -68,7 +72,7 @@ pub record Good {A : Type 0} (K : View A) (T : List ℕ) (E : List Err) (rs : Li
   pub reported : errs r (a .state .reported) ≡ E ++ (es ++ errors)
   pub holds : K .fine (a .place) (a .count) item
 
--- a fatal one: only its errors stand, after E
+-- a fatal answer: the file is T, and after E come only its errors
 pub record Bad {A : Type 0} (T : List ℕ) (E : List Err) (w x : List ℕ) (n : ℕ) (o r f : List ℕ) (a : Answer) (q : Res (Ans A)) : Type 0 where
   pub errors : List Err
   pub read : List Consumed
@@ -81,11 +85,11 @@ ShowsOf Done K T E rs es w x n o r f a q = Good K T E rs es w x n o r f a q
 ShowsOf Fatal K T E rs es w x n o r f a q = Bad T E w x n o r f a q
 ShowsOf (Refused m) K T E rs es w x n o r f a q = q ≡ refused m
 
--- the answer a of the code is the answer q of the definition
+-- the answer a of the code represents the answer q of the definition
 pub record Shows {A : Type 0} (K : View A) (T : List ℕ) (E : List Err) (rs : List Rec) (es : List Err) (w x : List ℕ) (n : ℕ) (o r f : List ℕ) (a : Answer) (q : Res (Ans A)) : Type 0 where
   pub told : ShowsOf (a .status) K T E rs es w x n o r f a q
 
--- 1 where the answer is there, as a number
+-- 1 for an answer that is neither fatal nor refused, else 0
 abbrev pub done-of : Status → ℕ
 done-of Done = 1
 done-of Fatal = 0
@@ -93,31 +97,31 @@ done-of (Refused m) = 0
 
 -- ---- items
 
--- a node, with its place
+-- a node: the two numbers are its place
 abbrev pub node : View Node
 node = record { recs = λ y. y .recs; fine = λ p k y. y .place ≡ unpack-place p }
 
--- a token, with its place
+-- a token: the two numbers are its place
 abbrev pub token : Tok → View Tok
 token t = record { recs = λ y. []; fine = λ p k y. (y ≡ t) × (t .place ≡ unpack-place p) }
 
--- a typed identifier, of the name
+-- a typed identifier with the given name
 abbrev pub typed : List ℕ → View P.Typed
 typed name = record { recs = λ y. y .type; fine = λ p k y. y .name ≡ name }
 
--- the items of a list, and how many
+-- the items of a list: the first number is their count
 abbrev pub items : View Items
 items = record { recs = λ y. y .recs; fine = λ p k y. y .count ≡ k }
 
 -- ---- functions
 
--- a function that reads: what it shows of the act m, where d more calls may be opened
+-- a function that parses by the act m, where d more counted calls may be opened
 pub record Reads {A : Type 0} (K : View A) (w x : List ℕ) (n d : ℕ) (m : Act (Ans A)) (o r f : List ℕ) (s : State) (o′ r′ f′ : List ℕ) (a : Answer) : Type 0 where
   pub moved : Moved w x n (s .pos) (s .reported) s (a .state)
   pub on : s .at + min (next-token (rest w x n (s .at)) .kind) 1 ≤ a .state .at
   pub is : (rd : List Consumed) → Shows K (take (s .pos) o) (errs r (s .reported)) [] [] w x n o′ r′ f′ a (go d m (st-of w x n f rd s))
 
--- a function from an answer a to an answer y, in a construct that began at i and j: what it shows of what follows
+-- a function that continues the answer a by k, with the answer y, in a construct that began at i and j
 pub record Goes {A B : Type 0} (K : View A) (L : View B) (w x : List ℕ) (n d : ℕ) (k : Fallible A → Act (Ans B)) (i j : ℕ) (o r f : List ℕ) (a : Answer) (o′ r′ f′ : List ℕ) (y : Answer) : Type 0 where
   pub moved : Moved w x n i j (a .state) (y .state)
   pub is : (T : List ℕ) (E : List Err) (q : Res (Ans A)) → length T ≡ i → length E ≡ j → Shows K T E [] [] w x n o r f a q → Shows L T E [] [] w x n o′ r′ f′ y (after q (λ z S. go d (or-return k z) S))
@@ -129,7 +133,7 @@ pub record GoesOn (w x : List ℕ) (n : ℕ) (o r f : List ℕ) (a : Answer) (i 
 
 -- ---- `expect`
 
--- `m` is a function of the parser that reads one token: in any role, whatever calls and loops answer
+-- `m` consumes one token, in any role and at any nesting
 pub record Expects (w x : List ℕ) (n : ℕ) (m : Role → Act (Ans Tok)) (r f : List ℕ) (s : State) (r′ f′ : List ℕ) (a : Answer) : Type 0 where
   pub moved : Moved w x n (s .pos) (s .reported) s (a .state)
   pub pos : a .state .pos ≡ s .pos
@@ -138,13 +142,13 @@ pub record Expects (w x : List ℕ) (n : ℕ) (m : Role → Act (Ans Tok)) (r f 
   pub kept : a .status ≡ Done → (a .state .reported ≡ s .reported) × (errs r′ (a .state .reported) ≡ errs r (s .reported))
   pub is : (role : Role) (d : ℕ) (rd : List Consumed) (o : List ℕ) → Shows (token (next-token (rest w x n (s .at)))) (take (s .pos) o) (errs r (s .reported)) [] [] w x n o r′ f′ a (go d (m role) (st-of w x n f rd s))
 
--- what a function asks of an answer, of a construct that began at i and j
+-- what a function requires of an answer, in a construct that began at i and j
 pub record Follows (w x : List ℕ) (n : ℕ) (r f : List ℕ) (a : Answer) (i j : ℕ) : Type 0 where
   pub asks : Asks w x n r f (a .state)
   pub pos : i ≤ a .state .pos
   pub reported : j ≤ a .state .reported
 
--- `expect` after an answer, of a construct that began at i and j: b is its answer, c what `?` leaves of it
+-- `expect(..)?` after an answer, in a construct that began at i and j: b is the answer of `expect`, c that of `?`
 pub record Followed (w x : List ℕ) (n k i j : ℕ) (r f : List ℕ) (a : Answer) (r′ f′ : List ℕ) (y : Answer) : Type 0 where
   pub b : Answer
   pub c : Answer
@@ -166,7 +170,7 @@ pub record Expected (w x : List ℕ) (n k i j : ℕ) (r f : List ℕ) (a : Answe
 
 -- ---- a record after an answer
 
--- at a place, with a part of the text, or with none
+-- a record at a place, with a part of the text or with none
 abbrev pub texted : ℕ → ℕ → Numbers → ℕ → ℕ → Record
 texted place tag ns start len = record { tag = tag; place = place; numbers = ns; start = start; len = len }
 

@@ -1,4 +1,4 @@
--- The tokens that lent records stand for, and what reading one shows. Assumes nothing.
+-- The tokens that the records in lent slices encode, and what decoding one ensures. Assumes nothing.
 use mathlib.Core.Path.{_≡_}
 use mathlib.Core.List.{List, [], _∷_}
 use Prim.Native.Nat.{ℕ, zero, suc, min, _+_, _*_, _-_, _<_, _≤_}
@@ -10,7 +10,7 @@ use Rattle.definition.specs.Records.{words-at, token-of}
 use Rattle.definition.specs.Places.{unpack-place}
 use Rattle.steps.specs.declared.Token.{Token}
 
--- the token whose record is the i-th
+-- the token of the record at index i
 abbrev pub tok-at : List ℕ → List ℕ → ℕ → Tok
 tok-at w x i = token-of x (words-at w i)
 
@@ -18,14 +18,14 @@ unfoldable pub from : List ℕ → List ℕ → ℕ → ℕ → List Tok
 from w x i zero = []
 from w x i (suc k) = tok-at w x i ∷ from w x (i + 1) k
 
--- those of n records from the place `at` on
+-- the tokens of n records from index `at` on
 unfoldable pub rest : List ℕ → List ℕ → ℕ → ℕ → List Tok
 rest w x n at = from w x at (n - at)
 
 abbrev pub budget : List ℕ → List ℕ → ℕ → ℕ → ℕ
 budget w x n at = spend (rest w x n at)
 
--- a record that can be read
+-- a record that can be decoded
 pub record Sound (w x : List ℕ) (i : ℕ) : Type 0 where
   pub real : 0 < getD w (8 * i) 0
   pub kind : getD w (8 * i) 0 ≤ K.InlineAssemblyFragment
@@ -35,13 +35,13 @@ pub record Sound (w x : List ℕ) (i : ℕ) : Type 0 where
   pub base : getD w (8 * i + 5) 0 ≤ 16
   pub based : getD w (8 * i) 0 ≡ K.Integer → 0 < getD w (8 * i + 5) 0
 
--- n records are there, and each can be read
+-- n records are there, and each can be decoded
 pub record Held (w x : List ℕ) (n : ℕ) : Type 0 where
   pub words : 8 * n ≤ length w
   pub few : n ≤ 2048
   pub each : (i : ℕ) → i < n → Sound w x i
 
--- what `head` shows
+-- what `peek` ensures
 pub record Seen (w x : List ℕ) (n at : ℕ) (t : Token) : Type 0 where
   pub kind : next-token (rest w x n at) .kind ≡ t .kind
   pub place : next-token (rest w x n at) .place ≡ unpack-place (t .place)

@@ -1,4 +1,4 @@
-// The steps of parser.rs on tokens: a look at the next one, `expect`, `expect_identifier`, and a record after an answer.
+// Steps of parser.rs on single tokens: the next token, `expect`, `expect_identifier`, a record after an answer.
 use definition::kind;
 use definition::parse_error;
 use fallible::Answer;
@@ -20,7 +20,7 @@ ghost use Rattle.steps.specs.Tokens.{Held, Seen};
 ghost use Rattle.steps.specs.Shows.{texted, untexted};
 ghost use Rattle.steps.specs.Contract.{Asks, Follows, Expects, Expected, Finishes};
 
-// A token as its record has it, and the place after it. At the end all is 0.
+// A token, decoded from its record, and the index of the next token. At the end all fields but `next` are 0.
 pub struct Token {
     pub kind: u32,
     pub place: usize,
@@ -30,7 +30,7 @@ pub struct Token {
     pub next: usize,
 }
 
-// The token at a place.
+// Decodes the token at index `at`, without consuming it.
 pub fn peek(tokens: &[u32], text: &[u8], n: usize, at: usize) -> Token
     requires { ⌜ Held (now tokens) (now text) n × (at ≤ n) ⌝ }
     ensures { λ r. ⌜ Seen (now (tokens .entry)) (now (text .entry)) n at r ⌝ }
@@ -57,7 +57,7 @@ pub fn peek(tokens: &[u32], text: &[u8], n: usize, at: usize) -> Token
     }
 }
 
-// The next token, if it is of the kind; another is passed over too.
+// `expect`: consumes the next token. Another kind than `wanted`, or the end, is a fatal error.
 pub fn expect(
     tokens: &[u32],
     text: &[u8],
@@ -88,7 +88,7 @@ pub fn expect(
     raise(n, reported, full, on, error)
 }
 
-// `expect_identifier`.
+// `expect_identifier`: consumes the next token. Another kind than an identifier, or the end, is a fatal error.
 pub fn expect_identifier(
     tokens: &[u32],
     text: &[u8],
@@ -118,7 +118,7 @@ pub fn expect_identifier(
     raise(n, reported, full, on, error)
 }
 
-// `expect(..)?` after an answer, in a construct that began in the state `from`; the answer's item stays.
+// `expect(..)?` after the answer `a`, in a construct that began in the state `from`. Keeps the place of `a`.
 pub fn and_expect(
     tokens: &[u32],
     text: &[u8],
@@ -149,7 +149,7 @@ pub fn and_expect(
     }
 }
 
-// A record after what an answer has, if it is there; its text is a part of the text slice.
+// Writes a record after the answer `a`, unless it is fatal or refused; its text is a part of the text slice.
 pub fn write_text_node(
     file: &mut [u8],
     text: &[u8],
@@ -184,7 +184,7 @@ pub fn write_text_node(
     }
 }
 
-// The same with no text.
+// Like `write_text_node`, with no text.
 pub fn write_node(
     file: &mut [u8],
     text: &[u8],

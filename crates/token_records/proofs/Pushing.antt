@@ -1,4 +1,4 @@
--- Pushing a token, and the loop that pushes errors. Assumes nothing.
+-- The laws of `push_token` and `push_errors`. Assumes nothing.
 use mathlib.Core.Path.{_≡_, refl, sym, ap}
 use mathlib.Core.Logic.{inl, inr}
 use mathlib.Core.List.{List, [], _∷_, _++_}
@@ -32,6 +32,7 @@ unfolding errors-words error-words
 errors-snoc zero e = refl
 errors-snoc (suc n) e = ap (λ (l : List ℕ). e .number ∷ e .place .line ∷ e .place .column ∷ 0 ∷ l) (errors-snoc n e)
 
+-- the invariant: the errors up to i are pushed
 pub record Pushing (E₀ : List ℕ) (f : State) (count : ℕ) (e : Err) (total : ℕ) (E : List ℕ) (i : ℕ) : Type 0 where
   pub sum : total ≡ f .errors + count
   pub few : total ≤ 255

@@ -1,4 +1,4 @@
--- The test of a token record, and the text of a token. Assumes nothing.
+-- The laws of the validation of a token record, and of `token_text`. Assumes nothing.
 use mathlib.Core.Path.{_≡_, refl, sym, ap, _∙_}
 use mathlib.Core.Bool.{Bool, true, false, not, _&&_, _||_, and-true, and-assoc, or-assoc}
 use mathlib.Core.List.{List, [], _∷_}
@@ -20,6 +20,7 @@ use Rattle.token_records.specs.Tested.{fields-fit, part-fits}
 
 -- ---- digits
 
+-- the invariant: the bytes from `from` on are digits if and only if those from i on are
 pub record Digits (p : List ℕ) (from base i : ℕ) : Type 0 where
   pub some : from < length p
   pub high : i ≤ length p
@@ -94,6 +95,7 @@ module _ (text : List ℕ) (w : TokenWords) where
   unfolding valid-alone
   good-is = let z : end - w .start ≡ w .size = omega arith in rw z
 
+  -- the words that fail, and a record without text
   pub bad-fields : fields ≡ false → false ≡ valid-alone text w
   bad-fields e = rw (good-is, e)
 
@@ -101,6 +103,7 @@ module _ (text : List ℕ) (w : TokenWords) where
   no-text e f = rw (good-is, e, f, textless (w .kind) f, and-true)
 
   module _ (e : fields ≡ true) (f : has-text (w .kind) ≡ true) where
+    -- the text fails, is that of an integer, or is another text
     pub bad-part : part-fits text (w .start) end ≡ false → false ≡ valid-alone text w
     bad-part g = rw (good-is, e, f, g)
 
@@ -116,7 +119,7 @@ part-inside text start end e =
     leb-true _ _
     (right-true (leb end 16384) (leb end (length text)) (left-true (leb end 16384 && leb end (length text)) _ e))
 
--- ---- a token's text
+-- ---- the text of a token
 
 module _ (ws text : List ℕ) (i : ℕ) where
   abbrev whole-record : Bool
@@ -147,7 +150,7 @@ module _ (ws text : List ℕ) (i : ℕ) where
     pub text-some : not (h && g) ≡ false → take (w .start + w .size - w .start) (drop (w .start) text) ≡ text-of ws text i
     text-some q = let z : w .start + w .size - w .start ≡ w .size = omega arith in rw z (sym (there-is true (not-false _ q)))
 
--- a good record's text is within the slice
+-- the text of a valid record is within the slice
 pub text-inside : (text : List ℕ) (w : TokenWords) {h g : Bool} → h ≡ has-text (w .kind) → g ≡ valid-alone text w
     → not (h && g) ≡ false → w .start + w .size ≤ length text
 text-inside text w {h} {g} e f n =

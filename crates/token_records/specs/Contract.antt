@@ -1,5 +1,5 @@
--- The records of Push over the parameters of the functions: first what is pushed, then the parameters in order.
--- Assumes nothing.
+-- The records of Push, stated over the parameters of the functions: first what is pushed, then the parameters in
+-- order. Assumes nothing.
 use mathlib.Core.List.{List}
 use Prim.Native.Nat.{ℕ}
 use Rattle.definition.specs.Slices.{Lent, at-entry, at-exit}

@@ -1,4 +1,4 @@
--- What pushing a token or errors does to the slices and the state. Assumes nothing.
+-- What pushing a token or errors ensures of the slices and the state. Assumes nothing.
 use mathlib.Core.Path.{_≡_}
 use mathlib.Core.Logic.{_⊎_}
 use mathlib.Core.List.{List}

@@ -1,4 +1,4 @@
--- Parts of the test of a token record. Assumes nothing.
+-- Parts of the validation of a token record. Assumes nothing.
 use mathlib.Core.Bool.{Bool, _&&_}
 use mathlib.Core.List.{List}
 use Prim.Native.Nat.{ℕ, _-_}
@@ -9,11 +9,11 @@ use Rattle.definition.specs.Source.{utf8}
 use Rattle.definition.specs.Records.{TokenWords, base-fits}
 use Rattle.token_records.specs.declared.Words.{Words}
 
--- the words that are tested by themselves
+-- all words but the start and length of the text
 abbrev pub fields-fit : ℕ → ℕ → ℕ → ℕ → ℕ → ℕ → Bool
 fields-fit k line column base seventh eighth = between 1 54 k && between 1 16384 line && between 1 16384 column && base-fits k base && eqb seventh 0 && eqb eighth 0
 
--- a part of the text slice, from its start to its end
+-- the part of the text slice from start to end
 abbrev pub part-fits : List ℕ → ℕ → ℕ → Bool
 part-fits text start end = leb end 16384 && leb end (length text) && utf8 (take (end - start) (drop start text))
 

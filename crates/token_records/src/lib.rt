@@ -1,4 +1,4 @@
-// Token and error records as words in lent slices: written, tested, and a token's text.
+// Token and error records as words in lent slices: writes and validates them; the text of a token.
 use classes::character::is_digit_of;
 use definition::kind;
 use definition::limit;
@@ -19,9 +19,9 @@ ghost use Rattle.token_records.specs.Push.{place-at};
 ghost use Rattle.token_records.specs.Tested.{fields-fit, part-fits, words-of};
 ghost use Rattle.token_records.specs.Contract.{TokenPushed, ErrorsPushed};
 
-// ---- written
+// ---- writing
 
-// How far the tokenizer has come: its place, what it has pushed, the bytes of text, and the number of its refusal, 0 for none.
+// The tokenizer's state: its cursor, the counts of tokens, errors and text bytes, and the number of its refusal or 0.
 pub struct State {
     pub cursor: Cursor,
     pub tokens: usize,
@@ -30,7 +30,7 @@ pub struct State {
     pub refusal: u32,
 }
 
-// Half of a token's record, or an error's.
+// Writes half of a token record, or an error record.
 fn put_four(words: &mut [u32], at: usize, a: u32, b: u32, c: u32, d: u32) -> usize
     requires { ⌜ at + 4 ≤ length (now words) ⌝ }
     ensures { λ r. ⌜ Wrote (a ∷ b ∷ c ∷ d ∷ []) words at r ⌝ }
@@ -58,7 +58,7 @@ fn put_token(
     put_four(words, half, size, base, 0, 0)
 }
 
-// A token is pushed; refused where there are `most` already.
+// Pushes a token. Refuses where `most` tokens are there already.
 pub fn push_token(
     most: usize,
     tokens: &mut [u32],
@@ -94,7 +94,7 @@ pub fn push_token(
     State { tokens: more, ..st }
 }
 
-// The same error is pushed `count` times; refused where they are more than 255 with those before.
+// Pushes the same error `count` times. Refuses if there would be more than 255 errors.
 pub fn push_errors(
     errors: &mut [u32],
     st: State,
@@ -124,7 +124,7 @@ pub fn push_errors(
     }
 }
 
-// ---- tested
+// ---- validating
 
 pub fn between(lo: u32, hi: u32, x: u32) -> bool
     ensures { λ r. ⌜ r ≡ C.between lo hi x ⌝ }
@@ -153,7 +153,7 @@ fn base_fits(k: u32, base: u32) -> bool
 // The largest line and column.
 pub const PLACES: u32 = 16384;
 
-// The words that are tested by themselves.
+// Validates all words but the start and length of the text.
 fn fields_fit(k: u32, line: u32, column: u32, base: u32, seventh: u32, eighth: u32) -> bool
     ensures { λ r. ⌜ r ≡ fields-fit k line column base seventh eighth ⌝ }
 {
@@ -165,7 +165,7 @@ fn fields_fit(k: u32, line: u32, column: u32, base: u32, seventh: u32, eighth: u
         & (eighth == 0)
 }
 
-// Whether the bytes from `from` on are digits, at least one.
+// Whether the bytes from `from` on are digits of the base, at least one.
 fn some_digits(base: u32, part: &[u8], from: usize) -> bool
     ensures { λ r. ⌜ r ≡ R.some-digits base (drop from (now (part .entry))) ⌝ }
 {
@@ -183,6 +183,7 @@ fn some_digits(base: u32, part: &[u8], from: usize) -> bool
     true
 }
 
+// Whether a dash is the first byte.
 fn dashed(part: &[u8]) -> bool
     ensures { λ r. ⌜ r ≡ T.dashed (now (part .entry)) ⌝ }
 {
@@ -192,7 +193,7 @@ fn dashed(part: &[u8]) -> bool
     part[0] == b'-'
 }
 
-// Digits of the base, at least one, in base 10 with at most a dash before them.
+// Whether a part is an integer's text: digits of the base, at least one, in base 10 also after a dash.
 fn integer_text(base: u32, part: &[u8]) -> bool
     ensures { λ r. ⌜ r ≡ R.integer-text base (now (part .entry)) ⌝ }
 {
@@ -202,7 +203,7 @@ fn integer_text(base: u32, part: &[u8]) -> bool
     some_digits(base, part, 0)
 }
 
-// The part ends within byte 16,384 and the slice, and is UTF-8.
+// Whether a part of the text ends within byte 16,384 and the slice, and is UTF-8.
 fn part_fits(text: &[u8], start: usize, end: usize) -> bool
     requires { ⌜ start ≤ end ⌝ }
     ensures { λ r. ⌜ r ≡ part-fits (now (text .entry)) start end ⌝ }
@@ -245,7 +246,7 @@ pub fn words_at(tokens: &[u32], at: usize) -> Words
     }
 }
 
-// The rules for a token record that need no other record.
+// Validates a token record, apart from the comparisons with the record before it.
 pub fn valid_alone(text: &[u8], w: Words) -> bool
     ensures { λ r. ⌜ r ≡ R.valid-alone (now (text .entry)) (words-of w) ⌝ }
 {
@@ -268,7 +269,7 @@ pub fn valid_alone(text: &[u8], w: Words) -> bool
 
 // ---- token text
 
-// The text of a token, a part of the text slice; the empty part where the token has none or its record is bad.
+// Token text: the part of the text slice that a token's record names; empty if it has no text or its record is bad.
 pub fn token_text<'a>(tokens: &[u32], text: &'a [u8], at: usize) -> &'a [u8]
     ensures { λ r. ⌜ now r ≡ R.text-of (now (tokens .entry)) (now (text .entry)) at ⌝ }
 {

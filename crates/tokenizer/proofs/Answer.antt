@@ -1,4 +1,4 @@
--- The answer of Tokenise, case by case. Assumes nothing.
+-- The laws of `tokenize`, one for each return. Assumes nothing.
 use mathlib.Core.Path.{_≡_, refl, sym, ap, _∙_}
 use mathlib.Core.Logic.{inl, inr}
 use mathlib.Core.Bool.{Bool, true, false, not, _&&_}
@@ -22,7 +22,7 @@ use Rattle.slices.proofs.Clearing.{cleared-filled}
 use Rattle.tokenizer.specs.declared.Tokenized.{Tokenized}
 use Rattle.tokenizer.specs.Run.{Done, Ran, answer, refusal-of}
 
--- ---- the slices are wide enough
+-- ---- the slices are long enough
 
 abbrev wide-enough : List ℕ → List ℕ → List ℕ → Bool
 wide-enough T E X = leb 16384 (length T) && leb 1024 (length E) && leb 16384 (length X)
@@ -52,7 +52,7 @@ no-characters s e = go (characters s) e
     go none f = refl
     go (some cs) f = absurd (let z : _≡_ {A = ℕ} 0 1 = cc in omega arith)
 
--- the place where the script starts
+-- the cursor at the start of a UTF-8 script
 pub at-start : (s : List ℕ) {v : Bool} → v ≡ utf8 s → not v ≡ false → Stands s origin
 at-start s {v} e n = stands-start s origin (sym e ∙ not-false v n) refl refl refl
 
@@ -87,6 +87,7 @@ pub within-limit : (cs : List Ch) → Z.tokenize cs ≡ Z.tokenize-within 2048 c
 unfolding Z.tokenize
 within-limit cs = refl
 
+-- a loop that is not refused has tokenised all characters
 pub ran-done : {cs : List Ch} {T E X : List ℕ} {f : State} → Ran 2048 cs T E X f → f .refusal ≡ 0 → Done 2048 cs T E X f
 ran-done (inl d) n = d
 ran-done (inr d) n = absurd (omega (arith, d .refusal, n))

@@ -1,4 +1,4 @@
--- The loop over the turns, beside the definition's. Assumes nothing.
+-- The laws of the tokenizer's loop. Assumes nothing.
 use mathlib.Core.Path.{_≡_, refl, sym, ap, _∙_}
 use mathlib.Core.Logic.{inl, inr}
 use mathlib.Core.Bool.{Bool, true, false}
@@ -80,6 +80,7 @@ within-bounds most e k {fs = fs} {us = us} q h l =
 
 -- ---- the code's loop
 
+-- the invariant: the slices hold the tokens and errors so far, and the definition's loop continues at the cursor
 pub record Looping (most : ℕ) (s T₀ E₀ X₀ T E X : List ℕ) (f : State) : Type 0 where
   pub ready : Ready most s T X f (f .cursor)
   pub wide : 1024 ≤ length E
@@ -147,6 +148,7 @@ module _ {most : ℕ} {s T₀ E₀ X₀ T E X : List ℕ} {f : State} (q : Loopi
           refusal = x .refusal;
         })
 
+    -- a turn that is not refused moves on
     pub onward : {r : State} {T′ E′ X′ : List ℕ} → Taken most (turn-of (rest s (f .cursor))) s f T E X r T′ E′ X′
         → r .refusal ≡ 0 → Onward most (turn-of (rest s (f .cursor))) s f T E X r T′ E′ X′
     onward (inl x) z = x

@@ -1,4 +1,4 @@
--- The turn: by what its character begins. Assumes nothing.
+-- The laws of a turn, by the class of its character. Assumes nothing.
 use mathlib.Core.Path.{_≡_, refl, sym, ap, _∙_, subst}
 use mathlib.Core.Logic.{inl, inr}
 use mathlib.Core.Bool.{false}
@@ -46,7 +46,7 @@ turn-class : (c : Ch) (cs : List Ch) → Z.turn c cs ≡ of-class c cs (Z.class 
 unfolding Z.turn
 turn-class c cs = refl
 
--- the character is passed, the byte after it is d, and the two begin x
+-- the character is consumed, the byte after it is d, and their class is x
 module _ {s : List ℕ} (st : State) {c : Cursor} {d : ℕ} {k : Class} (x : Class) (told : k ≡ x)
     (z : Stepped s (st .cursor) c) (h : d ≡ Z.look (rest s c))
     (e : class-of k ≡ Z.class (getD s (st .cursor .at) 0) d)
@@ -63,6 +63,7 @@ module _ {s : List ℕ} (st : State) {c : Cursor} {d : ℕ} {k : Class} (x : Cla
       ∙ ap (of-class (char s (st .cursor)) (rest s c))
       (coded-class here-coded (Z.look (rest s c)) ∙ ap (Z.class (getD s (st .cursor .at) 0)) (sym h) ∙ sym e ∙ ap class-of told)
 
+  -- a turn of the class is the turn at the cursor
   pub taken : {E : List ℕ} {r : State} {T′ E′ X′ : List ℕ} → Turned most begun s st c T E X r T′ E′ X′
       → Taken most (turn-of (rest s (st .cursor))) s st T E X r T′ E′ X′
   taken (inl g) = inl (record {
@@ -89,6 +90,7 @@ module _ {s : List ℕ} (st : State) {c : Cursor} {d : ℕ} {k : Class} (x : Cla
   room : st .text ≤ c .at
   room = omega (arith, a .asks .room, z .wide)
 
+  -- the turn pushes nothing, a token without text, or the error 4
   pub taken-nothing : {E : List ℕ} {cs : List Ch} {q : Cursor} {r : State} → r ≡ at-cursor st q → Passed s c cs q
       → begun ≡ Z.nothing cs → Taken most (turn-of (rest s (st .cursor))) s st T E X r T E X
   taken-nothing f p g = rw f (taken (end-nothing (a .few) (on-text (a .few) p wrote-none (omega (arith, room, p .forward))) g))

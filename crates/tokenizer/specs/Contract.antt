@@ -1,4 +1,4 @@
--- The records of Run over the parameters of the functions. Assumes nothing.
+-- The records of Run, stated over the parameters of the functions. Assumes nothing.
 use Prim.Native.Nat.{ℕ, _*_, _<_, _≤_}
 use denote.Ref.{now}
 use lib.ListN.{length}
@@ -8,7 +8,7 @@ use Rattle.token_records.specs.declared.State.{State}
 use Rattle.turns.specs.Contract.{Ready}
 use Rattle.tokenizer.specs.Run as R
 
--- a turn, at a character
+-- what a turn requires: a character at the cursor
 abbrev pub TurnAsks : ℕ → Slice → State → Slice → Slice → Slice → Type 0
 TurnAsks most s st tokens errors text =
     Ready most s st (st .cursor) tokens text × (st .cursor .at < length (now s)) × (1024 ≤ length (now errors))
@@ -18,7 +18,7 @@ Taken most s st tokens errors text r =
     R.Taken most (R.turn-of (rest (at-entry s) (st .cursor))) (at-entry s) st
     (at-entry tokens) (at-entry errors) (at-entry text) r (at-exit tokens) (at-exit errors) (at-exit text)
 
--- the loop, from the script's start on
+-- what the loop requires, at the start of the script
 abbrev pub RunAsks : ℕ → Slice → Slice → Slice → Slice → Type 0
 RunAsks most s tokens errors text =
     Stands (now s) origin × (length (now s) ≤ 16384)

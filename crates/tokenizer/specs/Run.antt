@@ -1,4 +1,4 @@
--- What the turn and the loop promise, and the answer of Tokenise. Assumes nothing.
+-- What the turn and the loop ensure, and the answer of Tokenise. Assumes nothing.
 use mathlib.Core.Path.{_≡_}
 use mathlib.Core.Logic.{_⊎_}
 use mathlib.Core.List.{List, [], _∷_}
@@ -18,7 +18,7 @@ use Rattle.tokenizer.specs.declared.Tokenized.{Tokenized}
 
 -- ---- the turn
 
--- a turn passes the character at which it begins
+-- a turn consumes the character at its cursor
 pub record Onward (most : ℕ) (t : Turn) (s : List ℕ) (f : State) (T E X : List ℕ) (r : State) (T′ E′ X′ : List ℕ) : Type 0 where
   pub went : Went most t s f (f .cursor) T E X r T′ E′ X′
   pub strict : f .cursor .at < r .cursor .at
@@ -33,7 +33,7 @@ turn-of (c ∷ cs) = Z.turn c cs
 
 -- ---- the loop
 
--- the slices hold the records of the tokens and of the errors, and the text
+-- the slices hold the records of the tokens and errors, and the text
 pub record Holds (ts : List Tok) (es : List Err) (T E X : List ℕ) (f : State) : Type 0 where
   pub toks : take (8 * f .tokens) T ≡ tokens-words 0 ts
   pub errs : take (4 * f .errors) E ≡ errors-words es
@@ -59,7 +59,7 @@ Ran most cs T E X f = Done most cs T E X f ⊎ NotDone most cs f
 
 -- ---- the answer
 
--- the number and the counts, with the three slices
+-- the number, the counts and the three slices
 abbrev pub answer : Tokenized → List ℕ → List ℕ → List ℕ → Tokenised
 answer r T E X = record { number = r .number; tokens = r .tokens; errors = r .errors; bytes = r .bytes; toks = T; errs = E; text = X }
 

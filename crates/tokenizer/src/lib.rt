@@ -1,4 +1,4 @@
-// Tokenise: a script's bytes to token records, token errors and text in lent slices.
+// Tokenise: converts a script to token records, token errors and text, in lent slices.
 use classes::character::Class;
 use classes::class;
 use classes::spelling::pair;
@@ -31,7 +31,7 @@ ghost use Rattle.tokenizer.specs.Contract.{TurnAsks, Taken, RunAsks, Ran
 
 // ---- the loop
 
-// One turn, at a character.
+// One turn of the loop, at a character: dispatches on its class.
 fn turn(
     most: usize,
     s: &[u8],
@@ -72,7 +72,7 @@ fn turn(
     }
 }
 
-// The loop: a turn at each character that is reached, until the end or a refusal. What stands after the records is not cleared.
+// The tokenizer's loop: turns until the end or a refusal. Does not clear the slices after the records.
 pub fn run(most: usize, s: &[u8], tokens: &mut [u32], errors: &mut [u32], text: &mut [u8]) -> State
     requires { ⌜ RunAsks most s tokens errors text ⌝ }
     ensures { λ r. ⌜ Ran most s tokens errors text r ⌝ }
@@ -104,7 +104,7 @@ pub fn run(most: usize, s: &[u8], tokens: &mut [u32], errors: &mut [u32], text: 
 
 // ---- the operation
 
-// The number of a refusal, or 0, and the counts of tokens, of token errors and of bytes of text.
+// The result: the number of the refusal or 0, and the counts of tokens, token errors and text bytes.
 pub struct Tokenized {
     pub number: u32,
     pub tokens: usize,
@@ -123,6 +123,7 @@ fn refused(number: u32) -> Tokenized
     }
 }
 
+// Tokenise. Refusals 1 to 3 leave the slices untouched, later ones clear them; zeros follow the last record.
 pub fn tokenize(script: &[u8], tokens: &mut [u32], errors: &mut [u32], text: &mut [u8]) -> Tokenized
     ensures { λ r. ⌜ answer r (now (tokens .exit)) (now (errors .exit)) (now (text .exit))
         ≡ O.tokenise (now (script .entry)) (now (tokens .entry)) (now (errors .entry)) (now (text .entry)) ⌝ }

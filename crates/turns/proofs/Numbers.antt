@@ -1,4 +1,4 @@
--- Numbers, and what begins with a dash. Assumes nothing.
+-- The laws of the turns for numbers and for a dash. Assumes nothing.
 use mathlib.Core.Path.{_≡_, refl, sym, ap, _∙_}
 use mathlib.Core.Bool.{Bool, true, false}
 use mathlib.Core.List.{List, [], _∷_}
@@ -39,6 +39,7 @@ some-left (b ∷ t) e = refl
 
 module _ {most : ℕ} {s : List ℕ} {st : State} {c : Cursor} {T X X₁ T′ : List ℕ} {p : Place} {r : State}
     (a : Ready most s T X st c × (st .text < c .at)) where
+  -- a decimal integer after its first character b
   pub number-law : {X₂ : List ℕ} {b n : ℕ} {d : Scan} → Wrote X (st .text) (b ∷ []) X₁ n → Spanned s c X₁ n (Z.digits 10 (rest s c)) X₂ d →
       TokenPushed most T (at-text st (d .cursor) (d .n))
       (K.Integer ∷ p .line ∷ p .column ∷ st .text ∷ (d .n - st .text) ∷ 10 ∷ 0 ∷ 0 ∷ []) T′ r
@@ -48,7 +49,7 @@ module _ {most : ℕ} {s : List ℕ} {st : State} {c : Cursor} {T X X₁ T′ : 
       end-token (a .0 .few) (on-text (a .0 .few) (q .passed) y (q .room)) refl
       (with-words (number p 10 (b ∷ Z.digits 10 (rest s c) .text)) refl refl (omega (arith, y .count)) k)
 
-  -- no digit after the `0`: the number is `0`
+  -- no digits: the text is `0`
   pub zero-alone : {X₂ : List ℕ} {base m : ℕ} {d : Scan} → Spanned s c X (st .text) (Z.digits base (rest s c)) X₁ d
       → d .n ≡ st .text → Wrote X₁ (st .text) (48 ∷ []) X₂ m →
       TokenPushed most T (at-text st (d .cursor) m)

@@ -1,4 +1,4 @@
--- Strings. Assumes nothing.
+-- The laws of the turn for a string. Assumes nothing.
 use mathlib.Core.Path.{_≡_, refl, sym, ap, _∙_}
 use mathlib.Core.Logic.{inl, inr}
 use mathlib.Core.Bool.{Bool, true, false}
@@ -35,7 +35,7 @@ string-open : (p : Place) (q : Z.Quoted) → q .closed ≡ false
 unfolding Z.string-turn
 string-open p q e = rw (e, Z.string-turn)
 
--- after the quote, and the errors of its escapes
+-- the string from the cursor on, and the errors of its escapes
 abbrev body : List ℕ → Cursor → Z.Quoted
 body s c = Z.quoted false (rest s c)
 
@@ -55,6 +55,7 @@ module _ {most : ℕ} {s : List ℕ} {st : State} {c : Cursor} {T E X X₁ E₁ 
       let k : 255 < st .errors + length x = omega (arith, h, length-append (escapes (body s c .unknown) p) (Z.token-error 2 p ∷ [])) in
       ap (bounded most (st .errors) (st .tokens)) (string-open p (body s c) f) ∙ rw (lt-leb (st .errors + length x) 255 k)
 
+  -- too many errors: refused
   pub string-full-law : {T′ E′ X′ : List ℕ} → (e .refusal ≡ 0 → ⊥) → Turned most (Z.string-turn p (body s c)) s st c T E X e T′ E′ X′
   string-full-law {T′} {E′} {X′} h = go g
     where
@@ -68,6 +69,7 @@ module _ {most : ℕ} {s : List ℕ} {st : State} {c : Cursor} {T E X X₁ E₁ 
           })
 
   module _ (h : e .refusal ≡ 0) where
+    -- the errors of the escapes are pushed
     pub escapes-went : ErrorsWent E (at-cursor st (q .cursor)) (escapes (q .unknown) p) E₁ e
     escapes-went = go g
       where

@@ -1,4 +1,5 @@
--- How a turn ends: what it has read and written so far, and then a token, errors, nothing or a refusal. Assumes nothing.
+-- How a turn ends: after what was read and written, a token is pushed, errors are, nothing is, or the turn is
+-- refused. Assumes nothing.
 use mathlib.Core.Path.{_≡_, refl, sym, ap, _∙_}
 use mathlib.Core.Logic.{inl, inr}
 use mathlib.Core.Bool.{true, false}
@@ -24,7 +25,7 @@ use Rattle.token_records.specs.declared.State.{State}
 use Rattle.token_records.specs.Push.{ErrorsPushed, TokenPushed}
 use Rattle.turns.specs.Turn.{at-text, at-cursor, Few, Ready, bounded, Turned}
 
--- ---- places
+-- ---- cursors
 
 pub passed-step : {s : List ℕ} {c d : Cursor} → Stepped s c d → Passed s c (rest s d) d
 passed-step z = record { stands = z .stands; is = refl; forward = omega (arith, z .wide); shorter = omega (arith, ap length (z .chars)) }
@@ -84,7 +85,7 @@ text-one : (k : Tok) → tokens-text (k ∷ []) ≡ k .text
 unfolding tokens-text
 text-one k = append-nil (k .text)
 
--- ---- what is written and then taken back
+-- ---- text that is written and then taken back
 
 pub wrote-back : {X : List ℕ} {n : ℕ} {t X′ : List ℕ} {m : ℕ} → n ≤ length X → Wrote X n t X′ m → Wrote X n [] X′ n
 wrote-back {X} {n} {t} {X′} {m} h w =
@@ -109,7 +110,7 @@ part-of {X} {n} {t} {X′} {m} h w k =
 
 -- ---- the ends of a turn
 
--- after what was read and pushed first: the characters left, the errors es and the text t
+-- after what was read and pushed so far: the characters left, the errors es and the text t
 pub record On (s : List ℕ) (st : State) (c : Cursor) (E X : List ℕ) (cs : List Ch) (es : List Err) (t : List ℕ) (f : State) (E′ X′ : List ℕ) : Type 0 where
   pub passed : Passed s c cs (f .cursor)
   pub tokens : f .tokens ≡ st .tokens
@@ -140,6 +141,7 @@ on-text {st = st} w p x r =
 
 module _ {most : ℕ} {t : Turn} {s : List ℕ} {st : State} {c : Cursor} {T E X : List ℕ} {cs : List Ch}
     {es : List Err} (w : Few most st) where
+  -- the turn ends with a token, with errors, with nothing, or with a refusal
   pub end-token : {k : Tok} {f : State} {E′ X′ T′ : List ℕ} {r : State} → On s st c E X cs es (k .text) f E′ X′
       → t ≡ goes cs es (k ∷ []) → TokenPushed most T f (token-words (st .text) k) T′ r
       → Turned most t s st c T E X r T′ E′ X′
@@ -243,7 +245,7 @@ pub with-words : {most : ℕ} {T : List ℕ} {f : State} {T′ : List ℕ} {r : 
     → TokenPushed most T f (token-words x k) T′ r
 with-words k {x} e f g p = rw (e, sym f, sym g) p
 
--- a token with no text, at a place further on
+-- a token without text, at a later cursor
 pub end-plain : {most : ℕ} {t : Turn} {s : List ℕ} {st : State} {c : Cursor} {T E X : List ℕ} {cs : List Ch} {d : Cursor}
     {k : ℕ} {p : Place} {T′ : List ℕ} {r : State}
     → Few most st → st .text ≤ c .at → Passed s c cs d → t ≡ Z.token cs k p → has-text k ≡ false
@@ -251,14 +253,15 @@ pub end-plain : {most : ℕ} {t : Turn} {s : List ℕ} {st : State} {c : Cursor}
     → Turned most t s st c T E X r T′ E X
 end-plain w h q e f g = end-token w (on-text w q wrote-none (omega (arith, q .forward))) e (rw f g)
 
--- ---- a turn that another goes on with
+-- ---- a turn that continues another
 
+-- the same for an equal turn
 pub turned-same : {most : ℕ} {t t′ : Turn} {s : List ℕ} {st : State} {c : Cursor} {T E X : List ℕ} {r : State}
     {T′ E′ X′ : List ℕ}
     → t ≡ t′ → Turned most t′ s st c T E X r T′ E′ X′ → Turned most t s st c T E X r T′ E′ X′
 turned-same e g = rw e g
 
--- from a place further on
+-- from a later cursor
 pub turned-on : {most : ℕ} {t t′ : Turn} {s : List ℕ} {st : State} {c d : Cursor} {T E X : List ℕ} {cs : List Ch}
     {r : State} {T′ E′ X′ : List ℕ}
     → t ≡ t′ → Passed s c cs d → Turned most t′ s st d T E X r T′ E′ X′ → Turned most t s st c T E X r T′ E′ X′

@@ -1,4 +1,4 @@
--- Words, and inline assembly. Assumes nothing.
+-- The laws of the turns for words and inline assembly. Assumes nothing.
 use mathlib.Core.Path.{_≡_, refl, sym, ap, _∙_}
 use mathlib.Core.Bool.{Bool, true, false}
 use mathlib.Core.List.{List, [], _∷_}
@@ -27,7 +27,7 @@ use Rattle.token_records.specs.Push.{ErrorsPushed, TokenPushed}
 use Rattle.turns.specs.Turn.{at-text, at-cursor, Ready, Turned}
 use Rattle.turns.proofs.Turned.{passed-trans, on-text, end-token, end-errors, end-refused, end-plain, with-words, turned-on, turned-back, part-of}
 
--- ---- runs that may meet a character that is foreign
+-- ---- scans that may meet a character above 127
 
 abbrev run-of : Bool → Span → Z.Run
 run-of true s = Z.foreign
@@ -183,7 +183,7 @@ word-run s w cs first o p k t e =
     ∙ ap (λ (u : Bool). run-of u (Z.ahead (first ∷ []) (letters cs)))
     (ap (λ (q : List Ch). C.is-foreign (Z.look q)) (sym p) ∙ ap C.is-foreign (sym k) ∙ e)
 
--- the word as the code takes it, and as the definition does
+-- the word as the code reads it back, and as the definition has it
 abbrev taken : State → Scan → List ℕ → List ℕ
 taken st w X = take (w .n - st .text) (drop (st .text) X)
 

@@ -1,4 +1,4 @@
--- What a turn of the tokenizer's loop does to the state and the slices. Assumes nothing.
+-- What a turn of the tokenizer's loop ensures of the state and the slices. Assumes nothing.
 use mathlib.Core.Path.{_≡_}
 use mathlib.Core.Logic.{_⊎_}
 use mathlib.Core.List.{List, [], _∷_}
@@ -16,7 +16,7 @@ use Rattle.slices.specs.Written.{Wrote}
 use Rattle.scan.specs.Scan.{Asks}
 use Rattle.token_records.specs.declared.State.{State}
 
--- the state at another place, and with more text
+-- the state with another cursor, and with more text
 abbrev pub at-text : State → Cursor → ℕ → State
 at-text f c n = record { cursor = c; tokens = f .tokens; errors = f .errors; text = n; refusal = f .refusal }
 
@@ -27,24 +27,24 @@ at-cursor f c = at-text f c (f .text)
 abbrev pub token-record : Cursor → ℕ → ℕ → ℕ → ℕ → List ℕ
 token-record c kind start size base = kind ∷ c .line ∷ c .column ∷ start ∷ size ∷ base ∷ 0 ∷ 0 ∷ []
 
--- not refused, and within the limits
+-- the state is not refused, and within the limits
 pub record Few (most : ℕ) (f : State) : Type 0 where
   pub tokens : f .tokens ≤ most
   pub errors : f .errors ≤ 255
   pub refusal : f .refusal ≡ 0
 
--- what a turn asks: the state before it, and the place c after what it has read
+-- what a turn requires: f is the state before it, c the cursor after the characters already consumed
 pub record Ready (most : ℕ) (s T X : List ℕ) (f : State) (c : Cursor) : Type 0 where
   pub asks : Asks s c X (f .text)
   pub few : Few most f
   pub wide : 8 * most ≤ length T
 
--- what the loop makes of a turn, at e errors and k tokens
+-- how the limits bound a turn, after e errors and k tokens
 abbrev pub bounded : ℕ → ℕ → ℕ → Turn → Turn
 bounded most e k (refused n) = refused n
 bounded most e k (goes cs es ts) = pick (leb (e + length es) 255) (pick (leb (k + length ts) most) (goes cs es ts) (refused 6)) (refused 7)
 
--- from the state f and the place c the turn t comes to the state r, with what it pushed in the slices
+-- the turn t goes from the state f and the cursor c to the state r, and the slices hold what it pushed
 pub record Went (most : ℕ) (t : Turn) (s : List ℕ) (f : State) (c : Cursor) (T E X : List ℕ) (r : State) (T′ E′ X′ : List ℕ) : Type 0 where
   pub es : List Err
   pub ts : List Tok

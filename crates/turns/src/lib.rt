@@ -1,4 +1,5 @@
-// The turns of the tokenizer's loop, by what they begin with. A turn has the state before it, whose place is the token's, and the place `c` after what it has read.
+// The turns of the tokenizer's loop, one function for each class of first character. Each takes the state before the
+// turn, whose cursor is the token's place, and the cursor `c` after the characters already consumed.
 use classes::character::is_digit;
 use classes::character::is_foreign;
 use classes::spelling::keyword;
@@ -30,22 +31,23 @@ ghost use Rattle.token_records.specs.Contract.{TokenPushed, ErrorsPushed};
 ghost use Rattle.turns.specs.Turn.{at-cursor, at-text, token-record, Few};
 ghost use Rattle.turns.specs.Contract.{Ready, Turned, TurnedClean};
 
-// ---- how a turn ends
+// ---- the ends of a turn
 
+// Ends the turn with a refusal.
 pub fn refuse(st: State, refusal: u32) -> State
     ensures { λ r. ⌜ r .refusal ≡ refusal ⌝ }
 {
     State { refusal, ..st }
 }
 
-// Nothing is pushed.
+// Ends the turn at `c` and pushes nothing.
 pub fn moved(st: State, c: Cursor) -> State
     ensures { λ r. ⌜ r ≡ at-cursor st c ⌝ }
 {
     State { cursor: c, ..st }
 }
 
-// A token with no text.
+// Ends the turn at `c` with a token that has no text.
 pub fn plain(most: usize, tokens: &mut [u32], st: State, c: Cursor, kind: u32) -> State
     requires { ⌜ Few most st × (8 * most ≤ length (now tokens)) ⌝ }
     ensures { λ r. ⌜ TokenPushed (token-record (st .cursor) kind 0 0 0) most tokens (at-cursor st c) r ⌝ }
@@ -55,7 +57,7 @@ pub fn plain(most: usize, tokens: &mut [u32], st: State, c: Cursor, kind: u32) -
     push_token(most, tokens, on, kind, from.line, from.column, 0, 0, 0)
 }
 
-// A token at `from`, with the text up to `n`.
+// Ends the turn at `c` with a token placed at `from`, whose text is what was written up to `n`.
 fn with_text(
     most: usize,
     tokens: &mut [u32],
@@ -89,7 +91,7 @@ fn with_text(
     )
 }
 
-// The same error at `from`, `count` times, with the text up to `n`.
+// Ends the turn at `c` with `count` errors placed at `from`, keeping the text up to `n`.
 pub fn with_errors(
     errors: &mut [u32],
     st: State,
@@ -112,7 +114,7 @@ pub fn with_errors(
 
 // ---- numbers
 
-// Behind the first digit, or the dash before it.
+// A decimal integer, after its first digit or dash `first`.
 pub fn number_turn(
     most: usize,
     s: &[u8],
@@ -133,7 +135,7 @@ pub fn number_turn(
     with_text(most, tokens, st, from, e, d.n, kind::INTEGER, 10)
 }
 
-// Behind a `0` that opens the number, and the letter of its base.
+// An integer after its leading `0` and the letter of its base, if any. No digits give the text `0`.
 fn based_turn(
     most: usize,
     s: &[u8],
@@ -158,7 +160,7 @@ fn based_turn(
     with_text(most, tokens, st, from, e, n, kind::INTEGER, base)
 }
 
-// Behind a `0` that opens the number.
+// An integer after its leading `0`: `x` or `b` sets the base.
 pub fn zero_turn(
     most: usize,
     s: &[u8],
@@ -182,7 +184,7 @@ pub fn zero_turn(
     based_turn(most, s, st, c, 10, tokens, text)
 }
 
-// Behind a dash.
+// After a dash: an arrow `->`, a negative integer, or Minus, which consumes the next character too.
 pub fn dash_turn(
     most: usize,
     s: &[u8],
@@ -211,7 +213,7 @@ pub fn dash_turn(
 
 // ---- words
 
-// Behind `asm`.
+// Inline assembly, after `asm`: white space, `{`, the text.
 fn asm_turn(
     most: usize,
     s: &[u8],
@@ -248,7 +250,7 @@ fn asm_turn(
     with_errors(errors, st, from, d, st.text, 1, token_error::NO_ASSEMBLY)
 }
 
-// Behind the first letter of a word.
+// A word after its first letter: inline assembly, a keyword or an identifier.
 pub fn word_turn(
     most: usize,
     s: &[u8],
@@ -284,7 +286,7 @@ pub fn word_turn(
 
 // ---- strings
 
-// Behind a quote.
+// A string, after its opening quote.
 pub fn string_turn(
     most: usize,
     s: &[u8],

@@ -1,4 +1,4 @@
--- What an accepted hand-over gives the parser. Assumes nothing.
+-- What the parser knows of validated records. Assumes nothing.
 use mathlib.Core.Path.{_≡_, refl, sym, ap, _∙_, subst}
 use mathlib.Core.Bool.{Bool, true, false, _||_}
 use mathlib.Core.List.{List, [], _∷_}
@@ -20,7 +20,7 @@ use Rattle.definition.proofs.Validated.{Fits, fits, Lies, lies, First, first, s
 use Rattle.steps.specs.Tokens.{tok-at, from, rest, spend, Sound}
 use Rattle.validate.specs.Tested.{Tested}
 
--- an answer told by `is-some`
+-- a value that is present, by `is-some`
 pub record There {A : Type 0} (o : Option A) : Type 0 where
   pub value : A
   pub is : o ≡ some value
@@ -66,7 +66,7 @@ sound T X i f h =
 
 -- ---- all token records
 
--- n records from the i-th on, the previous text's end at e
+-- n records from index i on, where the text before ends at e
 record Taken (T X : List ℕ) (e i n : ℕ) (ts : List Tok) : Type 0 where
   each : (j : ℕ) → j < n → Sound T X (i + j)
   is : from T X i n ≡ ts
@@ -97,8 +97,9 @@ taken T X (suc n) p e i ts h q =
         each zero k = subst (λ (j : ℕ). Sound T X j) (omega arith) (sound T X i f (l .inside))
         each (suc j) k = subst (λ (j : ℕ). Sound T X j) (omega arith) (r .each j (omega arith))
 
--- ---- all that is handed in
+-- ---- all records together
 
+-- validated records can be decoded, and their texts are within the budget
 pub tested : (T : List ℕ) (n : ℕ) (E : List ℕ) (m : ℕ) (X : List ℕ) (h : Validated) → validate T n E m X ≡ some h → Tested T n E m X h
 unfolding rest
 tested T n E m X h q =

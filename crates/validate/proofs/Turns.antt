@@ -1,4 +1,4 @@
--- The tests of the records one by one, and of all that is handed in. Assumes nothing.
+-- The laws of the tests of single records, and of all together. Assumes nothing.
 use mathlib.Core.Path.{_≡_, refl, sym, ap, ap₂, _∙_, subst}
 use mathlib.Core.Bool.{Bool, true, false, not, _&&_, _||_}
 use mathlib.Core.List.{List}
@@ -19,15 +19,16 @@ use Rattle.definition.proofs.Tests.{clash}
 use Rattle.token_records.specs.Push.{place-at}
 use Rattle.validate.specs.declared.Previous.{Previous}
 
--- an answer that is there if a test passes
+-- a value that is present if a test holds
 some-chosen : {A : Type 0} (b : Bool) (o : Option A)
     → is-some {A = A} (elim b as (λ _. Option A) [ true ↦ o | false ↦ none ]) ≡ b && is-some o
 some-chosen true o = refl
 some-chosen false o = refl
 
--- ---- a token record beside the previous one
+-- ---- a token record after the one before
 
 module _ (p : Place) (e : ℕ) (w : TokenWords) {a : Bool} (q : a ≡ comes-after p (w .line) (w .column)) where
+  -- it is not after the one before; else its text decides
   pub early : not a ≡ true → false ≡ valid-after p e w
   early n = let z = sym q ∙ not-true a n in rw z
 
@@ -41,7 +42,7 @@ abbrev tokens-before : (t : Tok) (o : Option (List Tok)) → is-some (token-befo
 tokens-before t none = refl
 tokens-before t (some ts) = refl
 
--- one record's test, then the test of those after it
+-- the test of one record, then that of those after it
 token-turn : (T X : List ℕ) (p : Place) (e i m : ℕ) (w : TokenWords) → w ≡ words-at T i
     → is-some (tokens-of T X p e i (suc m))
     ≡ (valid-alone X w && valid-after p e w) && is-some (tokens-of T X (place-of w) (text-end e w) (suc i) m)
@@ -57,7 +58,7 @@ token-turn T X p e i m w q =
     v : TokenWords
     v = words-at T i
 
--- all n are good if those from the i-th on are
+-- the invariant: all n are valid if and only if those from index i on are
 pub record Tokens (T X : List ℕ) (n : ℕ) (f : Previous) (i : ℕ) : Type 0 where
   pub high : i ≤ n
   pub is : is-some (tokens-of T X (place-at (f .line) (f .column)) (f .end) i (n - i)) ≡ is-some (tokens-of T X nowhere 0 0 n)
@@ -108,6 +109,7 @@ error-turn E i m =
     ∙ ap (λ (b : Bool). valid-error (error-at E i) && b)
     (errors-before (error-of (error-at E i)) (errors-of E (suc i) m))
 
+-- the invariant: all n are valid if and only if those from index i on are
 pub record Errors (E : List ℕ) (n i : ℕ) : Type 0 where
   pub high : i ≤ n
   pub is : is-some (errors-of E i (n - i)) ≡ is-some (errors-of E 0 n)
@@ -134,9 +136,9 @@ module _ {E : List ℕ} {n i : ℕ} (q : Errors E n i) where
   unfolding errors-of
   errors-end h = let l : n - i ≡ 0 = omega arith in rw l at (q .is)
 
--- ---- all that is handed in
+-- ---- all records together
 
--- a test that the code asks the other way round
+-- a test that the code has the other way round
 over : (a b : ℕ) → ltb a b ≡ not (leb b a)
 over a b = go (ltb a b) refl
   where
@@ -144,7 +146,7 @@ over a b = go (ltb a b) refl
     go true e = rw (lt-leb b a (ltb-true a b e))
     go false e = rw (le-leb b a (ltb-false a b e))
 
--- neither is over
+-- neither bound is exceeded
 pub within : (a b c d : ℕ) → (ltb a b || ltb c d) ≡ false → (b ≤ a) × (d ≤ c)
 within a b c d e = go (ltb a b) (ltb c d) refl refl e
   where

@@ -1,4 +1,4 @@
--- What Read is handed, tested: what an accepted hand-over gives the parser. Assumes nothing.
+-- What the parser knows of records that are validated. Assumes nothing.
 use mathlib.Core.Path.{_≡_}
 use mathlib.Core.List.{List}
 use mathlib.Core.Option.{some}
@@ -8,7 +8,7 @@ use Rattle.definition.specs.Records.{errors-of}
 use Rattle.definition.specs.Operations.{Validated}
 use Rattle.steps.specs.Tokens.{Held, rest, budget}
 
--- n token records in T with texts in X and m error records in E, accepted as h
+-- n token records in T with texts in X, and m error records in E, validated as h
 pub record Tested (T : List ℕ) (n : ℕ) (E : List ℕ) (m : ℕ) (X : List ℕ) (h : Validated) : Type 0 where
   pub held : Held T X n
   pub tokens : rest T X n 0 ≡ h .tokens

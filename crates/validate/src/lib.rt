@@ -1,4 +1,4 @@
-// What Read is handed, tested: the counts, the slices' lengths, and each record.
+// Validates the token and error records passed to Read: the counts, the lengths of the slices, and each record.
 use definition::limit;
 use definition::token_error;
 use token_records::PLACES;
@@ -19,21 +19,21 @@ ghost use Rattle.validate.specs.Contract.{previous-place};
 
 // ---- tokens
 
-// The previous token's place, and the previous text's end.
+// The place of the token before, and the end of the last text before.
 struct Previous {
     line: u32,
     column: u32,
     end: usize,
 }
 
-// Whether a place comes after the previous one.
+// Whether a place comes after that of the token before.
 fn comes_after(f: Previous, line: u32, column: u32) -> bool
     ensures { λ r. ⌜ r ≡ R.comes-after (previous-place f) line column ⌝ }
 {
     (f.line < line) | ((f.line == line) & (f.column < column))
 }
 
-// The rules for a token record beside the previous one.
+// Validates a token record against those before it.
 fn valid_after(f: Previous, w: Words) -> bool
     ensures { λ r. ⌜ r ≡ R.valid-after (previous-place f) (f .end) (words-of w) ⌝ }
 {
@@ -64,7 +64,7 @@ fn remember(f: Previous, w: Words) -> Previous
     }
 }
 
-// Whether each of `count` token records is good.
+// Whether each of `count` token records is valid.
 fn valid_tokens(tokens: &[u32], count: usize, text: &[u8]) -> bool
     requires { ⌜ 8 * count ≤ length (now tokens) ⌝ }
     ensures { λ r. ⌜ r ≡ is-some (R.tokens-of (at-entry tokens) (at-entry text) nowhere 0 0 count) ⌝ }
@@ -102,7 +102,7 @@ fn valid_error(number: u32, line: u32, column: u32, fourth: u32) -> bool
         & (fourth == 0)
 }
 
-// Whether each of `count` error records is good.
+// Whether each of `count` error records is valid.
 fn valid_errors(errors: &[u32], count: usize) -> bool
     requires { ⌜ 4 * count ≤ length (now errors) ⌝ }
     ensures { λ r. ⌜ r ≡ is-some (R.errors-of (at-entry errors) 0 count) ⌝ }
@@ -121,7 +121,7 @@ fn valid_errors(errors: &[u32], count: usize) -> bool
 
 // ---- both
 
-// Whether so many records are there, and each is good.
+// Whether the slices hold the stated counts of records, within the limits, and each record is valid.
 pub fn valid_records(
     tokens: &[u32],
     count: usize,

@@ -1,4 +1,4 @@
--- The functions of the cycle meet their contracts: the needs of each stand in a file of their own.
+-- The functions of the cycle meet their contracts. The needs of each are answered in a file of its own.
 mod Falls
 mod Access
 mod AddSub

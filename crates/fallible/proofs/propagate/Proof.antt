@@ -1,4 +1,4 @@
--- `fallible::propagate` meets its contract: a walk of its MIR, by hand. Of `propagated` it knows only that it meets its contract.
+-- `fallible::propagate` meets its contract: proved by hand, walking its MIR. Uses only the contract of `propagated`.
 -- Assumes nothing.
 use Rattle.fallible.proofs.Walks.{refl, [], _∷_, w64, givenOf, WpFn, qed, _∵_, _$_, !, ptr-vals, slice-vals, uint-vals, slice-tells, uint-tells}
 use Rattle.fallible.proofs.Walks.{enter, params1, pass1, pass0, init, of-opd, load, from, hop, stop, look, store, unit-lit, and-then, no-more, assigns, land, returns, whole}
@@ -17,11 +17,11 @@ propagate-spec 𝓤 H 𝓜 𝓖 𝓡 =
     let c = propagated.clauses 𝓤 H (𝓖 .A) (𝓜 .mem) (𝓡 .run) in
     let y : Call 𝓤 = calling (𝓖 .A) 1 (skip 1 (propagated.signature .params)) (propagated.ended .kept .1) c (κs .1) (qs .1) (a .0 .now) (a .1) (slice-vals, (uint-vals w64, (uint-vals w64, tt))) tt in
     qed (givenOf 𝓤 H 𝓜 𝓖) (AsksLent y (κs .0) (qs .0) (a .0) ∷ []) ∵ enter ! C Λ propagate.Code.function _ _ $ allocs-all ! _ (λ l₀ l₁ l₂ l₃ l₄ l₅ l₆ l₇ l₈. params1 ! $
-    -- [what is asked for; the locals]: local i is entry 2 i + 1
+    -- [what is required; the locals]: local i is entry 2 i + 1
     pass1 ! (init ! 3 refl (tt, tt)) $ pass1 ! (init ! 5 refl (sliced _ (are .1 .0 .0 .1 .0))) $ pass1 ! (init ! 7 refl (number _ (are .1 .1 .0 .1))) $
     pass1 ! (init ! 9 refl (number _ (are .1 .1 .1 .0 .1))) $ pass0 ! $
     opens y (κs .0) (qs .0) (a .0) ! tt (λ fits.
-    -- [what `propagated` asks for; the tally's cell; the open borrow, in three; the locals]: local i is entry 2 i + 5
+    -- [what `propagated` requires; the tally's cell; the open borrow, in three; the locals]: local i is entry 2 i + 5
     sets ! (of-opd ! (load ! (from ! (hop ! (look ! 7 refl) (stop !))) (look ! 1 refl))) 17 refl refl (typed _ fits) $
     sets ! (pointer ! 9 refl (whole !)) 19 refl refl (tt, tt) $ sets ! (slice ! 19 9 refl refl (whole !)) 21 refl refl (sliced _ (are .1 .0 .0 .1 .0)) $
     takes y (a .0 .now) ! fm (known ((κs .1, qs .1, tt, (a .0 .now, a .1), _), tt))
@@ -29,5 +29,5 @@ propagate-spec 𝓤 H 𝓜 𝓖 𝓡 =
     land ! (from ! (stop !)) (init ! 15 refl (typed r fits′)) $
     assigns ! (of-opd ! (copied ! 15 refl)) (from ! (hop ! (look ! 7 refl) (stop !))) (store ! 1 refl (typed r fits′)) $ sets ! (of-opd ! (unit-lit !)) 5 refl refl (tt, tt) $
     closes y (κs .0) (qs .0) (a .0) ! tt r z fits′ $
-    -- [what is given; the locals]: local i is entry 2 i + 1
+    -- [what is ensured; the locals]: local i is entry 2 i + 1
     returns ! (look ! 1 refl) $ frees-all ! _ _ $ given-lent ! y (κs .0) (qs .0) (a .0) r z)))))

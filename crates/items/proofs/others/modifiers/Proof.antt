@@ -6,7 +6,7 @@ use Prim.Native.Nat.{_-_, _≤_}
 use Rattle.items.proofs.others.modifiers.Statement.{statement}
 use Rattle.items.proofs.others.modifiers.Tie as tie
 
--- what the words from here on show, the words from the first on show
+-- the invariant: what the loop ensures from here, it ensures from its start
 abbrev Inv-loop : tie.InvT-loop
 Inv-loop w x n from d₀ i₀ at₀ d i at =
     ((at ≤ n) × ((d ≤ 1) × (i ≤ 2))) × ((m : AliasWords) → Modified w x n d i at m → Modified w x n 0 0 from m)

@@ -1,4 +1,4 @@
--- What falls with each call: the tokens left, and then the order of the functions.
+-- The measure that falls with each call: the tokens left, then the order of the functions.
 use Prim.Native.Nat.{ℕ, _<_, _+_, _*_, _-_}
 use borrow.Fn.Kinds.{In}
 use borrow.Fn.PlainCycle.{Measures, is, falls, and}
