@@ -6,7 +6,6 @@ use node::Numbers;
 use node::place_at;
 use node::wide;
 use node::write_bare;
-ghost use mathlib.Core.Path.{_≡_};
 ghost use mathlib.Core.List.{[], _∷_};
 ghost use Prim.Native.Nat.{_+_, _*_, _≤_};
 ghost use lib.ListN.{length};

@@ -180,7 +180,7 @@ module _ {w x : List ℕ} {n d : ℕ} {o r f r1 f1 o1 r2 f2 : List ℕ} {s : Sta
     pub alias-room : length o1 ≡ length o → Room o1 x (c .state .pos) (16 + t .len) (t .start) (t .len)
     alias-room l = record { room = omega (arith, alias-paid, q .room); part = u .part }
 
-module _ (d words : ℕ) (place : ℕ) {w x : List ℕ} {n : ℕ} {o r f : List ℕ} {s : State} {t : Token}
+module _ (d words place : ℕ) {w x : List ℕ} {n : ℕ} {o r f : List ℕ} {s : State} {t : Token}
     (q : Asked w x n o r f s) (u : Seen w x n (s .at) t) where
   pub alias-end : {y : Answer} → t .kind ≡ 0 → y ≡ refused-at n s 11
       → Reads node w x n d (alias-rule words (unpack-place place)) o r f s o r f y
@@ -320,7 +320,7 @@ module _ {w x : List ℕ} {n : ℕ} {o r f r1 f1 : List ℕ} {s : State} {t : To
   pub path-room : Room o x (a .state .pos) (16 + t .len) (t .start) (t .len)
   path-room = record { room = omega (arith, path-paid, q .room); part = u .part }
 
-module _ (d : ℕ) (place : ℕ) {w x : List ℕ} {n : ℕ} {o r f : List ℕ} {s : State} {t : Token}
+module _ (d place : ℕ) {w x : List ℕ} {n : ℕ} {o r f : List ℕ} {s : State} {t : Token}
     (q : Asked w x n o r f s) (u : Seen w x n (s .at) t) where
   pub path-end : {y : Answer} → t .kind ≡ 0 → y ≡ refused-at n s 11 → Reads node w x n d (path-rule (unpack-place place)) o r f s o r f y
   unfolding path-rule

@@ -72,7 +72,7 @@ module _ {w x : List ℕ} {n name i j : ℕ} {o r f : List ℕ} {a : Answer} (q 
           len = t .len;
         }) o2 y
         → FunctionOn w x n d 1 (unpack-place place) name i j o r f a o2 r1 f1 y
-    external-on {o2} {y} {line} {column} d F =
+    external-on {o2} {y} {place} d F =
         let e : budget w x n (y .state .at) ≡ budget w x n (b .state .at) = ap (λ (k : ℕ). budget w x n k) (F .at) in
         let l = text-length u in
         record {
@@ -180,7 +180,7 @@ module _ {w x : List ℕ} {n d name i j : ℕ} {o r f : List ℕ} {a : Answer} (
       ),
     )
 
-module _ {w x : List ℕ} {n d name i j : ℕ} {place : ℕ} {o r f : List ℕ} {a : Answer} (q : FunctionAsked w x n o r f name a i j) {o1 r1 f1 o2 : List ℕ} {b c : Answer} {t : Token} (z : a .status ≡ Done) (B : ReadsBody w x n d o r f (a .state) o1 r1 f1 b)
+module _ {w x : List ℕ} {n d name i j place : ℕ} {o r f : List ℕ} {a : Answer} (q : FunctionAsked w x n o r f name a i j) {o1 r1 f1 o2 : List ℕ} {b c : Answer} {t : Token} (z : a .status ≡ Done) (B : ReadsBody w x n d o r f (a .state) o1 r1 f1 b)
     (F : Finished x o1 b (record { tag = 0x40; place = place; numbers = Two (b .count); start = 0; len = 0 }) o2 c) (u : Seen w x n name t) where
   pub whole-room : length o2 ≡ length o → Room o2 x (c .state .pos) (16 + t .len) (t .start) (t .len)
   whole-room l = record { room = omega (arith, q .room, B .moved .room, F .high, text-length u, l); part = u .part }

@@ -36,10 +36,10 @@ use Rattle.items.proofs.Orders.{answered, still, turned}
 
 -- ---- `return_type`
 
-module _ {w x : List ℕ} {n d : ℕ} {place : ℕ} {o r f : List ℕ} {s : State} {t : Token} (u : Seen w x n (s .at) t) where
-  pub type-given : {o1 r1 f1 : List ℕ} {y : Answer} → t .kind ≡ 51
+module _ {w x : List ℕ} {n d : ℕ} {o r f : List ℕ} {s : State} {t : Token} (u : Seen w x n (s .at) t) where
+  pub type-given : {o1 r1 f1 : List ℕ} {y : Answer} {p : Place} → t .kind ≡ 51
       → Reads node w x n d P.parse-type o r f (fore s t) o1 r1 f1 y
-      → ReadsType w x n d (unpack-place place) o r f s o1 r1 f1 y
+      → ReadsType w x n d p o r f s o1 r1 f1 y
   unfolding go run
   type-given h B = record {
     moved =
@@ -56,12 +56,12 @@ module _ {w x : List ℕ} {n d : ℕ} {place : ℕ} {o r f : List ℕ} {s : Stat
     is = λ rd. say (rw (run, yes u h) (ap (λ (S : St). go d P.parse-type S) (adv s u (λ _. plain) f rd))) (B .is (past w x n (s .at) rd));
   }
 
-  pub type-none : {o2 : List ℕ} {y : Answer} → Asked w x n o r f s → (t .kind ≡ 51 → ⊥)
+  pub type-none : {o2 : List ℕ} {y : Answer} {place : ℕ} → Asked w x n o r f s → (t .kind ≡ 51 → ⊥)
       → Finished x o (record { status = Done; state = s; place = place; count = 0 })
       (record { tag = 0x11; place = place; numbers = None; start = 0; len = 0 }) o2 y
       → ReadsType w x n d (unpack-place place) o r f s o2 r f y
   unfolding go run recs-bytes
-  type-none {o2} {y} q m F =
+  type-none {o2} {y} {place} q m F =
       let e : budget w x n (y .state .at) ≡ budget w x n (s .at) = ap (λ (k : ℕ). budget w x n k) (F .at) in
       let none : Fallible Node = record { item = record { place = unpack-place place; recs = [] }; errors = [] } in
       record {

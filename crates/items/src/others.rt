@@ -135,7 +135,7 @@ pub fn type_alias(
         reported,
         full,
         m.words,
-        t,
+        t.place,
         s,
         nesting,
     )

@@ -6,14 +6,14 @@ use Prim.Native.Nat.{ℕ, zero, suc, _+_, _-_, _<_, _≤_}
 use native.Mathlib.Numerals.{add-one}
 use native.Mathlib.Omega.{arith}
 use borrow.Author.Tests.{eq-eqb, ne-eqb}
-use lib.ListN.{length, getD, take, drop, set, length-append, length-take, length-drop, length-set}
-use lib.Seq.{take-suc, take-suc-set, drop-cons, getD-drop, length-take-le}
+use lib.ListN.{length, getD, take, drop, length-append, length-take}
+use lib.Seq.{drop-cons, length-take-le}
 use Rattle.definition.specs.Source.{Ch, lead}
 use Rattle.definition.specs.Classes.{is-white, is-word, is-digit-of}
 use Rattle.definition.specs.Tokenizer.{Span, ahead, comment, digits, assembly}
 use Rattle.definition.specs.Tokenizer as Z
 use Rattle.slices.specs.Written.{Wrote}
-use Rattle.slices.proofs.Writing.{wrote-one, wrote-none, wrote-trans, wrote-cons}
+use Rattle.slices.proofs.Writing.{wrote-none}
 use Rattle.source.specs.declared.Cursor.{Cursor}
 use Rattle.source.specs.Place.{Stands, Stepped, rest, char, more, along-line}
 use Rattle.source.proofs.Laws.{rest-head, rest-end, along-law}

@@ -1,9 +1,9 @@
 -- What the scanning functions ensure, in the terms of the definition. Assumes nothing.
 use mathlib.Core.Path.{_≡_}
 use mathlib.Core.Bool.{true, false}
-use mathlib.Core.List.{List, [], _∷_, _++_}
-use Prim.Native.Nat.{ℕ, _+_, _≤_}
-use lib.ListN.{length, take}
+use mathlib.Core.List.{List, [], _∷_}
+use Prim.Native.Nat.{ℕ, _≤_}
+use lib.ListN.{length}
 use Rattle.definition.specs.Source.{Ch}
 use Rattle.definition.specs.Classes.{is-word, is-white}
 use Rattle.definition.specs.Tokenizer.{Span, ahead}

@@ -46,7 +46,7 @@ placed tag place = record { tag = tag; place = place; numbers = None; start = 0;
 abbrev any-node : View Node
 any-node = record { recs = λ y. y .recs; fine = λ l c y. Unit {0} }
 
-module _ {w x : List ℕ} {n d : ℕ} {o r f : List ℕ} {s : State} {t : Token} {i : ℕ} {place : ℕ}
+module _ {w x : List ℕ} {n d : ℕ} {o r f : List ℕ} {s : State} {t : Token} {i place : ℕ}
     (q : Asked w x n o r f s) (hi : i ≤ s .pos) (u : Seen w x n (s .at) t) where
   -- `=` or `<-`, a value parsed by m, `;`
   module _ {o1 r1 f1 r2 r3 f2 o2 : List ℕ} {a b c y : Answer} {m : Act (Ans Node)} (tag : ℕ) (B : Reads node w x n d m o r f (fore s t) o1 r1 f1 a) (C : Abandoned r1 a i (s .reported) (s .reported) r2 b) (lr : length r2 ≡ length r) (lf : length f1 ≡ length f)
@@ -129,7 +129,7 @@ module _ {w x : List ℕ} {n d : ℕ} {o r f : List ℕ} {s : State} {t : Token}
       assigned-room X l = record { room = omega (arith, q .room, assigned-moved .room, X .high); part = omega arith }
 
 -- a record is written only after a good answer
-finished-high : {x o o′ : List ℕ} {b y : Answer} {tag : ℕ} {place : ℕ} → Finished x o b (placed tag place) o′ y
+finished-high : {x o o′ : List ℕ} {b y : Answer} {tag place : ℕ} → Finished x o b (placed tag place) o′ y
     → y .state .pos ≤ b .state .pos + 7 * done-of (b .status)
 finished-high {x} {o} {o′} {b} {y} {tag} {place} F = one (b .status) (F .is)
   where
@@ -139,7 +139,7 @@ finished-high {x} {o} {o′} {b} {y} {tag} {place} F = one (b .status) (F .is)
     one (Refused u) m = omega (arith, ap (λ (k : Answer). k .state .pos) (m .0))
 
 -- `;`
-module _ {w x : List ℕ} {n d : ℕ} {o r f : List ℕ} {t : Token} {i : ℕ} {place : ℕ} {a : Answer}
+module _ {w x : List ℕ} {n d : ℕ} {o r f : List ℕ} {t : Token} {i place : ℕ} {a : Answer}
     (q : Asked w x n o r f (a .state)) (hi : i ≤ a .state .pos) (u : Seen w x n (a .state .at) t)
     (z : a .status ≡ Done) where
   pub expression-after : {r1 f1 o2 : List ℕ} {b y : Answer} → (t .kind ≡ 26 → ⊥) → (t .kind ≡ 52 → ⊥)

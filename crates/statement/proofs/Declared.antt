@@ -48,7 +48,7 @@ opens A.StructFields = omega arith
 opens A.ArrayValues = omega arith
 opens A.StructValues = omega arith
 
-module _ {w x : List ℕ} {n d : ℕ} {o r f o1 r1 f1 o2 : List ℕ} {s : State} {b y : Answer} (k : A.Listed) (tag : ℕ) (place : ℕ) (q : Starts (P.opener k) w x n o r f s) (B : ReadsList w x n d k o r f s o1 r1 f1 b)
+module _ {w x : List ℕ} {n d : ℕ} {o r f o1 r1 f1 o2 : List ℕ} {s : State} {b y : Answer} (k : A.Listed) (tag place : ℕ) (q : Starts (P.opener k) w x n o r f s) (B : ReadsList w x n d k o r f s o1 r1 f1 b)
     (F : Finished x o1 b (record { tag = tag; place = place; numbers = Two (b .count); start = 0; len = 0 }) o2 y) where
   pub values-reads : Reads node w x n d (values-rule k tag (unpack-place place)) o r f s o2 r1 f1 y
   values-reads =
@@ -175,9 +175,9 @@ module _ {w x : List ℕ} {n d : ℕ} {o r f r1 f1 : List ℕ} {s : State} {a : 
 
 -- ---- `named`
 
-pub named-stops : {w x : List ℕ} {n : ℕ} {o : List ℕ} {a : Answer} {tag p : ℕ} {place : ℕ} → Stopped a
+pub named-stops : {w x : List ℕ} {n : ℕ} {o : List ℕ} {a : Answer} {tag place p : ℕ} → Stopped a
     → Named w x n o a tag place p o a
-named-stops {w} {x} {n} {o} {a} {tag} {line} {column} {p} nd =
+named-stops {w} {x} {n} {o} {a} {tag} {place} {p} nd =
     record {
       at = refl;
       reported = refl;
@@ -192,7 +192,7 @@ named-stops {w} {x} {n} {o} {a} {tag} {line} {column} {p} nd =
     one Fatal z = (refl, refl)
     one (Refused m) z = (refl, refl)
 
-module _ {w x : List ℕ} {n : ℕ} {o o2 : List ℕ} {a y : Answer} {tag p : ℕ} {place : ℕ} {t : Token}
+module _ {w x : List ℕ} {n : ℕ} {o o2 : List ℕ} {a y : Answer} {tag place p : ℕ} {t : Token}
     (z : a .status ≡ Done) (u : Seen w x n p t) where
   -- the record has the name
   named-so : (X : List ℕ) (start len : ℕ) → name-of (next-token (rest w x n p)) ≡ take len (drop start X)
@@ -212,7 +212,7 @@ module _ {w x : List ℕ} {n : ℕ} {o o2 : List ℕ} {a y : Answer} {tag p : �
         low = F .low;
         high = omega (arith, F .high, one, h);
         is = subst (λ (k : Status). NamedOf k w x n o a tag place p o2 y) (sym z)
-            (m .0, (rw (l, e) (m .1 .0), (m .1 .1 .0, m .1 .1 .1)));
+            (m .0, (rw (l, e) (m .1 .0), m .1 .1));
       }
 
   -- the token is an identifier, or not: then the name is `<?>`
@@ -242,12 +242,12 @@ abbrev declares : ℕ → Place → Fallible P.Typed → Act (Ans Node)
 declares tag p x = P.good (P.node (x .item .type) tag p [] (x .item .name)) (x .errors)
 
 names : {T : List ℕ} {E : List Err} {w x : List ℕ} {n : ℕ} {o o′ r f : List ℕ} {b y : Answer}
-    {tag at : ℕ} {place : ℕ} {q : Res (Ans P.Typed)} (d : ℕ)
+    {tag place at : ℕ} {q : Res (Ans P.Typed)} (d : ℕ)
     → Named w x n o b tag place at o′ y
     → Shows (typed (name-of (next-token (rest w x n at)))) T E [] [] w x n o r f b q
     → Shows node T E [] [] w x n o′ r f y (after q (λ z S. go d (or-return (declares tag (unpack-place place)) z) S))
 unfolding go run
-names {T} {E} {w} {x} {n} {o} {o′} {r} {f} {b} {y} {tag} {line} {column} {at} {q} d N v =
+names {T} {E} {w} {x} {n} {o} {o′} {r} {f} {b} {y} {tag} {place} {at} {q} d N v =
     record { told = one (b .status) refl (N .is) (v .told) }
   where
     one : (h : Status) → b .status ≡ h → NamedOf h w x n o b tag place at o′ y
@@ -262,7 +262,7 @@ names {T} {E} {w} {x} {n} {o} {o′} {r} {f} {b} {y} {tag} {line} {column} {at} 
           is = rw (g .is, N .at, N .full);
           tree = wrote T (g .item .type) (m .1 .0) (g .tree) (ap (named-of tag place) (g .holds));
           reported = ap (λ (k : ℕ). errs r k) (N .reported) ∙ g .reported;
-          holds = sym (rw (m .1 .1 .0, m .1 .1 .1));
+          holds = sym (rw (m .1 .1));
         })
     one Fatal z m g = rw (m .0, m .1, z) (record { errors = g .errors; read = g .read; is = rw (g .is); tree = g .tree; reported = g .reported })
     one (Refused k) z m g = rw (m .0, z, g)
@@ -277,7 +277,7 @@ declaration-room {b = b} q D X l =
       room = omega (arith, q .room, D .spare, X .high, X .pays, done-le (b .status));
     }
 
-module _ {w x : List ℕ} {n d : ℕ} {o r f o1 r1 f1 r2 f2 o2 : List ℕ} {s : State} {a b y : Answer} {tag : ℕ} {place : ℕ} (q : Asked w x n o r f s) (D : ReadsDeclared w x n d o r f s o1 r1 f1 a) (lr : length r1 ≡ length r) (lf : length f1 ≡ length f)
+module _ {w x : List ℕ} {n d : ℕ} {o r f o1 r1 f1 r2 f2 o2 : List ℕ} {s : State} {a b y : Answer} {tag place : ℕ} (q : Asked w x n o r f s) (D : ReadsDeclared w x n d o r f s o1 r1 f1 a) (lr : length r1 ≡ length r) (lf : length f1 ≡ length f)
     (X : Expected w x n 50 (s .pos) (s .reported) r1 f1 a r2 f2 b) (N : Named w x n o1 b tag place (s .at) o2 y) where
   pub declaration-reads : Reads node w x n d (P.declaration tag (unpack-place place)) o r f s o2 r2 f2 y
   unfolding P.declaration

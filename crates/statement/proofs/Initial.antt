@@ -9,6 +9,7 @@ use Rattle.definition.specs.Fallible.{Err, Fallible, Ans, ok}
 use Rattle.definition.specs.Act.{Act, Node, plain, Consumed, St, Res, gives, after, or-return, run, _>>?_}
 use Rattle.definition.specs.Parser as P
 use Rattle.definition.specs.Go.{go}
+use Rattle.definition.specs.Places.{unpack-place}
 use Rattle.definition.proofs.Flat.{go-bind}
 use Rattle.fallible.proofs.Grown.{errs-length}
 use Rattle.fallible.specs.declared.State.{State}
@@ -201,7 +202,7 @@ module _ {w x : List ℕ} {n d i j : ℕ} {o r f : List ℕ} {a : Answer} (q : G
               let g = good-of z v in
               let X : Fallible P.Typed = record { item = g .item; errors = g .errors } in
               let none : Fallible Node = record {
-                item = record { place = record { place = a .place; count = a .count }; recs = [] };
+                item = record { place = unpack-place (a .place); recs = [] };
                 errors = [];
               } in
               let shown : Shows node T E (X .item .type) (X .errors) w x n o r f a (gives (ok none) (st-of w x n f (g .read) (a .state))) =

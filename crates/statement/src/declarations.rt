@@ -14,7 +14,6 @@ use fallible::raise;
 use leaves::Listed;
 use node::Numbers;
 use node::write_bare;
-use steps::Token;
 use steps::and_expect;
 use steps::expect;
 use steps::peek;
@@ -66,7 +65,7 @@ pub fn compound(
             full,
             what,
             tag,
-            t,
+            t.place,
             s,
             nesting,
         );
@@ -83,7 +82,7 @@ pub fn compound(
             full,
             what,
             tag,
-            t,
+            t.place,
             s,
             nesting,
         );

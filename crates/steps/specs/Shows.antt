@@ -22,7 +22,6 @@ use Rattle.fallible.specs.declared.Status.the-variants.{Done, Fatal, Refused}
 use Rattle.fallible.specs.declared.Answer.{Answer}
 use Rattle.fallible.specs.Lists.{errs}
 use Rattle.fallible.specs.Answers.{Abandoned}
-use Rattle.steps.specs.declared.Token.{Token}
 use Rattle.steps.specs.Tokens.{rest, budget, Held}
 
 -- ---- states
@@ -97,11 +96,11 @@ done-of (Refused m) = 0
 
 -- ---- items
 
--- a node: the two numbers are its place
+-- a node, with its place
 abbrev pub node : View Node
 node = record { recs = λ y. y .recs; fine = λ p k y. y .place ≡ unpack-place p }
 
--- a token: the two numbers are its place
+-- a token, with its place
 abbrev pub token : Tok → View Tok
 token t = record { recs = λ y. []; fine = λ p k y. (y ≡ t) × (t .place ≡ unpack-place p) }
 
@@ -109,7 +108,7 @@ token t = record { recs = λ y. []; fine = λ p k y. (y ≡ t) × (t .place ≡ 
 abbrev pub typed : List ℕ → View P.Typed
 typed name = record { recs = λ y. y .type; fine = λ p k y. y .name ≡ name }
 
--- the items of a list: the first number is their count
+-- the items of a list, and how many
 abbrev pub items : View Items
 items = record { recs = λ y. y .recs; fine = λ p k y. y .count ≡ k }
 

@@ -12,7 +12,6 @@ use node::Record;
 use node::place_at;
 use node::wide;
 use node::write_record;
-ghost use mathlib.Core.Path.{_≡_};
 ghost use Prim.Native.Nat.{_+_, _<_, _≤_};
 ghost use Rattle.definition.specs.Parser as P;
 ghost use Rattle.node.specs.Contract.{Room};

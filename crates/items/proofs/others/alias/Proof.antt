@@ -24,7 +24,7 @@ returns c =
 entry-requires : tie.Need-entry-requires
 entry-requires c κs =
     let at-peek = c .before .before .before .before in
-    omega (arith, at-peek .peek .ensures .lines, at-peek .peek .ensures .columns)
+    omega (arith, at-peek .peek .ensures .places)
 
 raise-requires : tie.Need-raise-requires
 raise-requires c κs =

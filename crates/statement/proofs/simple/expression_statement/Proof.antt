@@ -73,7 +73,7 @@ returns-2 c =
 
 after-expression-requires : tie.Need-after-expression-requires
 after-expression-requires c κs =
-    let at-if1 = c .before in
+    let at-if1 = c .before .before .before in
     let at-expression = c .before .before .before .before .before .before .before .before .before .before .before .before .before .before .before in
     let start = at-expression .before .before .before .before .before .before .before .before .before in (
       asked-moved (start .pre) (at-expression .expression .ensures .moved)
