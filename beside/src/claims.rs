@@ -1,4 +1,4 @@
-//! What document 01 and the readings of it state of every accepted script, tested on the Rust's answers.
+//! What docs/FORMAT.md states of every accepted script, tested on the Rust's answers.
 
 use crate::ask;
 use crate::classes::{self, Class};

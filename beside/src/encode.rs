@@ -1,4 +1,4 @@
-//! The oracle's tokens, tree and errors in the formats of document 01.
+//! The oracle's tokens, tree and errors in the formats of docs/FORMAT.md.
 
 use crate::node::*;
 use crate::source::SourceLocation;

@@ -1,8 +1,8 @@
-//! Scripts written out: those that the papers name, and those at the limits.
+//! Scripts written out: those of docs/FORMAT.md, and those at the limits.
 
-/// The scripts of document 01, of the readings of it and of document 02.
+/// Scripts of docs/FORMAT.md, and of rules that are easily misread.
 pub const PAPER: &[&str] = &[
-    // 01
+    // FORMAT.md: scripts, numbers, strings, assembly
     "var x: T;",
     "fn f (){c(w -1);}",
     "fn f (){c(w);}",
@@ -32,7 +32,7 @@ pub const PAPER: &[&str] = &[
     "asm {",
     "asm { a } b",
     "fn f(){centre(width -12);}",
-    // the readings
+    // places, kept names, order of reports, characters above 127
     "var x:[",
     "var x:[5",
     "var x:[-1",
@@ -59,7 +59,7 @@ pub const PAPER: &[&str] = &[
     "\"é\"",
     "// é",
     "-\na",
-    // 02
+    // losses without an error, names with accents, picas, what demand 3 strikes, remarks
     "left -dx",
     "fn f(){a = left -dx;}",
     "légende",
@@ -283,7 +283,7 @@ fn times(part: &str, count: usize) -> String {
 /// Gives the scripts of a part to a function.
 type Part = fn(&mut dyn FnMut(&[u8]));
 
-/// The scripts at the limits that document 01 names: one short, exact, one over.
+/// The scripts at the limits of docs/FORMAT.md: one short, exact, one over.
 pub const LIMITS: [(&str, Part); 8] = [
     ("limit-length", script_length),
     ("limit-places", places),

@@ -1,4 +1,4 @@
-//! What the oracle answers, in the formats of document 01.
+//! What the oracle answers, in the formats of docs/FORMAT.md.
 
 /// Eight words: kind, line, column, text start, text length, base, 0, 0.
 pub type Token = [u32; 8];

@@ -1,4 +1,4 @@
-//! Hand-made records for Read, each with the number that the rules of document 01 give it.
+//! Hand-made records for Read, each with the number that the rules of docs/FORMAT.md give it.
 
 use crate::altered;
 use formats::{Handed, Token, TokenError, Tokens, FILE_SIZE, PLACE_LIMIT, TEXT_LIMIT};

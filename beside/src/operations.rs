@@ -1,4 +1,4 @@
-//! The operations of document 01 on whole slices: the tests before any work, then the Rust's steps.
+//! The operations of docs/FORMAT.md on whole slices: the tests before any work, then the Rust's steps.
 
 use crate::rules;
 use formats::{Exit, Given, Handed, Token, Tokens, FILE_SIZE, FILLER, FILLER_WORD, SCRIPT_LIMIT, TOKEN_SLICES};

@@ -1,4 +1,4 @@
-//! What document 01 says of the records that Read is handed.
+//! What docs/FORMAT.md says of the records that Read is handed.
 
 use formats::{Handed, Token, TokenError, Tokens, FILE_SIZE, PLACE_LIMIT, TEXT_LIMIT};
 
