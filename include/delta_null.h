@@ -18,7 +18,7 @@
  * as it looks, and a -bc as a - c. Assembly with no closing brace runs to the end of the script:
  * asm { fn f(w: T) is read as assembly alone, and there is no function f.
  *
- * examples/tree.c walks a file and prints it.
+ * docs/FORMAT.md defines the language, the tree file and each answer; examples/tree.c walks a file and prints it.
  */
 #ifndef DELTA_NULL_H
 #define DELTA_NULL_H

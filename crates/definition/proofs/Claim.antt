@@ -1,4 +1,4 @@
--- Demand 3, two scripts with one tree: the theorem. Assumes nothing.
+-- Demand 3 (docs/FORMAT.md, Two scripts with one tree): the theorem. Assumes nothing.
 use mathlib.Core.Path.{_≡_, refl, sym, ap, ap₂, _∙_, subst}
 use mathlib.Core.Bool.{Bool, true, false, _&&_, _||_}
 use mathlib.Core.List.{List, [], _∷_, _++_, map}

@@ -1,4 +1,4 @@
--- Misreadings of the scope, each excluded by a law or by a small script. This module is checked before the other
+-- Misreadings of docs/FORMAT.md, each excluded by a law or by a small script. This module is checked before the other
 -- proofs, so that it is the one that fails if a definition is misread. Assumes nothing.
 use mathlib.Core.Path.{_≡_, refl, sym, subst}
 use mathlib.Core.Bool.{true, false}

@@ -1,4 +1,4 @@
--- Stripped tokens: what the tree tells of the tokens that demand 3 does not strike. Assumes nothing.
+-- Stripped tokens: what the tree tells of the tokens that demand 3 (docs/FORMAT.md) does not strike. Assumes nothing.
 use mathlib.Core.Bool.{Bool, _||_}
 use mathlib.Core.List.{List, [], _∷_, _++_}
 use Prim.Native.Nat.{ℕ}

@@ -1,4 +1,5 @@
--- Demand 3, two scripts with one tree: the terms that state it. The theorem is in proofs/Claim.antt. Assumes nothing.
+-- Demand 3 (docs/FORMAT.md, Two scripts with one tree): the terms that state it. The theorem is in
+-- proofs/Claim.antt. Assumes nothing.
 use mathlib.Core.Path.{_≡_}
 use mathlib.Core.Bool.{Bool, true, false, _&&_, _||_}
 use mathlib.Core.List.{List, [], _∷_, _++_, map}

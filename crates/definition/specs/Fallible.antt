@@ -1,4 +1,4 @@
--- `fallible.rs`: errors, and answers that carry them. Assumes nothing.
+-- `fallible.rs` (docs/FORMAT.md, Answers): errors, and answers that carry them. Assumes nothing.
 use mathlib.Core.List.{List, [], _∷_, _++_}
 use Prim.Native.Nat.{ℕ}
 use Rattle.definition.specs.Source.{Place}

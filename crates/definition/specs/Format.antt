@@ -1,4 +1,4 @@
--- The format of the records of a tree file, in one table by tag: the parts of each body, and the kinds of its
+-- The table of docs/FORMAT.md (Records by tag), as a value: the parts of each body of a record, and the kinds of its
 -- children as `node.rs` types them. The body of an error field is `err-body`. Assumes nothing.
 use mathlib.Core.Bool.{true, false}
 use mathlib.Core.List.{List, [], _∷_, _++_}

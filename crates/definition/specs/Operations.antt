@@ -1,5 +1,5 @@
--- The operations: for all arguments the number, the counts and each slice at exit. Token text is in Records.antt.
--- Assumes nothing.
+-- The operations (docs/FORMAT.md, Operations and refusals): for all arguments the number, the counts and each slice
+-- at exit. Token text is in Records.antt. Assumes nothing.
 use mathlib.Core.Bool.{true, false, _&&_}
 use mathlib.Core.List.{List, [], _∷_, _++_}
 use mathlib.Core.Option.{Option, none, some}

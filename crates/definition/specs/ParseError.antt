@@ -1,4 +1,4 @@
--- The numbers of the parser's errors. Assumes nothing.
+-- The numbers of the parser's errors (docs/FORMAT.md, Errors of the parser). Assumes nothing.
 use Prim.Native.Nat.{ℕ}
 
 abbrev pub TopLevel : ℕ

@@ -1,4 +1,4 @@
--- The parser, one definition for each function of `parser.rs`. Assumes nothing.
+-- The parser (docs/FORMAT.md, The parser), one definition for each function of `parser.rs`. Assumes nothing.
 use mathlib.Core.Bool.{Bool, true, false, _||_, not}
 use mathlib.Core.List.{List, [], _∷_, _++_}
 use mathlib.Core.Option.{none, some}

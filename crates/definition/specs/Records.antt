@@ -1,4 +1,5 @@
--- Token and error records as words: what Tokenise writes, what Read validates, and Token text. Assumes nothing.
+-- Token and error records as words (docs/FORMAT.md, Token records): what Tokenise writes, what Read validates, and
+-- Token text. Assumes nothing.
 use mathlib.Core.Bool.{Bool, true, false, _&&_, _||_}
 use mathlib.Core.List.{List, [], _∷_, _++_}
 use mathlib.Core.Option.{Option, none, some}

@@ -1,5 +1,5 @@
--- `source.rs`, and what Rust's `str` does for it: places, UTF-8 (RFC 3629), and a script's characters with their
--- places. Assumes nothing.
+-- `source.rs`, and what Rust's `str` does for it (docs/FORMAT.md, Characters and places): places, UTF-8 (RFC 3629),
+-- and a script's characters with their places. Assumes nothing.
 use mathlib.Core.Bool.{Bool, true, false, _&&_}
 use mathlib.Core.List.{List, [], _∷_, _++_}
 use mathlib.Core.Option.{Option, none, some}

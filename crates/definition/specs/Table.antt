@@ -1,5 +1,5 @@
--- The ten starred lines of the scope in one table: for each script the result of the whole operation and, where the
--- line is about tokens, that of Tokenise. Assumes nothing.
+-- The starred scripts of docs/FORMAT.md in one table: for each the result of the whole operation and, where the
+-- answer there is about tokens, that of Tokenise. Assumes nothing.
 use mathlib.Core.Path.{_≡_, refl}
 use mathlib.Core.Bool.{true, false}
 use mathlib.Core.List.{List, [], _∷_, map}

@@ -1,4 +1,4 @@
--- The tags of a tree file's fields. Assumes nothing.
+-- The tags of a tree file's fields (docs/FORMAT.md, Records by tag). Assumes nothing.
 use Prim.Native.Nat.{ℕ}
 
 -- ---- types

@@ -1,4 +1,4 @@
--- The numbers of token errors. Assumes nothing.
+-- The numbers of token errors (docs/FORMAT.md, Token errors). Assumes nothing.
 use Prim.Native.Nat.{ℕ}
 
 abbrev pub UnknownEscape : ℕ

@@ -1,4 +1,4 @@
--- `tokenize` of `tokenizer.rs`: what each turn of its loop does, and the loop. Assumes nothing.
+-- `tokenize` of `tokenizer.rs` (docs/FORMAT.md, Tokens): the turns of its loop, and the loop. Assumes nothing.
 use mathlib.Core.Bool.{Bool, true, false, _&&_}
 use mathlib.Core.List.{List, [], _∷_, _++_}
 use Prim.Native.Nat.{ℕ, zero, suc, _+_}

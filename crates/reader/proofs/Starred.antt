@@ -1,4 +1,4 @@
--- The starred scripts: the answers of the operation, for any file slice. Assumes nothing.
+-- The starred scripts of docs/FORMAT.md: the answers of the operation, for any file slice. Assumes nothing.
 use mathlib.Core.Path.{_≡_, refl, sym, ap, _∙_}
 use mathlib.Core.Bool.{Bool, true, false}
 use mathlib.Core.Option.{Option, none, some}

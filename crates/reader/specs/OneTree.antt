@@ -1,4 +1,4 @@
--- Demand 3 about two answers of `read_script`. Assumes nothing.
+-- Demand 3 (docs/FORMAT.md) about two answers of `read_script`. Assumes nothing.
 use mathlib.Core.Path.{_≡_}
 use mathlib.Core.List.{List}
 use Prim.Native.Nat.{ℕ}

@@ -110,8 +110,9 @@ pub struct TwoAnswers {
     second: Written,
 }
 
-// Demand 3 about the code itself: reads two scripts, each to a file slice of its own; its contract is the demand. No
-// program calls it: it is here so that the checker ties the theorem to `read_script`.
+// Demand 3 (docs/FORMAT.md, Two scripts with one tree) about the code itself: reads two scripts, each to a file
+// slice of its own; its contract is the demand. No program calls it: it is here so that the checker ties the theorem
+// to `read_script`.
 pub fn two_scripts_one_tree(
     first: &[u8],
     left: &mut [u8],
