@@ -14,7 +14,10 @@ use Rattle.definition.specs.Node.{Rec, Num, byte, two, eight}
 use Rattle.definition.specs.Fallible.{Err, Fallible, Ans, ok, fatal}
 use Rattle.definition.specs.Choice.{pick}
 use Rattle.definition.specs.Token.{Tok, _is_, number, dashed}
-use Rattle.definition.specs.Act.{Node, Items, Goal, Statement, Expression, Unary, Type', Listed, Parameters, Arguments, StructFields, ArrayValues, StructValues, Level, BitOr, BitXor, BitAnd, Shift, AddSub, Mul, Words, Loop, Module, Body, ListOf, Operators, Casts, Suffixes, Modifiers, Left, Role, plain, group, final, size, Act, done, peek, consume, make, if_then_else_, call, loop, panic, next, next-as, _>>=_, _>>?_, St, begin, Res, refused, run}
+use Rattle.definition.specs.Act.{Node, Items, Goal, Statement, Expression, Unary, Type', Listed, Parameters, Arguments, StructFields, ArrayValues, StructValues}
+use Rattle.definition.specs.Act.{Level, BitOr, BitXor, BitAnd, Shift, AddSub, Mul, Words, Role, plain, group, final, size, St, begin, Res, refused, run}
+use Rattle.definition.specs.Act.{Loop, Module, Body, ListOf, Operators, Casts, Suffixes, Modifiers, Left}
+use Rattle.definition.specs.Act.{Act, done, peek, consume, make, if_then_else_, call, loop, panic, next, next-as, _>>=_, _>>?_}
 
 -- ---- answers
 
@@ -579,7 +582,14 @@ parse (suc n) g s = run (λ h t. parse n h t) (λ l t. loops (λ h u. parse n h 
 
 -- the whole parser, where at most n counted calls may be open
 unfoldable pub parse-module-within : ℕ → List Tok → Res Items
-unfolding run _>>=_ number ascii typed parse-typed-identifier parse-named-type parse-compound-struct-field parse-list after-item list-turn parse-array-type type-rule parse-group parse-atom parse-field-access-or-index suffixes-turn parse-sizeof parse-call prefix unary-rule parse-cast casts-turn parse-mul parse-add-sub parse-bit-shift parse-bitwise-and parse-bitwise-xor parse-bitwise-or operators-turn parse-comparison expression-rule parse-compound parse-var-like-declaration declaration parse-body body-turn parse-return parse-if after-expression expression-statement statement-rule function-body function parse-function-definition modifiers-turn alias-rule parse-type-alias path-rule parse-use parse-top-level-var-declaration parse-top-level-item module-turn loops parse
+unfolding run _>>=_ number ascii typed parse-typed-identifier parse-named-type parse-compound-struct-field
+    parse-list after-item list-turn parse-array-type type-rule parse-group parse-atom parse-field-access-or-index
+    suffixes-turn parse-sizeof parse-call prefix unary-rule parse-cast casts-turn parse-mul parse-add-sub
+    parse-bit-shift parse-bitwise-and parse-bitwise-xor parse-bitwise-or operators-turn parse-comparison
+    expression-rule parse-compound parse-var-like-declaration declaration parse-body body-turn parse-return
+    parse-if after-expression expression-statement statement-rule function-body function parse-function-definition
+    modifiers-turn alias-rule parse-type-alias path-rule parse-use parse-top-level-var-declaration
+    parse-top-level-item module-turn loops parse
 parse-module-within n ts = loops (λ g s. parse n g s) (suc (suc (length ts))) (Module (no-items [])) (begin ts)
 
 unfoldable pub parse-module : List Tok → Res Items
