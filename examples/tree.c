@@ -518,7 +518,7 @@ static enum status print_file(size_t bytes)
         errors++;
     }
     if (errors == 0) {
-        printf("\nRead, no errors.\n");
+        printf("\nRead, no error found.\n");
         return CLEAN;
     }
     printf("\nRead with errors: parts of the script may be missing from the tree.\n");

@@ -10,8 +10,8 @@
  *
  * Compile and link with `pkg-config --cflags --libs delta_null`.
  *
- * DN_OK says that the script was read, not that it is good. Look at the fields after DN_TAG_MODULE:
- * each is an error, and the part of the script that it is about may be missing from the tree.
+ * DN_OK says that the script was read, not that it is good. Look at the fields of errors, which come after
+ * DN_TAG_MODULE: the part of the script that an error is about may be missing from the tree.
  * DN_TAG_TOKEN_ERROR fields are all errors of the tokenizer, DN_TAG_FULL_ERROR fields all errors of the
  * parser. That there is no DN_TAG_REPORTED_ERROR field proves nothing: errors in the arguments of a call
  * and in the fields of a struct type are not reported.
@@ -23,7 +23,7 @@
  * as it looks, and a -bc as a - c. Assembly with no closing brace runs to the end of the script:
  * asm { fn f(w: T) is read as assembly alone, and there is no function f.
  *
- * examples/tree.c builds the tree of a file and prints it, with the errors in words.
+ * In the repository, examples/tree.c builds the tree of a file and prints it, with the errors in words.
  *
  * Names: DN_REFUSED_ what dn_read returns, DN_MAX_ limits, DN_TAG_ fields of the file, DN_OP_ operators,
  * DN_ALIAS_ words before a type alias, DN_TOKEN_ERROR_ and DN_PARSE_ERROR_ numbers of errors, DN_KIND_
