@@ -1,72 +1,88 @@
 /*
- * tree [SCRIPT]: reads a script, or standard input, and prints its tree file, a line for each field:
- * the records in the file's order, children before their parents, then the complaints.
+ * tree SCRIPT: reads a script with dn_read and prints its tree, a line for each node, children indented
+ * below their parent; then the errors in words, each with its line of the script.
+ * tree --file FILE: the same of a stored tree file, without the lines of the script.
+ * `-` is standard input.
  *
- * Status: 0 read without a complaint, 1 read with complaints, 2 refused, 3 something else failed.
+ * Status: 0 read without an error, 1 read with errors, 2 refused, 3 something else failed.
+ *
+ * C99 and C++11. What it is given may be broken: each length, count and number is tested before use.
  */
 #include <inttypes.h>
 #include <stdio.h>
+#include <string.h>
 
 #include "delta_null.h"
 
-enum status { GOOD = 0, COMPLAINTS = 1, REFUSED = 2, FAILED = 3 };
+enum status { CLEAN = 0, ERRORS = 1, REFUSED = 2, FAILED = 3 };
 
-/* ---- the layout of each record ---- */
+/* One byte more than there may be, so that an input that is too long is refused and not cut. */
+static uint8_t script[DN_MAX_SCRIPT_BYTES + 1];
+static size_t script_bytes;
+static uint8_t file[DN_FILE_BUFFER_BYTES + 1];
 
+/* ---- what the fields of each tag hold ---- */
+
+/*
+ * The parts of a body, a letter for each:
+ *     p place    b byte, a number    c count of children, 2 bytes    s size, 8 bytes    t text
+ *     n byte, a count of children    x byte, 1 where the last child is missing
+ */
 struct layout {
     int tag;
     const char *name;
-    int placed;     /* 1 where a place begins the body */
-    int numbers[2]; /* the widths of its numbers in bytes, 0 for none */
-    int text;       /* 1 where text follows */
+    const char *body;
+    unsigned least, most; /* of its byte */
+    unsigned children;    /* those that it has besides the counted ones */
+    const char *counted;  /* what its count is of */
 };
 
 static const struct layout LAYOUTS[] = {
-    {DN_NAME, "name", 1, {0, 0}, 1},
-    {DN_VOID, "void", 1, {0, 0}, 0},
-    {DN_POINTER, "pointer", 1, {0, 0}, 0},
-    {DN_ARRAY, "array", 1, {8, 0}, 0},
-    {DN_STRUCT, "struct", 1, {2, 0}, 0},
-    {DN_NAMED_TYPE, "named type", 0, {0, 0}, 1},
-    {DN_IDENTIFIER, "identifier", 1, {0, 0}, 1},
-    {DN_INTEGER, "integer", 1, {1, 0}, 1},
-    {DN_BOOLEAN, "boolean", 1, {1, 0}, 0},
-    {DN_STRING, "string", 1, {0, 0}, 1},
-    {DN_CALL, "call", 1, {2, 0}, 0},
-    {DN_INDEX, "index", 1, {0, 0}, 0},
-    {DN_CAST, "cast", 1, {0, 0}, 0},
-    {DN_TAKE, "take", 1, {0, 0}, 0},
-    {DN_DEREFERENCE, "dereference", 1, {0, 0}, 0},
-    {DN_FIELD, "field", 1, {0, 0}, 1},
-    {DN_BITWISE_NOT, "bitwise not", 1, {0, 0}, 0},
-    {DN_BOOLEAN_NOT, "boolean not", 1, {0, 0}, 0},
-    {DN_BOOLEAN_AND, "boolean and", 1, {0, 0}, 0},
-    {DN_ARITHMETIC, "arithmetic", 1, {1, 0}, 0},
-    {DN_COMPARISON, "comparison", 1, {1, 0}, 0},
-    {DN_SIZEOF, "sizeof", 1, {0, 0}, 0},
-    {DN_COMPOUND_ARRAY, "compound array", 1, {2, 0}, 0},
-    {DN_COMPOUND_STRUCT, "compound struct", 1, {2, 0}, 0},
-    {DN_COMPOUND_FIELD, "compound field", 1, {0, 0}, 1},
-    {DN_NO_VALUE, "no value", 0, {0, 0}, 0},
-    {DN_VALUE, "value", 0, {0, 0}, 0},
-    {DN_COMPOUND_VALUE, "compound value", 0, {0, 0}, 0},
-    {DN_BLOCK, "block", 1, {2, 0}, 0},
-    {DN_EXPRESSION, "expression", 1, {0, 0}, 0},
-    {DN_VARIABLE, "variable", 1, {0, 0}, 1},
-    {DN_ASSIGNMENT, "assignment", 1, {0, 0}, 0},
-    {DN_COMPOUND_ASSIGNMENT, "compound assignment", 1, {0, 0}, 0},
-    {DN_RETURN, "return", 1, {1, 0}, 0},
-    {DN_LOOP, "loop", 1, {0, 0}, 0},
-    {DN_WHILE, "while", 1, {0, 0}, 0},
-    {DN_BREAK, "break", 1, {0, 0}, 0},
-    {DN_IF, "if", 1, {1, 0}, 0},
-    {DN_ASSEMBLY, "assembly", 1, {0, 0}, 1},
-    {DN_FUNCTION, "function", 1, {1, 2}, 1},
-    {DN_ALIAS, "alias", 1, {1, 0}, 1},
-    {DN_USE, "use", 1, {0, 0}, 1},
-    {DN_TOP_VARIABLE, "top-level variable", 1, {0, 0}, 1},
-    {DN_TOP_ASSEMBLY, "top-level assembly", 1, {0, 0}, 1},
-    {DN_MODULE, "module", 0, {2, 0}, 0},
+    {DN_TAG_NAME, "name", "pt", 0, 0, 0, ""},
+    {DN_TAG_VOID, "void", "p", 0, 0, 0, ""},
+    {DN_TAG_POINTER, "pointer", "p", 0, 0, 1, ""},
+    {DN_TAG_ARRAY, "array", "ps", 0, 0, 1, ""},
+    {DN_TAG_STRUCT, "struct", "pc", 0, 0, 0, "field"},
+    {DN_TAG_NAMED_TYPE, "named type", "t", 0, 0, 1, ""},
+    {DN_TAG_IDENTIFIER, "identifier", "pt", 0, 0, 0, ""},
+    {DN_TAG_INTEGER, "integer", "pbt", 2, 16, 0, ""},
+    {DN_TAG_BOOLEAN, "boolean", "pb", 0, 1, 0, ""},
+    {DN_TAG_STRING, "string", "pt", 0, 0, 0, ""},
+    {DN_TAG_CALL, "call", "pc", 0, 0, 1, "argument"},
+    {DN_TAG_INDEX, "index", "p", 0, 0, 2, ""},
+    {DN_TAG_CAST, "cast", "p", 0, 0, 2, ""},
+    {DN_TAG_POINTER_TAKE, "pointer take", "p", 0, 0, 1, ""},
+    {DN_TAG_POINTER_DEREFERENCE, "pointer dereference", "p", 0, 0, 1, ""},
+    {DN_TAG_FIELD_ACCESS, "field access", "pt", 0, 0, 1, ""},
+    {DN_TAG_BITWISE_NOT, "bitwise not", "p", 0, 0, 1, ""},
+    {DN_TAG_BOOLEAN_NOT, "boolean not", "p", 0, 0, 1, ""},
+    {DN_TAG_BOOLEAN_AND, "boolean and", "p", 0, 0, 2, ""},
+    {DN_TAG_ARITHMETIC_BIN_OP, "arithmetic", "pb", 0, DN_OP_RIGHT_SHIFT, 2, ""},
+    {DN_TAG_COMPARISON_BIN_OP, "comparison", "pb", 0, DN_OP_LESS_THAN_OR_EQUALS, 2, ""},
+    {DN_TAG_SIZEOF, "sizeof", "p", 0, 0, 1, ""},
+    {DN_TAG_COMPOUND_ARRAY, "compound array", "pc", 0, 0, 0, "value"},
+    {DN_TAG_COMPOUND_STRUCT, "compound struct", "pc", 0, 0, 0, "field"},
+    {DN_TAG_COMPOUND_FIELD, "compound field", "pt", 0, 0, 1, ""},
+    {DN_TAG_NO_VALUE, "no value", "", 0, 0, 0, ""},
+    {DN_TAG_ASSIGNED_VALUE, "assigned value", "", 0, 0, 1, ""},
+    {DN_TAG_COMPOUND_VALUE, "compound value", "", 0, 0, 1, ""},
+    {DN_TAG_BLOCK, "block", "pc", 0, 0, 0, "statement"},
+    {DN_TAG_EXPRESSION, "expression", "p", 0, 0, 1, ""},
+    {DN_TAG_VARIABLE_DECLARATION, "variable", "pt", 0, 0, 2, ""},
+    {DN_TAG_ASSIGNMENT, "assignment", "p", 0, 0, 2, ""},
+    {DN_TAG_COMPOUND_ASSIGNMENT, "compound assignment", "p", 0, 0, 2, ""},
+    {DN_TAG_RETURN, "return", "pn", 0, 1, 0, ""},
+    {DN_TAG_LOOP, "loop", "p", 0, 0, 1, ""},
+    {DN_TAG_WHILE, "while", "p", 0, 0, 2, ""},
+    {DN_TAG_BREAK, "break", "p", 0, 0, 0, ""},
+    {DN_TAG_IF, "if", "pn", 2, 3, 0, ""},
+    {DN_TAG_INLINE_ASSEMBLY, "assembly", "pt", 0, 0, 0, ""},
+    {DN_TAG_FUNCTION_DEFINITION, "function", "pxct", 0, 1, 2, "parameter"},
+    {DN_TAG_TYPE_ALIAS, "type alias", "pbt", 0, DN_ALIAS_DISTINCT + DN_ALIAS_INTERNAL, 1, ""},
+    {DN_TAG_USE, "use", "pt", 0, 0, 0, ""},
+    {DN_TAG_TOP_LEVEL_VARIABLE, "top-level variable", "pt", 0, 0, 2, ""},
+    {DN_TAG_TOP_LEVEL_ASSEMBLY, "top-level assembly", "pt", 0, 0, 0, ""},
+    {DN_TAG_MODULE, "module", "c", 0, 0, 0, "item"},
 };
 
 static const struct layout *layout_of(int tag)
@@ -84,55 +100,67 @@ static const char *const REFUSALS[] = {
     "not refused",
     "the script is too long",
     "the script is not UTF-8",
-    "the file slice is too short",
-    "a character above 127",
+    "the file buffer is too short",
+    "a character above 127, not in a string, a comment or assembly",
     "a minus ends the script",
     "too many tokens",
     "too many token errors",
     "a bad token record",
-    "no tokens",
+    "the script has nothing but white space, comments and errors",
     "nested too deep",
-    "the script ends after a word or a dot that needs a name",
+    "the script ends after `type`, `use` or a dot, where a name has to follow",
     "too many errors",
 };
 
 static const char *const TOKEN_ERRORS[] = {
     "no error",
-    "unknown escape",
-    "string without closing quote",
-    "no { after asm",
-    "unknown character",
+    "unknown escape in a string, left out",
+    "string without a closing quote, left out",
+    "no { after asm, left out",
+    "unknown character, left out",
 };
 
-static const char *const ERRORS[] = {
+static const char *const PARSE_ERRORS[] = {
     "no error",
-    "unexpected at top level",
+    "not an item of a module",
     "another token expected",
-    "a token expected, not the end",
-    "identifier expected",
-    "unexpected end of file",
-    "statement expected, not the end",
-    "expression expected",
-    "expression expected, not the end",
-    "array size expected",
-    "array size must be positive",
-    "type expected",
-    "type expected, not the end",
-    "} expected before the end",
-    "the end inside a list",
-    "unexpected in a list",
-    "identifier expected after type",
-    "string expected after use",
-    "compound expected, not the end",
-    "compound expected",
+    "a token is missing",
+    "a name expected",
+    "a name expected",
+    "a statement expected",
+    "an expression expected",
+    "an expression expected",
+    "an array's size expected",
+    "an array's size must be positive",
+    "a type expected",
+    "a type expected",
+    "a block has no }",
+    "a list has no end",
+    "a list's item is followed by neither a comma nor the end of the list",
+    "a name expected after type",
+    "a string expected after use",
+    "a compound expected after #",
+    "a compound expected after #",
 };
 
 static const char *const KINDS[] = {
-    "none", "identifier", "integer", "string", "fn", "var", "return", "loop", "while", "break", "if",
-    "else", "true", "false", "as", "type", "struct", "sizeof", "use", "extern", "distinct",
+    "nothing", "a name", "an integer", "a string", "fn", "var", "return", "loop", "while", "break",
+    "if", "else", "true", "false", "as", "type", "struct", "sizeof", "use", "extern", "distinct",
     "internal", "+", "-", "*", "/", "=", "==", "&", "&&", "|", "^", "~", "!", ".", ".*", "<<", ">>",
-    "#", "{", "}", "(", ")", "[", "]", "<", "<=", ">", ">=", ":", ";", "->", "<-", ",", "asm",
+    "#", "{", "}", "(", ")", "[", "]", "<", "<=", ">", ">=", ":", ";", "->", "<-", ",", "assembly",
 };
+
+static const char *const ARITHMETIC[] = {"+", "-", "*", "&", "^", "|", "<<", ">>"};
+static const char *const COMPARISON[] = {"==", ">", ">=", "<", "<="};
+
+/* The compiler refuses a table that does not end with the last number. */
+#define ENDS_WITH(table, last) typedef char table##_ends_with[sizeof table / sizeof table[0] == (last) + 1 ? 1 : -1]
+ENDS_WITH(REFUSALS, DN_REFUSED_TOO_MANY_ERRORS);
+ENDS_WITH(TOKEN_ERRORS, DN_TOKEN_ERROR_UNKNOWN_CHARACTER);
+ENDS_WITH(PARSE_ERRORS, DN_PARSE_ERROR_COMPOUND);
+ENDS_WITH(KINDS, DN_KIND_INLINE_ASSEMBLY_FRAGMENT);
+ENDS_WITH(ARITHMETIC, DN_OP_RIGHT_SHIFT);
+ENDS_WITH(COMPARISON, DN_OP_LESS_THAN_OR_EQUALS);
 
 /* NULL for a number that the table does not have */
 #define WORDS(table, number) words(table, sizeof table / sizeof table[0], number)
@@ -150,35 +178,161 @@ struct field {
     size_t length;
 };
 
+struct place {
+    unsigned line, column; /* 0:0 where there is none, and of an error at the script's end */
+};
+
 /* a number of so many bytes, high byte first */
-static uint64_t number_at(const uint8_t *bytes, int width)
+static uint64_t number_at(const uint8_t *bytes, size_t width)
 {
     uint64_t n = 0;
-    int i;
+    size_t i;
     for (i = 0; i < width; i++)
         n = n << 8 | bytes[i];
     return n;
 }
 
+static struct place place_at(const uint8_t *bytes)
+{
+    struct place p;
+    p.line = (unsigned)number_at(bytes, 2);
+    p.column = (unsigned)number_at(bytes + 2, 2);
+    return p;
+}
+
 /* Takes the field at *at, which is below bytes, and goes past it; whether it ends in the file. */
-static int next_field(const uint8_t *file, size_t bytes, size_t *at, struct field *f)
+static int next_field(size_t bytes, size_t *at, struct field *f)
 {
     size_t left = bytes - *at;
-    if (left < DN_FIELD_HEAD)
+    if (left < DN_FIELD_HEAD_BYTES)
         return 0;
     f->tag = file[*at];
     f->length = (size_t)number_at(file + *at + 1, 2);
-    f->body = file + *at + DN_FIELD_HEAD;
-    if (left - DN_FIELD_HEAD < f->length)
+    f->body = file + *at + DN_FIELD_HEAD_BYTES;
+    if (left - DN_FIELD_HEAD_BYTES < f->length)
         return 0;
-    *at += DN_FIELD_HEAD + f->length;
+    *at += DN_FIELD_HEAD_BYTES + f->length;
     return 1;
 }
 
-static void print_place(const uint8_t *p)
+/* Tags from here on are of later versions: their fields are skipped. */
+#define LATER_TAGS 0x70
+
+/* ---- the tree ---- */
+
+/* There are fewer nodes than this, since each field has its head. */
+#define NODES (DN_FILE_BUFFER_BYTES / DN_FIELD_HEAD_BYTES + 1)
+
+/* Nodes are numbered from 1; 0 is none. */
+struct node {
+    const struct layout *layout;
+    struct place place;
+    unsigned byte, count;
+    uint64_t size;
+    const uint8_t *text;
+    size_t text_bytes;
+    size_t parent, first_child, next;
+};
+
+static struct node nodes[NODES];
+static size_t node_count;
+
+/* nodes that have no parent yet, in the order of the file */
+static size_t stack[NODES];
+static size_t stacked;
+
+/* the bytes of a part of a body; text has all that are left */
+static size_t width_of(char part, size_t left)
 {
-    printf(" %u:%u", (unsigned)number_at(p, 2), (unsigned)number_at(p + 2, 2));
+    switch (part) {
+    case 'p':
+        return DN_PLACE_BYTES;
+    case 's':
+        return 8;
+    case 'c':
+        return 2;
+    case 't':
+        return left;
+    default:
+        return 1;
+    }
 }
+
+/* Reads the body of a field by its layout; whether it fits. */
+static int read_body(const struct field *f, struct node *n)
+{
+    const uint8_t *at = f->body;
+    size_t left = f->length;
+    const char *part;
+    for (part = n->layout->body; *part != '\0'; part++) {
+        size_t width = width_of(*part, left);
+        if (left < width)
+            return 0;
+        switch (*part) {
+        case 'p':
+            n->place = place_at(at);
+            break;
+        case 's':
+            n->size = number_at(at, width);
+            break;
+        case 'c':
+            n->count = (unsigned)number_at(at, width);
+            break;
+        case 't':
+            n->text = at;
+            n->text_bytes = width;
+            break;
+        default:
+            n->byte = at[0];
+            if (n->byte < n->layout->least || n->byte > n->layout->most)
+                return 0;
+        }
+        at += width;
+        left -= width;
+    }
+    return left == 0;
+}
+
+/* how many children a node has */
+static size_t children_of(const struct node *n)
+{
+    size_t children = (size_t)n->layout->children + n->count;
+    if (strchr(n->layout->body, 'n') != NULL)
+        children += n->byte;
+    if (strchr(n->layout->body, 'x') != NULL)
+        children -= n->byte;
+    return children;
+}
+
+/* Makes a node of a record: pops its children off the stack and pushes it. Whether the record is good. */
+static int add_node(const struct field *f)
+{
+    struct node *n;
+    size_t children, i;
+    if (node_count + 1 >= NODES)
+        return 0;
+    node_count++;
+    n = &nodes[node_count];
+    memset(n, 0, sizeof *n);
+    n->layout = layout_of(f->tag);
+    if (n->layout == NULL || !read_body(f, n))
+        return 0;
+    children = children_of(n);
+    if (children > stacked)
+        return 0;
+    stacked -= children;
+    for (i = 0; i < children; i++) {
+        struct node *child = &nodes[stack[stacked + i]];
+        child->parent = node_count;
+        child->next = i + 1 < children ? stack[stacked + i + 1] : 0;
+    }
+    n->first_child = children > 0 ? stack[stacked] : 0;
+    stack[stacked] = node_count;
+    stacked++;
+    return 1;
+}
+
+/* ---- printing ---- */
 
 /* text in quotes; quotes, backslashes and control characters as \xHH */
 static void print_text(const uint8_t *text, size_t length)
@@ -193,143 +347,233 @@ static void print_text(const uint8_t *text, size_t length)
     putchar('"');
 }
 
-/* whether the field is a record with the layout of its tag */
-static int print_record(const struct field *f)
+/* Places have a column of their own, at the left. */
+static void print_margin(const char *text)
 {
-    const struct layout *l = layout_of(f->tag);
-    size_t at = 0;
-    size_t least;
-    int i;
-    if (l == NULL)
-        return 0;
-    least = (size_t)(l->placed ? DN_PLACE_BYTES : 0) + (size_t)l->numbers[0] + (size_t)l->numbers[1];
-    if (f->length < least || (f->length > least && !l->text))
-        return 0;
-    printf("%02X %s", (unsigned)f->tag, l->name);
-    if (l->placed) {
-        print_place(f->body);
-        at = DN_PLACE_BYTES;
-    }
-    for (i = 0; i < 2; i++)
-        if (l->numbers[i] != 0) {
-            printf(" %" PRIu64, number_at(f->body + at, l->numbers[i]));
-            at += (size_t)l->numbers[i];
-        }
-    if (l->text)
-        print_text(f->body + at, f->length - at);
-    putchar('\n');
-    return 1;
+    printf("%-8s", text);
 }
 
-/* whether the field is a complaint with a known number and known kinds */
-static int print_complaint(const struct field *f)
+static void print_place(struct place p)
 {
-    const char *list, *what, *expected, *got;
-    if (f->length != DN_ERROR_BYTES)
-        return 0;
-    switch (f->tag) {
-    case DN_TOKEN_ERROR:
-        list = "token error";
-        what = WORDS(TOKEN_ERRORS, f->body[0]);
+    char text[32] = "";
+    if (p.line != 0)
+        snprintf(text, sizeof text, "%u:%u", p.line, p.column);
+    print_margin(text);
+}
+
+static void print_node(const struct node *n, size_t depth)
+{
+    print_place(n->place);
+    while (depth-- > 0)
+        printf("  ");
+    printf("%s", n->layout->name);
+    if (strchr(n->layout->body, 't') != NULL)
+        print_text(n->text, n->text_bytes);
+    if (strchr(n->layout->body, 'c') != NULL)
+        printf(", %u %s%s", n->count, n->layout->counted, n->count == 1 ? "" : "s");
+    switch (n->layout->tag) {
+    case DN_TAG_ARRAY:
+        printf(" of %" PRIu64, n->size);
         break;
-    case DN_REPORTED_ERROR:
-        list = "reported";
-        what = WORDS(ERRORS, f->body[0]);
+    case DN_TAG_INTEGER:
+        if (n->byte != 10)
+            printf(" in base %u", n->byte);
         break;
-    case DN_FULL_ERROR:
-        list = "full list";
-        what = WORDS(ERRORS, f->body[0]);
+    case DN_TAG_BOOLEAN:
+        printf(n->byte == 1 ? " true" : " false");
         break;
-    default:
-        return 0;
+    case DN_TAG_ARITHMETIC_BIN_OP:
+        printf(" %s", ARITHMETIC[n->byte]);
+        break;
+    case DN_TAG_COMPARISON_BIN_OP:
+        printf(" %s", COMPARISON[n->byte]);
+        break;
+    case DN_TAG_FUNCTION_DEFINITION:
+        if (n->byte == 1)
+            printf(", extern");
+        break;
+    case DN_TAG_TYPE_ALIAS:
+        if (n->byte & DN_ALIAS_DISTINCT)
+            printf(", distinct");
+        if (n->byte & DN_ALIAS_INTERNAL)
+            printf(", internal");
+        break;
     }
+    putchar('\n');
+}
+
+/* a node, then its children, each with its own; no recursion, so that no depth is too deep */
+static void print_tree(size_t root)
+{
+    size_t at = root, depth = 0;
+    for (;;) {
+        print_node(&nodes[at], depth);
+        if (nodes[at].first_child != 0) {
+            at = nodes[at].first_child;
+            depth++;
+            continue;
+        }
+        while (at != root && nodes[at].next == 0) {
+            at = nodes[at].parent;
+            depth--;
+        }
+        if (at == root)
+            return;
+        at = nodes[at].next;
+    }
+}
+
+/* ---- errors ---- */
+
+/* The script's line of a place, and below it a mark at the column, which counts characters. */
+static void print_line(struct place p)
+{
+    size_t start = 0, end, i;
+    unsigned line = 1, column = 1;
+    while (start < script_bytes && line < p.line)
+        if (script[start++] == '\n')
+            line++;
+    if (p.line == 0 || start == script_bytes)
+        return;
+    for (end = start; end < script_bytes && script[end] != '\n'; end++)
+        ;
+    print_margin("");
+    for (i = start; i < end; i++)
+        putchar(script[i] < 32 || script[i] == 127 ? ' ' : script[i]);
+    putchar('\n');
+    print_margin("");
+    for (i = start; i < end && column < p.column; i++)
+        if (i + 1 == end || (script[i + 1] & 0xC0) != 0x80) {
+            putchar(' ');
+            column++;
+        }
+    printf("^\n");
+}
+
+/* Prints an error; whether it has a known number and known kinds. */
+static int print_error(const struct field *f)
+{
+    const char *what, *expected, *got;
+    struct place p;
+    if (f->length != DN_ERROR_BODY_BYTES)
+        return 0;
+    what = f->tag == DN_TAG_TOKEN_ERROR ? WORDS(TOKEN_ERRORS, f->body[0]) : WORDS(PARSE_ERRORS, f->body[0]);
+    p = place_at(f->body + 1);
     expected = WORDS(KINDS, f->body[5]);
     got = WORDS(KINDS, f->body[6]);
     if (what == NULL || expected == NULL || got == NULL)
         return 0;
-    printf("%02X %s %u", (unsigned)f->tag, list, (unsigned)f->body[0]);
-    print_place(f->body + 1);
-    printf(" %s", what);
-    if (f->body[5] != DN_K_NONE)
-        printf(", expected %s", expected);
-    if (f->body[6] != DN_K_NONE)
-        printf(", got %s", got);
-    putchar('\n');
+    print_place(p);
+    printf("%s%s", p.line == 0 ? "at the end of the script: " : "", what);
+    if (f->body[5] != DN_KIND_NONE)
+        printf(", expected: %s", expected);
+    if (f->body[6] != DN_KIND_NONE)
+        printf(", found: %s", got);
+    printf(" (%u)\n", (unsigned)f->body[0]);
+    print_line(p);
     return 1;
 }
 
-/* Prints the tree, which ends with the module's field, then the complaints. */
-static enum status print_file(const uint8_t *file, size_t bytes)
+/* the lists in the order of the file */
+static const struct list {
+    int tag;
+    const char *name;
+} LISTS[] = {
+    {DN_TAG_TOKEN_ERROR, "All errors of the tokenizer"},
+    {DN_TAG_REPORTED_ERROR, "Errors of the parser that the Rust front end reports"},
+    {DN_TAG_FULL_ERROR, "All errors of the parser"},
+};
+
+/* ---- the file ---- */
+
+/* Builds the tree, which ends with the module's field, prints it, then prints the lists of errors. */
+static enum status print_file(size_t bytes)
 {
-    size_t at = 0;
+    size_t at = 0, list = 0, errors = 0;
+    int heading = -1;
     struct field f;
     do {
-        if (at == bytes || !next_field(file, bytes, &at, &f) || !print_record(&f))
+        if (at == bytes || !next_field(bytes, &at, &f))
             return FAILED;
-    } while (f.tag != DN_MODULE);
-    if (at == bytes)
-        return GOOD;
-    while (at < bytes)
-        if (!next_field(file, bytes, &at, &f) || !print_complaint(&f))
+        if (f.tag < LATER_TAGS && !add_node(&f))
             return FAILED;
-    return COMPLAINTS;
+    } while (f.tag != DN_TAG_MODULE);
+    if (stacked != 1)
+        return FAILED;
+    print_tree(stack[0]);
+    while (at < bytes) {
+        if (!next_field(bytes, &at, &f))
+            return FAILED;
+        if (f.tag >= LATER_TAGS)
+            continue;
+        while (list < sizeof LISTS / sizeof LISTS[0] && LISTS[list].tag != f.tag)
+            list++;
+        if (list == sizeof LISTS / sizeof LISTS[0])
+            return FAILED;
+        if (heading != f.tag)
+            printf("\n%s:\n", LISTS[list].name);
+        heading = f.tag;
+        if (!print_error(&f))
+            return FAILED;
+        errors++;
+    }
+    if (errors == 0) {
+        printf("\nRead, no error found.\n");
+        return CLEAN;
+    }
+    printf("\nRead with errors: parts of the script may be missing from the tree.\n");
+    return ERRORS;
 }
 
-/* ---- the script ---- */
+/* ---- the input ---- */
 
-/* One byte more than a script may have, so that one that is too long is refused and not cut. */
-static uint8_t script[DN_SCRIPT_BYTES + 1];
-static uint8_t file[DN_FILE_BYTES];
-
-/* Reads the script; whether all of it was read, or more than it may have. */
-static int read_input(const char *path, size_t *length)
+/* Fills a buffer from a file; whether all of it was read, or more than the buffer should hold. */
+static int read_input(const char *path, uint8_t *buffer, size_t length, size_t *bytes)
 {
-    FILE *in = path == NULL ? stdin : fopen(path, "rb");
+    int given = strcmp(path, "-") == 0;
+    FILE *in = given ? stdin : fopen(path, "rb");
     int failed;
     if (in == NULL)
         return 0;
-    *length = fread(script, 1, sizeof script, in);
+    *bytes = fread(buffer, 1, length, in);
     failed = ferror(in);
-    if (path != NULL && fclose(in) != 0)
+    if (!given && fclose(in) != 0)
         failed = 1;
     return !failed;
 }
 
-static enum status print_script(size_t length)
+static enum status print_script(void)
 {
     size_t bytes = 0;
-    uint32_t number = dn_read(script, length, file, sizeof file, &bytes);
-    enum status status;
+    uint32_t number = dn_read(script, script_bytes, file, DN_FILE_BUFFER_BYTES, &bytes);
     if (number != DN_OK) {
         const char *why = WORDS(REFUSALS, number);
-        printf("refused %" PRIu32 " %s\n", number, why == NULL ? "unknown number" : why);
-        return why == NULL ? FAILED : REFUSED;
+        printf("Refused, no tree: %s (%" PRIu32 ")\n", why == NULL ? "unknown number" : why, number);
+        return REFUSED;
     }
-    if (bytes > sizeof file)
-        return FAILED;
-    status = print_file(file, bytes);
-    if (status == FAILED)
-        fprintf(stderr, "tree: not a tree file\n");
-    return status;
+    return bytes <= DN_FILE_BUFFER_BYTES ? print_file(bytes) : FAILED;
 }
 
 int main(int argc, char **argv)
 {
-    const char *path = argc > 1 ? argv[1] : NULL;
-    size_t length;
+    int stored = argc == 3 && strcmp(argv[1], "--file") == 0;
+    size_t bytes = 0;
     enum status status;
-    if (argc > 2) {
-        fprintf(stderr, "usage: tree [SCRIPT]\n");
+    if (argc != 2 && !stored) {
+        fprintf(stderr, "usage: tree SCRIPT, or tree --file FILE\n");
         return FAILED;
     }
-    if (!read_input(path, &length)) {
-        perror(path == NULL ? "standard input" : path);
+    if (stored ? !read_input(argv[2], file, sizeof file, &bytes)
+               : !read_input(argv[1], script, sizeof script, &script_bytes)) {
+        perror(argv[argc - 1]);
         return FAILED;
     }
-    status = print_script(length);
+    status = !stored ? print_script() : bytes <= DN_FILE_BUFFER_BYTES ? print_file(bytes) : FAILED;
+    if (status == FAILED)
+        fprintf(stderr, "tree: not a tree file\n");
     if (fflush(stdout) != 0 || ferror(stdout)) {
         perror("standard output");
         return FAILED;
     }
-    return status;
+    return (int)status;
 }

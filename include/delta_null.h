@@ -1,27 +1,41 @@
 /*
  * delta_null.h: reading Delta Null placement scripts from C.
  *
- * One call, dn_read, takes a script and writes its tree file: the tree, and every error that was
- * found in the script. Link with libreader.a (x86-64).
+ * One call, dn_read, takes a script and writes its tree file to a buffer of yours: the tree, and every
+ * error that was found in the script.
  *
- *     uint8_t file[DN_FILE_BYTES];
+ *     static uint8_t file[DN_FILE_BUFFER_BYTES];
  *     size_t bytes;
  *     uint32_t number = dn_read(script, script_len, file, sizeof file, &bytes);
  *
- * Number 0 says that the script was read, not that it is good. Look at the fields after DN_MODULE:
- * each is an error, and the part of the script that it is about may be missing from the tree.
- * DN_TOKEN_ERROR fields are all errors of the tokenizer, DN_FULL_ERROR fields all errors of the
- * parser. That there is no DN_REPORTED_ERROR field proves nothing: errors in the arguments of a call
+ * Compile and link with `pkg-config --cflags --libs delta_null`.
+ *
+ * DN_OK says that the script was read, not that it is good. Look at the fields of errors, which come after
+ * DN_TAG_MODULE: the part of the script that an error is about may be missing from the tree.
+ * DN_TAG_TOKEN_ERROR fields are all errors of the tokenizer, DN_TAG_FULL_ERROR fields all errors of the
+ * parser. That there is no DN_TAG_REPORTED_ERROR field proves nothing: errors in the arguments of a call
  * and in the fields of a struct type are not reported.
+ *
+ * A dash before a digit belongs to the number: in centre(width -12) the argument is width, -12 is lost,
+ * and the error is in the full list alone. Write width - 12.
  *
  * Two things are lost without an error. A minus consumes the character after it, so that a - b is read
  * as it looks, and a -bc as a - c. Assembly with no closing brace runs to the end of the script:
  * asm { fn f(w: T) is read as assembly alone, and there is no function f.
  *
- * docs/FORMAT.md defines the language, the tree file and each answer; examples/tree.c walks a file and prints it.
+ * In the repository, docs/FORMAT.md defines the language, the tree file and each answer, and examples/tree.c
+ * builds the tree of a file and prints it, with the errors in words.
+ *
+ * Names: DN_REFUSED_ what dn_read returns, DN_MAX_ limits, DN_TAG_ fields of the file, DN_OP_ operators,
+ * DN_ALIAS_ words before a type alias, DN_TOKEN_ERROR_ and DN_PARSE_ERROR_ numbers of errors, DN_KIND_
+ * kinds of tokens. tools/header compares each number with the definition.
  */
 #ifndef DELTA_NULL_H
 #define DELTA_NULL_H
+
+#if !defined(__x86_64__) || defined(__ILP32__) || defined(_WIN32)
+#error "delta_null.h: libdelta_null.a is for x86-64 Linux with 64-bit pointers; this compiler builds for another platform"
+#endif
 
 #include <stddef.h>
 #include <stdint.h>
@@ -30,60 +44,84 @@
 extern "C" {
 #endif
 
+/* ---- the version ---- */
+
+/*
+ * Of this header and the library that is installed with it. MAJOR rises where a program that was right
+ * can be wrong with the new version: a name, a number, a call or the format of the file changed or is
+ * gone. MINOR rises where something is new: a call, a limit, a refusal, a tag, an error; and while MAJOR
+ * is 0 it rises for both. PATCH rises where neither did.
+ */
+#define DN_VERSION_MAJOR 0
+#define DN_VERSION_MINOR 1
+#define DN_VERSION_PATCH 0
+#define DN_VERSION_STRING "0.1.0"
+
+/* ---- limits ---- */
+
+#define DN_MAX_SCRIPT_BYTES 16384 /* bytes of a script */
+#define DN_MAX_TOKENS 2048        /* tokens of a script */
+#define DN_MAX_TOKEN_ERRORS 255   /* token errors of a script */
+#define DN_MAX_ERRORS 255         /* errors of the parser: entries of the full list */
+#define DN_MAX_NESTING 96         /* open calls of the parser for statements, expressions, prefixed
+                                     operands and types */
+
+/* The least length of a file buffer. The tree file of each script that is read fits into it. */
+#define DN_FILE_BUFFER_BYTES 65536
+
+/* ---- what dn_read returns ---- */
+
+/* Take a number that is not listed here for a refusal too: a later version may have more of them. */
+enum dn_number {
+    DN_OK = 0, /* the script was read: there is a tree file */
+
+    /* refused before any work: the file buffer is not changed; tested in this order */
+    DN_REFUSED_SCRIPT_LENGTH = 1, /* the script has more than DN_MAX_SCRIPT_BYTES bytes */
+    DN_REFUSED_NOT_UTF8 = 2,      /* the script is not UTF-8 (RFC 3629) */
+    DN_REFUSED_BUFFER_LENGTH = 3, /* the file buffer has fewer than DN_FILE_BUFFER_BYTES bytes */
+
+    /* refused by the tokenizer, which stops at the first: the file buffer is all zeros */
+    DN_REFUSED_FOREIGN_CHARACTER = 4,     /* a character above 127, and not in a string, a comment or
+                                             assembly or after a minus */
+    DN_REFUSED_MINUS_AT_END = 5,          /* the script ends with a dash that is a minus */
+    DN_REFUSED_TOO_MANY_TOKENS = 6,       /* more than DN_MAX_TOKENS */
+    DN_REFUSED_TOO_MANY_TOKEN_ERRORS = 7, /* more than DN_MAX_TOKEN_ERRORS */
+
+    /* for token records that a caller passes; dn_read makes its own and never returns this */
+    DN_REFUSED_BAD_RECORD = 8,
+
+    /* refused by the parser, which stops at the first: the file buffer is all zeros */
+    DN_REFUSED_NO_TOKENS = 9,        /* the script has no token */
+    DN_REFUSED_NESTED_TOO_DEEP = 10, /* more than DN_MAX_NESTING calls are open */
+    DN_REFUSED_END_AFTER_WORD = 11,  /* the script ends right after `type`, `use` or the dot of `.name` */
+    DN_REFUSED_TOO_MANY_ERRORS = 12  /* more than DN_MAX_ERRORS */
+};
+
 /* ---- the call ---- */
 
 /*
  * Reads script[0 .. script_len - 1] and writes its tree file to file[0 .. file_len - 1].
  *
- * Returns DN_OK or one of the refusals below. *bytes is set by every call: to the length of the
- * tree file, or to 0 if the script is refused. If it is read, all bytes of the file buffer after the
- * tree file are set to 0.
+ * Numbers. Returns DN_OK or a refusal of enum dn_number. *bytes is set by every call: to the length of the
+ * tree file, or to 0 if the script is refused.
  *
- * No pointer may be NULL, even if a length is 0, and the script, the file buffer and *bytes must not
- * overlap. The script may have any bytes. It is not changed, no byte beyond either buffer is touched,
- * no memory is allocated, and no state is kept between calls, so that threads may call it at the same
- * time with buffers of their own. Give each thread a stack of 1 MiB: no theorem bounds the stack; the
- * most that was measured is below 400 KiB (bench/README.md).
+ * Buffers. All three are the caller's, before, during and after the call; the library keeps no pointer
+ * and allocates no memory. No pointer may be NULL, even if its length is 0. The script, the file buffer
+ * and *bytes must not overlap.
+ *     script  is only read; it may have any bytes, zeros too, and any length.
+ *     file    is written; what it held before does not matter. If the script is read, the bytes after the
+ *             tree file are set to 0, to the buffer's end. Shorter than DN_FILE_BUFFER_BYTES, it is
+ *             not changed, and the script is refused.
+ * No byte outside of them is read or written.
+ *
+ * Threads. No state is kept between calls: threads may call at the same time, each with a file buffer
+ * and *bytes of its own. They may share a script that none of them changes.
+ *
+ * Stack. Give each thread that calls a stack of 1 MiB. No theorem bounds the stack; the most that was
+ * measured is below 400 KiB (bench/README.md).
  */
 uint32_t dn_read(const uint8_t *script, size_t script_len,
                  uint8_t *file, size_t file_len, size_t *bytes);
-
-/* ---- limits ---- */
-
-#define DN_SCRIPT_BYTES 16384  /* the most bytes of a script */
-#define DN_FILE_BYTES 65536    /* the least length of a file buffer; each tree file fits into it */
-#define DN_TOKENS 2048         /* the most tokens of a script */
-#define DN_TOKEN_ERRORS 255    /* the most token errors */
-#define DN_ERRORS 255          /* the most entries of the full list */
-#define DN_NESTING 96          /* the most open calls of the parser for statements, expressions,
-                                  prefixed operands and types */
-
-/* ---- what dn_read returns ---- */
-
-enum dn_number {
-    DN_OK = 0, /* read: there is a tree file */
-
-    /* refused before any work: the file buffer is untouched; tested in this order */
-    DN_SCRIPT_LENGTH = 1, /* the script has more than DN_SCRIPT_BYTES bytes */
-    DN_NOT_UTF8 = 2,      /* the script is not UTF-8 (RFC 3629) */
-    DN_SLICE_LENGTH = 3,  /* the file buffer has fewer than DN_FILE_BYTES bytes */
-
-    /* refused by the tokenizer, which stops at the first: the file buffer is all zeros */
-    DN_FOREIGN_CHARACTER = 4,     /* a character above 127, and not in a string, a comment or
-                                     assembly or after a minus */
-    DN_MINUS_AT_END = 5,          /* the script ends with a dash that is a minus */
-    DN_TOO_MANY_TOKENS = 6,       /* more than DN_TOKENS */
-    DN_TOO_MANY_TOKEN_ERRORS = 7, /* more than DN_TOKEN_ERRORS */
-
-    /* for token records that a caller passes; dn_read makes its own and never returns this */
-    DN_BAD_RECORD = 8,
-
-    /* refused by the parser, which stops at the first: the file buffer is all zeros */
-    DN_NO_TOKENS = 9,        /* the script has no token */
-    DN_NESTED_TOO_DEEP = 10, /* more than DN_NESTING calls are open */
-    DN_END_AFTER_WORD = 11,  /* the script ends right after `type`, `use` or the dot of `.name` */
-    DN_TOO_MANY_ERRORS = 12  /* more than DN_ERRORS entries of the full list */
-};
 
 /* ---- the tree file ---- */
 
@@ -91,204 +129,215 @@ enum dn_number {
  * A file is fields, one after the other. A field is a tag (1 byte), the length of its body
  * (2 bytes) and the body. All numbers have their high byte first.
  *
- *     records of the tree | DN_MODULE | DN_TOKEN_ERROR .. | DN_REPORTED_ERROR .. | DN_FULL_ERROR ..
+ *     records of the tree | DN_TAG_MODULE | DN_TAG_TOKEN_ERROR .. | DN_TAG_REPORTED_ERROR ..
+ *                         | DN_TAG_FULL_ERROR ..
+ *
+ * Tags from 0x70 on are left for fields that a later version may add: skip one that you do not know, by
+ * its length.
  *
  * The children of a record come before it, in the order in which they were read, each with its own
- * children before it: a program that walks the file keeps a stack and, for each record, pops its
- * children and pushes the record.
+ * children before it: a program that builds the tree keeps a stack and, for each record, pops its
+ * children and pushes the record. After DN_TAG_MODULE the stack holds the module alone.
  *
  * A body is a place (line and column, 2 bytes each), then numbers, then text to the body's end.
  * Lines and columns count from 1, columns in characters. Tags marked "no place" have no
  * place. Below, u8, u16 and u64 are numbers of 1, 2 and 8 bytes; the children follow the colon. Text
  * is UTF-8 and is not terminated by a zero.
  *
- * In DN_NAMED_TYPE, DN_VARIABLE and DN_TOP_VARIABLE the name is "<?>" if another token was in place
- * of the identifier; there is an error 4 then.
+ * In DN_TAG_NAMED_TYPE, DN_TAG_VARIABLE_DECLARATION and DN_TAG_TOP_LEVEL_VARIABLE the name is "<?>" if
+ * another token was in place of the identifier; there is a DN_PARSE_ERROR_IDENTIFIER then.
  */
-#define DN_FIELD_HEAD 3 /* bytes before a body */
+#define DN_FIELD_HEAD_BYTES 3 /* the tag and the length */
 #define DN_PLACE_BYTES 4
-#define DN_ERROR_BYTES 7 /* the body of DN_TOKEN_ERROR, DN_REPORTED_ERROR and DN_FULL_ERROR */
+#define DN_ERROR_BODY_BYTES 7 /* DN_TAG_TOKEN_ERROR, DN_TAG_REPORTED_ERROR, DN_TAG_FULL_ERROR */
 
 enum dn_tag {
     /* types */
-    DN_NAME = 0x10,       /* text the name */
-    DN_VOID = 0x11,       /* no return type was written; the function's place */
-    DN_POINTER = 0x12,    /* : type */
-    DN_ARRAY = 0x13,      /* u64 size : type of an element */
-    DN_STRUCT = 0x14,     /* u16 count : as many DN_NAMED_TYPE */
-    DN_NAMED_TYPE = 0x15, /* no place; text the name of a parameter or a struct's field : type */
+    DN_TAG_NAME = 0x10,       /* text the name */
+    DN_TAG_VOID = 0x11,       /* no return type was written; the function's place */
+    DN_TAG_POINTER = 0x12,    /* : type */
+    DN_TAG_ARRAY = 0x13,      /* u64 size : type of an element */
+    DN_TAG_STRUCT = 0x14,     /* u16 count : as many DN_TAG_NAMED_TYPE */
+    DN_TAG_NAMED_TYPE = 0x15, /* no place; text the name of a parameter or a struct's field : type */
 
     /* expressions */
-    DN_IDENTIFIER = 0x20,  /* text */
-    DN_INTEGER = 0x21,     /* u8 base (2, 10 or 16), text the digits, in base 10 perhaps a dash first */
-    DN_BOOLEAN = 0x22,     /* u8 0 or 1 */
-    DN_STRING = 0x23,      /* text, its escapes replaced */
-    DN_CALL = 0x24,        /* u16 count : what is called, then as many arguments */
-    DN_INDEX = 0x25,       /* : what is indexed, index */
-    DN_CAST = 0x26,        /* : expression, type */
-    DN_TAKE = 0x27,        /* : expression; prefix & */
-    DN_DEREFERENCE = 0x28, /* : expression; prefix * or suffix .* */
-    DN_FIELD = 0x29,       /* text the field's name : expression */
-    DN_BITWISE_NOT = 0x2A, /* : expression; prefix ~ */
-    DN_BOOLEAN_NOT = 0x2B, /* : expression; prefix ! */
-    DN_BOOLEAN_AND = 0x2C, /* : left, right; && */
-    DN_ARITHMETIC = 0x2D,  /* u8 enum dn_arithmetic : left, right */
-    DN_COMPARISON = 0x2E,  /* u8 enum dn_comparison : left, right */
-    DN_SIZEOF = 0x2F,      /* : type */
+    DN_TAG_IDENTIFIER = 0x20,          /* text */
+    DN_TAG_INTEGER = 0x21,             /* u8 base (2, 10 or 16), text the digits, in base 10 perhaps
+                                          a dash first */
+    DN_TAG_BOOLEAN = 0x22,             /* u8 0 or 1 */
+    DN_TAG_STRING = 0x23,              /* text, its escapes replaced */
+    DN_TAG_CALL = 0x24,                /* u16 count : what is called, then as many arguments */
+    DN_TAG_INDEX = 0x25,               /* : what is indexed, index */
+    DN_TAG_CAST = 0x26,                /* : expression, type */
+    DN_TAG_POINTER_TAKE = 0x27,        /* : expression; prefix & */
+    DN_TAG_POINTER_DEREFERENCE = 0x28, /* : expression; prefix * or suffix .* */
+    DN_TAG_FIELD_ACCESS = 0x29,        /* text the field's name : expression */
+    DN_TAG_BITWISE_NOT = 0x2A,         /* : expression; prefix ~ */
+    DN_TAG_BOOLEAN_NOT = 0x2B,         /* : expression; prefix ! */
+    DN_TAG_BOOLEAN_AND = 0x2C,         /* : left, right; && */
+    DN_TAG_ARITHMETIC_BIN_OP = 0x2D,   /* u8 enum dn_arithmetic_op : left, right */
+    DN_TAG_COMPARISON_BIN_OP = 0x2E,   /* u8 enum dn_comparison_op : left, right */
+    DN_TAG_SIZEOF = 0x2F,              /* : type */
 
     /* compounds, and the initial value of a variable */
-    DN_COMPOUND_ARRAY = 0x30,  /* u16 count : as many expressions */
-    DN_COMPOUND_STRUCT = 0x31, /* u16 count : as many DN_COMPOUND_FIELD */
-    DN_COMPOUND_FIELD = 0x32,  /* text the field's name : expression */
-    DN_NO_VALUE = 0x33,        /* no place, empty body */
-    DN_VALUE = 0x34,           /* no place, empty body : expression */
-    DN_COMPOUND_VALUE = 0x35,  /* no place, empty body : compound */
+    DN_TAG_COMPOUND_ARRAY = 0x30,  /* u16 count : as many expressions */
+    DN_TAG_COMPOUND_STRUCT = 0x31, /* u16 count : as many DN_TAG_COMPOUND_FIELD */
+    DN_TAG_COMPOUND_FIELD = 0x32,  /* text the field's name : expression */
+    DN_TAG_NO_VALUE = 0x33,        /* no place, empty body */
+    DN_TAG_ASSIGNED_VALUE = 0x34,  /* no place, empty body : expression */
+    DN_TAG_COMPOUND_VALUE = 0x35,  /* no place, empty body : compound */
 
     /* statements */
-    DN_BLOCK = 0x40,               /* u16 count : as many statements */
-    DN_EXPRESSION = 0x41,          /* : expression */
-    DN_VARIABLE = 0x42,            /* text the name : type, initial value */
-    DN_ASSIGNMENT = 0x43,          /* : target, expression */
-    DN_COMPOUND_ASSIGNMENT = 0x44, /* : target, compound */
-    DN_RETURN = 0x45,              /* u8 0 or 1 : as many expressions */
-    DN_LOOP = 0x46,                /* : statement */
-    DN_WHILE = 0x47,               /* : condition, statement */
-    DN_BREAK = 0x48,
-    DN_IF = 0x49,                  /* u8 2 or 3 : as many: condition, statement, statement of else */
-    DN_ASSEMBLY = 0x4A,            /* text between the braces */
+    DN_TAG_BLOCK = 0x40,                /* u16 count : as many statements */
+    DN_TAG_EXPRESSION = 0x41,           /* : expression */
+    DN_TAG_VARIABLE_DECLARATION = 0x42, /* text the name : type, initial value */
+    DN_TAG_ASSIGNMENT = 0x43,           /* : target, expression */
+    DN_TAG_COMPOUND_ASSIGNMENT = 0x44,  /* : target, compound */
+    DN_TAG_RETURN = 0x45,               /* u8 0 or 1 : as many expressions */
+    DN_TAG_LOOP = 0x46,                 /* : statement */
+    DN_TAG_WHILE = 0x47,                /* : condition, statement */
+    DN_TAG_BREAK = 0x48,                /* no children */
+    DN_TAG_IF = 0x49,                   /* u8 2 or 3 : as many: condition, statement, statement of else */
+    DN_TAG_INLINE_ASSEMBLY = 0x4A,      /* text between the braces */
 
     /* items of the module */
-    DN_FUNCTION = 0x50,     /* u8 1 for extern, else 0; u16 count; text the name : as many
-                               DN_NAMED_TYPE, return type, and unless extern a DN_BLOCK */
-    DN_ALIAS = 0x51,        /* u8 DN_DISTINCT plus DN_INTERNAL, text the name : type */
-    DN_USE = 0x52,          /* text the path */
-    DN_TOP_VARIABLE = 0x53, /* as DN_VARIABLE */
-    DN_TOP_ASSEMBLY = 0x54, /* as DN_ASSEMBLY */
+    DN_TAG_FUNCTION_DEFINITION = 0x50, /* u8 1 for extern, else 0; u16 count; text the name : as many
+                                          DN_TAG_NAMED_TYPE, return type, and unless extern a
+                                          DN_TAG_BLOCK */
+    DN_TAG_TYPE_ALIAS = 0x51,          /* u8 DN_ALIAS_DISTINCT plus DN_ALIAS_INTERNAL, text the name
+                                          : type */
+    DN_TAG_USE = 0x52,                 /* text the path */
+    DN_TAG_TOP_LEVEL_VARIABLE = 0x53,  /* as DN_TAG_VARIABLE_DECLARATION */
+    DN_TAG_TOP_LEVEL_ASSEMBLY = 0x54,  /* as DN_TAG_INLINE_ASSEMBLY */
 
     /* the tree's last field */
-    DN_MODULE = 0x5F, /* no place; u16 count : as many items */
+    DN_TAG_MODULE = 0x5F, /* no place; u16 count : as many items */
 
-    /* errors, each u8 number, u16 line, u16 column, u8 expected kind, u8 got kind */
-    DN_REPORTED_ERROR = 0x60, /* enum dn_error: those that the Rust front end reports, in its order */
-    DN_FULL_ERROR = 0x61,     /* enum dn_error: each that the parser made, in the order made */
-    DN_TOKEN_ERROR = 0x62     /* enum dn_token_error; the last two bytes are 0 */
+    /* errors, each u8 number, u16 line, u16 column, u8 expected kind, u8 got kind (enum dn_kind) */
+    DN_TAG_REPORTED_ERROR = 0x60, /* enum dn_parse_error: what the Rust front end reports, in its order */
+    DN_TAG_FULL_ERROR = 0x61,     /* enum dn_parse_error: all that the parser made, in the order made */
+    DN_TAG_TOKEN_ERROR = 0x62     /* enum dn_token_error: all; both kinds are DN_KIND_NONE */
 };
 
-#define DN_DISTINCT 1
-#define DN_INTERNAL 2
+/* bits of the number of DN_TAG_TYPE_ALIAS */
+#define DN_ALIAS_DISTINCT 1
+#define DN_ALIAS_INTERNAL 2
 
-/* the number of DN_ARITHMETIC */
-enum dn_arithmetic {
-    DN_ADD = 0,
-    DN_SUBTRACT = 1,
-    DN_MULTIPLY = 2,
-    DN_BITWISE_AND = 3,
-    DN_BITWISE_XOR = 4,
-    DN_BITWISE_OR = 5,
-    DN_LEFT_SHIFT = 6,
-    DN_RIGHT_SHIFT = 7
+/* the number of DN_TAG_ARITHMETIC_BIN_OP */
+enum dn_arithmetic_op {
+    DN_OP_ADD = 0,
+    DN_OP_SUBTRACT = 1,
+    DN_OP_MULTIPLY = 2,
+    DN_OP_BITWISE_AND = 3,
+    DN_OP_BITWISE_XOR = 4,
+    DN_OP_BITWISE_OR = 5,
+    DN_OP_LEFT_SHIFT = 6,
+    DN_OP_RIGHT_SHIFT = 7
 };
 
-/* the number of DN_COMPARISON */
-enum dn_comparison {
-    DN_EQUALS = 0,
-    DN_GREATER = 1,
-    DN_GREATER_OR_EQUALS = 2,
-    DN_LESS = 3,
-    DN_LESS_OR_EQUALS = 4
+/* the number of DN_TAG_COMPARISON_BIN_OP; from 0 again */
+enum dn_comparison_op {
+    DN_OP_EQUALS = 0,
+    DN_OP_GREATER_THAN = 1,
+    DN_OP_GREATER_THAN_OR_EQUALS = 2,
+    DN_OP_LESS_THAN = 3,
+    DN_OP_LESS_THAN_OR_EQUALS = 4
 };
 
 /* ---- errors ---- */
 
+/* the number of DN_TAG_TOKEN_ERROR */
 enum dn_token_error {
-    DN_UNKNOWN_ESCAPE = 1,   /* other than \r, \n, \t; it is left out. Placed at the opening quote */
-    DN_UNCLOSED_STRING = 2,  /* no closing quote, and no token. Placed at the opening quote */
-    DN_NO_ASSEMBLY = 3,      /* no { after `asm`, and no token. Placed at `asm` */
-    DN_UNKNOWN_CHARACTER = 4 /* it is left out */
+    DN_TOKEN_ERROR_UNKNOWN_ESCAPE = 1,   /* other than \r, \n, \t; it is left out. At the opening quote */
+    DN_TOKEN_ERROR_UNCLOSED_STRING = 2,  /* no closing quote, and no token. At the opening quote */
+    DN_TOKEN_ERROR_NO_ASSEMBLY = 3,      /* no { after `asm`, and no token. At `asm` */
+    DN_TOKEN_ERROR_UNKNOWN_CHARACTER = 4 /* it is left out */
 };
 
 /*
- * The parser's errors. Those marked "end" are at the end of the script and have the place 0:0.
- * Expected and got are kinds of tokens (enum dn_kind) in the errors that name them, else 0.
+ * The number of DN_TAG_REPORTED_ERROR and DN_TAG_FULL_ERROR. Those with "end" are at the end of the
+ * script and have the place 0:0. Where "expected" or "got" is not named, that kind is DN_KIND_NONE.
  */
-enum dn_error {
-    DN_E_TOP_LEVEL = 1,        /* no item of a module begins so: got */
-    DN_E_EXPECTED = 2,         /* another kind of token: expected, got */
-    DN_E_EXPECTED_END = 3,     /* end: expected */
-    DN_E_IDENTIFIER = 4,       /* no identifier where one is expected */
-    DN_E_END_OF_FILE = 5,      /* end, where an identifier is expected */
-    DN_E_STATEMENT_END = 6,    /* end, where a statement is expected */
-    DN_E_EXPRESSION = 7,       /* no expression begins so: got */
-    DN_E_EXPRESSION_END = 8,   /* end, where an expression is expected */
-    DN_E_ARRAY_SIZE = 9,       /* no integer after the bracket of an array type; at the bracket */
-    DN_E_SIZE_POSITIVE = 10,   /* a size with a dash, or above 64 bits; at the bracket */
-    DN_E_TYPE = 11,            /* no type begins so: got */
-    DN_E_TYPE_END = 12,        /* end, where a type is expected */
-    DN_E_BODY_END = 13,        /* end, before the } of a block */
-    DN_E_LIST_END = 14,        /* end, inside a list */
-    DN_E_IN_LIST = 15,         /* neither a comma nor the list's end after an item: got */
-    DN_E_NAME_AFTER_TYPE = 16, /* no identifier after `type` */
-    DN_E_PATH_AFTER_USE = 17,  /* no string after `use` */
-    DN_E_COMPOUND_END = 18,    /* end, after # */
-    DN_E_COMPOUND = 19         /* no compound begins so: got */
+enum dn_parse_error {
+    DN_PARSE_ERROR_TOP_LEVEL = 1,            /* no item of a module begins so: got */
+    DN_PARSE_ERROR_EXPECTED = 2,             /* another kind of token: expected, got */
+    DN_PARSE_ERROR_EXPECTED_AT_END = 3,      /* end: expected */
+    DN_PARSE_ERROR_IDENTIFIER = 4,           /* no identifier where one is expected */
+    DN_PARSE_ERROR_END_OF_FILE = 5,          /* end, where an identifier is expected */
+    DN_PARSE_ERROR_STATEMENT_AT_END = 6,     /* end, where a statement is expected */
+    DN_PARSE_ERROR_EXPRESSION = 7,           /* no expression begins so: got */
+    DN_PARSE_ERROR_EXPRESSION_AT_END = 8,    /* end, where an expression is expected */
+    DN_PARSE_ERROR_ARRAY_SIZE = 9,           /* no integer after the bracket of an array type; at the
+                                                bracket */
+    DN_PARSE_ERROR_ARRAY_SIZE_POSITIVE = 10, /* a size with a dash, or above 64 bits; at the bracket */
+    DN_PARSE_ERROR_TYPE = 11,                /* no type begins so: got */
+    DN_PARSE_ERROR_TYPE_AT_END = 12,         /* end, where a type is expected */
+    DN_PARSE_ERROR_BODY_AT_END = 13,         /* end, before the } of a block */
+    DN_PARSE_ERROR_LIST_AT_END = 14,         /* end, inside a list */
+    DN_PARSE_ERROR_IN_LIST = 15,             /* neither a comma nor the list's end after an item: got */
+    DN_PARSE_ERROR_NAME_AFTER_TYPE = 16,     /* no identifier after `type` */
+    DN_PARSE_ERROR_PATH_AFTER_USE = 17,      /* no string after `use` */
+    DN_PARSE_ERROR_COMPOUND_AT_END = 18,     /* end, after # */
+    DN_PARSE_ERROR_COMPOUND = 19             /* no compound begins so: got */
 };
 
+/* kinds of tokens; KW_ are words that the language keeps */
 enum dn_kind {
-    DN_K_NONE = 0,
-    DN_K_IDENTIFIER = 1,
-    DN_K_INTEGER = 2,
-    DN_K_STRING = 3,
-    DN_K_FN = 4,
-    DN_K_VAR = 5,
-    DN_K_RETURN = 6,
-    DN_K_LOOP = 7,
-    DN_K_WHILE = 8,
-    DN_K_BREAK = 9,
-    DN_K_IF = 10,
-    DN_K_ELSE = 11,
-    DN_K_TRUE = 12,
-    DN_K_FALSE = 13,
-    DN_K_AS = 14,
-    DN_K_TYPE = 15,
-    DN_K_STRUCT = 16,
-    DN_K_SIZEOF = 17,
-    DN_K_USE = 18,
-    DN_K_EXTERN = 19,
-    DN_K_DISTINCT = 20,
-    DN_K_INTERNAL = 21,
-    DN_K_PLUS = 22,
-    DN_K_MINUS = 23,
-    DN_K_STAR = 24,
-    DN_K_FORWARD_SLASH = 25,
-    DN_K_EQUALS = 26,
-    DN_K_DOUBLE_EQUALS = 27,
-    DN_K_AMPERSAND = 28,
-    DN_K_DOUBLE_AMPERSAND = 29,
-    DN_K_BAR = 30,
-    DN_K_CARET = 31,
-    DN_K_TILDE = 32,
-    DN_K_BANG = 33,
-    DN_K_DOT = 34,
-    DN_K_DOT_STAR = 35,
-    DN_K_LEFT_SHIFT = 36,
-    DN_K_RIGHT_SHIFT = 37,
-    DN_K_HASH = 38,
-    DN_K_L_BRACE = 39,
-    DN_K_R_BRACE = 40,
-    DN_K_L_PAREN = 41,
-    DN_K_R_PAREN = 42,
-    DN_K_L_BRACKET = 43,
-    DN_K_R_BRACKET = 44,
-    DN_K_L_ANGLE = 45,
-    DN_K_L_ANGLE_EQUALS = 46,
-    DN_K_R_ANGLE = 47,
-    DN_K_R_ANGLE_EQUALS = 48,
-    DN_K_COLON = 49,
-    DN_K_SEMICOLON = 50,
-    DN_K_R_ARROW = 51, /* -> */
-    DN_K_L_ARROW = 52, /* <- */
-    DN_K_COMMA = 53,
-    DN_K_ASSEMBLY = 54
+    DN_KIND_NONE = 0, /* the error names no kind */
+    DN_KIND_IDENTIFIER = 1,
+    DN_KIND_INTEGER = 2,
+    DN_KIND_STRING = 3,
+    DN_KIND_KW_FN = 4,
+    DN_KIND_KW_VAR = 5,
+    DN_KIND_KW_RETURN = 6,
+    DN_KIND_KW_LOOP = 7,
+    DN_KIND_KW_WHILE = 8,
+    DN_KIND_KW_BREAK = 9,
+    DN_KIND_KW_IF = 10,
+    DN_KIND_KW_ELSE = 11,
+    DN_KIND_KW_TRUE = 12,
+    DN_KIND_KW_FALSE = 13,
+    DN_KIND_KW_AS = 14,
+    DN_KIND_KW_TYPE = 15,
+    DN_KIND_KW_STRUCT = 16,
+    DN_KIND_KW_SIZEOF = 17,
+    DN_KIND_KW_USE = 18,
+    DN_KIND_KW_EXTERN = 19,
+    DN_KIND_KW_DISTINCT = 20,
+    DN_KIND_KW_INTERNAL = 21,
+    DN_KIND_PLUS = 22,
+    DN_KIND_MINUS = 23,
+    DN_KIND_STAR = 24,
+    DN_KIND_FORWARD_SLASH = 25,
+    DN_KIND_EQUALS = 26,
+    DN_KIND_DOUBLE_EQUALS = 27,
+    DN_KIND_AMPERSAND = 28,
+    DN_KIND_DOUBLE_AMPERSAND = 29,
+    DN_KIND_BAR = 30,
+    DN_KIND_CARET = 31,
+    DN_KIND_TILDE = 32,
+    DN_KIND_BANG = 33,
+    DN_KIND_DOT = 34,
+    DN_KIND_DOT_STAR = 35,
+    DN_KIND_LEFT_SHIFT = 36,
+    DN_KIND_RIGHT_SHIFT = 37,
+    DN_KIND_HASH = 38,
+    DN_KIND_L_BRACE = 39,
+    DN_KIND_R_BRACE = 40,
+    DN_KIND_L_PAREN = 41,
+    DN_KIND_R_PAREN = 42,
+    DN_KIND_L_BRACKET = 43,
+    DN_KIND_R_BRACKET = 44,
+    DN_KIND_L_ANGLE = 45,
+    DN_KIND_L_ANGLE_EQUALS = 46,
+    DN_KIND_R_ANGLE = 47,
+    DN_KIND_R_ANGLE_EQUALS = 48,
+    DN_KIND_COLON = 49,
+    DN_KIND_SEMICOLON = 50,
+    DN_KIND_R_ARROW = 51, /* -> */
+    DN_KIND_L_ARROW = 52, /* <- */
+    DN_KIND_COMMA = 53,
+    DN_KIND_INLINE_ASSEMBLY_FRAGMENT = 54
 };
 
 #ifdef __cplusplus

@@ -35,8 +35,8 @@ static const struct shape SHAPES[] = {
 #define STACK ((size_t)16 << 20)
 #define UNTOUCHED 0xA5
 
-static char script[DN_SCRIPT_BYTES + 1];
-static uint8_t file[DN_FILE_BYTES];
+static char script[DN_MAX_SCRIPT_BYTES + 1];
+static uint8_t file[DN_FILE_BUFFER_BYTES];
 static size_t length;
 static uint32_t number;
 
