@@ -1,10 +1,10 @@
 //! The named classes of scripts: NAME, NAME:COUNT or NAME:COUNT:SEED.
 
 use crate::random::Random;
-use crate::{damage, fixed, grammar};
+use crate::{corpus, damage, fixed, grammar};
 
 const NAMES: &str = "valid damaged soup bytes utf8 boundary limit-length limit-places limit-tokens limit-errors \
-                     limit-entries limit-nesting limit-sizes limit-counts paper constructs sequences short";
+                     limit-entries limit-nesting limit-sizes limit-counts paper constructs tests sequences short";
 
 /// What `coverage` runs, and any command that is given no class.
 pub const DEFAULT: [&str; 9] = [
@@ -54,6 +54,10 @@ pub fn scripts(class: &Class, each: &mut dyn FnMut(&[u8])) {
     let generate: fn(&mut Random) -> Vec<u8> = match class.name.as_str() {
         "paper" => return fixed::PAPER.iter().for_each(|script| each(script.as_bytes())),
         "constructs" => return fixed::CONSTRUCTS.iter().for_each(|script| each(script.as_bytes())),
+        "tests" => {
+            let cases = corpus::cases().unwrap_or_else(|reason| panic!("{reason}"));
+            return cases.iter().for_each(|case| each(&case.script));
+        }
         "boundary" => return fixed::boundary(each),
         "utf8" => return damage::utf8(class.count, each),
         "sequences" => return damage::sequences(class.count, each),

@@ -2,7 +2,7 @@
 
 use crate::classes::{self, Class};
 use crate::random::Random;
-use crate::{altered, ask, made, show, slices};
+use crate::{altered, ask, corpus, made, show, slices};
 use formats::{Exit, Given, Handed, Tokens, FILE_SIZE, TOKEN_SLICES};
 use marked::operations;
 use std::io::Write;
@@ -23,7 +23,7 @@ pub type Case = (Given, Exit);
 
 // ---- the cases of a list
 
-/// Writes a list: hand-made cases, then those of the classes.
+/// Writes a list: hand-made cases, then those of the classes; of files also those of tests/.
 pub fn write(sort: &str, classes: &[Class], out: &mut dyn Write) -> Result<(), String> {
     let mut written = Written { from: String::new(), cases: 0, bytes: 0 };
     let mut each = |from: &str, given: Given| {
@@ -41,6 +41,9 @@ pub fn write(sort: &str, classes: &[Class], out: &mut dyn Write) -> Result<(), S
         "files" => {
             slices::files(&mut |given| each("slices", given));
             scripts(classes, &mut |from, script| each(from, Given::Whole { script, file: FILE_SIZE }));
+            for corpus::Case { script, file } in corpus::cases()? {
+                each("tests", Given::Whole { script, file });
+            }
         }
         "records" => {
             for case in made::cases() {

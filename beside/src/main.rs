@@ -5,6 +5,7 @@ mod ask;
 mod claims;
 mod classes;
 mod compare;
+mod corpus;
 mod coverage;
 mod damage;
 mod facts;
