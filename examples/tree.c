@@ -68,7 +68,7 @@ static const struct layout LAYOUTS[] = {
     {DN_TAG_COMPOUND_VALUE, "compound value", "", 0, 0, 1, ""},
     {DN_TAG_BLOCK, "block", "pc", 0, 0, 0, "statement"},
     {DN_TAG_EXPRESSION, "expression", "p", 0, 0, 1, ""},
-    {DN_TAG_VARIABLE_DECLARATION, "variable", "pt", 0, 0, 2, ""},
+    {DN_TAG_VARIABLE_DECLARATION, "variable declaration", "pt", 0, 0, 2, ""},
     {DN_TAG_ASSIGNMENT, "assignment", "p", 0, 0, 2, ""},
     {DN_TAG_COMPOUND_ASSIGNMENT, "compound assignment", "p", 0, 0, 2, ""},
     {DN_TAG_RETURN, "return", "pn", 0, 1, 0, ""},
@@ -76,12 +76,12 @@ static const struct layout LAYOUTS[] = {
     {DN_TAG_WHILE, "while", "p", 0, 0, 2, ""},
     {DN_TAG_BREAK, "break", "p", 0, 0, 0, ""},
     {DN_TAG_IF, "if", "pn", 2, 3, 0, ""},
-    {DN_TAG_INLINE_ASSEMBLY, "assembly", "pt", 0, 0, 0, ""},
-    {DN_TAG_FUNCTION_DEFINITION, "function", "pxct", 0, 1, 2, "parameter"},
+    {DN_TAG_INLINE_ASSEMBLY, "inline assembly", "pt", 0, 0, 0, ""},
+    {DN_TAG_FUNCTION_DEFINITION, "function definition", "pxct", 0, 1, 2, "parameter"},
     {DN_TAG_TYPE_ALIAS, "type alias", "pbt", 0, DN_ALIAS_DISTINCT + DN_ALIAS_INTERNAL, 1, ""},
     {DN_TAG_USE, "use", "pt", 0, 0, 0, ""},
-    {DN_TAG_TOP_LEVEL_VARIABLE, "top-level variable", "pt", 0, 0, 2, ""},
-    {DN_TAG_TOP_LEVEL_ASSEMBLY, "top-level assembly", "pt", 0, 0, 0, ""},
+    {DN_TAG_TOP_LEVEL_VARIABLE, "top level variable", "pt", 0, 0, 2, ""},
+    {DN_TAG_TOP_LEVEL_ASSEMBLY, "top level assembly", "pt", 0, 0, 0, ""},
     {DN_TAG_MODULE, "module", "c", 0, 0, 0, "item"},
 };
 
@@ -350,7 +350,7 @@ static void print_text(const uint8_t *text, size_t length)
 /* Places have a column of their own, at the left. */
 static void print_margin(const char *text)
 {
-    printf("%-8s", text);
+    printf("%-7s ", text);
 }
 
 static void print_place(struct place p)

@@ -8,12 +8,12 @@
 #include "delta_null.h"
 
 /* one byte more than a script may have, so that one that is too long is refused and not cut */
-static uint8_t script[DN_SCRIPT_BYTES + 1];
-static uint8_t file[2 * DN_FILE_BYTES];
+static uint8_t script[DN_MAX_SCRIPT_BYTES + 1];
+static uint8_t file[2 * DN_FILE_BUFFER_BYTES];
 
 int main(int argc, char **argv)
 {
-    size_t length = argc > 1 ? (size_t)strtoul(argv[1], NULL, 10) : DN_FILE_BYTES;
+    size_t length = argc > 1 ? (size_t)strtoul(argv[1], NULL, 10) : DN_FILE_BUFFER_BYTES;
     size_t script_length = fread(script, 1, sizeof script, stdin);
     size_t bytes = 0;
     uint32_t number;
