@@ -30,7 +30,7 @@ static uint8_t file[DN_FILE_BUFFER_BYTES + 1];
  */
 struct layout {
     int tag;
-    const char *name;
+    const char *name; /* tests/run --example compares it with the definition's */
     const char *body;
     unsigned least, most; /* of its byte */
     unsigned children;    /* those that it has besides the counted ones */
