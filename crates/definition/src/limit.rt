@@ -16,6 +16,3 @@ pub const ERROR_WORDS: usize = 1024;
 pub const TEXT_BYTES: usize = 16384;
 
 pub const FILE_BYTES: usize = 65536;
-
-// The length of the parser's two lists of errors.
-pub const ERROR_ENTRIES: usize = 256;

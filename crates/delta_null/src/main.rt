@@ -29,8 +29,8 @@ fn write_refusal(number: u32) {
 
 fn main() {
     // One byte more than the longest script, so that a longer input is refused and not cut.
-    let mut script = [0u8; 16385];
-    let mut file = [0u8; 65536];
+    let mut script = [0u8; limit::SCRIPT_BYTES + 1];
+    let mut file = [0u8; limit::FILE_BYTES];
     let n = io::read_full(STDIN_FILENO, &mut script);
     if n <= limit::SCRIPT_BYTES {
         if !at_end() {

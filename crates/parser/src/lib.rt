@@ -77,8 +77,8 @@ pub fn read_tokens(
     requires { ⌜ (65536 ≤ length (now file)) × ((0 < count) × Accepted tokens count errors «error_count» text) ⌝ }
     ensures { λ r. ⌜ ReadValidated tokens count errors «error_count» text file r ⌝ }
 {
-    let mut reported: [usize; limit::ERROR_ENTRIES] = [0; limit::ERROR_ENTRIES];
-    let mut full: [usize; limit::ERROR_ENTRIES] = [0; limit::ERROR_ENTRIES];
+    let mut reported: [usize; limit::ERRORS + 1] = [0; limit::ERRORS + 1];
+    let mut full: [usize; limit::ERRORS + 1] = [0; limit::ERRORS + 1];
     let from = State {
         at: 0,
         pos: 0,
