@@ -86,17 +86,17 @@ errors-are ws n es e = Option·some-injective (listed ws 0 n) es (sym (listed-is
 -- ---- the loop
 
 module _ (ws : List ℕ) (i : ℕ) where
+  -- the numbers of record i fit an entry
   pub place-fits : (count : ℕ) → is-some (errors-of ws 0 count) ≡ true → i < count
       → (getD ws (4 * i + 1) 0 < 65536) × (getD ws (4 * i + 2) 0 < 65536)
-  -- the numbers of record i fit an entry
   place-fits count h g = let s = rw zero-add at (small-at ws 0 count i h g) in (omega (arith, s .line), omega (arith, s .column))
 
   pub number-fits : {a : ℕ} → a ≡ getD ws (4 * i) 0 → (count : ℕ) → is-some (errors-of ws 0 count) ≡ true → i < count → a < 256
   number-fits na count h g = let s = rw zero-add at (small-at ws 0 count i h g) in omega (arith, s .number)
 
+  -- one more record, and the end
   pub token-more : {a : ℕ} (place : ℕ) → a ≡ getD ws (4 * i) 0
       → unpack-place place ≡ place-at (getD ws (4 * i + 1) 0) (getD ws (4 * i + 2) 0)
-      -- one more record, and the end
       → {o₀ o o1 : List ℕ} {pos count p q : ℕ} (x : ℕ) → Fielding (λ n. listed ws 0 n) o₀ pos 0x62 count o i p
       → i < count → L.unpack x ≡ L.error-at a place 0 0 → Fielded o p 0x62 (L.unpack x ∷ []) o1 q
       → length o1 ≡ length o
