@@ -49,7 +49,7 @@ all-good T X (suc n) p e i ts h q =
     let w : TokenWords = words-at T i in
     let a : First T X p e i n ts = first T X p e i n ts q in
     let f : Fits X w = fits X w (a .alone) in
-    let l : Lies X e w = lies X p e w h f (a .behind) in
+    let l : Lies X e w = lies X p e w h f (a .after) in
     let end : ℕ = text-end e w in
     let g : Good end n (a .later) = all-good T X n (place-of w) end (suc i) (a .later) (l .high) (a .rest) in
     subst (Good e (suc n)) (a .is) (good-more X e n w (a .later) f l g)

@@ -29,13 +29,13 @@ front : (tag : ℕ) (body rest : List ℕ) → length body < 65536
     → take (field-size (field tag body ++ rest)) (field tag body ++ rest) ≡ field tag body
 front tag body rest h = take-at (field tag body) rest _ (sized tag body rest h)
 
-behind : (tag : ℕ) (body rest : List ℕ) → length body < 65536 → drop (field-size (field tag body ++ rest)) (field tag body ++ rest) ≡ rest
-behind tag body rest h = drop-at (field tag body) rest _ (sized tag body rest h)
+after-field : (tag : ℕ) (body rest : List ℕ) → length body < 65536 → drop (field-size (field tag body ++ rest)) (field tag body ++ rest) ≡ rest
+after-field tag body rest h = drop-at (field tag body) rest _ (sized tag body rest h)
 
 tree-on : (tag n : ℕ) (body rest : List ℕ) → length body < 65536 → eqb tag 0x5F ≡ false
     → tree-from (suc n) (field tag body ++ rest) ≡ field tag body ++ tree-from n rest
 unfolding tree-from
-tree-on tag n body rest h e = rw (e, front tag body rest h, behind tag body rest h)
+tree-on tag n body rest h e = rw (e, front tag body rest h, after-field tag body rest h)
 
 tree-end : (n : ℕ) (body rest : List ℕ) → length body < 65536 → tree-from (suc n) (field 0x5F body ++ rest) ≡ field 0x5F body
 unfolding tree-from
@@ -44,18 +44,18 @@ tree-end n body rest h = rw (front 0x5F body rest h) (append-nil (field 0x5F bod
 records-on : (tag n : ℕ) (body rest : List ℕ) → length body < 65536 → eqb tag 0x5F ≡ false
     → tree-records-from (suc n) (field tag body ++ rest) ≡ suc (tree-records-from n rest)
 unfolding tree-records-from
-records-on tag n body rest h e = rw (e, behind tag body rest h)
+records-on tag n body rest h e = rw (e, after-field tag body rest h)
 
 -- a field of another tag, and one of this tag
 entries-on : (t tag n : ℕ) (body rest : List ℕ) → length body < 65536 → eqb tag t ≡ false
     → entries-from t (suc n) (field tag body ++ rest) ≡ entries-from t n rest
 unfolding entries-from
-entries-on t tag n body rest h e = rw (e, behind tag body rest h) (zero-add _)
+entries-on t tag n body rest h e = rw (e, after-field tag body rest h) (zero-add _)
 
 entries-more : (t tag n : ℕ) (body rest : List ℕ) → length body < 65536 → eqb tag t ≡ true
     → entries-from t (suc n) (field tag body ++ rest) ≡ 1 + entries-from t n rest
 unfolding entries-from
-entries-more t tag n body rest h e = rw (e, behind tag body rest h)
+entries-more t tag n body rest h e = rw (e, after-field tag body rest h)
 
 -- ---- records and errors
 

@@ -20,7 +20,7 @@ use Rattle.definition.specs.Tokenizer as Z
 use Rattle.definition.specs.Tokenizer.{tokenize}
 use Rattle.definition.specs.Operations.{Validated, both, validate}
 use Rattle.definition.proofs.Tests.{both-true, between-true, All}
-use Rattle.definition.proofs.Tokens.{Placed, Good, Fault, ReadsAfter, texts, Made, TokensOf, script-tokens}
+use Rattle.definition.proofs.Tokens.{Placed, Good, Fault, InOrder, texts, Made, TokensOf, script-tokens}
 
 -- ---- records in a slice
 
@@ -157,7 +157,7 @@ module _ (ws text : List ℕ) where
   tokens-back : (ts : List Tok) (p : Place) (e n i : ℕ) (before rest before′ rest′ : List ℕ)
       → ws ≡ before ++ (tokens-words n ts ++ rest) → length before ≡ 8 * i
       → text ≡ before′ ++ (tokens-text ts ++ rest′) → length before′ ≡ n → e ≤ n → n + texts ts ≤ 16384
-      → ReadsAfter p ts → All Good ts
+      → InOrder p ts → All Good ts
       → tokens-of ws text p e i (length ts) ≡ some ts
   unfolding tokens-of tokens-words tokens-text
   tokens-back [] p e n i before rest before′ rest′ w l x k h m b g = refl
@@ -220,7 +220,7 @@ made-validated ts es m u v w =
     (le-leb (4 * length es) (length ws′) (longer (4 * length es) (errors-words es) v (errors-length es))))
     ∙ ap₂ both
     (tokens-back ws text ts nowhere 0 0 0 [] u [] w refl refl refl refl (omega arith) (omega (arith, m .text))
-    (m .behind) (m .good)) (errors-back ws′ es 0 [] v refl refl (m .faults))
+    (m .order) (m .good)) (errors-back ws′ es 0 [] v refl refl (m .faults))
   where
     ws : List ℕ
     ws = tokens-words 0 ts ++ u

@@ -322,10 +322,10 @@ module _ (c : Ch) (cs : List Ch) where
   assembly-turned k h foreign p = tt
   assembly-turned k h (ends s) p =
       chosen (TurnOf c cs) (eqb (look (s .rest)) 123) _ _
-      (λ _. gives-token (a .rest) (length (a .text)) [] _ (ran-trans behind (b .ran)) refl (omega arith)
+      (λ _. gives-token (a .rest) (length (a .text)) [] _ (ran-trans ran-on (b .ran)) refl (omega arith)
       (text-formed K.InlineAssemblyFragment (c .place) (a .text) refl refl (omega arith) (omega arith)
-      (b .utf8 k (behind .keeps k h))) tt)
-      (λ _. gives-none (drop-one (s .rest)) 0 _ behind (error-at 3 (c .place) (omega arith) (omega arith), tt))
+      (b .utf8 k (ran-on .keeps k h))) tt)
+      (λ _. gives-none (drop-one (s .rest)) 0 _ ran-on (error-at 3 (c .place) (omega arith) (omega arith), tt))
     where
       a : Span
       a = assembly (drop-one (s .rest))
@@ -333,8 +333,8 @@ module _ (c : Ch) (cs : List Ch) where
       b : SpanOf (drop-one (s .rest)) a
       b = assembly-spans (drop-one (s .rest))
 
-      behind : Ran cs (drop-one (s .rest)) 0
-      behind = ran-trans (p .ran) (ran-drop (s .rest))
+      ran-on : Ran cs (drop-one (s .rest)) 0
+      ran-on = ran-trans (p .ran) (ran-drop (s .rest))
 
   word-turned : (k : ℕ) → Chars k cs → c .byte < 128 → (r : Run) → RunOf cs r
       → TurnOf c cs (Z.word-turn (c .place) (Z.run-ahead (c .byte ∷ []) r))
@@ -445,9 +445,9 @@ abbrev pub Kinds : List Tok → Type 0
 Kinds ts = All (λ t. 0 < t .kind) ts
 
 -- each token comes after the one before, the first after the place p
-abbrev pub ReadsAfter : Place → List Tok → Type 0
-ReadsAfter p [] = Unit {0}
-ReadsAfter p (t ∷ ts) = (comes-after p (t .place .line) (t .place .column) ≡ true) × ReadsAfter (t .place) ts
+abbrev pub InOrder : Place → List Tok → Type 0
+InOrder p [] = Unit {0}
+InOrder p (t ∷ ts) = (comes-after p (t .place .line) (t .place .column) ≡ true) × InOrder (t .place) ts
 
 -- the length of all texts
 abbrev pub texts : List Tok → ℕ
@@ -469,11 +469,11 @@ later-place p q a b h = go (ltb (p .line) (q .line)) refl
         let l : q .line ≤ p .line = ltb-false _ _ e in
         both-true (eq-eqb (p .line) (q .line) (omega arith)) (lt-ltb (p .column) (q .column) (omega arith))
 
-behind : (p : Place) (ts : List Tok) (k : ℕ) → p .column < 65536 → Rising (key p) ts k → All Good ts → ReadsAfter p ts
-behind p [] k h r g = tt
-behind p (t ∷ ts) k h r g = (
+in-order : (p : Place) (ts : List Tok) (k : ℕ) → p .column < 65536 → Rising (key p) ts k → All Good ts → InOrder p ts
+in-order p [] k h r g = tt
+in-order p (t ∷ ts) k h r g = (
   later-place p (t .place) h (omega (arith, g .0 .placed)) (r .0),
-  behind (t .place) ts k (omega (arith, g .0 .placed)) (r .1) (g .1),
+  in-order (t .place) ts k (omega (arith, g .0 .placed)) (r .1) (g .1),
 )
 
 differ : (p q : Place) → key p < key q → same-place p q ≡ false
@@ -495,7 +495,7 @@ distinct (t ∷ ts) j k r = (apart (t .place) ts (key (t .place)) k (omega arith
 -- what is known of the tokens and errors of a script
 pub record Made (ts : List Tok) (es : List Err) : Type 0 where
   pub good : All Good ts
-  pub behind : ReadsAfter nowhere ts
+  pub order : InOrder nowhere ts
   pub faults : All Fault es
   pub distinct : Distinct ts
   pub kinds : Kinds ts
@@ -557,7 +557,7 @@ unfolding tokenize-from
 tokens-from zero cs ts es k f c b h m w = absurd (omega arith)
 tokens-from (suc n) [] ts es k f c b h m w = record {
   good = h .good;
-  behind = behind nowhere ts k (omega arith) (h .rising) (h .good);
+  order = in-order nowhere ts k (omega arith) (h .rising) (h .good);
   faults = h .faults;
   distinct = distinct ts 0 k (h .rising);
   kinds = all-map Good (λ t. 0 < t .kind) (λ t g. g .formed .low) ts (h .good);

@@ -94,7 +94,7 @@ lies X p e w h f g =
 -- the first record is valid, and so are the others
 pub record First (T X : List ℕ) (p : Place) (e i n : ℕ) (ts : List Tok) : Type 0 where
   pub alone : valid-alone X (words-at T i) ≡ true
-  pub behind : valid-after p e (words-at T i) ≡ true
+  pub after : valid-after p e (words-at T i) ≡ true
   pub later : List Tok
   pub rest : tokens-of T X (place-of (words-at T i)) (text-end e (words-at T i)) (suc i) n ≡ some later
   pub is : token-of X (words-at T i) ∷ later ≡ ts
@@ -116,7 +116,7 @@ first T X p e i n ts q =
         → token-before (token-of X w) o ≡ some ts → First T X p e i n ts
     those g none a b = never b
     those g (some us) a b =
-        record { alone = left-true _ _ g; behind = right-true (valid-alone X w) _ g; later = us; rest = a; is = cc }
+        record { alone = left-true _ _ g; after = right-true (valid-alone X w) _ g; later = us; rest = a; is = cc }
 
 -- ---- all error records
 

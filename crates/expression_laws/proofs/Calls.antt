@@ -29,10 +29,10 @@ use Rattle.node.specs.declared.Numbers.the-variants.{None, Two}
 use Rattle.node.specs.declared.Record.{Record}
 use Rattle.steps.specs.declared.Token.{Token}
 use Rattle.steps.specs.Tokens.{rest, budget, Seen}
-use Rattle.steps.specs.Shows.{st-of, Asked, Moved, View, Good, Bad, ShowsOf, Shows, Reads, Goes, GoesOn, node, items, token, Expects, Follows, Expected, Finished}
+use Rattle.steps.specs.Shows.{st-of, Asked, Moved, View, Good, Bad, ShowsOf, Shows, Reads, Goes, GoesOn, node, items, token, Expects, Follows, Expected, NodeWritten}
 use Rattle.steps.proofs.Tokens.{alive, yes, no, fore, adv}
 use Rattle.steps.proofs.Moves.{asks-moved, fore-moved, moved-trans}
-use Rattle.steps.proofs.Answers.{Stopped, say, good-of, stops, follows, wrapped, finishes, tree-join, errs-join}
+use Rattle.steps.proofs.Answers.{Stopped, say, good-of, stops, follows, wrapped, writes-node, tree-join, errs-join}
 use Rattle.steps.proofs.Constructs.{down}
 use Rattle.steps.proofs.Following.{expecting, expects-after}
 use Rattle.leaves.specs.Leaves.{Prefix, ClosingOf, Closing, ClosedOf, Closed}
@@ -43,7 +43,7 @@ use Rattle.expression_laws.proofs.Joins.{goes-none}
 -- ---- a token, an operand, and the record after them
 
 module _ {A : Type 0} {K : View A} {w x : List ℕ} {n d : ℕ} {o r f o1 r1 f1 o2 : List ℕ} {s : State} {b y : Answer} {t : Token} {v : Record} {m : Act (Ans A)} {M : Act (Ans Node)} (p : A → Place) (ns : A → List Num) (text : List ℕ)
-    (q : Asked w x n o r f s) (u : Seen w x n (s .at) t) (B : Reads K w x n d m o r f (fore s t) o1 r1 f1 b) (F : Finished x o1 b v o2 y)
+    (q : Asked w x n o r f s) (u : Seen w x n (s .at) t) (B : Reads K w x n d m o r f (fore s t) o1 r1 f1 b) (F : NodeWritten x o1 b v o2 y)
     (paid : size-of v ≤ 16 * min (t .kind) 1 + t .len) (made : (i : A) → K .fine (b .place) (b .count) i → rec-of x v ≡ record { tag = v .tag; place = some (p i); numbers = ns i; text = text }) where
   -- an act that reads the token t, then m, and writes the record v, reads a node
   pub wraps-token : (rd′ : List Consumed → List Consumed)
@@ -68,7 +68,7 @@ module _ {A : Type 0} {K : View A} {w x : List ℕ} {n d : ℕ} {o r f o1 r1 f1 
         on = omega (arith, F .at, u .on, u .kind, B .moved .at);
         is =
             λ rd. say (step rd ∙ go-bind d m (or-return (wrapped K [] [] (v .tag) p ns text)) _)
-            (finishes d p ns text F made (B .is (rd′ rd)));
+            (writes-node d p ns text F made (B .is (rd′ rd)));
       }
 
 -- ---- prefixes
@@ -87,7 +87,7 @@ module _ {w x : List ℕ} {n d : ℕ} {o r f : List ℕ} {s : State} {t : Token}
 
   pub unary-prefix : {o1 r1 f1 o2 : List ℕ} {a y : Answer} → (tag ≡ 0 → ⊥)
       → Reads node w x n (d - 1) P.parse-unary o r f (fore s t) o1 r1 f1 a
-      → Finished x o1 a
+      → NodeWritten x o1 a
       (record { tag = tag; place = a .place; numbers = None; start = 0; len = 0 }) o2 y
       → Reads node w x n d P.parse-unary o r f s o2 r1 f1 y
   unfolding go run P.prefix
@@ -135,7 +135,7 @@ module _ {w x : List ℕ} {n d i j : ℕ} {o r f : List ℕ} {a : Answer} {t : T
   call-none h = goes-none q z (λ e rd. rw (run, no u h))
 
   module _ {o1 r1 f1 o2 : List ℕ} {b y : Answer} (h : t .kind ≡ 41) (B : ReadsList w x n d Arguments o r f (a .state) o1 r1 f1 b)
-      (F : Finished x o1 (silent b (a .state .reported)) (record { tag = 0x24; place = a .place; numbers = Two (b .count); start = 0; len = 0 }) o2 y) where
+      (F : NodeWritten x o1 (silent b (a .state .reported)) (record { tag = 0x24; place = a .place; numbers = Two (b .count); start = 0; len = 0 }) o2 y) where
     pub call-moved : Moved w x n i j (a .state) (y .state)
     call-moved =
         let e : budget w x n (y .state .at) ≡ budget w x n (b .state .at) = ap (λ (k : ℕ). budget w x n k) (F .at) in
@@ -162,7 +162,7 @@ module _ {w x : List ℕ} {n d i j : ℕ} {o r f : List ℕ} {a : Answer} {t : T
           ∙ rw (run, yes u h) (dropping d (P.parse-list Arguments) _
           (wrapped items (g .item .recs) (g .errors) 0x24 (λ _. g .item .place) (λ i. two (i .count) ∷ []) [])
           (λ i. rw append-nil) (st-of w x n f (g .read) (a .state))))
-          (finishes d (λ _. g .item .place) (λ i. two (i .count) ∷ []) [] F (λ i e. rw (e, g .holds))
+          (writes-node d (λ _. g .item .place) (λ i. two (i .count) ∷ []) [] F (λ i e. rw (e, g .holds))
           (rebased (B .never) (g .item .recs) (g .errors) (g .tree) (g .reported)
           (drops d (B .never) (errs-length r (a .state .reported) (omega arith)) (B .moved .reported) (B .is (g .read)))));
     }
@@ -170,12 +170,12 @@ module _ {w x : List ℕ} {n d i j : ℕ} {o r f : List ℕ} {a : Answer} {t : T
   -- the same with the answer that `silence` gives
   pub call-done : {o1 r1 f1 o2 : List ℕ} {b c y : Answer} → t .kind ≡ 41
       → ReadsList w x n d Arguments o r f (a .state) o1 r1 f1 b → c ≡ silent b (a .state .reported)
-      → Finished x o1 c
+      → NodeWritten x o1 c
       (record { tag = 0x24; place = a .place; numbers = Two (b .count); start = 0; len = 0 })
       o2 y
       → Goes node node w x n d call-on i j o r f a o2 r1 f1 y
   call-done {o1} {o2 = o2} {b = b} {c = c} {y = y} h B C F =
-      call-found h B (subst (λ (k : Answer). Finished x o1 k
+      call-found h B (subst (λ (k : Answer). NodeWritten x o1 k
       (record { tag = 0x24; place = a .place; numbers = Two (b .count); start = 0; len = 0 })
       o2 y) C F)
 
@@ -265,7 +265,7 @@ module _ {w x : List ℕ} {n d : ℕ} {o r f : List ℕ} {s : State} {t : Token}
     pub sizeof-done : {o1 r2 f2 r3 f3 o2 : List ℕ} {b c y : Answer} → a .status ≡ Done
         → Reads node w x n d P.parse-type o r1 f1 (a .state) o1 r2 f2 b → length r2 ≡ length r
         → length f2 ≡ length f → Expected w x n 42 (s .pos) (s .reported) r2 f2 b r3 f3 c
-        → Finished x o1 c
+        → NodeWritten x o1 c
         (record { tag = 0x2F; place = t .place; numbers = None; start = 0; len = 0 }) o2 y
         → Reads node w x n d P.parse-sizeof o r f s o2 r3 f3 y
     sizeof-done {o1} {r2} {f2} {r3} {f3} {o2} {b} {c} {y} z B lr lf C F =
@@ -298,7 +298,7 @@ module _ {w x : List ℕ} {n d : ℕ} {o r f : List ℕ} {s : State} {t : Token}
               (st-of w x n f1 (g .read) (a .state))
               ∙ expect-seam d plain 42 (sized (next-token (rest w x n (s .at))))
               (go d P.parse-type (st-of w x n f1 (g .read) (a .state))))
-              (finishes d (λ _. next-token (rest w x n (s .at)) .place) (λ _. []) [] F (λ i _. rw (u .place))
+              (writes-node d (λ _. next-token (rest w x n (s .at)) .place) (λ _. []) [] F (λ i _. rw (u .place))
               (expects-after (sizeof-asks z B lr lf) C plain d (length-take-le (s .pos) o (omega arith))
               (errs-length r (s .reported) (omega arith)) v));
         }

@@ -21,10 +21,10 @@ use Rattle.node.specs.Put.{rec-of, size-of, Room}
 use Rattle.node.specs.declared.Record.{Record}
 use Rattle.steps.specs.declared.Token.{Token}
 use Rattle.steps.specs.Tokens.{budget, Seen}
-use Rattle.steps.specs.Shows.{st-of, Asked, Moved, View, Good, Shows, Reads, Goes, GoesOn, node, Finished}
+use Rattle.steps.specs.Shows.{st-of, Asked, Moved, View, Good, Shows, Reads, Goes, GoesOn, node, NodeWritten}
 use Rattle.steps.proofs.Tokens.{fore}
 use Rattle.steps.proofs.Moves.{asked-moved, moved-trans}
-use Rattle.steps.proofs.Answers.{Stopped, say, good-of, is-good, stops, follows, abandons, wrapped, finishes}
+use Rattle.steps.proofs.Answers.{Stopped, say, good-of, is-good, stops, follows, abandons, wrapped, writes-node}
 use Rattle.steps.proofs.Constructs.{seam, then-goes}
 
 -- a function, and the one that continues its answer
@@ -86,7 +86,7 @@ module _ {w x : List ℕ} {n i j : ℕ} {o r f : List ℕ} {a : Answer} (q : Goe
 -- ---- another operand, and the record of both
 
 module _ {A : Type 0} {K : View A} {w x : List ℕ} {n d i j : ℕ} {o r f o1 r1 f1 r2 o2 : List ℕ} {a b c y : Answer} {t : Token} {v : Record} {m : Act (Ans A)}
-    (q : GoesOn w x n o r f a i j) (u : Seen w x n (a .state .at) t) (B : Reads K w x n d m o r f (fore (a .state) t) o1 r1 f1 b) (C : Abandoned r1 b i j (a .state .reported) r2 c) (F : Finished x o1 c v o2 y) (paid : size-of v ≤ 16 * min (t .kind) 1) where
+    (q : GoesOn w x n o r f a i j) (u : Seen w x n (a .state .at) t) (B : Reads K w x n d m o r f (fore (a .state) t) o1 r1 f1 b) (C : Abandoned r1 b i j (a .state .reported) r2 c) (F : NodeWritten x o1 c v o2 y) (paid : size-of v ≤ 16 * min (t .kind) 1) where
   pub joined-moved : Moved w x n i j (a .state) (y .state)
   joined-moved =
       let e : budget w x n (y .state .at) ≡ budget w x n (b .state .at) = ap (λ (k : ℕ). budget w x n k) (F .at ∙ C .at) in
@@ -109,7 +109,7 @@ module _ {A : Type 0} {K : View A} {w x : List ℕ} {n d i j : ℕ} {o r f o1 r1
 module _ {A : Type 0} {K : View A} {w x : List ℕ} {n d i j : ℕ} {o r f o1 r1 f1 r2 o2 : List ℕ} {a b c y : Answer} {t : Token} {v : Record} {m : Act (Ans A)} (p : Place) (ns : List Num)
     (q : GoesOn w x n o r f a i j) (z : a .status ≡ Done) (u : Seen w x n (a .state .at) t)
     (B : Reads K w x n d m o r f (fore (a .state) t) o1 r1 f1 b)
-    (C : Abandoned r1 b i j (a .state .reported) r2 c) (F : Finished x o1 c v o2 y)
+    (C : Abandoned r1 b i j (a .state .reported) r2 c) (F : NodeWritten x o1 c v o2 y)
     (paid : size-of v ≤ 16 * min (t .kind) 1) (made : rec-of x v ≡ record { tag = v .tag; place = some p; numbers = ns; text = [] }) where
   -- the node of the operand e and the other
   abbrev pub both : Fallible Node → Fallible A → Act (Ans Node)
@@ -122,7 +122,7 @@ module _ {A : Type 0} {K : View A} {w x : List ℕ} {n d i j : ℕ} {o r f o1 r1
       (go d (m >>? both (record { item = g .item; errors = g .errors })) (st-of w x n f rd (fore (a .state) t)))
   joined {T} {E} li lj g rd =
       say (go-bind d m (or-return (both (record { item = g .item; errors = g .errors }))) _)
-      (finishes d (λ _. p) (λ _. ns) [] F (λ _ _. made)
+      (writes-node d (λ _. p) (λ _. ns) [] F (λ _ _. made)
       (abandons {T = T} {E = E} (g .tree) (g .reported) li lj (errs-length r (a .state .reported) (omega arith)) C
       (omega (arith, q .pos, B .moved .pos)) (omega (arith, q .reported, B .moved .reported)) (B .is rd)))
 

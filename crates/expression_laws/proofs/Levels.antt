@@ -22,7 +22,7 @@ use Rattle.fallible.specs.Answers.{Abandoned}
 use Rattle.node.specs.declared.Numbers.the-variants.{None, Byte}
 use Rattle.steps.specs.declared.Token.{Token}
 use Rattle.steps.specs.Tokens.{rest, Seen}
-use Rattle.steps.specs.Shows.{st-of, Asked, Reads, Goes, GoesOn, node, Finished}
+use Rattle.steps.specs.Shows.{st-of, Asked, Reads, Goes, GoesOn, node, NodeWritten}
 pub use Rattle.steps.specs.Shows.{untexted as at-operator}
 use Rattle.steps.proofs.Tokens.{yes, no, fore, adv}
 use Rattle.leaves.specs.Leaves.{level-at, Operator}
@@ -65,7 +65,7 @@ module _ {w x : List ℕ} {n d i j : ℕ} {o r f : List ℕ} {a : Answer} {t : T
 
   pub and-found : {o1 r1 f1 r2 o2 : List ℕ} {b c y : Answer} → t .kind ≡ 29
       → Reads node w x n d P.parse-comparison o r f (fore (a .state) t) o1 r1 f1 b
-      → Abandoned r1 b i j (a .state .reported) r2 c → Finished x o1 c (at-operator (t .place) 0x2C None) o2 y
+      → Abandoned r1 b i j (a .state .reported) r2 c → NodeWritten x o1 c (at-operator (t .place) 0x2C None) o2 y
       → Goes node node w x n d and-on i j o r f a o2 r2 f1 y
   unfolding go run
   and-found h B C F =
@@ -85,7 +85,7 @@ module _ {w x : List ℕ} {n d i j : ℕ} {o r f : List ℕ} {a : Answer} {t : T
 
   pub compare-found : {op : ℕ} {o1 r1 f1 r2 o2 : List ℕ} {b c y : Answer} → Operator P.comparisons (t .kind) op → (op ≡ 0 → ⊥)
       → Reads node w x n d P.parse-bitwise-or o r f (fore (a .state) t) o1 r1 f1 b
-      → Abandoned r1 b i j (a .state .reported) r2 c → Finished x o1 c (at-operator (t .place) 0x2E (Byte (op - 1))) o2 y
+      → Abandoned r1 b i j (a .state .reported) r2 c → NodeWritten x o1 c (at-operator (t .place) 0x2E (Byte (op - 1))) o2 y
       → Goes node node w x n d compare-on i j o r f a o2 r2 f1 y
   unfolding go run
   compare-found {op} k h B C F =
@@ -107,7 +107,7 @@ module _ {w x : List ℕ} {n d i j : ℕ} {o r f : List ℕ} {a : Answer} {t : T
     pub operators-more : {o1 r1 f1 r2 o2 o3 r3 f3 : List ℕ} {b c y y′ : Answer} → (op ≡ 0 → ⊥)
         → Reads node w x n d (P.cascade l) o r f (fore (a .state) t) o1 r1 f1 b
         → Abandoned r1 b i j (a .state .reported) r2 c
-        → Finished x o1 c (at-operator (t .place) 0x2D (Byte (op - 1))) o2 y
+        → NodeWritten x o1 c (at-operator (t .place) 0x2D (Byte (op - 1))) o2 y
         → Goes node node w x n d (operators-on l) i j o2 r2 f1 y o3 r3 f3 y′
         → Goes node node w x n d (operators-on l) i j o r f a o3 r3 f3 y′
     unfolding go run P.operators-turn
@@ -129,7 +129,7 @@ module _ {w x : List ℕ} {n d i j : ℕ} {o r f : List ℕ} {a : Answer} {t : T
 
   pub casts-more : {o1 r1 f1 r2 o2 o3 r3 f3 : List ℕ} {b c y y′ : Answer} → t .kind ≡ 14
       → Reads node w x n d P.parse-type o r f (fore (a .state) t) o1 r1 f1 b
-      → Abandoned r1 b i j (a .state .reported) r2 c → Finished x o1 c (at-operator (t .place) 0x26 None) o2 y
+      → Abandoned r1 b i j (a .state .reported) r2 c → NodeWritten x o1 c (at-operator (t .place) 0x26 None) o2 y
       → Goes node node w x n d casts-on i j o2 r2 f1 y o3 r3 f3 y′ → Goes node node w x n d casts-on i j o r f a o3 r3 f3 y′
   unfolding go run P.casts-turn
   casts-more h B C F G =

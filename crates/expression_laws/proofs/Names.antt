@@ -29,7 +29,7 @@ use Rattle.fallible.proofs.Status.{the-type}
 use Rattle.fallible.proofs.Grown.{errs-length}
 use Rattle.steps.specs.declared.Token.{Token}
 use Rattle.steps.specs.Tokens.{rest, budget, Seen}
-use Rattle.steps.specs.Shows.{st-of, Asks, Asked, Moved, View, Good, ShowsOf, Shows, done-of, node, typed, token, Reads, Expects, Finished, Follows, Followed, ExpectedOf, Expected}
+use Rattle.steps.specs.Shows.{st-of, Asks, Asked, Moved, View, Good, ShowsOf, Shows, done-of, node, typed, token, Reads, Expects, NodeWritten, Follows, Followed, ExpectedOf, Expected}
 use Rattle.steps.proofs.Tokens.{yes, no, fore, adv}
 use Rattle.steps.proofs.Moves.{spent, refused-moved, asks-fore, asks-moved, fore-moved, making-moved, moved-trans, asked-moved, abandoned-moved}
 use Rattle.steps.proofs.OneToken.{making-pos}
@@ -504,7 +504,7 @@ module _ {w x : List ℕ} {n : ℕ} {o r f r1 f1 : List ℕ} {s : State} {t : To
       field-room l = record { room = omega (arith, field-paid, q .room); part = v .part }
 
       pub field-done : {o4 : List ℕ} {y : Answer}
-          → Finished x o3 c (record {
+          → NodeWritten x o3 c (record {
             tag = 50;
             place = b .place;
             numbers = None;

@@ -12,7 +12,7 @@ use Rattle.fallible.specs.declared.State.{State}
 use Rattle.fallible.specs.declared.Answer.{Answer}
 use Rattle.steps.specs.declared.Token.{Token}
 use Rattle.steps.specs.Tokens.{Seen}
-use Rattle.steps.specs.Shows.{Asked, Reads, node, Finished}
+use Rattle.steps.specs.Shows.{Asked, Reads, node, NodeWritten}
 use Rattle.leaves.specs.Leaves.{there, identifier, is-name-alone}
 use Rattle.leaves.proofs.Choices.{neither, NameAlone, name-alone, no-prefix}
 use Rattle.leaves.proofs.Atoms.{name-reads}
@@ -23,7 +23,7 @@ use Rattle.expression_laws.proofs.Calls.{call-on, call-none, sizeof-oth
 
 module _ {w x : List ℕ} {n : ℕ} {o r f o1 : List ℕ} {s : State} {t u : Token} {a : Answer}
     (q : Asked w x n o r f s) (v : Seen w x n (s .at) t) (e : Seen w x n (a .state .at) u)
-    (F : Finished x o (there s t) (identifier t) o1 a) (same : length o1 ≡ length o) where
+    (F : NodeWritten x o (there s t) (identifier t) o1 a) (same : length o1 ≡ length o) where
   name-access : (d : ℕ) → NameAlone (t .kind) (u .kind) → Reads node w x n d P.parse-field-access-or-index o r f s o1 r f a
   unfolding P.parse-field-access-or-index
   name-access d m =
@@ -40,7 +40,7 @@ module _ {w x : List ℕ} {n : ℕ} {o r f o1 : List ℕ} {s : State} {t u : Tok
 module _ {w x : List ℕ} {n d : ℕ} {o r f o1 : List ℕ} {s : State} {t u : Token} {a : Answer}
     (q : Asked w x n o r f s) (v : Seen w x n (s .at) t) (e : Seen w x n (t .next) u) where
   pub name-operand : {b : Bool} → b ≡ is-name-alone (t .kind) (u .kind) → (eqb d 0 || not b) ≡ false
-      → Finished x o (there s t) (identifier t) o1 a → length o1 ≡ length o
+      → NodeWritten x o (there s t) (identifier t) o1 a → length o1 ≡ length o
       → Reads node w x n d P.parse-unary o r f s o1 r f a
   name-operand {b} g h F same =
       let p = neither (eqb d 0) (not b) h in

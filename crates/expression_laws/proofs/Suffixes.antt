@@ -25,10 +25,10 @@ use Rattle.node.specs.declared.Numbers.the-variants.{None}
 use Rattle.node.specs.declared.Record.{Record}
 use Rattle.steps.specs.declared.Token.{Token}
 use Rattle.steps.specs.Tokens.{rest, budget, Seen}
-use Rattle.steps.specs.Shows.{st-of, Asks, Moved, Shows, Reads, Goes, GoesOn, node, Follows, Expected, Finished}
+use Rattle.steps.specs.Shows.{st-of, Asks, Moved, Shows, Reads, Goes, GoesOn, node, Follows, Expected, NodeWritten}
 use Rattle.steps.proofs.Tokens.{yes, no, fore, adv}
 use Rattle.steps.proofs.Moves.{asks-fore, fore-moved, refused-moved, making-moved, moved-trans, asks-moved}
-use Rattle.steps.proofs.Answers.{say, good-of, is-good, follows, abandons, wrapped, finishes, errs-join}
+use Rattle.steps.proofs.Answers.{say, good-of, is-good, follows, abandons, wrapped, writes-node, errs-join}
 use Rattle.steps.proofs.Constructs.{seam}
 use Rattle.steps.proofs.Following.{expecting, expects-after}
 use Rattle.leaves.proofs.Errors.{made-so, makes, makes-none}
@@ -62,7 +62,7 @@ dot-step {w} {x} {n} d f s u h e rd =
 -- ---- a record after the operand alone, and the next turn
 
 module _ {w x : List ℕ} {n d i j : ℕ} {o r f o2 o3 r3 f3 : List ℕ} {a y y′ : Answer} {on : State} {v : Record} (p : Place) (text : List ℕ) (q : GoesOn w x n o r f a i j) (z : a .status ≡ Done)
-    (F : Finished x o (record { status = a .status; state = on; place = a .place; count = a .count }) v o2 y) (made : rec-of x v ≡ record { tag = v .tag; place = some p; numbers = []; text = text }) where
+    (F : NodeWritten x o (record { status = a .status; state = on; place = a .place; count = a .count }) v o2 y) (made : rec-of x v ≡ record { tag = v .tag; place = some p; numbers = []; text = text }) where
   -- the operand gets the record v, and the loop continues
   pub goes-wrapped : (rd′ : List Consumed → List Consumed) → on .pos ≡ a .state .pos → on .reported ≡ a .state .reported
       → on .full ≡ a .state .full → Moved w x n i j (a .state) (y .state)
@@ -77,7 +77,7 @@ module _ {w x : List ℕ} {n d i j : ℕ} {o r f o2 o3 r3 f3 : List ℕ} {a y y�
     is = λ T E h li lj u.
         let g = good-of z u in
         say (follows d suffixes-on (g .is) ∙ step (record { item = g .item; errors = g .errors }) (g .read))
-        (G .is T E _ li lj (finishes {K = node} {rs = []} {es = []} {q = gives (ok (record { item = g .item; errors = g .errors })) (st-of w x n f (rd′ (g .read)) on)} d (λ _. p) (λ _. []) text F (λ _ _. made)
+        (G .is T E _ li lj (writes-node {K = node} {rs = []} {es = []} {q = gives (ok (record { item = g .item; errors = g .errors })) (st-of w x n f (rd′ (g .read)) on)} d (λ _. p) (λ _. []) text F (λ _ _. made)
         (is-good {K = node} z (record {
           item = g .item;
           errors = g .errors;
@@ -93,7 +93,7 @@ module _ {w x : List ℕ} {n d i j : ℕ} {o r f o2 o3 r3 f3 : List ℕ} {a y y�
 module _ {w x : List ℕ} {n i j : ℕ} {o r f : List ℕ} {a : Answer} {t : Token} (q : GoesOn w x n o r f a i j)
     (u : Seen w x n (a .state .at) t) where
   pub star-moved : {o2 : List ℕ} {y : Answer} → t .kind ≡ 35
-      → Finished x o (record { status = a .status; state = fore (a .state) t; place = a .place; count = a .count })
+      → NodeWritten x o (record { status = a .status; state = fore (a .state) t; place = a .place; count = a .count })
       (record { tag = 0x28; place = t .place; numbers = None; start = 0; len = 0 }) o2 y
       → Moved w x n i j (a .state) (y .state)
   star-moved {y = y} k F =
@@ -110,7 +110,7 @@ module _ {w x : List ℕ} {n i j : ℕ} {o r f : List ℕ} {a : Answer} {t : Tok
       }
 
   pub dot-moved : {v : Token} {o2 : List ℕ} {y : Answer} → Seen w x n (t .next) v → v .kind ≡ 1
-      → Finished x o
+      → NodeWritten x o
       (record { status = a .status; state = fore (fore (a .state) t) v; place = a .place; count = a .count })
       (record { tag = 0x29; place = t .place; numbers = None; start = v .start; len = v .len })
       o2 y
@@ -138,7 +138,7 @@ module _ {w x : List ℕ} {n d i j : ℕ} {o r f : List ℕ} {a : Answer} {t : T
   -- ---- `.*`
 
   pub suffix-star : {o2 o3 r3 f3 : List ℕ} {y y′ : Answer} → (t .kind ≡ 34 → ⊥) → t .kind ≡ 35
-      → Finished x o (record { status = a .status; state = fore (a .state) t; place = a .place; count = a .count })
+      → NodeWritten x o (record { status = a .status; state = fore (a .state) t; place = a .place; count = a .count })
       (record { tag = 0x28; place = t .place; numbers = None; start = 0; len = 0 }) o2 y
       → Goes node node w x n d suffixes-on i j o2 r f y o3 r3 f3 y′ → Goes node node w x n d suffixes-on i j o r f a o3 r3 f3 y′
   unfolding go run P.suffixes-turn
@@ -180,7 +180,7 @@ module _ {w x : List ℕ} {n d i j : ℕ} {o r f : List ℕ} {a : Answer} {t : T
         })
 
     pub dot-name : {o2 o3 r3 f3 : List ℕ} {y y′ : Answer} → (v .kind ≡ 0 → ⊥) → v .kind ≡ 1
-        → Finished x o
+        → NodeWritten x o
         (record { status = a .status; state = fore (fore (a .state) t) v; place = a .place; count = a .count })
         (record {
           tag = 0x29;
@@ -277,7 +277,7 @@ module _ {w x : List ℕ} {n d i j : ℕ} {o r f : List ℕ} {a : Answer} {t : T
       }
 
   module _ {o1 r1 f1 r2 r3 f3 o2 : List ℕ} {b c d1 y : Answer} (h : t .kind ≡ 43) (B : Reads node w x n d P.parse-expression o r f (fore (a .state) t) o1 r1 f1 b) (C : Abandoned r1 b i j (a .state .reported) r2 c) (lr : length r2 ≡ length r) (lf : length f1 ≡ length f)
-      (X : Expected w x n 44 i j r2 f1 c r3 f3 d1) (F : Finished x o1 d1 (record { tag = 0x25; place = t .place; numbers = None; start = 0; len = 0 }) o2 y) where
+      (X : Expected w x n 44 i j r2 f1 c r3 f3 d1) (F : NodeWritten x o1 d1 (record { tag = 0x25; place = t .place; numbers = None; start = 0; len = 0 }) o2 y) where
     pub index-moved : Moved w x n i j (a .state) (y .state)
     index-moved =
         let e : budget w x n (y .state .at) ≡ budget w x n (d1 .state .at) = ap (λ (k : ℕ). budget w x n k) (F .at) in
@@ -317,7 +317,7 @@ module _ {w x : List ℕ} {n d i j : ℕ} {o r f : List ℕ} {a : Answer} {t : T
           (λ x. P.binary 0x25 [] pl e x) (λ x. refl)
           (after q1 (λ z S. go d (or-return (expecting plain 44) z) S)))
           (G .is T E _ li lj
-          (finishes d (λ _. pl) (λ _. []) [] F (λ _ _. rw (u .place))
+          (writes-node d (λ _. pl) (λ _. []) [] F (λ _ _. rw (u .place))
           (expects-after (index-asks B C lr lf) X plain d li lj
           (abandons {T = T} {E = E} (g .tree) (g .reported) li lj (errs-length r (a .state .reported) (omega arith)) C
           (omega (arith, q .pos, B .moved .pos)) (omega (arith, q .reported, B .moved .reported))

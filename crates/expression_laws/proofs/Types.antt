@@ -30,10 +30,10 @@ use Rattle.fallible.specs.Answers.{refused-at, raised, Raised, silent}
 use Rattle.fallible.proofs.Grown.{errs-length}
 use Rattle.steps.specs.declared.Token.{Token}
 use Rattle.steps.specs.Tokens.{rest, spend, budget, Held, Seen}
-use Rattle.steps.specs.Shows.{st-of, Asked, Moved, View, Good, ShowsOf, Shows, node, items, Reads, Expects, Finished, texted, untexted}
+use Rattle.steps.specs.Shows.{st-of, Asked, Moved, View, Good, ShowsOf, Shows, node, items, Reads, Expects, NodeWritten, texted, untexted}
 use Rattle.steps.proofs.Tokens.{rest-cons, rest-nil, alive, yes, no, fore, adv}
 use Rattle.steps.proofs.Moves.{fore-moved, asked-seen, asked-moved}
-use Rattle.steps.proofs.Answers.{Stopped, say, good-of, stops, follows, errs-take, wrapped, finishes, raise-same}
+use Rattle.steps.proofs.Answers.{Stopped, say, good-of, stops, follows, errs-take, wrapped, writes-node, raise-same}
 use Rattle.steps.proofs.Constructs.{deep, down, seam}
 use Rattle.leaves.specs.declared.Size.{Size}
 use Rattle.leaves.specs.Leaves.{there, unfit, Valued}
@@ -109,11 +109,11 @@ shown-from u e h rd = rw (← e, ← h) (u .is rd)
 -- ---- a record after one answer
 
 -- how the state moves, where the budget has room for the record
-pub finished-moved : {w x : List ℕ} {n i j : ℕ} {o o′ : List ℕ} {s : State} {a y : Answer} {v : Record}
+pub node-written-moved : {w x : List ℕ} {n i j : ℕ} {o o′ : List ℕ} {s : State} {a y : Answer} {v : Record}
     → Moved w x n i j s (a .state)
     → a .state .pos + budget w x n (a .state .at) + size-of v ≤ s .pos + budget w x n (s .at)
-    → Finished x o a v o′ y → Moved w x n i j s (y .state)
-finished-moved {w} {x} {n} m h u =
+    → NodeWritten x o a v o′ y → Moved w x n i j s (y .state)
+node-written-moved {w} {x} {n} m h u =
     let b = ap (λ (k : ℕ). budget w x n k) (u .at) in
     record {
       at = omega arith;
@@ -129,7 +129,7 @@ finished-moved {w} {x} {n} m h u =
 -- For an act m that comes down to the answer b and the record v after it.
 module _ {A : Type 0} {K : View A} {w x : List ℕ} {n d : ℕ} {m : Act (Ans Node)} {o r f o1 r1 f1 o2 : List ℕ}
     {s : State} {b y : Answer} {v : Record} (p : Place) (ns : A → List Num) (text : List ℕ)
-    (F : Finished x o1 b v o2 y) where
+    (F : NodeWritten x o1 b v o2 y) where
   -- the act reads a node
   pub record-reads : Moved w x n (s .pos) (s .reported) s (b .state)
       → s .at + min (next-token (rest w x n (s .at)) .kind) 1 ≤ b .state .at
@@ -143,9 +143,9 @@ module _ {A : Type 0} {K : View A} {w x : List ℕ} {n d : ℕ} {m : Act (Ans No
       → Reads node w x n d m o r f s o2 r1 f1 y
   record-reads mv on paid e q step h =
       record {
-        moved = finished-moved mv paid F;
+        moved = node-written-moved mv paid F;
         on = omega (arith, F .at);
-        is = λ rd. say (step rd) (finishes d (λ _. p) ns text F e (h rd));
+        is = λ rd. say (step rd) (writes-node d (λ _. p) ns text F e (h rd));
       }
 
 -- ---- the answer of a list
@@ -206,7 +206,7 @@ module _ {w x : List ℕ} {n d : ℕ} {o r f : List ℕ} {s : State} (q : Asked 
   type-deep z e = deep Type' (q .asks) z e
 
   module _ {t : Token} (nz : d ≡ 0 → ⊥) (v : Seen w x n (s .at) t) where
-    pub type-name : {o′ : List ℕ} {y : Answer} → t .kind ≡ 1 → Finished x o (there s t) (texted (t .place) 16 None (t .start) (t .len)) o′ y
+    pub type-name : {o′ : List ℕ} {y : Answer} → t .kind ≡ 1 → NodeWritten x o (there s t) (texted (t .place) 16 None (t .start) (t .len)) o′ y
         → Reads node w x n d P.parse-type o r f s o′ r f y
     unfolding go run P.type-rule
     type-name z u =
@@ -221,7 +221,7 @@ module _ {w x : List ℕ} {n d : ℕ} {o r f : List ℕ} {s : State} (q : Asked 
 
       pub type-star : {o1 r1 f1 o2 : List ℕ} {b y : Answer} → t .kind ≡ 24
           → Reads node w x n (d - 1) P.parse-type o r f (fore s t) o1 r1 f1 b
-          → Finished x o1 b (untexted (t .place) 18 None) o2 y → Reads node w x n d P.parse-type o r f s o2 r1 f1 y
+          → NodeWritten x o1 b (untexted (t .place) 18 None) o2 y → Reads node w x n d P.parse-type o r f s o2 r1 f1 y
       unfolding go run P.type-rule
       type-star z u F = down Type' nz
           (record-reads (next-token (rest w x n (s .at)) .place) (λ _. []) [] F (moved-onward (fore-moved (q .asks) v) (u .moved)) (omega (arith, v .kind, v .on, u .moved .at)) (omega arith) (λ _ _. rw (v .place))
@@ -253,11 +253,11 @@ module _ {w x : List ℕ} {n d : ℕ} {o r f : List ℕ} {s : State} (q : Asked 
 
           pub type-struct : {o1 r1 f1 o2 : List ℕ} {a b y : Answer} → t .kind ≡ 16
               → ReadsList w x n (d - 1) StructFields o r f (fore s t) o1 r1 f1 a → b ≡ silent a (s .reported)
-              → Finished x o1 b (untexted (t .place) 20 (Two (a .count))) o2 y
+              → NodeWritten x o1 b (untexted (t .place) 20 (Two (a .count))) o2 y
               → Reads node w x n d P.parse-type o r f s o2 r1 f1 y
           unfolding go run P.type-rule
           type-struct {o1} {r1} {f1} {o2} {a} {b} {y} z u e F =
-              let G : Finished x o1 (silent a (s .reported)) (untexted (t .place) 20 (Two (a .count))) o2 y = rw e at F in
+              let G : NodeWritten x o1 (silent a (s .reported)) (untexted (t .place) 20 (Two (a .count))) o2 y = rw e at F in
               let mv = moved-onward (fore-moved (q .asks) v) (u .moved) in
               down Type' nz
               (record-reads {K = items} (next-token (rest w x n (s .at)) .place) (λ i. two (i .count) ∷ []) [] G (record { at = mv .at; end = mv .end; pos = mv .pos; room = mv .room; reported = omega arith; less = omega arith; full = mv .full; few = mv .few }) (omega (arith, v .kind, v .on, u .moved .at)) (omega arith) (λ i h. rw (v .place, h))
@@ -352,7 +352,7 @@ module _ {w x : List ℕ} {n : ℕ} (place : ℕ) {o r f : List ℕ} {s : State}
 
       pub array-done : {d : ℕ} {o2 r2 f2 o3 : List ℕ} {b y : Answer} → a .status ≡ Done
           → Reads node w x n d P.parse-type o r1 f1 (a .state) o2 r2 f2 b
-          → Finished x o2 b
+          → NodeWritten x o2 b
           (record { tag = 19; place = place; numbers = Eight (u .number); start = 0; len = 0 })
           o3 y
           → Reads node w x n d (P.parse-array-type (unpack-place place)) o r f s o3 r2 f2 y

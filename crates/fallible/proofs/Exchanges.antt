@@ -89,9 +89,9 @@ module _ {r held r₁ r₂ : List ℕ} {j k m : ℕ} (held₀ : List ℕ) where
       }
 
 -- the errors from n on are those after the first n
-behind : (r : List ℕ) (n m : ℕ) (E fs : List Err) → n ≤ m → errs r n ≡ E → errs r m ≡ E ++ fs → map (λ e. unpack e) (drop n (take m r)) ≡ fs
+errs-after : (r : List ℕ) (n m : ℕ) (E fs : List Err) → n ≤ m → errs r n ≡ E → errs r m ≡ E ++ fs → map (λ e. unpack e) (drop n (take m r)) ≡ fs
 unfolding errs
-behind r n m E fs h p q =
+errs-after r n m E fs h p q =
     append-cancel-left E (map (λ e. unpack e) (drop n (take m r))) fs
     (ap (λ (x : List Err). x ++ map (λ e. unpack e) (drop n (take m r))) (sym p ∙ ap (λ (x : List ℕ). map (λ e. unpack e) x) (sym (take-take n m r h)))
     ∙ sym (map-append (λ e. unpack e) (take n (take m r)) (drop n (take m r)))
@@ -105,4 +105,4 @@ exchange-errs {r} {r′} {j} {k} {m} x jk km E es fs p q s =
     ap (λ (z : List ℕ). map (λ e. unpack e) z) (x .is)
     ∙ map-append (λ e. unpack e) (take j r) (drop k (take m r) ++ drop j (take k r))
     ∙ ap (λ (z : List Err). map (λ e. unpack e) (take j r) ++ z) (map-append (λ e. unpack e) (drop k (take m r)) (drop j (take k r)))
-    ∙ rw (p, behind r k m (E ++ es) fs km q s, behind r j k E es jk p q)
+    ∙ rw (p, errs-after r k m (E ++ es) fs km q s, errs-after r j k E es jk p q)

@@ -29,7 +29,7 @@ use Rattle.node.specs.Put.{Room}
 use Rattle.node.specs.declared.Numbers.the-variants.{None, Byte}
 use Rattle.steps.specs.declared.Token.{Token}
 use Rattle.steps.specs.Tokens.{rest, budget, Seen}
-use Rattle.steps.specs.Shows.{st-of, Asked, Moved, Good, Reads, node, token, Expects, Expected, Follows, Finished}
+use Rattle.steps.specs.Shows.{st-of, Asked, Moved, Good, Reads, node, token, Expects, Expected, Follows, NodeWritten}
 use Rattle.steps.proofs.Tokens.{yes, no, fore, adv}
 use Rattle.steps.proofs.Moves.{refused-moved, asks-moved, fore-moved, moved-trans}
 use Rattle.steps.proofs.Answers.{Stopped, say, good-of, stops, follows, wrapped, raise-same}
@@ -216,7 +216,7 @@ module _ (d words place : ℕ) {w x : List ℕ} {n : ℕ} {o r f : List ℕ} {s 
     pub alias-done : {o1 r2 f2 r3 f3 o2 : List ℕ} {b c y : Answer} → a .status ≡ Done
         → Reads node w x n d P.parse-type o r1 f1 (a .state) o1 r2 f2 b → length r2 ≡ length r
         → length f2 ≡ length f → Expected w x n 50 (s .pos) (s .reported) r2 f2 b r3 f3 c
-        → Finished x o1 c (record {
+        → NodeWritten x o1 c (record {
           tag = 0x51;
           place = place;
           numbers = Byte words;
@@ -334,7 +334,7 @@ module _ (d place : ℕ) {w x : List ℕ} {n : ℕ} {o r f : List ℕ} {s : Stat
 
   module _ {r1 f1 : List ℕ} {a : Answer} (h : t .kind ≡ 3) (X : Expects w x n (λ role. P.expect-as role 50) r f (fore s t) r1 f1 a) where
     pub path-done : {o1 : List ℕ} {y : Answer}
-        → Finished x o a
+        → NodeWritten x o a
         (record { tag = 0x52; place = place; numbers = None; start = t .start; len = t .len }) o1
         y
         → Reads node w x n d (path-rule (unpack-place place)) o r f s o1 r1 f1 y

@@ -28,9 +28,9 @@ use Rattle.node.specs.Put.{Room}
 use Rattle.node.specs.declared.Numbers.the-variants.{Two, ByteTwo}
 use Rattle.steps.specs.declared.Token.{Token}
 use Rattle.steps.specs.Tokens.{rest, budget, Seen}
-use Rattle.steps.specs.Shows.{st-of, Asked, Moved, Good, Shows, Reads, done-of, node, token, items, Expects, Follows, Expected, Finished}
+use Rattle.steps.specs.Shows.{st-of, Asked, Moved, Good, Shows, Reads, done-of, node, token, items, Expects, Follows, Expected, NodeWritten}
 use Rattle.steps.proofs.Tokens.{yes, no, fore, adv}
-use Rattle.steps.proofs.Answers.{Stopped, say, good-of, is-good, stops, follows, wrapped, finishes}
+use Rattle.steps.proofs.Answers.{Stopped, say, good-of, is-good, stops, follows, wrapped, writes-node}
 use Rattle.steps.proofs.Following.{expects-after}
 use Rattle.expression_laws.specs.Post.{as-answer}
 use Rattle.expression_laws.proofs.Names.{text-length}
@@ -64,7 +64,7 @@ module _ {w x : List ℕ} {n name i j : ℕ} {o r f : List ℕ} {a : Answer} (q 
     external-room = record { room = omega (arith, q .room, X .high, text-length u); part = u .part }
 
     pub external-on : {o2 : List ℕ} {y : Answer} {place : ℕ} (d : ℕ)
-        → Finished x o b (record {
+        → NodeWritten x o b (record {
           tag = 0x50;
           place = place;
           numbers = ByteTwo 1 (a .count);
@@ -90,7 +90,7 @@ module _ {w x : List ℕ} {n name i j : ℕ} {o r f : List ℕ} {a : Answer} (q 
           is = λ T E p li lj v.
               say (outside-seam d (unpack-place place) (next-token (rest w x n name)) p
               ∙ expect-seam d plain 50 (outside (unpack-place place) (next-token (rest w x n name))) p)
-              (finishes d (λ _. unpack-place place) (λ i. byte 1 ∷ two (i .count) ∷ [])
+              (writes-node d (λ _. unpack-place place) (λ i. byte 1 ∷ two (i .count) ∷ [])
               (next-token (rest w x n name) .text) F (λ k h. rw (h, expected-line X, u .text))
               (expects-after external-follows X plain d li lj v));
         }
@@ -181,13 +181,13 @@ module _ {w x : List ℕ} {n d name i j : ℕ} {o r f : List ℕ} {a : Answer} (
     )
 
 module _ {w x : List ℕ} {n d name i j place : ℕ} {o r f : List ℕ} {a : Answer} (q : FunctionAsked w x n o r f name a i j) {o1 r1 f1 o2 : List ℕ} {b c : Answer} {t : Token} (z : a .status ≡ Done) (B : ReadsBody w x n d o r f (a .state) o1 r1 f1 b)
-    (F : Finished x o1 b (record { tag = 0x40; place = place; numbers = Two (b .count); start = 0; len = 0 }) o2 c) (u : Seen w x n name t) where
+    (F : NodeWritten x o1 b (record { tag = 0x40; place = place; numbers = Two (b .count); start = 0; len = 0 }) o2 c) (u : Seen w x n name t) where
   pub whole-room : length o2 ≡ length o → Room o2 x (c .state .pos) (16 + t .len) (t .start) (t .len)
   whole-room l = record { room = omega (arith, q .room, B .moved .room, F .high, text-length u, l); part = u .part }
 
   module _ {r2 o3 : List ℕ} {y : Answer} (h : b .status ≡ Done)
       (X : Exchanged r1 j (a .state .reported) (b .state .reported) r2)
-      (G : Finished x o2 c (record { tag = 0x50; place = place; numbers = ByteTwo 0 (a .count); start = t .start; len = t .len }) o3 y) where
+      (G : NodeWritten x o2 c (record { tag = 0x50; place = place; numbers = ByteTwo 0 (a .count); start = t .start; len = t .len }) o3 y) where
     whole-moved : Moved w x n i j (up (19 + length (next-token (rest w x n name) .text)) (a .state)) (y .state)
     whole-moved =
         let e : budget w x n (y .state .at) ≡ budget w x n (b .state .at) = ap (λ (k : ℕ). budget w x n k) (G .at ∙ F .at) in
@@ -234,9 +234,9 @@ module _ {w x : List ℕ} {n d name i j place : ℕ} {o r f : List ℕ} {a : Ans
           ∙ follows d (bodied p nm e) (s .is)
           ∙ records-seam d p nm e (record { item = s .item; errors = s .errors })
           (st-of w x n f1 (s .read) (b .state)))
-          (finishes d (λ _. p) (λ _. byte 0 ∷ two (g .item .count) ∷ []) (nm .text) G
+          (writes-node d (λ _. p) (λ _. byte 0 ∷ two (g .item .count) ∷ []) (nm .text) G
           (λ k _. rw (g .holds, u .text))
-          (finishes d (λ _. p) (λ k. two (k .count) ∷ []) [] F (λ k e. rw e) turned-body))
+          (writes-node d (λ _. p) (λ k. two (k .count) ∷ []) [] F (λ k e. rw e) turned-body))
 
     pub whole-reads : FunctionOn w x n d 0 (unpack-place place) name i j o r f a o3 r2 f1 y
     whole-reads = record {

@@ -19,7 +19,7 @@ use Rattle.fallible.specs.Answers.{raised, Raised}
 use Rattle.node.specs.declared.Numbers.the-variants.{None}
 use Rattle.steps.specs.declared.Token.{Token}
 use Rattle.steps.specs.Tokens.{rest, Seen}
-use Rattle.steps.specs.Shows.{st-of, Asked, Reads, node, Finished, texted}
+use Rattle.steps.specs.Shows.{st-of, Asked, Reads, node, NodeWritten, texted}
 use Rattle.steps.proofs.Tokens.{yes, no, fore, adv}
 use Rattle.steps.proofs.Moves.{stays}
 use Rattle.steps.proofs.Answers.{say, raise-same}
@@ -80,7 +80,7 @@ module _ {w x : List ℕ} {n d : ℕ} {o r f : List ℕ} {s : State} {t : Token}
             }
 
         module _ (m5 : t .kind ≡ 5 → ⊥) (q : Asked w x n o r f s) where
-          pub item-assembly : {o1 : List ℕ} {y : Answer} → t .kind ≡ 54 → Finished x o (there s t) (texted (t .place) 0x54 None (t .start) (t .len)) o1 y
+          pub item-assembly : {o1 : List ℕ} {y : Answer} → t .kind ≡ 54 → NodeWritten x o (there s t) (texted (t .place) 0x54 None (t .start) (t .len)) o1 y
               → Reads node w x n d P.parse-top-level-item o r f s o1 r f y
           unfolding go run P.parse-top-level-item
           item-assembly h F =

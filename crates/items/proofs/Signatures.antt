@@ -24,9 +24,9 @@ use Rattle.fallible.specs.Orders.{Exchanged}
 use Rattle.node.specs.declared.Numbers.the-variants.{None}
 use Rattle.steps.specs.declared.Token.{Token}
 use Rattle.steps.specs.Tokens.{budget, Seen}
-use Rattle.steps.specs.Shows.{st-of, Asked, Moved, Good, Shows, Reads, node, items, Finished}
+use Rattle.steps.specs.Shows.{st-of, Asked, Moved, Good, Shows, Reads, node, items, NodeWritten}
 use Rattle.steps.proofs.Tokens.{yes, no, fore, adv}
-use Rattle.steps.proofs.Answers.{Stopped, say, good-of, is-good, stops, follows, abandons, finishes}
+use Rattle.steps.proofs.Answers.{Stopped, say, good-of, is-good, stops, follows, abandons, writes-node}
 use Rattle.expression_laws.specs.Post.{as-answer, ReadsList}
 use Rattle.expression_laws.proofs.Types.{past}
 use Rattle.statement.specs.Post.{up}
@@ -57,7 +57,7 @@ module _ {w x : List ℕ} {n d : ℕ} {o r f : List ℕ} {s : State} {t : Token}
   }
 
   pub type-none : {o2 : List ℕ} {y : Answer} {place : ℕ} → Asked w x n o r f s → (t .kind ≡ 51 → ⊥)
-      → Finished x o (record { status = Done; state = s; place = place; count = 0 })
+      → NodeWritten x o (record { status = Done; state = s; place = place; count = 0 })
       (record { tag = 0x11; place = place; numbers = None; start = 0; len = 0 }) o2 y
       → ReadsType w x n d (unpack-place place) o r f s o2 r f y
   unfolding go run recs-bytes
@@ -78,7 +78,7 @@ module _ {w x : List ℕ} {n d : ℕ} {o r f : List ℕ} {s : State} {t : Token}
             };
         is = λ rd.
             say (rw (run, no u m))
-            (finishes {K = node} {rs = []} {es = []} {q = gives (ok none) (st-of w x n f rd s)} d (λ _. unpack-place place) (λ _. []) [] F (λ i _. refl)
+            (writes-node {K = node} {rs = []} {es = []} {q = gives (ok none) (st-of w x n f rd s)} d (λ _. unpack-place place) (λ _. []) [] F (λ i _. refl)
             (record {
               told = record {
                 item = none .item;

@@ -26,10 +26,10 @@ use Rattle.fallible.specs.Answers.{raised, Raised}
 use Rattle.fallible.proofs.Status.{the-type}
 use Rattle.steps.specs.declared.Token.{Token}
 use Rattle.steps.specs.Tokens.{rest, budget, Seen}
-use Rattle.steps.specs.Shows.{st-of, Asks, node, token, Reads, Expects, Finished, texted, untexted}
+use Rattle.steps.specs.Shows.{st-of, Asks, node, token, Reads, Expects, NodeWritten, texted, untexted}
 use Rattle.steps.proofs.Tokens.{yes, no, fore, adv}
 use Rattle.steps.proofs.Moves.{stays}
-use Rattle.steps.proofs.Answers.{say, finishes, raise-same}
+use Rattle.steps.proofs.Answers.{say, writes-node, raise-same}
 use Rattle.leaves.specs.Leaves.{there, identifier, Literal, ClosingOf, ClosedOf, Closed}
 use Rattle.leaves.proofs.Errors.{raise-reads}
 
@@ -37,7 +37,7 @@ use Rattle.leaves.proofs.Errors.{raise-reads}
 
 module _ {w x : List ℕ} {n : ℕ} {o o′ r f : List ℕ} {s : State} {t : Token} {z : Record} {y : Answer}
     {m : Act (Ans Node)} (q : Asks w x n r f s) (v : Seen w x n (s .at) t) (ns : List Num) (text : List ℕ)
-    (u : Finished x o (there s t) z o′ y) where
+    (u : NodeWritten x o (there s t) z o′ y) where
   -- an act that reads the token and writes its record reads a node
   pub leaf-reads : size-of z ≤ 16 * min (t .kind) 1 + t .len
       → rec-of x z
@@ -67,7 +67,7 @@ module _ {w x : List ℕ} {n : ℕ} {o o′ r f : List ℕ} {s : State} {t : Tok
         λ rd. say (g rd
         ∙ ap (λ (S : St). go d (P.good (P.node [] (z .tag) (next-token (rest w x n (s .at)) .place) ns text) []) S)
         (adv s v (λ _. plain) f rd))
-        (finishes {K = token (next-token (rest w x n (s .at)))} {rs = []} {es = []} {q = gives (ok (record { item = next-token (rest w x n (s .at)); errors = [] })) (st-of w x n f (rd ++ now-read (λ _. plain) (rest w x n (s .at))) (fore s t))} d (λ _. next-token (rest w x n (s .at)) .place) (λ _. ns) text u (λ _ _. e)
+        (writes-node {K = token (next-token (rest w x n (s .at)))} {rs = []} {es = []} {q = gives (ok (record { item = next-token (rest w x n (s .at)); errors = [] })) (st-of w x n f (rd ++ now-read (λ _. plain) (rest w x n (s .at))) (fore s t))} d (λ _. next-token (rest w x n (s .at)) .place) (λ _. ns) text u (λ _ _. e)
         (record {
           told = record {
             item = next-token (rest w x n (s .at));
@@ -89,7 +89,7 @@ Atom w x n o r f s o′ r′ f′ y = (d : ℕ) → Reads node w x n d P.parse-a
 
 module _ {w x : List ℕ} {n : ℕ} {o r f : List ℕ} {s : State} {t : Token} (q : Literal w x n o r f s) (v : Seen w x n (s .at) t) where
   pub integer-reads : {o′ : List ℕ} {y : Answer} → t .kind ≡ 2
-      → Finished x o (there s t) (texted (t .place) 33 (Byte (t .base % 256)) (t .start) (t .len)) o′ y → Atom w x n o r f s o′ r f y
+      → NodeWritten x o (there s t) (texted (t .place) 33 (Byte (t .base % 256)) (t .start) (t .len)) o′ y → Atom w x n o r f s o′ r f y
   unfolding go run P.parse-atom
   integer-reads z u d =
       let b : t .base % 256 ≡ t .base = omega (arith, v .bases) in
@@ -98,14 +98,14 @@ module _ {w x : List ℕ} {n : ℕ} {o r f : List ℕ} {s : State} {t : Token} (
       (λ rd. rw (run, yes v z))
 
   module _ (m2 : t .kind ≡ 2 → ⊥) where
-    pub name-reads : {o′ : List ℕ} {y : Answer} → t .kind ≡ 1 → Finished x o (there s t) (identifier t) o′ y → Atom w x n o r f s o′ r f y
+    pub name-reads : {o′ : List ℕ} {y : Answer} → t .kind ≡ 1 → NodeWritten x o (there s t) (identifier t) o′ y → Atom w x n o r f s o′ r f y
     unfolding go run P.parse-atom
     name-reads z u d =
         leaf-reads (q .asked .asks) v [] (next-token (rest w x n (s .at)) .text) u (omega arith)
         (rw (v .place, v .text)) d (λ rd. rw (run, no v m2, yes v z))
 
     module _ (m1 : t .kind ≡ 1 → ⊥) where
-      pub string-reads : {o′ : List ℕ} {y : Answer} → t .kind ≡ 3 → Finished x o (there s t) (texted (t .place) 35 None (t .start) (t .len)) o′ y
+      pub string-reads : {o′ : List ℕ} {y : Answer} → t .kind ≡ 3 → NodeWritten x o (there s t) (texted (t .place) 35 None (t .start) (t .len)) o′ y
           → Atom w x n o r f s o′ r f y
       unfolding go run P.parse-atom
       string-reads z u d =
@@ -113,7 +113,7 @@ module _ {w x : List ℕ} {n : ℕ} {o r f : List ℕ} {s : State} {t : Token} (
           (rw (v .place, v .text)) d (λ rd. rw (run, no v m2, no v m1, yes v z))
 
       module _ (m3 : t .kind ≡ 3 → ⊥) where
-        pub true-reads : {o′ : List ℕ} {y : Answer} → t .kind ≡ 12 → Finished x o (there s t) (untexted (t .place) 34 (Byte 1)) o′ y
+        pub true-reads : {o′ : List ℕ} {y : Answer} → t .kind ≡ 12 → NodeWritten x o (there s t) (untexted (t .place) 34 (Byte 1)) o′ y
             → Atom w x n o r f s o′ r f y
         unfolding go run P.parse-atom
         true-reads z u d =
@@ -121,7 +121,7 @@ module _ {w x : List ℕ} {n : ℕ} {o r f : List ℕ} {s : State} {t : Token} (
             (λ rd. rw (run, no v m2, no v m1, no v m3, yes v z))
 
         module _ (m12 : t .kind ≡ 12 → ⊥) where
-          pub false-reads : {o′ : List ℕ} {y : Answer} → t .kind ≡ 13 → Finished x o (there s t) (untexted (t .place) 34 (Byte 0)) o′ y
+          pub false-reads : {o′ : List ℕ} {y : Answer} → t .kind ≡ 13 → NodeWritten x o (there s t) (untexted (t .place) 34 (Byte 0)) o′ y
               → Atom w x n o r f s o′ r f y
           unfolding go run P.parse-atom
           false-reads z u d =

@@ -22,7 +22,7 @@ ghost use Rattle.definition.specs.Token.{digit};
 ghost use Rattle.node.specs.Contract.{Room};
 ghost use Rattle.steps.specs.Shows.{texted};
 ghost use Rattle.leaves.specs.Leaves.{is-arithmetic, listed-of, Counted, Valued, level-of, level-at, Operator, Prefix, there, identifier, is-name-alone};
-ghost use Rattle.steps.specs.Contract.{Asks, Parses, Finishes};
+ghost use Rattle.steps.specs.Contract.{Asks, Parses, WritesNode};
 ghost use Rattle.leaves.specs.Contract.{Literal, Commas, Closed};
 
 // The kinds of lists that parse_bounded_list_of parses.
@@ -280,7 +280,7 @@ pub fn prefix(k: u32) -> u8
 // Consumes the token `t` and writes its record.
 fn leaf(file: &mut [u8], text: &[u8], st: State, t: Token, tag: u8, numbers: Numbers) -> Answer
     requires { ⌜ Room file text (st .pos) (16 + t .len) (t .start) (t .len) ⌝ }
-    ensures { λ r. ⌜ Finishes (texted (t .place) tag numbers (t .start) (t .len)) file text (there st t) r ⌝ }
+    ensures { λ r. ⌜ WritesNode (texted (t .place) tag numbers (t .start) (t .len)) file text (there st t) r ⌝ }
 {
     let v = Record {
         tag,
@@ -305,7 +305,7 @@ fn leaf(file: &mut [u8], text: &[u8], st: State, t: Token, tag: u8, numbers: Num
 // Consumes an identifier and writes its record.
 pub fn name(file: &mut [u8], text: &[u8], st: State, t: Token) -> Answer
     requires { ⌜ Room file text (st .pos) (16 + t .len) (t .start) (t .len) ⌝ }
-    ensures { λ r. ⌜ Finishes (identifier t) file text (there st t) r ⌝ }
+    ensures { λ r. ⌜ WritesNode (identifier t) file text (there st t) r ⌝ }
 {
     leaf(file, text, st, t, tag::IDENTIFIER, Numbers::None)
 }

@@ -25,10 +25,10 @@ use Rattle.node.specs.declared.Numbers.the-variants.{None}
 use Rattle.node.specs.declared.Record.{Record}
 use Rattle.steps.specs.declared.Token.{Token}
 use Rattle.steps.specs.Tokens.{budget, Seen}
-use Rattle.steps.specs.Shows.{st-of, Asked, Moved, View, Shows, Reads, node, Expected, Follows, done-of, FinishedOf, Finished}
+use Rattle.steps.specs.Shows.{st-of, Asked, Moved, View, Shows, Reads, node, Expected, Follows, done-of, NodeWrittenOf, NodeWritten}
 use Rattle.steps.proofs.Tokens.{yes, no, fore, adv}
 use Rattle.steps.proofs.Moves.{fore-moved, moved-trans, asks-moved, abandoned-moved}
-use Rattle.steps.proofs.Answers.{Stopped, say, good-of, is-good, follows, abandons, wrapped, finishes}
+use Rattle.steps.proofs.Answers.{Stopped, say, good-of, is-good, follows, abandons, wrapped, writes-node}
 use Rattle.steps.proofs.Constructs.{then-stops}
 use Rattle.steps.proofs.Following.{expects-after}
 use Rattle.expression_laws.proofs.Types.{past}
@@ -50,7 +50,7 @@ module _ {w x : List ℕ} {n d : ℕ} {o r f : List ℕ} {s : State} {t : Token}
     (q : Asked w x n o r f s) (hi : i ≤ s .pos) (u : Seen w x n (s .at) t) where
   -- `=` or `<-`, a value parsed by m, `;`
   module _ {o1 r1 f1 r2 r3 f2 o2 : List ℕ} {a b c y : Answer} {m : Act (Ans Node)} (tag : ℕ) (B : Reads node w x n d m o r f (fore s t) o1 r1 f1 a) (C : Abandoned r1 a i (s .reported) (s .reported) r2 b) (lr : length r2 ≡ length r) (lf : length f1 ≡ length f)
-      (X : Expected w x n 50 i (s .reported) r2 f1 b r3 f2 c) (F : Finished x o1 c (placed tag place) o2 y) where
+      (X : Expected w x n 50 i (s .reported) r2 f1 b r3 f2 c) (F : NodeWritten x o1 c (placed tag place) o2 y) where
     assigned-after : 0 < t .kind
         → ((e : Node) (rd : List Consumed)
         → go d (P.after-expression (unpack-place place) e) (st-of w x n f rd s)
@@ -78,14 +78,14 @@ module _ {w x : List ℕ} {n d : ℕ} {o r f : List ℕ} {s : State} {t : Token}
               let lj : length (errs r (s .reported)) ≡ s .reported = errs-length r (s .reported) (omega (arith, q .asks)) in
               say (step e rd ∙ go-bind d m (or-return (λ z. P.expect 50 >>? λ _. v z)) _
               ∙ expect-seam d plain 50 v (go d m (st-of w x n f (past w x n (s .at) rd) (fore s t))))
-              (finishes d (λ _. unpack-place place) (λ _. []) [] F (λ _ _. refl)
+              (writes-node d (λ _. unpack-place place) (λ _. []) [] F (λ _ _. refl)
               (expects-after (record { asks = asks-moved (q .asks) (moved-trans (fore-moved (q .asks) u) M) lr lf; pos = C .low; reported = C .first }) X plain d li lj
               (abandons {T = T} {E = errs r (s .reported)} tree (sym (append-nil (errs r (s .reported)))) li lj
               lj C (omega (arith, B .moved .pos, hi)) (B .moved .reported) (B .is (past w x n (s .at) rd)))));
         }
 
   module _ {o1 r1 f1 r2 r3 f2 o2 : List ℕ} {a b c y : Answer} (h : t .kind ≡ 26) (B : Reads node w x n d P.parse-expression o r f (fore s t) o1 r1 f1 a) (C : Abandoned r1 a i (s .reported) (s .reported) r2 b) (lr : length r2 ≡ length r) (lf : length f1 ≡ length f)
-      (X : Expected w x n 50 i (s .reported) r2 f1 b r3 f2 c) (F : Finished x o1 c (placed 0x43 place) o2 y) where
+      (X : Expected w x n 50 i (s .reported) r2 f1 b r3 f2 c) (F : NodeWritten x o1 c (placed 0x43 place) o2 y) where
     pub assignment-after : ReadsAfter w x n d (P.after-expression (unpack-place place)) i o r f s o2 r3 f2 y
     unfolding go run P.after-expression
     assignment-after =
@@ -94,7 +94,7 @@ module _ {w x : List ℕ} {n d : ℕ} {o r f : List ℕ} {s : State} {t : Token}
         (λ _. unpack-place place) (λ _. []) [] v) S) (adv s u (λ _. plain) f rd)))
 
   module _ {o1 r1 f1 r2 r3 f2 o2 : List ℕ} {a b c y : Answer} (h : t .kind ≡ 52) (B : Reads node w x n d P.parse-compound o r f (fore s t) o1 r1 f1 a) (C : Abandoned r1 a i (s .reported) (s .reported) r2 b) (lr : length r2 ≡ length r) (lf : length f1 ≡ length f)
-      (X : Expected w x n 50 i (s .reported) r2 f1 b r3 f2 c) (F : Finished x o1 c (placed 0x44 place) o2 y) where
+      (X : Expected w x n 50 i (s .reported) r2 f1 b r3 f2 c) (F : NodeWritten x o1 c (placed 0x44 place) o2 y) where
     pub compound-after : ReadsAfter w x n d (P.after-expression (unpack-place place)) i o r f s o2 r3 f2 y
     unfolding go run P.after-expression
     compound-after =
@@ -129,11 +129,11 @@ module _ {w x : List ℕ} {n d : ℕ} {o r f : List ℕ} {s : State} {t : Token}
       assigned-room X l = record { room = omega (arith, q .room, assigned-moved .room, X .high); part = omega arith }
 
 -- a record is written only after a good answer
-finished-high : {x o o′ : List ℕ} {b y : Answer} {tag place : ℕ} → Finished x o b (placed tag place) o′ y
+node-written-high : {x o o′ : List ℕ} {b y : Answer} {tag place : ℕ} → NodeWritten x o b (placed tag place) o′ y
     → y .state .pos ≤ b .state .pos + 7 * done-of (b .status)
-finished-high {x} {o} {o′} {b} {y} {tag} {place} F = one (b .status) (F .is)
+node-written-high {x} {o} {o′} {b} {y} {tag} {place} F = one (b .status) (F .is)
   where
-    one : (h : Status) → FinishedOf h x o b (placed tag place) o′ y → y .state .pos ≤ b .state .pos + 7 * done-of h
+    one : (h : Status) → NodeWrittenOf h x o b (placed tag place) o′ y → y .state .pos ≤ b .state .pos + 7 * done-of h
     one Done m = omega (arith, F .high)
     one Fatal m = omega (arith, ap (λ (k : Answer). k .state .pos) (m .0))
     one (Refused u) m = omega (arith, ap (λ (k : Answer). k .state .pos) (m .0))
@@ -143,7 +143,7 @@ module _ {w x : List ℕ} {n d : ℕ} {o r f : List ℕ} {t : Token} {i place : 
     (q : Asked w x n o r f (a .state)) (hi : i ≤ a .state .pos) (u : Seen w x n (a .state .at) t)
     (z : a .status ≡ Done) where
   pub expression-after : {r1 f1 o2 : List ℕ} {b y : Answer} → (t .kind ≡ 26 → ⊥) → (t .kind ≡ 52 → ⊥)
-      → Expected w x n 50 i (a .state .reported) r f a r1 f1 b → Finished x o b (placed 0x41 place) o2 y
+      → Expected w x n 50 i (a .state .reported) r f a r1 f1 b → NodeWritten x o b (placed 0x41 place) o2 y
       → ReadsAfter w x n d (P.after-expression (unpack-place place)) i o r f (a .state) o2 r1 f1 y
   unfolding go run P.after-expression
   expression-after {b = b} {y = y} m26 m52 X F =
@@ -154,7 +154,7 @@ module _ {w x : List ℕ} {n d : ℕ} {o r f : List ℕ} {t : Token} {i place : 
               at = omega (arith, F .at, X .moved);
               end = omega (arith, F .at, X .moved);
               pos = omega (arith, F .low, X .moved);
-              room = omega (arith, finished-high F, X .high, X .pays);
+              room = omega (arith, node-written-high F, X .high, X .pays);
               reported = omega (arith, F .reported, X .moved);
               less = omega (arith, F .reported, F .full, X .moved);
               full = omega (arith, F .full, X .moved);
@@ -174,7 +174,7 @@ module _ {w x : List ℕ} {n d : ℕ} {o r f : List ℕ} {t : Token} {i place : 
             }) in
             say (rw (run, no u m26, no u m52) (expect-seam d plain 50 v
             (gives (ok (record { item = e; errors = [] })) (st-of w x n f rd (a .state)))))
-            (finishes d (λ _. unpack-place place) (λ _. []) [] F (λ _ _. refl)
+            (writes-node d (λ _. unpack-place place) (λ _. []) [] F (λ _ _. refl)
             (expects-after (record { asks = q .asks; pos = hi; reported = omega arith }) X plain d li
             (errs-length r (a .state .reported) (omega (arith, q .asks))) A));
       }
@@ -211,7 +211,7 @@ module _ {w x : List ℕ} {n d : ℕ} {o r f o1 r1 f1 : List ℕ} {s : State} {a
     module _ (z : a .status ≡ Done) (lo : length o1 ≡ length o) (lr : length r1 ≡ length r) where
       -- the expression has errors: the statement ends with it; else `after_expression` continues
       pub statement-errors : {o2 : List ℕ} {y : Answer} → s .reported < a .state .reported
-          → Finished x o1 a (placed 0x41 place) o2 y
+          → NodeWritten x o1 a (placed 0x41 place) o2 y
           → Reads node w x n d (P.expression-statement (unpack-place place)) o r f s o2 r1 f1 y
       unfolding go run P.expression-statement
       statement-errors {o2} {y} h F =
@@ -238,7 +238,7 @@ module _ {w x : List ℕ} {n d : ℕ} {o r f o1 r1 f1 : List ℕ} {s : State} {a
                 rw (run, m) in
                 say (go-bind d P.parse-expression (or-return (on (unpack-place place))) (st-of w x n f rd s)
                 ∙ follows d (on (unpack-place place)) (g .is) ∙ step ∙ sym (follows d k (g .is)))
-                (finishes d (λ _. unpack-place place) (λ _. []) [] F (λ _ _. refl) (B .is rd));
+                (writes-node d (λ _. unpack-place place) (λ _. []) [] F (λ _ _. refl) (B .is rd));
           }
 
       pub statement-after : {o2 r2 f2 : List ℕ} {y : Answer} → (s .reported < a .state .reported → ⊥)

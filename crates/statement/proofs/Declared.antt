@@ -27,10 +27,10 @@ use Rattle.fallible.specs.Answers.{raised, Raised}
 use Rattle.node.specs.declared.Numbers.the-variants.{None, Two}
 use Rattle.steps.specs.declared.Token.{Token}
 use Rattle.steps.specs.Tokens.{rest, budget, Seen}
-use Rattle.steps.specs.Shows.{st-of, Asks, Asked, Moved, ShowsOf, Shows, Reads, node, items, typed, Expects, Expected, done-of, FinishedOf, Finished}
+use Rattle.steps.specs.Shows.{st-of, Asks, Asked, Moved, ShowsOf, Shows, Reads, node, items, typed, Expects, Expected, done-of, NodeWrittenOf, NodeWritten}
 use Rattle.steps.proofs.Tokens.{yes, no}
 use Rattle.steps.proofs.Moves.{making-moved, asks-moved}
-use Rattle.steps.proofs.Answers.{Stopped, say, good-of, stops, follows, wrapped, finishes, wrote, raise-shows, not-done, done-le, raise-same}
+use Rattle.steps.proofs.Answers.{Stopped, say, good-of, stops, follows, wrapped, writes-node, wrote, raise-shows, not-done, done-le, raise-same}
 use Rattle.steps.proofs.Following.{expects-after}
 use Rattle.expression_laws.specs.Post.{name-of, ReadsList, NameRoom}
 use Rattle.expression_laws.proofs.Types.{through}
@@ -49,7 +49,7 @@ opens A.ArrayValues = omega arith
 opens A.StructValues = omega arith
 
 module _ {w x : List ℕ} {n d : ℕ} {o r f o1 r1 f1 o2 : List ℕ} {s : State} {b y : Answer} (k : A.Listed) (tag place : ℕ) (q : Starts (P.opener k) w x n o r f s) (B : ReadsList w x n d k o r f s o1 r1 f1 b)
-    (F : Finished x o1 b (record { tag = tag; place = place; numbers = Two (b .count); start = 0; len = 0 }) o2 y) where
+    (F : NodeWritten x o1 b (record { tag = tag; place = place; numbers = Two (b .count); start = 0; len = 0 }) o2 y) where
   pub values-reads : Reads node w x n d (values-rule k tag (unpack-place place)) o r f s o2 r1 f1 y
   values-reads =
       let e : budget w x n (y .state .at) ≡ budget w x n (b .state .at) = ap (λ (k : ℕ). budget w x n k) (F .at) in
@@ -70,7 +70,7 @@ module _ {w x : List ℕ} {n d : ℕ} {o r f o1 r1 f1 o2 : List ℕ} {s : State}
             say (through d (P.parse-list k) _
             (wrapped items [] [] tag (λ _. unpack-place place) (λ i. two (i .count) ∷ []) []) (λ i. refl)
             (st-of w x n f rd s))
-            (finishes d (λ _. unpack-place place) (λ i. two (i .count) ∷ []) [] F (λ i e. rw e) (B .is rd));
+            (writes-node d (λ _. unpack-place place) (λ i. two (i .count) ∷ []) [] F (λ i e. rw e) (B .is rd));
       }
 
 -- ---- `compound`
@@ -197,12 +197,12 @@ module _ {w x : List ℕ} {n : ℕ} {o o2 : List ℕ} {a y : Answer} {tag place 
   -- the record has the name
   named-so : (X : List ℕ) (start len : ℕ) → name-of (next-token (rest w x n p)) ≡ take len (drop start X)
       → length (name-of (next-token (rest w x n p))) ≡ len → len ≤ 3 + length (next-token (rest w x n p) .text)
-      → Finished X o a
+      → NodeWritten X o a
       (record { tag = tag; place = place; numbers = None; start = start; len = len }) o2 y
       → Named w x n o a tag place p o2 y
   named-so X start len e l h F =
       let one : done-of (a .status) ≡ 1 = rw z in
-      let m = subst (λ (k : Status). FinishedOf k X o a
+      let m = subst (λ (k : Status). NodeWrittenOf k X o a
       (record { tag = tag; place = place; numbers = None; start = start; len = len }) o2 y) z
       (F .is) in
       record {
@@ -217,7 +217,7 @@ module _ {w x : List ℕ} {n : ℕ} {o o2 : List ℕ} {a y : Answer} {tag place 
 
   -- the token is an identifier, or not: then the name is `<?>`
   pub named-there : t .kind ≡ 1
-      → Finished x o a
+      → NodeWritten x o a
       (record { tag = tag; place = place; numbers = None; start = t .start; len = t .len }) o2 y
       → Named w x n o a tag place p o2 y
   named-there h F =
@@ -227,7 +227,7 @@ module _ {w x : List ℕ} {n : ℕ} {o o2 : List ℕ} {a y : Answer} {tag place 
       named-so x (t .start) (t .len) (i ∙ u .text) (ap length (i ∙ u .text) ∙ l) (omega (arith, ap length (u .text) ∙ l)) F
 
   pub named-none : (t .kind ≡ 1 → ⊥)
-      → Finished (60 ∷ 63 ∷ 62 ∷ []) o a
+      → NodeWritten (60 ∷ 63 ∷ 62 ∷ []) o a
       (record { tag = tag; place = place; numbers = None; start = 0; len = 3 }) o2 y
       → Named w x n o a tag place p o2 y
   unfolding ascii

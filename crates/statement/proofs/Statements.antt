@@ -28,10 +28,10 @@ use Rattle.node.specs.Put.{Room}
 use Rattle.node.specs.declared.Numbers.the-variants.{None, Byte, Two}
 use Rattle.steps.specs.declared.Token.{Token}
 use Rattle.steps.specs.Tokens.{rest, budget, Seen}
-use Rattle.steps.specs.Shows.{st-of, Asked, Moved, ShowsOf, Shows, Reads, node, items, token, Expects, Expected, Finished, texted, untexted}
+use Rattle.steps.specs.Shows.{st-of, Asked, Moved, ShowsOf, Shows, Reads, node, items, token, Expects, Expected, NodeWritten, texted, untexted}
 use Rattle.steps.proofs.Tokens.{yes, no, fore, adv}
 use Rattle.steps.proofs.Moves.{making-moved, fore-moved, moved-trans, asks-moved, asked-seen, asked-moved}
-use Rattle.steps.proofs.Answers.{Stopped, say, good-of, stops, follows, abandons, wrapped, finishes, raise-shows, raise-same}
+use Rattle.steps.proofs.Answers.{Stopped, say, good-of, stops, follows, abandons, wrapped, writes-node, raise-shows, raise-same}
 use Rattle.steps.proofs.Constructs.{then-stops}
 use Rattle.steps.proofs.Following.{expects-after}
 use Rattle.leaves.specs.Leaves.{there}
@@ -255,7 +255,7 @@ ended-on m z = omega (arith, m .at, z)
 module _ {w x : List ℕ} {n d : ℕ} {o r f : List ℕ} {s : State} {t : Token} (u : Seen w x n (s .at) t) where
   pub loop-reads : {o1 r1 f1 o2 : List ℕ} {b y : Answer} → Starts K.KwLoop w x n o r f s
       → Reads node w x n d P.parse-statement o r f (fore s t) o1 r1 f1 b
-      → Finished x o1 b (untexted (t .place) 0x46 None) o2 y → Reads node w x n d P.statement-rule o r f s o2 r1 f1 y
+      → NodeWritten x o1 b (untexted (t .place) 0x46 None) o2 y → Reads node w x n d P.statement-rule o r f s o2 r1 f1 y
   loop-reads q B F =
       wraps-token (λ _. here w x n s) (λ _. []) [] (q .asked) u B F (omega (arith, q .kind, u .kind))
       (λ i e. rw (u .place)) (past w x n (s .at))
@@ -265,7 +265,7 @@ module _ {w x : List ℕ} {n d : ℕ} {o r f : List ℕ} {s : State} {t : Token}
 
   pub while-reads : {o1 r1 f1 o2 : List ℕ} {b y : Answer} → Starts K.KwWhile w x n o r f s
       → Reads node w x n d guarded-rule o r f (fore s t) o1 r1 f1 b
-      → Finished x o1 b (untexted (t .place) 0x47 None) o2 y → Reads node w x n d P.statement-rule o r f s o2 r1 f1 y
+      → NodeWritten x o1 b (untexted (t .place) 0x47 None) o2 y → Reads node w x n d P.statement-rule o r f s o2 r1 f1 y
   while-reads q B F =
       wraps-token (λ _. here w x n s) (λ _. []) [] (q .asked) u B F (omega (arith, q .kind, u .kind))
       (λ i e. rw (u .place)) (past w x n (s .at))
@@ -277,7 +277,7 @@ module _ {w x : List ℕ} {n d : ℕ} {o r f : List ℕ} {s : State} {t : Token}
       (adv s u (λ _. plain) f rd))
 
   pub assembly-reads : {o2 : List ℕ} {y : Answer} → Starts K.InlineAssemblyFragment w x n o r f s
-      → Finished x o (there s t) (texted (t .place) 0x4A None (t .start) (t .len)) o2 y
+      → NodeWritten x o (there s t) (texted (t .place) 0x4A None (t .start) (t .len)) o2 y
       → Reads node w x n d P.statement-rule o r f s o2 r f y
   assembly-reads q F =
       leaf-reads (q .asked .asks) u [] (next-token (rest w x n (s .at)) .text) F (omega (arith, q .kind, u .kind))
@@ -285,7 +285,7 @@ module _ {w x : List ℕ} {n d : ℕ} {o r f : List ℕ} {s : State} {t : Token}
 
   pub break-reads : {r1 f1 o2 : List ℕ} {a y : Answer} → Starts K.KwBreak w x n o r f s
       → Expects w x n (λ role. P.expect-as role 50) r f (fore s t) r1 f1 a
-      → Finished x o a (untexted (t .place) 0x48 None) o2 y → Reads node w x n d P.statement-rule o r f s o2 r1 f1 y
+      → NodeWritten x o a (untexted (t .place) 0x48 None) o2 y → Reads node w x n d P.statement-rule o r f s o2 r1 f1 y
   break-reads {a = a} {y = y} q X F =
       let e : budget w x n (y .state .at) ≡ budget w x n (a .state .at) = ap (λ (k : ℕ). budget w x n k) (F .at) in
       let k : Fallible Tok → Act (Ans Node) = wrapped (token (next-token (rest w x n (t .next)))) [] [] 0x48 (λ _. here w x n s) (λ _. []) [] in
@@ -308,7 +308,7 @@ module _ {w x : List ℕ} {n d : ℕ} {o r f : List ℕ} {s : State} {t : Token}
             (adv s u (λ _. plain) f rd)
             ∙ clean d 50 k (P.good (P.node [] 0x48 (here w x n s) [] []) []) (λ _. refl) _
             ∙ go-bind d (P.expect 50) (or-return k) _)
-            (finishes d (λ _. here w x n s) (λ _. []) [] F (λ i _. rw (u .place))
+            (writes-node d (λ _. here w x n s) (λ _. []) [] F (λ i _. rw (u .place))
             (X .is plain d (past w x n (s .at) rd) o));
       }
 
@@ -359,7 +359,7 @@ module _ {w x : List ℕ} {n d : ℕ} {o r f : List ℕ} {s : State} {t : Token}
   -- ---- `return`
 
   pub return-none : {t2 : Token} {o2 : List ℕ} {y : Answer} → Starts K.KwReturn w x n o r f s → Seen w x n (t .next) t2 → t2 .kind ≡ 50
-      → Finished x o (record { status = Done; state = fore (fore s t) t2; place = t .place; count = 0 })
+      → NodeWritten x o (record { status = Done; state = fore (fore s t) t2; place = t .place; count = 0 })
       (untexted (t .place) 0x45 (Byte 0)) o2 y
       → Reads node w x n d P.statement-rule o r f s o2 r f y
   unfolding go run P.parse-return recs-bytes
@@ -384,7 +384,7 @@ module _ {w x : List ℕ} {n d : ℕ} {o r f : List ℕ} {s : State} {t : Token}
             ∙ rw (run, yes v h)
             (ap (λ (S : St). go d (P.good (P.node [] 0x45 (here w x n s) (byte 0 ∷ []) []) []) S)
             (adv (fore s t) v (λ _. plain) f (past w x n (s .at) rd))))
-            (finishes {K = token (next-token (rest w x n (s .at)))} {rs = []} {es = []} {q = gives (ok (record { item = next-token (rest w x n (s .at)); errors = [] })) (st-of w x n f (past w x n (t .next) (past w x n (s .at) rd)) (fore (fore s t) t2))} d (λ _. here w x n s) (λ _. byte 0 ∷ []) [] F (λ i _. rw (u .place))
+            (writes-node {K = token (next-token (rest w x n (s .at)))} {rs = []} {es = []} {q = gives (ok (record { item = next-token (rest w x n (s .at)); errors = [] })) (st-of w x n f (past w x n (t .next) (past w x n (s .at) rd)) (fore (fore s t) t2))} d (λ _. here w x n s) (λ _. byte 0 ∷ []) [] F (λ i _. rw (u .place))
             (record {
               told = record {
                 item = next-token (rest w x n (s .at));
@@ -403,7 +403,7 @@ module _ {w x : List ℕ} {n d : ℕ} {o r f : List ℕ} {s : State} {t : Token}
       → Reads node w x n d P.parse-expression o r f (fore s t) o1 r1 f1 b → length r1 ≡ length r
       → length f1 ≡ length f
       → Expected w x n 50 (s .pos) (s .reported) r1 f1 b r2 f2 c
-      → Finished x o1 c (untexted (t .place) 0x45 (Byte 1)) o2 y → Reads node w x n d P.statement-rule o r f s o2 r2 f2 y
+      → NodeWritten x o1 c (untexted (t .place) 0x45 (Byte 1)) o2 y → Reads node w x n d P.statement-rule o r f s o2 r2 f2 y
   unfolding go run P.parse-return
   return-value {b = b} {c = c} {y = y} q v h B lr lf C F =
       let e : budget w x n (y .state .at) ≡ budget w x n (c .state .at) = ap (λ (k : ℕ). budget w x n k) (F .at) in
@@ -427,7 +427,7 @@ module _ {w x : List ℕ} {n d : ℕ} {o r f : List ℕ} {s : State} {t : Token}
             ∙ rw (run, no v h) (go-bind d P.parse-expression (or-return (λ e. P.expect 50 >>? λ _. k e)) _)
             ∙ expect-seam d plain 50 k
             (go d P.parse-expression (st-of w x n f (past w x n (s .at) rd) (fore s t))))
-            (finishes d (λ _. here w x n s) (λ _. byte 1 ∷ []) [] F (λ i _. rw (u .place))
+            (writes-node d (λ _. here w x n s) (λ _. byte 1 ∷ []) [] F (λ i _. rw (u .place))
             (expects-after (record {
               asks = asks-moved (q .asked .asks) (moved-trans (fore-moved (q .asked .asks) u) (B .moved)) lr lf;
               pos = B .moved .pos;
@@ -439,7 +439,7 @@ module _ {w x : List ℕ} {n d : ℕ} {o r f : List ℕ} {s : State} {t : Token}
   -- ---- a block: a body as a statement
 
   pub block-reads : {o1 r1 f1 o2 : List ℕ} {b y : Answer} → Starts K.LBrace w x n o r f s
-      → ReadsBody w x n d o r f s o1 r1 f1 b → Finished x o1 b (untexted (t .place) 0x40 (Two (b .count))) o2 y
+      → ReadsBody w x n d o r f s o1 r1 f1 b → NodeWritten x o1 b (untexted (t .place) 0x40 (Two (b .count))) o2 y
       → Reads node w x n d P.statement-rule o r f s o2 r1 f1 y
   unfolding go run
   block-reads {b = b} {y = y} q B F =
@@ -462,7 +462,7 @@ module _ {w x : List ℕ} {n d : ℕ} {o r f : List ℕ} {s : State} {t : Token}
             ∙ through d P.parse-body _
             (wrapped items [] [] 0x40 (λ _. here w x n s) (λ i. two (i .count) ∷ []) []) (λ i. refl)
             (st-of w x n f rd s))
-            (finishes d (λ _. here w x n s) (λ i. two (i .count) ∷ []) [] F (λ i e. rw (e, u .place)) (B .is rd));
+            (writes-node d (λ _. here w x n s) (λ i. two (i .count) ∷ []) [] F (λ i e. rw (e, u .place)) (B .is rd));
       }
 
   -- ---- `if`
@@ -492,7 +492,7 @@ module _ {w x : List ℕ} {n d : ℕ} {o r f : List ℕ} {s : State} {t : Token}
 
     module _ {t2 : Token} (z : a .status ≡ Done) (v : Seen w x n (a .state .at) t2) where
       -- without `else`, and with it
-      pub if-two : {o2 : List ℕ} {y : Answer} → (t2 .kind ≡ 11 → ⊥) → Finished x o1 a (untexted (t .place) 0x49 (Byte 2)) o2 y
+      pub if-two : {o2 : List ℕ} {y : Answer} → (t2 .kind ≡ 11 → ⊥) → NodeWritten x o1 a (untexted (t .place) 0x49 (Byte 2)) o2 y
           → Reads node w x n d P.statement-rule o r f s o2 r1 f1 y
       unfolding go run
       if-two {o2} {y} h F =
@@ -517,14 +517,14 @@ module _ {w x : List ℕ} {n d : ℕ} {o r f : List ℕ} {s : State} {t : Token}
                 rw (run, no v h) in
                 say
                 (if-guarded rd ∙ follows d (else-on (here w x n s)) (g .is) ∙ step ∙ sym (follows d k (g .is)))
-                (finishes d (λ _. here w x n s) (λ _. byte 2 ∷ []) [] F (λ i _. rw (u .place))
+                (writes-node d (λ _. here w x n s) (λ _. byte 2 ∷ []) [] F (λ i _. rw (u .place))
                 (B .is (past w x n (s .at) rd)));
           }
 
       pub if-three : {o2 r2 f2 r3 o3 : List ℕ} {b c y : Answer} → t2 .kind ≡ 11
           → Reads node w x n d P.parse-statement o1 r1 f1 (fore (a .state) t2) o2 r2 f2 b → length r1 ≡ length r
           → Abandoned r2 b (s .pos) (s .reported) (a .state .reported) r3 c
-          → Finished x o2 c (untexted (t .place) 0x49 (Byte 3)) o3 y → Reads node w x n d P.statement-rule o r f s o3 r3 f2 y
+          → NodeWritten x o2 c (untexted (t .place) 0x49 (Byte 3)) o3 y → Reads node w x n d P.statement-rule o r f s o3 r3 f2 y
       unfolding go run
       if-three {b = b} {c = c} {y = y} h D lr C F =
           let e : budget w x n (y .state .at) ≡ budget w x n (b .state .at) = ap (λ (k : ℕ). budget w x n k) (F .at ∙ C .at) in
@@ -549,7 +549,7 @@ module _ {w x : List ℕ} {n d : ℕ} {o r f : List ℕ} {s : State} {t : Token}
                 rw (run, yes v h)
                 (ap (λ (S : St). go d (P.parse-statement >>? k) S) (adv (a .state) v (λ _. plain) f1 (g .read))) in
                 say (if-guarded rd ∙ follows d (else-on (here w x n s)) (g .is) ∙ step ∙ go-bind d P.parse-statement (or-return k) _)
-                (finishes d (λ _. here w x n s) (λ _. byte 3 ∷ []) [] F (λ i _. rw (u .place))
+                (writes-node d (λ _. here w x n s) (λ _. byte 3 ∷ []) [] F (λ i _. rw (u .place))
                 (abandons {T = take (s .pos) o} {E = errs r (s .reported)} (g .tree) (g .reported)
                 (length-take-le (s .pos) o (omega (arith, q .asked .room)))
                 (errs-length r (s .reported) (omega (arith, q .asked .asks)))

@@ -32,7 +32,7 @@ use Rattle.fallible.specs.Answers.{refused-at, one-more, raised, Raised, Cut, A
 use Rattle.node.specs.Put.{Wrote, rec-of}
 use Rattle.node.specs.declared.Record.{Record}
 use Rattle.steps.specs.Tokens.{rest}
-use Rattle.steps.specs.Shows.{st-of, Asks, View, Good, ShowsOf, Shows, done-of, node, FinishedOf, Finished}
+use Rattle.steps.specs.Shows.{st-of, Asks, View, Good, ShowsOf, Shows, done-of, node, NodeWrittenOf, NodeWritten}
 
 -- an answer that is fatal or refused
 abbrev pub Stopped : Answer → Type 0
@@ -210,16 +210,16 @@ wrapped K rs es tag p ns text e = P.good (P.node (rs ++ K .recs (e .item)) tag (
 
 module _ {A : Type 0} {K : View A} {T : List ℕ} {E : List Err} {rs : List Rec} {es : List Err} {w x : List ℕ}
     {n : ℕ} {o o′ r f : List ℕ} {a y : Answer} {v : Record} {q : Res (Ans A)} (d : ℕ) (p : A → Place)
-    (ns : A → List Num) (text : List ℕ) (u : Finished x o a v o′ y) where
+    (ns : A → List Num) (text : List ℕ) (u : NodeWritten x o a v o′ y) where
   -- writing a record after an answer represents wrapping its item
-  pub finishes : ((i : A) → K .fine (a .place) (a .count) i
+  pub writes-node : ((i : A) → K .fine (a .place) (a .count) i
       → rec-of x v ≡ record { tag = v .tag; place = some (p i); numbers = ns i; text = text })
       → Shows K T E rs es w x n o r f a q
       → Shows node T E [] [] w x n o′ r f y (after q (λ z S. go d (or-return (wrapped K rs es (v .tag) p ns text) z) S))
   unfolding go run place-of
-  finishes e h = record { told = one (a .status) refl (u .is) (h .told) }
+  writes-node e h = record { told = one (a .status) refl (u .is) (h .told) }
     where
-      one : (k : Status) → a .status ≡ k → FinishedOf k x o a v o′ y → ShowsOf k K T E rs es w x n o r f a q
+      one : (k : Status) → a .status ≡ k → NodeWrittenOf k x o a v o′ y → ShowsOf k K T E rs es w x n o r f a q
           → ShowsOf (y .status) node T E [] [] w x n o′ r f y
           (after q (λ z S. go d (or-return (wrapped K rs es (v .tag) p ns text) z) S))
       one Done z m g =

@@ -27,7 +27,7 @@ use Rattle.node.specs.declared.Record.{Record}
 use Rattle.fallible.proofs.Status.{the-type}
 use Rattle.steps.specs.declared.Token.{Token}
 use Rattle.steps.specs.Tokens.{rest, budget, Seen}
-use Rattle.steps.specs.Shows.{st-of, Asks, Moved, done-of, token, Expects, Follows, ExpectedOf, Expected, FinishedOf, Finished}
+use Rattle.steps.specs.Shows.{st-of, Asks, Moved, done-of, token, Expects, Follows, ExpectedOf, Expected, NodeWrittenOf, NodeWritten}
 use Rattle.steps.proofs.Tokens.{yes, no, fore, adv}
 use Rattle.steps.proofs.Moves.{asks-fore, fore-moved, making-moved, moved-trans, abandoned-moved}
 use Rattle.steps.proofs.Answers.{Stopped, say, not-done, raise-same, raise-shows}
@@ -199,22 +199,22 @@ module _ {w x : List ℕ} {n k i j : ℕ} {r f : List ℕ} {a : Answer} (q : Fol
 
 module _ {x o : List ℕ} {a : Answer} {v : Record} where
   -- after a fatal or refused answer nothing is written; after a good one the record is
-  pub finish-stop : Stopped a → Finished x o a v o a
-  finish-stop nd = record { at = refl; reported = refl; full = refl; low = omega arith; high = omega arith; is = one (a .status) nd }
+  pub write-node-stop : Stopped a → NodeWritten x o a v o a
+  write-node-stop nd = record { at = refl; reported = refl; full = refl; low = omega arith; high = omega arith; is = one (a .status) nd }
     where
-      one : (h : Status) → OneOf (1 ∷ 2 ∷ []) (tagOf the-type h) → FinishedOf h x o a v o a
+      one : (h : Status) → OneOf (1 ∷ 2 ∷ []) (tagOf the-type h) → NodeWrittenOf h x o a v o a
       one Done nd = absurd (⊎-elim (λ z. omega arith) (λ z. omega arith) nd)
       one Fatal nd = (refl, refl)
       one (Refused m) nd = (refl, refl)
 
-  pub finish-on : {o′ : List ℕ} {p : ℕ} → a .status ≡ Done → Wrote o (a .state .pos) (rec-of x v) (size-of v) o′ p
-      → Finished x o a v o′ (record {
+  pub write-node-on : {o′ : List ℕ} {p : ℕ} → a .status ≡ Done → Wrote o (a .state .pos) (rec-of x v) (size-of v) o′ p
+      → NodeWritten x o a v o′ (record {
         status = a .status;
         state = record { at = a .state .at; pos = p; reported = a .state .reported; full = a .state .full };
         place = v .place;
         count = 0;
       })
-  finish-on z u =
+  write-node-on z u =
       record {
         at = refl;
         reported = refl;

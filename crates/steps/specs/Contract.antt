@@ -56,5 +56,5 @@ ParsesOn k tokens text n file reported full a from nesting r =
     (at-entry reported) (at-entry full) a (at-exit file) (at-exit reported) (at-exit full) r
 
 -- a record is written after an answer
-abbrev pub Finishes : Record → Lent → Lent → Answer → Answer → Type 0
-Finishes v file text a r = S.Finished (at-entry text) (at-entry file) a v (at-exit file) r
+abbrev pub WritesNode : Record → Lent → Lent → Answer → Answer → Type 0
+WritesNode v file text a r = S.NodeWritten (at-entry text) (at-entry file) a v (at-exit file) r

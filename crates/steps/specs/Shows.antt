@@ -176,15 +176,15 @@ texted place tag ns start len = record { tag = tag; place = place; numbers = ns;
 abbrev pub untexted : ℕ → ℕ → Numbers → Record
 untexted place tag ns = texted place tag ns 0 0
 
-abbrev pub FinishedOf : Status → List ℕ → List ℕ → Answer → Record → List ℕ → Answer → Type 0
-FinishedOf Done x o a v o′ y = (y .status ≡ Done) × (Wrote o (a .state .pos) (rec-of x v) (size-of v) o′ (y .state .pos) × (y .place ≡ v .place))
-FinishedOf Fatal x o a v o′ y = (y ≡ a) × (o′ ≡ o)
-FinishedOf (Refused m) x o a v o′ y = (y ≡ a) × (o′ ≡ o)
+abbrev pub NodeWrittenOf : Status → List ℕ → List ℕ → Answer → Record → List ℕ → Answer → Type 0
+NodeWrittenOf Done x o a v o′ y = (y .status ≡ Done) × (Wrote o (a .state .pos) (rec-of x v) (size-of v) o′ (y .state .pos) × (y .place ≡ v .place))
+NodeWrittenOf Fatal x o a v o′ y = (y ≡ a) × (o′ ≡ o)
+NodeWrittenOf (Refused m) x o a v o′ y = (y ≡ a) × (o′ ≡ o)
 
-pub record Finished (x o : List ℕ) (a : Answer) (v : Record) (o′ : List ℕ) (y : Answer) : Type 0 where
+pub record NodeWritten (x o : List ℕ) (a : Answer) (v : Record) (o′ : List ℕ) (y : Answer) : Type 0 where
   pub at : y .state .at ≡ a .state .at
   pub reported : y .state .reported ≡ a .state .reported
   pub full : y .state .full ≡ a .state .full
   pub low : a .state .pos ≤ y .state .pos
   pub high : y .state .pos ≤ a .state .pos + size-of v
-  pub is : FinishedOf (a .status) x o a v o′ y
+  pub is : NodeWrittenOf (a .status) x o a v o′ y

@@ -17,7 +17,7 @@ ghost use Rattle.definition.specs.Parser as P;
 ghost use Rattle.node.specs.Contract.{Room};
 ghost use Rattle.steps.specs.Tokens.{Held, Seen};
 ghost use Rattle.steps.specs.Shows.{texted, untexted};
-ghost use Rattle.steps.specs.Contract.{Asks, Follows, Expects, Expected, Finishes};
+ghost use Rattle.steps.specs.Contract.{Asks, Follows, Expects, Expected, WritesNode};
 
 // A token, decoded from its record, and the index of the next token. At the end all fields but `next` are 0.
 pub struct Token {
@@ -160,7 +160,7 @@ pub fn write_text_node(
     len: usize,
 ) -> Answer
     requires { ⌜ Room file text (a .state .pos) (16 + len) start len ⌝ }
-    ensures { λ r. ⌜ Finishes (texted place tag numbers start len) file text a r ⌝ }
+    ensures { λ r. ⌜ WritesNode (texted place tag numbers start len) file text a r ⌝ }
 {
     let status = a.status;
     let Status::Done = status else {
@@ -193,7 +193,7 @@ pub fn write_node(
     numbers: Numbers,
 ) -> Answer
     requires { ⌜ Room file text (a .state .pos) 16 0 0 ⌝ }
-    ensures { λ r. ⌜ Finishes (untexted place tag numbers) file text a r ⌝ }
+    ensures { λ r. ⌜ WritesNode (untexted place tag numbers) file text a r ⌝ }
 {
     write_text_node(file, text, a, place, tag, numbers, 0, 0)
 }

@@ -79,7 +79,7 @@ taken T X (suc n) p e i ts h q =
     let w = words-at T i in
     let a = first T X p e i n ts q in
     let f = fits X w (a .alone) in
-    let l = lies X p e w h f (a .behind) in
+    let l = lies X p e w h f (a .after) in
     more f l a (taken T X n (place-of w) (text-end e w) (suc i) (a .later) (l .high) (a .rest))
   where
     more : Fits X (words-at T i) → Lies X e (words-at T i) → (a : First T X p e i n ts)

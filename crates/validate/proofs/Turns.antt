@@ -33,8 +33,8 @@ module _ (p : Place) (e : ℕ) (w : TokenWords) {a : Bool} (q : a ≡ comes-afte
   early n = let z = sym q ∙ not-true a n in rw z
 
   module _ {h : Bool} (n : not a ≡ false) (t : h ≡ has-text (w .kind)) where
-    pub behind : (b : Bool) → h ≡ b → pick b (leb e (w .start)) true ≡ valid-after p e w
-    behind b y = let z = sym q ∙ not-false a n in let k = sym t ∙ y in rw (z, k)
+    pub comes-later : (b : Bool) → h ≡ b → pick b (leb e (w .start)) true ≡ valid-after p e w
+    comes-later b y = let z = sym q ∙ not-false a n in let k = sym t ∙ y in rw (z, k)
 
 -- ---- token records
 

@@ -80,8 +80,8 @@ use Rattle.expression.proofs.+access+add_sub+array+atom+bit_and+bit_or+
 use Rattle.expression.proofs.+access+add_sub+array+atom+bit_and+bit_or+bit_xor+boolean+call+cascade+cast+comparison+expression+field+item+list+mul+named+operand+operators+shift+sizeof+ty+typed+typed_name+unary.Lts-typed as typed-lts
 use Rattle.expression.proofs.+access+add_sub+array+atom+bit_and+bit_or+bit_xor+boolean+call+cascade+cast+comparison+expression+field+item+list+mul+named+operand+operators+shift+sizeof+ty+typed+typed_name+unary.Lts-typed_name as typed-name-lts
 use Rattle.expression.proofs.+access+add_sub+array+atom+bit_and+bit_or+bit_xor+boolean+call+cascade+cast+comparison+expression+field+item+list+mul+named+operand+operators+shift+sizeof+ty+typed+typed_name+unary.Lts-unary as unary-lts
-use Rattle.expression.proofs.+access+add_sub+array+atom+bit_and+bit_or+bit_xor+boolean+call+cascade+cast+comparison+expression+field+item+list+mul+named+operand+operators+shift+sizeof+ty+typed+typed_name+unary.Proof.Falls.{μ-access, μ-add-sub, μ-array, μ-atom, μ-shift, μ-bit-and, μ-bit-or, μ-bit-xor, μ-boolean, μ-call, μ-cascade, μ-cast, μ-comparison, μ-expression, μ-item, μ-list}
-use Rattle.expression.proofs.+access+add_sub+array+atom+bit_and+bit_or+bit_xor+boolean+call+cascade+cast+comparison+expression+field+item+list+mul+named+operand+operators+shift+sizeof+ty+typed+typed_name+unary.Proof.Falls.{μ-mul, μ-named, μ-operand, μ-operators, μ-sizeof, μ-field, μ-ty, μ-typed, μ-typed-name, μ-unary}
+use Rattle.expression.proofs.+access+add_sub+array+atom+bit_and+bit_or+bit_xor+boolean+call+cascade+cast+comparison+expression+field+item+list+mul+named+operand+operators+shift+sizeof+ty+typed+typed_name+unary.Proof.Falls.{μ-access, μ-add-sub, μ-array, μ-atom, μ-shift, μ-bit-and, μ-bit-or, μ-bit-xor, μ-boolean, μ-call, μ-cascade, μ-cast, μ-comparison, μ-expression}
+use Rattle.expression.proofs.+access+add_sub+array+atom+bit_and+bit_or+bit_xor+boolean+call+cascade+cast+comparison+expression+field+item+list+mul+named+operand+operators+shift+sizeof+ty+typed+typed_name+unary.Proof.Falls.{μ-item, μ-list, μ-mul, μ-named, μ-operand, μ-operators, μ-sizeof, μ-field, μ-ty, μ-typed, μ-typed-name, μ-unary}
 use Rattle.expression.proofs.+access+add_sub+array+atom+bit_and+bit_or+bit_xor+boolean+call+cascade+cast+comparison+expression+field+item+list+mul+named+operand+operators+shift+sizeof+ty+typed+typed_name+unary.Proof.Falls.{access-at, add-sub-at, array-at, atom-at, shift-at, bit-and-at, bit-or-at, bit-xor-at, boolean-at, call-at, cascade-at, cast-at, comparison-at, expression-at}
 use Rattle.expression.proofs.+access+add_sub+array+atom+bit_and+bit_or+bit_xor+boolean+call+cascade+cast+comparison+expression+field+item+list+mul+named+operand+operators+shift+sizeof+ty+typed+typed_name+unary.Proof.Falls.{item-at, list-at, mul-at, named-at, operand-at, operators-at, sizeof-at, field-at, ty-at, typed-at, typed-name-at, unary-at}
 use Rattle.expression.proofs.+access+add_sub+array+atom+bit_and+bit_or+bit_xor+boolean+call+cascade+cast+comparison+expression+field+item+list+mul+named+operand+operators+shift+sizeof+ty+typed+typed_name+unary.Proof.Access as N-access

@@ -1,4 +1,4 @@
-use Rattle.steps.proofs.OneToken.{finish-stop, finish-on}
+use Rattle.steps.proofs.OneToken.{write-node-stop, write-node-on}
 use borrow.Author.Needs.{needs}
 use Rattle.steps.proofs.write_text_node.Statement.{statement}
 use Rattle.steps.proofs.write_text_node.Tie as tie
@@ -7,7 +7,7 @@ enum-told : tie.Need-enum-told
 enum-told c = search needs
 
 returns : tie.Need-returns
-returns c = finish-stop (c .match .keys2)
+returns c = write-node-stop (c .match .keys2)
 
 write-record-requires : tie.Need-write-record-requires
 write-record-requires c κs = search needs
@@ -19,7 +19,7 @@ returns-2 : tie.Need-returns-2
 returns-2 c =
     let at-write-record = c .before .before in
     let at-enum-told = at-write-record .before .before .before in
-    finish-on (at-enum-told .enum-told .given .1) (at-write-record .write-record .ensures)
+    write-node-on (at-enum-told .enum-told .given .1) (at-write-record .write-record .ensures)
 
 pub write-text-node-spec : {M : Type 1} → statement M
 write-text-node-spec =

@@ -1,4 +1,4 @@
-use Rattle.validate.proofs.Turns.{early, behind}
+use Rattle.validate.proofs.Turns.{early, comes-later}
 use Rattle.token_records.specs.Push.{place-at}
 use Rattle.token_records.specs.Tested.{words-of}
 use mathlib.Core.Bool.{true, false}
@@ -28,7 +28,7 @@ returns-2 c =
     let at-if1 = at-has-text .before in
     let at-comes-after = at-if1 .before in
     let start = at-comes-after .before in
-    behind (place-at (start .args .f .line) (start .args .f .column)) (start .args .f .end)
+    comes-later (place-at (start .args .f .line) (start .args .f .column)) (start .args .f .end)
     (words-of (start .args .w)) (at-comes-after .comes-after .ensures) (at-if1 .if1 .left)
     (at-has-text .has-text .ensures) true (at-if2 .if2 .taken)
 
@@ -37,7 +37,7 @@ returns-3 c =
     let at-if1 = c .before .before in
     let at-comes-after = at-if1 .before in
     let start = at-comes-after .before in
-    behind (place-at (start .args .f .line) (start .args .f .column)) (start .args .f .end)
+    comes-later (place-at (start .args .f .line) (start .args .f .column)) (start .args .f .end)
     (words-of (start .args .w)) (at-comes-after .comes-after .ensures) (at-if1 .if1 .left)
     (c .before .has-text .ensures) false (c .if2 .left)
 
