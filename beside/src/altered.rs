@@ -1,7 +1,7 @@
 //! Records of a script that are changed, so that no tokenizer gives them.
 
 use crate::random::Random;
-use formats::{Handed, Tokens, TEXT_LIMIT};
+use formats::{Passed, Tokens, TEXT_LIMIT};
 use marked::rules;
 
 /// The tokens with lines and texts further apart, and bytes between the texts that no text may have.
@@ -22,16 +22,16 @@ pub fn spread(records: &Tokens) -> Tokens {
 }
 
 /// The slices with a word, a count or a byte of text changed.
-pub fn damaged(records: &Tokens, random: &mut Random) -> Handed {
-    let mut handed = Handed::new(records);
+pub fn damaged(records: &Tokens, random: &mut Random) -> Passed {
+    let mut passed = Passed::new(records);
     match random.below(10) {
-        0 => handed.token_count = handed.token_count.wrapping_add_signed(random.below(5) as i64 - 2),
-        1 => handed.error_count = handed.error_count.wrapping_add_signed(random.below(5) as i64 - 2),
-        2 => change(&mut handed.text, random, |_, random| random.next() as u8),
-        3 => change(&mut handed.errors, random, value),
-        _ => change(&mut handed.tokens, random, value),
+        0 => passed.token_count = passed.token_count.wrapping_add_signed(random.below(5) as i64 - 2),
+        1 => passed.error_count = passed.error_count.wrapping_add_signed(random.below(5) as i64 - 2),
+        2 => change(&mut passed.text, random, |_, random| random.next() as u8),
+        3 => change(&mut passed.errors, random, value),
+        _ => change(&mut passed.tokens, random, value),
     }
-    handed
+    passed
 }
 
 fn change<T: Copy>(slice: &mut [T], random: &mut Random, other: impl Fn(T, &mut Random) -> T) {

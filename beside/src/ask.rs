@@ -1,7 +1,7 @@
 //! The oracle's answer to any bytes, confirmed by the unchanged build.
 
 use crate::show;
-use formats::{Answer, Exit, Given, Handed, PANIC};
+use formats::{Answer, Exit, Given, Passed, PANIC};
 use marked::{operations, rules};
 
 pub fn answer(script: &[u8]) -> Answer {
@@ -32,8 +32,8 @@ fn confirmed(text: &str, answer: &Answer) -> bool {
 }
 
 /// Read's answer to any records: the file, or the refusal.
-pub fn read(handed: &Handed) -> Result<Vec<u8>, u8> {
-    let records = rules::tested(handed)?;
+pub fn read(passed: &Passed) -> Result<Vec<u8>, u8> {
+    let records = rules::tested(passed)?;
     let answer = marked::read_records(&records);
     let confirmed = match answer {
         Ok(_) => plain::read_records(&records) == answer,
@@ -42,7 +42,7 @@ pub fn read(handed: &Handed) -> Result<Vec<u8>, u8> {
     };
     if !confirmed {
         eprintln!("the marked copy and the unchanged build differ on these records:");
-        show::handed(handed).iter().for_each(|line| eprintln!("{line}"));
+        show::passed(passed).iter().for_each(|line| eprintln!("{line}"));
         std::process::exit(3);
     }
     answer
@@ -52,7 +52,7 @@ pub fn read(handed: &Handed) -> Result<Vec<u8>, u8> {
 pub fn exit(given: &Given) -> Exit {
     match given {
         Given::Tokenise { script, .. } | Given::Whole { script, .. } => drop(answer(script)),
-        Given::Read(handed) => drop(read(handed)),
+        Given::Read(passed) => drop(read(passed)),
     }
     operations::run(given)
 }

@@ -109,7 +109,7 @@ fn in_file(file: &[u8], found: &mut Vec<(&'static str, u32)>) {
 fn slices((given, _): &Case) -> Vec<(usize, usize)> {
     match given {
         Given::Tokenise { slices, .. } => slices.iter().copied().zip(TOKEN_SLICES).collect(),
-        Given::Read(handed) => vec![(handed.file, FILE_SIZE)],
+        Given::Read(passed) => vec![(passed.file, FILE_SIZE)],
         Given::Whole { file, .. } => vec![(*file, FILE_SIZE)],
     }
 }

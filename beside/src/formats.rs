@@ -14,9 +14,9 @@ pub struct Tokens {
     pub text: Vec<u8>,
 }
 
-/// What Read is handed: the slices, what is stated of them, and the length of the file slice.
+/// What Read is passed: the slices, what is stated of them, and the length of the file slice.
 #[derive(Clone, Debug, PartialEq, Eq)]
-pub struct Handed {
+pub struct Passed {
     pub tokens: Vec<u32>,
     pub token_count: u64,
     pub errors: Vec<u32>,
@@ -25,10 +25,10 @@ pub struct Handed {
     pub file: usize,
 }
 
-impl Handed {
+impl Passed {
     /// Records in slices of their own length.
     pub fn new(records: &Tokens) -> Self {
-        Handed {
+        Passed {
             tokens: records.tokens.concat(),
             token_count: records.tokens.len() as u64,
             errors: records.errors.concat(),
@@ -39,12 +39,12 @@ impl Handed {
     }
 }
 
-/// What an operation is handed: a script or records, and the lengths of its output slices.
+/// What an operation is passed: a script or records, and the lengths of its output slices.
 #[derive(Clone, Debug, PartialEq, Eq)]
 pub enum Given {
     /// the token slice and the error slice in words, the text slice in bytes
     Tokenise { script: Vec<u8>, slices: [usize; 3] },
-    Read(Handed),
+    Read(Passed),
     Whole { script: Vec<u8>, file: usize },
 }
 

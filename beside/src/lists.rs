@@ -3,7 +3,7 @@
 use crate::classes::{self, Class};
 use crate::random::Random;
 use crate::{altered, ask, corpus, made, show, slices};
-use formats::{Exit, Given, Handed, Tokens, FILE_SIZE, TOKEN_SLICES};
+use formats::{Exit, Given, Passed, Tokens, FILE_SIZE, TOKEN_SLICES};
 use marked::operations;
 use std::io::Write;
 
@@ -18,7 +18,7 @@ const STORED: [(&str, &str); 3] = [
 const TOKEN_SIZES: [usize; 8] = [1, 2, 2, 2, 2, 1, 1, 1];
 const ERROR_SIZES: [usize; 4] = [1, 2, 2, 1];
 
-/// A case: what an operation is handed, and how it should leave.
+/// A case: what an operation is passed, and how it should leave.
 pub type Case = (Given, Exit);
 
 // ---- the cases of a list
@@ -47,14 +47,14 @@ pub fn write(sort: &str, classes: &[Class], out: &mut dyn Write) -> Result<(), S
         }
         "records" => {
             for case in made::cases() {
-                let answer = ask::read(&case.handed);
+                let answer = ask::read(&case.passed);
                 if answer.as_ref().err().unwrap_or(&0) != &case.number {
-                    show::handed(&case.handed).iter().for_each(|line| eprintln!("{line}"));
+                    show::passed(&case.passed).iter().for_each(|line| eprintln!("{line}"));
                     return Err(format!("a case of {} has {} and not {:?}", case.sort, case.number, answer.err()));
                 }
-                each(case.sort, Given::Read(case.handed));
+                each(case.sort, Given::Read(case.passed));
             }
-            altered(classes, &mut |from, handed| each(from, Given::Read(handed)));
+            altered(classes, &mut |from, passed| each(from, Given::Read(passed)));
         }
         _ => return Err(format!("no list is of the sort {sort}; there are: tokens files records")),
     }
@@ -69,12 +69,12 @@ fn scripts(classes: &[Class], each: &mut dyn FnMut(&str, Vec<u8>)) {
 }
 
 /// Three for each script that Tokenise accepts: its records, the same further apart, and damaged ones.
-fn altered(classes: &[Class], each: &mut dyn FnMut(&str, Handed)) {
+fn altered(classes: &[Class], each: &mut dyn FnMut(&str, Passed)) {
     let mut random = Random::new(1);
     scripts(classes, &mut |from, script| {
         let Ok(records) = ask::answer(&script).tokenised else { return };
-        each(from, Handed::new(&records));
-        each(from, Handed::new(&altered::spread(&records)));
+        each(from, Passed::new(&records));
+        each(from, Passed::new(&altered::spread(&records)));
         each(from, altered::damaged(&records, &mut random));
     });
 }
@@ -147,15 +147,15 @@ fn bytes(given: &Given, exit: &Exit) -> Vec<u8> {
             written,
         ]
         .concat(),
-        Given::Read(handed) => [
-            numbers(&[handed.tokens.len(), handed.errors.len(), handed.text.len(), handed.file], 3),
-            handed.token_count.to_be_bytes().to_vec(),
-            handed.error_count.to_be_bytes().to_vec(),
+        Given::Read(passed) => [
+            numbers(&[passed.tokens.len(), passed.errors.len(), passed.text.len(), passed.file], 3),
+            passed.token_count.to_be_bytes().to_vec(),
+            passed.error_count.to_be_bytes().to_vec(),
             refusal,
             number(written.len(), 3),
-            words(&handed.tokens),
-            words(&handed.errors),
-            handed.text.clone(),
+            words(&passed.tokens),
+            words(&passed.errors),
+            passed.text.clone(),
             written,
             text_lengths(&exit.texts),
         ]
@@ -242,7 +242,7 @@ impl<'a> List<'a> {
         let [token_count, error_count] = self.numbers([8; 2])?;
         let number = self.number(1)? as u8;
         let length = self.number(3)?;
-        let handed = Handed {
+        let passed = Passed {
             tokens: self.words(tokens)?,
             token_count: token_count as u64,
             errors: self.words(errors)?,
@@ -252,17 +252,17 @@ impl<'a> List<'a> {
         };
         let answer = self.file(number, length)?;
         let mut texts = Vec::new();
-        for token in handed.tokens.chunks_exact(8) {
+        for token in passed.tokens.chunks_exact(8) {
             // an empty text may have any start
             let text = match self.number(2)? {
                 0 => &[],
-                length => handed.text.get(token[3] as usize..)?.get(..length)?,
+                length => passed.text.get(token[3] as usize..)?.get(..length)?,
             };
             texts.push(text.to_vec());
         }
         texts.push(Vec::new());
-        let exit = operations::read_exit(&handed, &answer, texts);
-        Some((Given::Read(handed), exit))
+        let exit = operations::read_exit(&passed, &answer, texts);
+        Some((Given::Read(passed), exit))
     }
 
     fn files_case(&mut self) -> Option<Case> {

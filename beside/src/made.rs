@@ -1,13 +1,13 @@
 //! Hand-made records for Read, each with the number that the rules of docs/FORMAT.md give it.
 
 use crate::altered;
-use formats::{Handed, Token, TokenError, Tokens, FILE_SIZE, PLACE_LIMIT, TEXT_LIMIT};
+use formats::{Passed, Token, TokenError, Tokens, FILE_SIZE, PLACE_LIMIT, TEXT_LIMIT};
 
 pub struct Case {
     pub sort: &'static str,
     /// 0, or the refusal
     pub number: u8,
-    pub handed: Handed,
+    pub passed: Passed,
 }
 
 /// Adds the cases of a sort.
@@ -47,11 +47,11 @@ struct Made {
 impl Made {
     /// Records in slices of their own length.
     fn records(&mut self, number: u8, records: &Tokens) {
-        self.handed(number, Handed::new(records));
+        self.passed(number, Passed::new(records));
     }
 
-    fn handed(&mut self, number: u8, handed: Handed) {
-        self.cases.push(Case { sort: self.sort, number, handed });
+    fn passed(&mut self, number: u8, passed: Passed) {
+        self.cases.push(Case { sort: self.sort, number, passed });
     }
 
     /// `SCRIPT` with a word of a token changed.
@@ -104,14 +104,14 @@ fn repeated(kind: u32, count: u32) -> Vec<Token> {
 }
 
 /// `SCRIPT` in slices that a function changes.
-fn handed(change: impl FnOnce(&mut Handed)) -> Handed {
+fn passed(change: impl FnOnce(&mut Passed)) -> Passed {
     changed(SCRIPT, change)
 }
 
-fn changed(script: &str, change: impl FnOnce(&mut Handed)) -> Handed {
-    let mut handed = Handed::new(&of(script));
-    change(&mut handed);
-    handed
+fn changed(script: &str, change: impl FnOnce(&mut Passed)) -> Passed {
+    let mut passed = Passed::new(&of(script));
+    change(&mut passed);
+    passed
 }
 
 fn kinds(made: &mut Made) {
@@ -161,7 +161,7 @@ fn places(made: &mut Made) {
     records.tokens[LAST][LINE] = PLACE_LIMIT;
     records.tokens[LAST][COLUMN] = PLACE_LIMIT;
     made.records(0, &records);
-    // in a line: next to the former token, the same place, before it
+    // in a line: next to the previous token, the same place, before it
     made.word(0, 1, COLUMN, 2);
     made.word(8, 1, COLUMN, 1);
     made.word(8, 2, COLUMN, 5);
@@ -216,7 +216,7 @@ fn bases(made: &mut Made) {
 }
 
 fn texts(made: &mut Made) {
-    // at the former text's end, and a byte before it
+    // at the previous text's end, and a byte before it
     for (token, start) in [(1, 0), (3, 1), (5, 2), (8, 4), (LAST, 5)] {
         made.word(0, token, START, start);
         if start > 0 {
@@ -411,7 +411,7 @@ fn errors(made: &mut Made) {
     made.errors(0, &[[4, 9, 9, 0], [1, 1, 1, 0], [1, 1, 1, 0], [3, PLACE_LIMIT, PLACE_LIMIT, 0], [2, 9, 8, 0]]);
 }
 
-/// As much as may be handed: 2,048 tokens, 255 token errors, 255 errors of the parser, 16,384 bytes of text.
+/// As much as may be passed: 2,048 tokens, 255 token errors, 255 errors of the parser, 16,384 bytes of text.
 fn most() -> Tokens {
     let mut tokens = repeated(50, 255);
     let mut end = 0;
@@ -430,10 +430,10 @@ fn counts(made: &mut Made) {
     made.records(0, &most());
     let semicolons = Tokens { tokens: repeated(50, 2_049), ..Tokens::default() };
     made.records(8, &semicolons);
-    let mut one_after = Handed::new(&semicolons);
+    let mut one_after = Passed::new(&semicolons);
     one_after.token_count = 2_048;
     // a 256th error of the parser
-    made.handed(12, one_after);
+    made.passed(12, one_after);
     let errors = vec![[1, 1, 1, 0]; 256];
     made.errors(0, &errors[..255]);
     made.errors(8, &errors);
@@ -449,70 +449,70 @@ fn counts(made: &mut Made) {
             12 => 8,
             _ => 0,
         };
-        made.handed(number, handed(|h| h.token_count = count));
+        made.passed(number, passed(|h| h.token_count = count));
     }
     for (number, count) in [(0, 0), (0, 1), (0, 2), (8, 3)] {
         let errors = vec![1, 1, 1, 0, 2, 1, 2, 0];
-        made.handed(number, handed(|h| (h.errors, h.error_count) = (errors, count)));
+        made.passed(number, passed(|h| (h.errors, h.error_count) = (errors, count)));
     }
     // counts whose words are few again in 64, 32 or 16 bits
     for count in
         [2_049, 65_536 + 1, 1 << 29, (1 << 29) + 1, (1 << 32) + 1, 1 << 61, (1 << 61) + 1, 1 << 63, u64::MAX]
     {
-        made.handed(8, handed(|h| h.token_count = count));
+        made.passed(8, passed(|h| h.token_count = count));
     }
     for count in [1, 256, 65_536, 1 << 30, 1 << 32, (1 << 32) + 1, 1 << 62, (1 << 62) + 1, 1 << 63, u64::MAX] {
-        made.handed(8, handed(|h| h.error_count = count));
+        made.passed(8, passed(|h| h.error_count = count));
     }
     // no tokens
-    made.handed(9, changed("", |_| ()));
-    made.handed(9, changed("$", |_| ()));
-    made.handed(9, changed("", |h| (h.tokens, h.text) = (vec![99; 24], vec![0xFF; 9])));
+    made.passed(9, changed("", |_| ()));
+    made.passed(9, changed("$", |_| ()));
+    made.passed(9, changed("", |h| (h.tokens, h.text) = (vec![99; 24], vec![0xFF; 9])));
 }
 
 /// The slices against the counts.
 fn lengths(made: &mut Made) {
     for missing in [1, 7, 8] {
-        made.handed(8, handed(|h| h.tokens.truncate(8 * (LAST + 1) - missing)));
+        made.passed(8, passed(|h| h.tokens.truncate(8 * (LAST + 1) - missing)));
     }
     for after in [1, 7, 8, 9] {
-        made.handed(0, handed(|h| h.tokens.extend(vec![u32::MAX; after])));
+        made.passed(0, passed(|h| h.tokens.extend(vec![u32::MAX; after])));
     }
     let errors = vec![1, 1, 1, 0, 2, 1, 2, 0];
     let with_errors = |length: usize| {
         let mut errors = errors.clone();
         errors.resize(length, u32::MAX);
-        handed(|h| (h.errors, h.error_count) = (errors, 2))
+        passed(|h| (h.errors, h.error_count) = (errors, 2))
     };
     for length in [0, 4, 7] {
-        made.handed(8, with_errors(length));
+        made.passed(8, with_errors(length));
     }
     for length in [8, 9, 11, 12] {
-        made.handed(0, with_errors(length));
+        made.passed(0, with_errors(length));
     }
     // what is not stated may be bad
-    made.handed(0, handed(|h| h.errors = vec![0; 4]));
-    made.handed(0, handed(|h| h.errors = vec![u32::MAX; 3]));
-    made.handed(9, handed(|h| (h.token_count, h.tokens) = (0, vec![u32::MAX; 3])));
-    made.handed(8, handed(|h| h.tokens.clear()));
+    made.passed(0, passed(|h| h.errors = vec![0; 4]));
+    made.passed(0, passed(|h| h.errors = vec![u32::MAX; 3]));
+    made.passed(9, passed(|h| (h.token_count, h.tokens) = (0, vec![u32::MAX; 3])));
+    made.passed(8, passed(|h| h.tokens.clear()));
     for (number, length) in [(0, 6), (8, 5), (8, 0), (0, 7), (0, 20_000)] {
-        made.handed(number, handed(|h| h.text.resize(length, 0xFF)));
+        made.passed(number, passed(|h| h.text.resize(length, 0xFF)));
     }
 }
 
 fn file_slices(made: &mut Made) {
     for script in [SCRIPT, "fn f(){c(w -1);}", "fn f"] {
         for file in [0, 1, FILE_SIZE - 1] {
-            made.handed(3, changed(script, |h| h.file = file));
+            made.passed(3, changed(script, |h| h.file = file));
         }
         for file in [FILE_SIZE, FILE_SIZE + 1, 70_000] {
-            made.handed(0, changed(script, |h| h.file = file));
+            made.passed(0, changed(script, |h| h.file = file));
         }
     }
     // zeros to the end of a longer slice, or nothing changed in it
-    made.handed(11, changed("type", |h| h.file = 70_000));
-    made.handed(9, changed("", |h| h.file = 70_000));
-    made.handed(8, handed(|h| (h.file, h.tokens[0]) = (70_000, 0)));
+    made.passed(11, changed("type", |h| h.file = 70_000));
+    made.passed(9, changed("", |h| h.file = 70_000));
+    made.passed(8, passed(|h| (h.file, h.tokens[0]) = (70_000, 0)));
 }
 
 fn parser(made: &mut Made) {
@@ -573,19 +573,19 @@ fn parser(made: &mut Made) {
 /// 3 before 8, 8 before 9 and before what the parser meets.
 fn priority(made: &mut Made) {
     let short = FILE_SIZE - 1;
-    made.handed(3, handed(|h| (h.file, h.tokens[0]) = (short, 0)));
-    made.handed(3, handed(|h| (h.file, h.token_count) = (short, u64::MAX)));
-    made.handed(3, handed(|h| (h.file, h.error_count) = (short, 256)));
-    made.handed(3, handed(|h| (h.file, h.token_count) = (short, 0)));
-    made.handed(3, changed("type", |h| h.file = short));
-    made.handed(3, changed("", |h| h.file = 0));
-    made.handed(8, handed(|h| (h.token_count, h.error_count) = (0, 1)));
-    made.handed(8, handed(|h| (h.token_count, h.error_count) = (0, 256)));
-    made.handed(8, handed(|h| (h.token_count, h.error_count, h.errors) = (0, 1, vec![5, 1, 1, 0])));
-    made.handed(8, handed(|h| (h.tokens[0], h.error_count, h.errors) = (0, 1, vec![5, 1, 1, 0])));
-    made.handed(8, changed("type", |h| h.tokens[7] = 1));
-    made.handed(8, changed("type", |h| (h.error_count, h.errors) = (1, vec![1, 1, 1, 1])));
-    made.handed(8, changed(&format!("var p:{}T;", "*".repeat(96)), |h| h.text.clear()));
+    made.passed(3, passed(|h| (h.file, h.tokens[0]) = (short, 0)));
+    made.passed(3, passed(|h| (h.file, h.token_count) = (short, u64::MAX)));
+    made.passed(3, passed(|h| (h.file, h.error_count) = (short, 256)));
+    made.passed(3, passed(|h| (h.file, h.token_count) = (short, 0)));
+    made.passed(3, changed("type", |h| h.file = short));
+    made.passed(3, changed("", |h| h.file = 0));
+    made.passed(8, passed(|h| (h.token_count, h.error_count) = (0, 1)));
+    made.passed(8, passed(|h| (h.token_count, h.error_count) = (0, 256)));
+    made.passed(8, passed(|h| (h.token_count, h.error_count, h.errors) = (0, 1, vec![5, 1, 1, 0])));
+    made.passed(8, passed(|h| (h.tokens[0], h.error_count, h.errors) = (0, 1, vec![5, 1, 1, 0])));
+    made.passed(8, changed("type", |h| h.tokens[7] = 1));
+    made.passed(8, changed("type", |h| (h.error_count, h.errors) = (1, vec![1, 1, 1, 1])));
+    made.passed(8, changed(&format!("var p:{}T;", "*".repeat(96)), |h| h.text.clear()));
 }
 
 /// Records of which one rule alone is broken, or which a limit just lets pass, in more than one place.
@@ -600,7 +600,7 @@ fn one_rule(made: &mut Made) {
             }
         }
     }
-    // each token in a line of its own: a column need not be after the former one
+    // each token in a line of its own: a column need not be after the previous one
     let apart = altered::spread(&of(SCRIPT));
     for at in 0..=LAST {
         for (number, column) in [(8, 0), (0, 1), (0, PLACE_LIMIT), (8, PLACE_LIMIT + 1)] {
@@ -640,12 +640,12 @@ fn one_rule(made: &mut Made) {
     }
     // the end of the token slice inside a record, and of the error slice
     for words in [1, 7] {
-        made.handed(8, changed("fn f", |h| h.tokens.truncate(8 + words)));
+        made.passed(8, changed("fn f", |h| h.tokens.truncate(8 + words)));
     }
-    made.handed(8, changed("fn f", |h| (h.errors, h.error_count) = (vec![4, 1, 1], 1)));
+    made.passed(8, changed("fn f", |h| (h.errors, h.error_count) = (vec![4, 1, 1], 1)));
     // 3 before 8, and 8 before 9
     for script in ["fn f", "type"] {
-        made.handed(3, changed(script, |h| (h.file, h.tokens[5]) = (FILE_SIZE - 1, 1)));
-        made.handed(8, changed(script, |h| (h.token_count, h.errors, h.error_count) = (0, vec![0; 4], 1)));
+        made.passed(3, changed(script, |h| (h.file, h.tokens[5]) = (FILE_SIZE - 1, 1)));
+        made.passed(8, changed(script, |h| (h.token_count, h.errors, h.error_count) = (0, vec![0; 4], 1)));
     }
 }

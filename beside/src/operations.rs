@@ -1,12 +1,12 @@
 //! The operations of docs/FORMAT.md on whole slices: the tests before any work, then the Rust's steps.
 
 use crate::rules;
-use formats::{Exit, Given, Handed, Token, Tokens, FILE_SIZE, FILLER, FILLER_WORD, SCRIPT_LIMIT, TOKEN_SLICES};
+use formats::{Exit, Given, Passed, Token, Tokens, FILE_SIZE, FILLER, FILLER_WORD, SCRIPT_LIMIT, TOKEN_SLICES};
 
 pub fn run(given: &Given) -> Exit {
     match given {
         Given::Tokenise { script, slices } => tokens_exit(*slices, &tokenise(script, *slices)),
-        Given::Read(handed) => read_exit(handed, &read(handed), texts(handed)),
+        Given::Read(passed) => read_exit(passed, &read(passed), texts(passed)),
         Given::Whole { script, file } => whole_exit(*file, &whole(script, *file)),
     }
 }
@@ -17,8 +17,8 @@ fn tokenise(script: &[u8], slices: [usize; 3]) -> Result<Tokens, u8> {
     crate::tokenised(text)
 }
 
-fn read(handed: &Handed) -> Result<Vec<u8>, u8> {
-    let records = rules::tested(handed)?;
+fn read(passed: &Passed) -> Result<Vec<u8>, u8> {
+    let records = rules::tested(passed)?;
     crate::read_records(&records)
 }
 
@@ -39,8 +39,8 @@ fn token_text<'a>(tokens: &[u32], text: &'a [u8], at: usize) -> &'a [u8] {
 }
 
 /// What Token text gives for each record of the slice, and after the last.
-fn texts(handed: &Handed) -> Vec<Vec<u8>> {
-    (0..=handed.tokens.len() / 8).map(|at| token_text(&handed.tokens, &handed.text, at).to_vec()).collect()
+fn texts(passed: &Passed) -> Vec<Vec<u8>> {
+    (0..=passed.tokens.len() / 8).map(|at| token_text(&passed.tokens, &passed.text, at).to_vec()).collect()
 }
 
 /// The script as text, or refusal 1 or 2.
@@ -80,8 +80,8 @@ pub fn tokens_exit(slices: [usize; 3], answer: &Result<Tokens, u8>) -> Exit {
     }
 }
 
-pub fn read_exit(handed: &Handed, answer: &Result<Vec<u8>, u8>, texts: Vec<Vec<u8>>) -> Exit {
-    Exit { texts, ..file_exit(handed.file, answer, &[3, 8, 9]) }
+pub fn read_exit(passed: &Passed, answer: &Result<Vec<u8>, u8>, texts: Vec<Vec<u8>>) -> Exit {
+    Exit { texts, ..file_exit(passed.file, answer, &[3, 8, 9]) }
 }
 
 pub fn whole_exit(file: usize, answer: &Result<Vec<u8>, u8>) -> Exit {

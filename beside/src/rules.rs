@@ -1,24 +1,24 @@
-//! What docs/FORMAT.md says of the records that Read is handed.
+//! What docs/FORMAT.md says of the records that Read is passed.
 
-use formats::{Handed, Token, TokenError, Tokens, FILE_SIZE, PLACE_LIMIT, TEXT_LIMIT};
+use formats::{Passed, Token, TokenError, Tokens, FILE_SIZE, PLACE_LIMIT, TEXT_LIMIT};
 
-/// The records that are handed, or the refusal before any work.
-pub fn tested(handed: &Handed) -> Result<Tokens, u8> {
-    if handed.file < FILE_SIZE {
+/// The records that are passed, or the refusal before any work.
+pub fn tested(passed: &Passed) -> Result<Tokens, u8> {
+    if passed.file < FILE_SIZE {
         return Err(3);
     }
-    let records = good_records(handed).ok_or(8)?;
+    let records = good_records(passed).ok_or(8)?;
     if records.tokens.is_empty() {
         return Err(9);
     }
     Ok(records)
 }
 
-fn good_records(handed: &Handed) -> Option<Tokens> {
-    let tokens = stated(&handed.tokens, handed.token_count, 2_048)?;
-    let errors = stated(&handed.errors, handed.error_count, 255)?;
-    let good = good_tokens(&tokens, &handed.text) && errors.iter().all(good_error);
-    good.then(|| Tokens { tokens, errors, text: handed.text.clone() })
+fn good_records(passed: &Passed) -> Option<Tokens> {
+    let tokens = stated(&passed.tokens, passed.token_count, 2_048)?;
+    let errors = stated(&passed.errors, passed.error_count, 255)?;
+    let good = good_tokens(&tokens, &passed.text) && errors.iter().all(good_error);
+    good.then(|| Tokens { tokens, errors, text: passed.text.clone() })
 }
 
 /// So many records from the start of a slice, if so many are allowed and there.
@@ -30,14 +30,14 @@ fn stated<const N: usize>(words: &[u32], count: u64, most: u64) -> Option<Vec<[u
 }
 
 pub fn good_tokens(tokens: &[Token], text: &[u8]) -> bool {
-    let mut former = (0, 0);
+    let mut previous = (0, 0);
     let mut end = 0;
     for token in tokens {
         let place = (token[1], token[2]);
-        if !good_token(token, text) || place <= former {
+        if !good_token(token, text) || place <= previous {
             return false;
         }
-        former = place;
+        previous = place;
         if has_text(token) {
             if token[3] < end {
                 return false;

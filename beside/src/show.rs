@@ -1,6 +1,6 @@
 //! Scripts and answers in readable lines.
 
-use formats::{Exit, Given, Handed, Tokens, FILLER, KINDS};
+use formats::{Exit, Given, Passed, Tokens, FILLER, KINDS};
 
 /// A script in quotes; a long one is cut in its middle.
 pub fn script(bytes: &[u8]) -> String {
@@ -111,28 +111,28 @@ fn token(t: &formats::Token, text: &[u8]) -> String {
     format!("{} at {}:{} \"{}\" start {} base {}", kind(t[0]), t[1], t[2], own.escape_ascii(), t[3], t[5])
 }
 
-/// What Read is handed, a line for each record of its slices, stated or not.
-pub fn handed(handed: &Handed) -> Vec<String> {
+/// What Read is passed, a line for each record of its slices, stated or not.
+pub fn passed(passed: &Passed) -> Vec<String> {
     let mut lines = vec![format!(
         "{} tokens in {} words, {} errors in {} words, {} bytes of text, a file slice of {}",
-        handed.token_count,
-        handed.tokens.len(),
-        handed.error_count,
-        handed.errors.len(),
-        handed.text.len(),
-        handed.file
+        passed.token_count,
+        passed.tokens.len(),
+        passed.error_count,
+        passed.errors.len(),
+        passed.text.len(),
+        passed.file
     )];
-    lines.extend(handed.tokens.chunks(8).map(|words| format!("token {words:?}")));
-    lines.extend(handed.errors.chunks(4).map(|words| format!("token error {words:?}")));
-    lines.push(format!("text {}", script(&handed.text)));
+    lines.extend(passed.tokens.chunks(8).map(|words| format!("token {words:?}")));
+    lines.extend(passed.errors.chunks(4).map(|words| format!("token error {words:?}")));
+    lines.push(format!("text {}", script(&passed.text)));
     lines
 }
 
-/// What an operation is handed.
+/// What an operation is passed.
 pub fn given(given: &Given) -> Vec<String> {
     match given {
         Given::Tokenise { script: bytes, slices } => vec![script(bytes), format!("slices of {slices:?}")],
-        Given::Read(records) => handed(records),
+        Given::Read(records) => passed(records),
         Given::Whole { script: bytes, file } => vec![script(bytes), format!("a file slice of {file}")],
     }
 }

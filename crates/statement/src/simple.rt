@@ -135,7 +135,7 @@ pub fn assembly_statement(
     )
 }
 
-// Parses an assignment after its target, whose records begin at `i`: `=` expression `;`
+// Parses an assignment after its target, in a statement that began in the state `from`: `=` expression `;`
 fn assignment(
     tokens: &[u32],
     text: &[u8],
@@ -159,7 +159,7 @@ fn assignment(
     write_node(file, text, c, place, tag::ASSIGNMENT, Numbers::None)
 }
 
-// Parses a compound assignment after its target, whose records begin at `i`: `<-` compound `;`
+// Parses a compound assignment after its target, in a statement that began in the state `from`: `<-` compound `;`
 fn compound_assignment(
     tokens: &[u32],
     text: &[u8],
@@ -190,7 +190,8 @@ fn compound_assignment(
     )
 }
 
-// Parses what follows an error-free expression, whose records begin at `i`: assignment | compound_assignment | `;`
+// Parses what follows an error-free expression, in a statement that began in the state `from`:
+// assignment | compound_assignment | `;`
 fn after_expression(
     tokens: &[u32],
     text: &[u8],
