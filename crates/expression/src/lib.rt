@@ -86,7 +86,7 @@ fn boolean(
         return a;
     };
     let s = a.state;
-    let t = peek(tokens, text, n, s.at);
+    let t = peek(tokens, n, s.at);
     if t.kind != kind::DOUBLE_AMPERSAND {
         return a;
     }
@@ -116,7 +116,7 @@ fn comparison(
         return a;
     };
     let s = a.state;
-    let t = peek(tokens, text, n, s.at);
+    let t = peek(tokens, n, s.at);
     let op = comparison_operator(t.kind);
     if op == 0 {
         return a;
@@ -149,7 +149,7 @@ fn bit_or(
         return a;
     };
     let s = a.state;
-    let t = peek(tokens, text, n, s.at);
+    let t = peek(tokens, n, s.at);
     if !arithmetic(t.kind) {
         return a;
     }
@@ -325,7 +325,7 @@ fn operators(
             return a;
         };
         let s = a.state;
-        let t = peek(tokens, text, n, s.at);
+        let t = peek(tokens, n, s.at);
         let op = operator(level, t.kind);
         if op == 0 {
             return a;
@@ -359,7 +359,7 @@ fn cast(
             return a;
         };
         let s = a.state;
-        let t = peek(tokens, text, n, s.at);
+        let t = peek(tokens, n, s.at);
         if t.kind != kind::KW_AS {
             return a;
         }
@@ -384,8 +384,8 @@ fn operand(
     requires { ⌜ Asked tokens text n file reported full st ⌝ }
     ensures { λ r. ⌜ Parses P.parse-unary tokens text n file reported full st nesting r ⌝ }
 {
-    let t = peek(tokens, text, n, st.at);
-    let u = peek(tokens, text, n, t.next);
+    let t = peek(tokens, n, st.at);
+    let u = peek(tokens, n, t.next);
     if (nesting == 0) | !name_alone(t.kind, u.kind) {
         return unary(tokens, text, n, file, reported, full, st, nesting);
     }
@@ -409,7 +409,7 @@ fn unary(
     if nesting == 0 {
         return refuse(n, st, refusal::NESTING);
     }
-    let t = peek(tokens, text, n, st.at);
+    let t = peek(tokens, n, st.at);
     let tag = prefix(t.kind);
     if tag == 0 {
         return call(tokens, text, n, file, reported, full, st, nesting - 1);
@@ -439,7 +439,7 @@ fn call(
         return a;
     };
     let s = a.state;
-    let t = peek(tokens, text, n, s.at);
+    let t = peek(tokens, n, s.at);
     if t.kind != kind::L_PAREN {
         return a;
     }
@@ -472,19 +472,19 @@ fn sizeof(
     requires { ⌜ Asked tokens text n file reported full st ⌝ }
     ensures { λ r. ⌜ Parses P.parse-sizeof tokens text n file reported full st nesting r ⌝ }
 {
-    let t = peek(tokens, text, n, st.at);
+    let t = peek(tokens, n, st.at);
     if t.kind != kind::KW_SIZEOF {
         return access(tokens, text, n, file, reported, full, st, nesting);
     }
     let on = State { at: t.next, ..st };
-    let a = expect(tokens, text, n, reported, full, on, kind::L_PAREN);
+    let a = expect(tokens, n, reported, full, on, kind::L_PAREN);
     let status = a.status;
     let Status::Done = status else {
         return a;
     };
     let s = a.state;
     let b = ty(tokens, text, n, file, reported, full, s, nesting);
-    let c = and_expect(tokens, text, n, reported, full, b, kind::R_PAREN, st);
+    let c = and_expect(tokens, n, reported, full, b, kind::R_PAREN, st);
     write_node(file, text, c, t.place, tag::SIZEOF, Numbers::None)
 }
 
@@ -509,9 +509,9 @@ fn access(
             return a;
         };
         let s = a.state;
-        let t = peek(tokens, text, n, s.at);
+        let t = peek(tokens, n, s.at);
         if t.kind == kind::DOT {
-            let u = peek(tokens, text, n, t.next);
+            let u = peek(tokens, n, t.next);
             let on = State { at: u.next, ..s };
             if u.kind == kind::END {
                 return refuse(n, s, refusal::END_AFTER_WORD);
@@ -569,7 +569,7 @@ fn access(
         }
         let b = expression(tokens, text, n, file, reported, full, on, nesting);
         let c = abandon(reported, b, st, s);
-        let d = and_expect(tokens, text, n, reported, full, c, kind::R_BRACKET, st);
+        let d = and_expect(tokens, n, reported, full, c, kind::R_BRACKET, st);
         a = write_node(file, text, d, t.place, tag::INDEX, Numbers::None);
     }
 }
@@ -588,13 +588,13 @@ fn atom(
     requires { ⌜ Asked tokens text n file reported full st ⌝ }
     ensures { λ r. ⌜ Parses P.parse-atom tokens text n file reported full st nesting r ⌝ }
 {
-    let t = peek(tokens, text, n, st.at);
+    let t = peek(tokens, n, st.at);
     if t.kind != kind::L_PAREN {
         return literal(tokens, text, n, file, reported, full, st);
     }
     let on = State { at: t.next, ..st };
     let a = expression(tokens, text, n, file, reported, full, on, nesting);
-    close(tokens, text, n, reported, full, a)
+    close(tokens, n, reported, full, a)
 }
 
 // ---- names
@@ -617,7 +617,7 @@ fn bare_name(
         return a;
     };
     let s = a.state;
-    let t = peek(tokens, text, n, at);
+    let t = peek(tokens, n, at);
     if t.kind == kind::IDENTIFIER {
         let pos = write_bare(file, text, s.pos, tag, Numbers::None, t.start, t.len);
         return Answer {
@@ -655,7 +655,7 @@ pub fn ty(
     if nesting == 0 {
         return refuse(n, st, refusal::NESTING);
     }
-    let t = peek(tokens, text, n, st.at);
+    let t = peek(tokens, n, st.at);
     let on = State { at: t.next, ..st };
     if t.kind == kind::IDENTIFIER {
         let a = Answer {
@@ -721,7 +721,7 @@ fn array(
     requires { ⌜ Asked tokens text n file reported full st × (place < 0x100000000) ⌝ }
     ensures { λ r. ⌜ Parses (P.parse-array-type (unpack-place place)) tokens text n file reported full st nesting r ⌝ }
 {
-    let t = peek(tokens, text, n, st.at);
+    let t = peek(tokens, n, st.at);
     let on = State { at: t.next, ..st };
     if t.kind != kind::INTEGER {
         let error = entry(parse_error::ARRAY_SIZE, place, 0, 0);
@@ -732,7 +732,7 @@ fn array(
         let error = entry(parse_error::ARRAY_SIZE_POSITIVE, place, 0, 0);
         return raise(n, reported, full, on, error);
     }
-    let a = expect(tokens, text, n, reported, full, on, kind::R_BRACKET);
+    let a = expect(tokens, n, reported, full, on, kind::R_BRACKET);
     let status = a.status;
     let Status::Done = status else {
         return a;
@@ -759,7 +759,7 @@ fn typed(
     requires { ⌜ Asked tokens text n file reported full st × ((from .pos ≡ st .pos) × (from .reported ≤ st .reported)) ⌝ }
     ensures { λ r. ⌜ TypedOn tokens text n file reported full from st nesting r ⌝ }
 {
-    let a = expect(tokens, text, n, reported, full, st, kind::COLON);
+    let a = expect(tokens, n, reported, full, st, kind::COLON);
     let b = abandon(reported, a, from, st);
     let status = b.status;
     let Status::Done = status else {
@@ -784,7 +784,7 @@ pub fn typed_name(
     requires { ⌜ Asked tokens text n file reported full st ⌝ }
     ensures { λ r. ⌜ ReadsTyped tokens text n file reported full st nesting r ⌝ }
 {
-    let t = peek(tokens, text, n, st.at);
+    let t = peek(tokens, n, st.at);
     let on = State { at: t.next, ..st };
     if t.kind == kind::IDENTIFIER {
         return typed(tokens, text, n, file, reported, full, st, on, nesting);
@@ -837,9 +837,9 @@ fn field(
     requires { ⌜ Asked tokens text n file reported full st ⌝ }
     ensures { λ r. ⌜ Parses P.parse-compound-struct-field tokens text n file reported full st nesting r ⌝ }
 {
-    let t = peek(tokens, text, n, st.at);
-    let a = expect_identifier(tokens, text, n, reported, full, st);
-    let b = and_expect(tokens, text, n, reported, full, a, kind::EQUALS, st);
+    let t = peek(tokens, n, st.at);
+    let a = expect_identifier(tokens, n, reported, full, st);
+    let b = and_expect(tokens, n, reported, full, a, kind::EQUALS, st);
     let status = b.status;
     let Status::Done = status else {
         return b;
@@ -898,7 +898,7 @@ pub fn list(
     ensures { λ r. ⌜ ReadsList (listed-of what) tokens text n file reported full st nesting r ⌝ }
 {
     let open = opener(what);
-    let a = expect(tokens, text, n, reported, full, st, open);
+    let a = expect(tokens, n, reported, full, st, open);
     let status = a.status;
     if let Status::Refused(_) = status {
         return a;
@@ -907,7 +907,7 @@ pub fn list(
     let mut count = 0;
     let mut s = a.state;
     loop {
-        let t = peek(tokens, text, n, s.at);
+        let t = peek(tokens, n, s.at);
         if t.kind == kind::END {
             let error = entry(parse_error::LIST_AT_END, 0, 0, 0);
             let b = note(n, reported, full, s, error);
@@ -934,7 +934,7 @@ pub fn list(
         if let Status::Refused(_) = h {
             return b;
         }
-        let c = comma(tokens, text, n, reported, full, e, close);
+        let c = comma(tokens, n, reported, full, e, close);
         let g = c.status;
         let Status::Done = g else {
             return c;

@@ -45,7 +45,7 @@ goes-on q u a b c = record { asked = asked-moved q (u .moved) a b c; pos = u .mo
 -- ---- nothing follows
 
 module _ {w x : List ℕ} {n i j : ℕ} {o r f : List ℕ} {a : Answer} (q : GoesOn w x n o r f a i j) where
-  stays-on : Moved w x n i j (a .state) (a .state)
+  stays-on : Moved w n i j (a .state) (a .state)
   stays-on =
       record {
         at = omega arith;
@@ -86,10 +86,10 @@ module _ {w x : List ℕ} {n i j : ℕ} {o r f : List ℕ} {a : Answer} (q : Goe
 -- ---- another operand, and the record of both
 
 module _ {A : Type 0} {K : View A} {w x : List ℕ} {n d i j : ℕ} {o r f o1 r1 f1 r2 o2 : List ℕ} {a b c y : Answer} {t : Token} {v : Record} {m : Act (Ans A)}
-    (q : GoesOn w x n o r f a i j) (u : Seen w x n (a .state .at) t) (B : Reads K w x n d m o r f (fore (a .state) t) o1 r1 f1 b) (C : Abandoned r1 b i j (a .state .reported) r2 c) (F : NodeWritten x o1 c v o2 y) (paid : size-of v ≤ 16 * min (t .kind) 1) where
-  pub joined-moved : Moved w x n i j (a .state) (y .state)
+    (q : GoesOn w x n o r f a i j) (u : Seen w n (a .state .at) t) (B : Reads K w x n d m o r f (fore (a .state) t) o1 r1 f1 b) (C : Abandoned r1 b i j (a .state .reported) r2 c) (F : NodeWritten x o1 c v o2 y) (paid : size-of v ≤ 16 * min (t .kind) 1) where
+  pub joined-moved : Moved w n i j (a .state) (y .state)
   joined-moved =
-      let e : budget w x n (y .state .at) ≡ budget w x n (b .state .at) = ap (λ (k : ℕ). budget w x n k) (F .at ∙ C .at) in
+      let e : budget w n (y .state .at) ≡ budget w n (b .state .at) = ap (λ (k : ℕ). budget w n k) (F .at ∙ C .at) in
       record {
         at = omega (arith, F .at, C .at, u .up, B .moved);
         end = omega (arith, F .at, C .at, B .moved);
@@ -107,7 +107,7 @@ module _ {A : Type 0} {K : View A} {w x : List ℕ} {n d i j : ℕ} {o r f o1 r1
 
 -- After the answer a, the token t is read and the act m gives b; c is what `?` makes of b; y has the record v.
 module _ {A : Type 0} {K : View A} {w x : List ℕ} {n d i j : ℕ} {o r f o1 r1 f1 r2 o2 : List ℕ} {a b c y : Answer} {t : Token} {v : Record} {m : Act (Ans A)} (p : Place) (ns : List Num)
-    (q : GoesOn w x n o r f a i j) (z : a .status ≡ Done) (u : Seen w x n (a .state .at) t)
+    (q : GoesOn w x n o r f a i j) (z : a .status ≡ Done) (u : Seen w n (a .state .at) t)
     (B : Reads K w x n d m o r f (fore (a .state) t) o1 r1 f1 b)
     (C : Abandoned r1 b i j (a .state .reported) r2 c) (F : NodeWritten x o1 c v o2 y)
     (paid : size-of v ≤ 16 * min (t .kind) 1) (made : rec-of x v ≡ record { tag = v .tag; place = some p; numbers = ns; text = [] }) where
@@ -161,7 +161,7 @@ module _ {A : Type 0} {K : View A} {w x : List ℕ} {n d i j : ℕ} {o r f o1 r1
 -- ---- what the steps require
 
 module _ {A : Type 0} {K : View A} {w x : List ℕ} {n d i j : ℕ} {o r f o1 r1 f1 : List ℕ} {a b : Answer}
-    {t : Token} {m : Act (Ans A)} (q : GoesOn w x n o r f a i j) (u : Seen w x n (a .state .at) t)
+    {t : Token} {m : Act (Ans A)} (q : GoesOn w x n o r f a i j) (u : Seen w n (a .state .at) t)
     (B : Reads K w x n d m o r f (fore (a .state) t) o1 r1 f1 b) where
   pub join-cuts : length r1 ≡ length r → Cuts r1 b i j (a .state .reported)
   join-cuts e =
@@ -177,13 +177,13 @@ module _ {A : Type 0} {K : View A} {w x : List ℕ} {n d i j : ℕ} {o r f o1 r1
   join-room C e = record { room = omega (arith, C .high, B .moved .room, u .pays, q .asked .room); part = omega arith }
 
 -- room for a record without text, in a later state
-pub room-at : {w x : List ℕ} {n i j : ℕ} {o r f o1 : List ℕ} {s t : State} → Asked w x n o r f s → Moved w x n i j s t
+pub room-at : {w x : List ℕ} {n i j : ℕ} {o r f o1 : List ℕ} {s t : State} → Asked w x n o r f s → Moved w n i j s t
     → length o1 ≡ length o → Room o1 x (t .pos) (16 + 0) 0 0
 room-at q m e = record { room = omega (arith, q .room, m .room); part = omega arith }
 
 -- what the next turn requires, after a turn that moved on, and after one that continued the answer by k
 pub turn-on : {w x : List ℕ} {n i j : ℕ} {o r f o2 r2 f2 : List ℕ} {a y : Answer} → GoesOn w x n o r f a i j
-    → Moved w x n i j (a .state) (y .state) → length o2 ≡ length o → length r2 ≡ length r → length f2 ≡ length f
+    → Moved w n i j (a .state) (y .state) → length o2 ≡ length o → length r2 ≡ length r → length f2 ≡ length f
     → GoesOn w x n o2 r2 f2 y i j
 turn-on q m a b c = record { asked = asked-moved (q .asked) m a b c; pos = m .pos; reported = m .reported }
 

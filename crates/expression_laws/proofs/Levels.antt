@@ -56,7 +56,7 @@ module _ {ops : List P.Op} {c op : ℕ} (k : Operator ops c op) (t : Tok) (e : t
   one-found h = k .is t e found other d S ∙ rw (ne-eqb op 0 h)
 
 module _ {w x : List ℕ} {n d i j : ℕ} {o r f : List ℕ} {a : Answer} {t : Token} (q : GoesOn w x n o r f a i j)
-    (z : a .status ≡ Done) (u : Seen w x n (a .state .at) t) where
+    (z : a .status ≡ Done) (u : Seen w n (a .state .at) t) where
   -- ---- `&&`
 
   pub and-none : (t .kind ≡ 29 → ⊥) → Goes node node w x n d and-on i j o r f a o r f a
@@ -72,7 +72,7 @@ module _ {w x : List ℕ} {n d i j : ℕ} {o r f : List ℕ} {a : Answer} {t : T
       goes-joined (next-token (rest w x n (a .state .at)) .place) [] q z u B C F (omega arith) (rw (u .place))
       (past w x n (a .state .at)) (λ e rd. rw (run, yes u h) (ap (λ (S : St). go d
       (P.parse-comparison >>? λ r. done (ok (P.binary 0x2C [] (next-token (rest w x n (a .state .at)) .place) e r))) S)
-      (adv (a .state) u (λ _. plain) f rd)))
+      (adv (a .state) u (λ _. plain) f rd _)))
 
   -- ---- comparisons and operators of a level
 
@@ -80,7 +80,7 @@ module _ {w x : List ℕ} {n d i j : ℕ} {o r f : List ℕ} {a : Answer} {t : T
   unfolding go run
   compare-none k h =
       goes-none q z
-      (λ e rd. none-found k (next-token (rest w x n (a .state .at))) (u .kind) d (compared e) (done (ok e))
+      (λ e rd. none-found k (next-token (rest w x n (a .state .at))) (u .kind x) d (compared e) (done (ok e))
       (st-of w x n f rd (a .state)) h)
 
   pub compare-found : {op : ℕ} {o1 r1 f1 r2 o2 : List ℕ} {b c y : Answer} → Operator P.comparisons (t .kind) op → (op ≡ 0 → ⊥)
@@ -91,17 +91,17 @@ module _ {w x : List ℕ} {n d i j : ℕ} {o r f : List ℕ} {a : Answer} {t : T
   compare-found {op} k h B C F =
       goes-joined (next-token (rest w x n (a .state .at)) .place) (byte (op - 1) ∷ []) q z u B C F
       (omega (arith, k .real)) (rw (u .place)) (past w x n (a .state .at))
-      (λ e rd. one-found k (next-token (rest w x n (a .state .at))) (u .kind) d (compared e) (done (ok e))
+      (λ e rd. one-found k (next-token (rest w x n (a .state .at))) (u .kind x) d (compared e) (done (ok e))
       (st-of w x n f rd (a .state)) h ∙ ap (λ (S : St). go d (P.parse-bitwise-or >>? λ r. done
       (ok (P.binary 0x2E (byte (op - 1) ∷ []) (next-token (rest w x n (a .state .at)) .place) e r))) S)
-      (adv (a .state) u (λ _. plain) f rd))
+      (adv (a .state) u (λ _. plain) f rd _))
 
   module _ (l : A.Level) {op : ℕ} (k : Operator (P.mapping l) (t .kind) op) where
     pub operators-none : op ≡ 0 → Goes node node w x n d (operators-on l) i j o r f a o r f a
     unfolding go run P.operators-turn
     operators-none h =
         goes-none q z (λ e rd. go-loop d (Operators l e) (st-of w x n f rd (a .state)) ∙ none-found k
-        (next-token (rest w x n (a .state .at))) (u .kind) d (operated l e) (done (ok e))
+        (next-token (rest w x n (a .state .at))) (u .kind x) d (operated l e) (done (ok e))
         (st-of w x n f rd (a .state)) h)
 
     pub operators-more : {o1 r1 f1 r2 o2 o3 r3 f3 : List ℕ} {b c y y′ : Answer} → (op ≡ 0 → ⊥)
@@ -116,10 +116,10 @@ module _ {w x : List ℕ} {n d i j : ℕ} {o r f : List ℕ} {a : Answer} {t : T
         (omega (arith, k .real)) (rw (u .place)) (past w x n (a .state .at))
         (λ e b. P.binary 0x2D (byte (op - 1) ∷ []) (next-token (rest w x n (a .state .at)) .place) e b) (λ e b. refl)
         (λ e rd. go-loop d (Operators l e) (st-of w x n f rd (a .state)) ∙ one-found k
-        (next-token (rest w x n (a .state .at))) (u .kind) d (operated l e) (done (ok e))
+        (next-token (rest w x n (a .state .at))) (u .kind x) d (operated l e) (done (ok e))
         (st-of w x n f rd (a .state)) h ∙ ap (λ (S : St). go d (P.cascade l >>? λ b. operators-on l
         (P.binary 0x2D (byte (op - 1) ∷ []) (next-token (rest w x n (a .state .at)) .place) e b)) S)
-        (adv (a .state) u (λ _. plain) f rd)) G
+        (adv (a .state) u (λ _. plain) f rd _)) G
 
   -- ---- casts
 
@@ -138,7 +138,7 @@ module _ {w x : List ℕ} {n d i j : ℕ} {o r f : List ℕ} {a : Answer} {t : T
       (λ e b. refl)
       (λ e rd. go-loop d (Casts e) (st-of w x n f rd (a .state)) ∙ rw (run, yes u h) (ap (λ (S : St). go d
       (P.parse-type >>? λ b. casts-on (P.binary 0x26 [] (next-token (rest w x n (a .state .at)) .place) e b)) S)
-      (adv (a .state) u (λ _. plain) f rd))) G
+      (adv (a .state) u (λ _. plain) f rd _))) G
 
 -- ---- the six levels, the tightest first
 

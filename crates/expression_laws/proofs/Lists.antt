@@ -82,18 +82,18 @@ listing k d S =
 
 module _ {w x : List ℕ} {n wanted : ℕ} (k : A.Listed) {o r f r1 f1 : List ℕ} {s : State} {a : Answer}
     (q : Asked w x n o r f s) (c : (wanted ≡ P.opener k) × ((0 < wanted) × (wanted < 256)))
-    (e : Expects w x n (λ role. P.expect-as role wanted) r f s r1 f1 a) where
+    (e : Expects w n (λ role. P.expect-as role wanted) r f s r1 f1 a) where
   opens : (d : ℕ) (rd : List Consumed)
       → Shows (token (next-token (rest w x n (s .at)))) (take (s .pos) o) (errs r (s .reported)) [] [] w x n o r1 f1 a
       (go d (P.expect (P.opener k)) (st-of w x n f rd s))
-  opens d rd = rw (← c .0) (e .is plain d rd o)
+  opens d rd = rw (← c .0) (e .is x plain d rd o)
 
   -- a refusal at the opener is returned; else the loop runs
   pub list-refused : {d : ℕ} → Ended a → ReadsList w x n d k o r f s o r1 f1 a
   list-refused {d} h = record {
     moved = e .moved;
     on = e .on;
-    spare = omega (arith, e .pos, paid (s .at) (a .state .at) (q .asks .held) (e .on));
+    spare = omega (arith, e .pos, paid (s .at) (a .state .at) (q .asks .held) (e .on) x);
     never = not-fatal (a .status) h;
     is = λ rd. refusal h (λ m g. listing k d _ ∙ rw g) (opens d rd);
   }
@@ -104,7 +104,7 @@ module _ {w x : List ℕ} {n wanted : ℕ} (k : A.Listed) {o r f r1 f1 : List �
   list-on {d} {o2} {r2} {f2} {y} h u = record {
     moved = moved-onward (e .moved) (u .moved);
     on = omega (arith, e .on, u .moved .at);
-    spare = omega (arith, u .moved .room, e .pos, paid (s .at) (a .state .at) (q .asks .held) (e .on));
+    spare = omega (arith, u .moved .room, e .pos, paid (s .at) (a .state .at) (q .asks .held) (e .on) x);
     never = u .never;
     is = λ rd. say (listing k d _) (one rd (a .status) h (opens d rd .told));
   }
@@ -127,7 +127,7 @@ module _ {w x : List ℕ} {n wanted : ℕ} (k : A.Listed) {o r f r1 f1 : List �
 -- ---- its loop: one law for each way in which a turn ends
 
 module _ {w x : List ℕ} {n count : ℕ} (k : A.Listed) {o r f : List ℕ} {s : State} {t : Token}
-    (q : Asked w x n o r f s × (count ≤ s .at)) (v : Seen w x n (s .at) t) where
+    (q : Asked w x n o r f s × (count ≤ s .at)) (v : Seen w n (s .at) t) where
   pub rest-end : {d e : ℕ} {r1 f1 : List ℕ} {b : Answer} → t .kind ≡ 0 → unpack e ≡ error-at 14 0 0 0
       → Raised (noted n s) r f s e r1 f1 b
       → LoopOn (listed-on k) w x n d count o r f s o r1 f1
@@ -145,7 +145,7 @@ module _ {w x : List ℕ} {n count : ℕ} (k : A.Listed) {o r f : List ℕ} {s :
     rest-closed {d} z =
         loop-closed (listed-on k) q v
         (λ rd l. go-loop d (ListOf k l) (st-of w x n f rd s) ∙ rw (run, no v m0, yes v (z ∙ c))
-        (ap (λ (S : St). gives l S) (adv s v (λ _. plain) f rd)))
+        (ap (λ (S : St). gives l S) (adv s v (λ _. plain) f rd _)))
 
     module _ {d : ℕ} {o1 r1 f1 : List ℕ} {b : Answer} (mc : t .kind ≡ close → ⊥)
         (u : Reads node w x n d (P.item k) o r f s o1 r1 f1 b) where
@@ -159,19 +159,19 @@ module _ {w x : List ℕ} {n count : ℕ} (k : A.Listed) {o r f : List ℕ} {s :
       pub rest-item : Ended b → LoopOn (listed-on k) w x n d count o r f s o1 r1 f1 b
       rest-item h = loop-refused (listed-on k) (P.after-item k) (P.item k) item-turn u h
 
-      module _ (alive : Alive b) {r2 f2 : List ℕ} {a : Answer} (g : Commas w x n r1 f1 (b .state) close r2 f2 a) where
+      module _ (alive : Alive b) {r2 f2 : List ℕ} {a : Answer} (g : Commas w n r1 f1 (b .state) close r2 f2 a) where
         pub rest-comma : Stopped a → LoopOn (listed-on k) w x n d count o r f s o1 r2 f2 a
         rest-comma nd = record {
           moved = moved-onward (u .moved) (g .moved);
           never =
               λ z. subst
               (λ (h : Status). CommasOf h w x n k r1 f1 (b .state) r2 f2 (a .state) d [] (P.no-items [])) z
-              (g .is k (sym c) d [] (P.no-items []));
+              (g .is x k (sym c) d [] (P.no-items []));
           is =
               λ rd T E l et ee ec. let j = joined (listed-on k) (P.after-item k) (P.item k) item-turn u alive rd
               T E l et ee ec in
               say (j .is)
-              (record { told = one T E (j .read) (j .list) (a .status) nd (g .is k (sym c) d (j .read) (j .list)) });
+              (record { told = one T E (j .read) (j .list) (a .status) nd (g .is x k (sym c) d (j .read) (j .list)) });
         }
           where
             one : (T : List ℕ) (E : List Err) (rd : List Consumed) (l : Items) (h : Status)
@@ -192,7 +192,7 @@ module _ {w x : List ℕ} {n count : ℕ} (k : A.Listed) {o r f : List ℕ} {s :
               let j = joined (listed-on k) (P.after-item k) (P.item k) item-turn u alive rd T E l et ee ec in
               let i : Next w x n k r1 f1 (b .state) r2 f2 (a .state) d (j .read) (j .list) = subst
               (λ (h : Status). CommasOf h w x n k r1 f1 (b .state) r2 f2 (a .state) d (j .read) (j .list)) z
-              (g .is k (sym c) d (j .read) (j .list)) in
+              (g .is x k (sym c) d (j .read) (j .list)) in
               say (j .is ∙ ap (answered d) (i .is) ∙ sym (go-bind d (listed-on k (with-errors (j .list) (i .errors))) as-answer _))
               (h .is (i .read) T E (with-errors (j .list) (i .errors))
               (ap (λ (p : ℕ). take p o1) (g .pos) ∙ j .tree)
@@ -202,15 +202,15 @@ module _ {w x : List ℕ} {n count : ℕ} (k : A.Listed) {o r f : List ℕ} {s :
 -- ---- what their calls require
 
 module _ {w x : List ℕ} {n d count : ℕ} {act : Act (Ans Node)} {o r f o1 r1 f1 : List ℕ} {s : State} {t : Token}
-    {b : Answer} (q : Asked w x n o r f s × (count ≤ s .at)) (v : Seen w x n (s .at) t) (m0 : t .kind ≡ 0 → ⊥)
+    {b : Answer} (q : Asked w x n o r f s × (count ≤ s .at)) (v : Seen w n (s .at) t) (m0 : t .kind ≡ 0 → ⊥)
     (u : Reads node w x n d act o r f s o1 r1 f1 b) where
-  pub comma-asks : length r1 ≡ length r → length f1 ≡ length f → Asks w x n r1 f1 (b .state)
+  pub comma-asks : length r1 ≡ length r → length f1 ≡ length f → Asks w n r1 f1 (b .state)
   comma-asks l g = asks-moved (q .0 .asks) (u .moved) l g
 
-  pub rest-asked : {close m : ℕ} {r2 f2 : List ℕ} {a : Answer} → Commas w x n r1 f1 (b .state) close r2 f2 a
+  pub rest-asked : {close m : ℕ} {r2 f2 : List ℕ} {a : Answer} → Commas w n r1 f1 (b .state) close r2 f2 a
       → Counted (b .status) count m → length o1 ≡ length o → length r2 ≡ length r → length f2 ≡ length f
       → Asked w x n o1 r2 f2 (a .state) × (m ≤ a .state .at)
   rest-asked g c lo l h = (
     asked-moved (q .0) (moved-onward (u .moved) (g .moved)) lo l h,
-    omega (arith, q .1, v .kind, m0, u .on, g .moved .at, c .high),
+    omega (arith, q .1, v .present, m0, u .on, g .moved .at, c .high),
   )

@@ -57,7 +57,7 @@ refusal {A} {K} {T} {E} {w} {x} {n} {o} {r} {f} {o′} {r′} {f′} {T′} {E�
 -- ---- a turn that ends the loop `on`
 
 module _ {w x : List ℕ} {n d count : ℕ} (on : Items → Act Items) {o r f : List ℕ} {s : State} {t : Token}
-    (q : Asked w x n o r f s × (count ≤ s .at)) (v : Seen w x n (s .at) t) where
+    (q : Asked w x n o r f s × (count ≤ s .at)) (v : Seen w n (s .at) t) where
   -- the closing token is read
   pub loop-closed : ((rd : List Consumed) (l : Items)
       → go d (on l) (st-of w x n f rd s) ≡ gives l (st-of w x n f (past w x n (s .at) rd) (fore s t)))
@@ -103,13 +103,13 @@ module _ {w x : List ℕ} {n d count : ℕ} (on : Items → Act Items) {o r f : 
             item = P.with-error l (unpack e);
             errors = l .errors ++ (unpack e ∷ []);
             read = rd;
-            is = made ∙ ap (answered d) (makes (q .0 .asks) g d (done (P.with-error l (unpack e))) rd h);
+            is = made ∙ ap (answered d) (makes (q .0 .asks) g d (done (P.with-error l (unpack e))) rd x h);
             tree = et;
             reported = errs-join E (l .errors) (unpack e ∷ []) ee (g .reported h);
             holds = ec;
           };
         })
-        (λ h. record { told = made ∙ ap (answered d) (makes-none (q .0 .asks) g d (done (P.with-error l (unpack e))) rd h) });
+        (λ h. record { told = made ∙ ap (answered d) (makes-none (q .0 .asks) g d (done (P.with-error l (unpack e))) rd x h) });
   }
 
 -- ---- a turn that reads an item
@@ -189,8 +189,8 @@ module _ {w x : List ℕ} {n d : ℕ} {o r f o1 r1 f1 : List ℕ} {s : State} {b
 -- what the next turn requires: an item consumes the token that begins it
 pub loop-asked : {w x : List ℕ} {n d count k : ℕ} {m : Act (Ans Node)} {o r f o1 r1 f1 : List ℕ} {s : State} {b : Answer}
     {t : Token}
-    → Asked w x n o r f s × (count ≤ s .at) → Seen w x n (s .at) t → (t .kind ≡ 0 → ⊥)
+    → Asked w x n o r f s × (count ≤ s .at) → Seen w n (s .at) t → (t .kind ≡ 0 → ⊥)
     → Reads node w x n d m o r f s o1 r1 f1 b → Counted (b .status) count k → length o1 ≡ length o
     → length r1 ≡ length r → length f1 ≡ length f
     → Asked w x n o1 r1 f1 (b .state) × (k ≤ b .state .at)
-loop-asked q v m0 u c lo lr lf = (asked-moved (q .0) (u .moved) lo lr lf, omega (arith, q .1, v .kind, m0, u .on, c .high))
+loop-asked q v m0 u c lo lr lf = (asked-moved (q .0) (u .moved) lo lr lf, omega (arith, q .1, v .present, m0, u .on, c .high))

@@ -28,7 +28,7 @@ use Rattle.fallible.specs.Answers.{refused-at, one-more, raised, noted, Raised,
 use Rattle.fallible.proofs.Status.{the-type}
 use Rattle.fallible.proofs.Grown.{errs-length}
 use Rattle.steps.specs.declared.Token.{Token}
-use Rattle.steps.specs.Tokens.{rest, budget, Seen}
+use Rattle.steps.specs.Tokens.{rest, budget, Parts, Seen}
 use Rattle.steps.specs.Shows.{st-of, Asks, Asked, Moved, View, Good, ShowsOf, Shows, done-of, node, typed, token, Reads, Expects, NodeWritten, Follows, Followed, ExpectedOf, Expected}
 use Rattle.steps.proofs.Tokens.{yes, no, fore, adv}
 use Rattle.steps.proofs.Moves.{spent, refused-moved, asks-fore, asks-moved, fore-moved, making-moved, moved-trans, asked-moved, abandoned-moved}
@@ -41,8 +41,10 @@ use Rattle.expression_laws.proofs.Types.{moved-onward, past, paid, reco
 -- ---- `bare_name`
 
 -- the length of a token's text is the one in its record
-pub text-length : {w x : List ℕ} {n at : ℕ} {t : Token} → Seen w x n at t → length (next-token (rest w x n at) .text) ≡ t .len
-text-length {x = x} {t = t} v = rw (v .text) (length-take-le (t .len) (drop (t .start) x) (simp length-drop (omega arith)))
+pub text-length : {w x : List ℕ} {n at : ℕ} {t : Token} → Parts w x n → Seen w n at t
+    → length (next-token (rest w x n at) .text) ≡ t .len
+text-length {x = x} {t = t} p v =
+    rw (v .text) (length-take-le (t .len) (drop (t .start) x) (simp length-drop (omega (arith, v .part p))))
 
 -- the text in place of a missing name
 abbrev pub unknown : List ℕ
@@ -57,7 +59,7 @@ module _ {w x : List ℕ} {n : ℕ} {o : List ℕ} {a : Answer} {tag at : ℕ} (
       one Fatal nd = (refl, refl)
       one (Refused m) nd = (refl, refl)
 
-  module _ {t : Token} (z : a .status ≡ Done) (v : Seen w x n at t) where
+  module _ {t : Token} (z : a .status ≡ Done) (v : Seen w n at t) where
     -- the name is written
     named : {o′ : List ℕ} {p k : ℕ} {name : List ℕ} → name-of (next-token (rest w x n at)) ≡ name
         → length name ≤ 3 + length (next-token (rest w x n at) .text) → k ≡ 3 + length name
@@ -89,9 +91,9 @@ module _ {w x : List ℕ} {n : ℕ} {o : List ℕ} {a : Answer} {tag at : ℕ} (
           count = 0;
         })
     bare-name y u =
-        let l = text-length v in
-        let g = ap length (v .text) in
-        named (rw (eq-eqb _ _ (v .kind ∙ y)) (v .text)) (omega arith) (omega arith) u
+        let l = text-length (q .parts) v in
+        let g = ap length (v .text x) in
+        named (rw (eq-eqb _ _ (v .kind x ∙ y)) (v .text x)) (omega arith) (omega arith) u
 
     pub bare-unknown : {o′ : List ℕ} {p : ℕ} → (t .kind ≡ 1 → ⊥)
         → Wrote o (a .state .pos) (bare-of tag None (take 3 (drop 0 unknown))) (bare-size None 3) o′ p
@@ -102,12 +104,12 @@ module _ {w x : List ℕ} {n : ℕ} {o : List ℕ} {a : Answer} {tag at : ℕ} (
           count = 0;
         })
     unfolding ascii
-    bare-unknown y u = named (rw (ne-eqb _ _ (λ k. y (sym (v .kind) ∙ k)))) (omega arith) (omega arith) u
+    bare-unknown y u = named (rw (ne-eqb _ _ (λ k. y (sym (v .kind x) ∙ k)))) (omega arith) (omega arith) u
 
 -- there is room for either
 module _ {w x : List ℕ} {n : ℕ} {o : List ℕ} {a : Answer} {at : ℕ} (q : NameRoom w x n o a at) (z : a .status ≡ Done) where
-  pub bare-room : {t : Token} → Seen w x n at t → Room o x (a .state .pos) (16 + t .len) (t .start) (t .len)
-  bare-room v = let d : done-of (a .status) ≡ 1 = rw z in record { room = omega (arith, q .room, text-length v); part = v .part }
+  pub bare-room : {t : Token} → Seen w n at t → Room o x (a .state .pos) (16 + t .len) (t .start) (t .len)
+  bare-room v = let d : done-of (a .status) ≡ 1 = rw z in record { room = omega (arith, q .room, text-length (q .parts) v); part = v .part (q .parts) }
 
   pub unknown-room : Room o unknown (a .state .pos) (16 + 3) 0 3
   unknown-room = let d : done-of (a .status) ≡ 1 = rw z in record { room = omega (arith, q .room); part = omega arith }
@@ -162,7 +164,7 @@ module _ {w x : List ℕ} {n : ℕ} {o r f : List ℕ} {s : State} (q : Asked w 
 
 module _ {w x : List ℕ} {n d j : ℕ} {o r f r1 f1 r2 : List ℕ} {s : State} {a b : Answer}
     (q : Asked w x n o r f s × (j ≤ s .reported))
-    (e : Expects w x n (λ role. P.expect-as role 49) r f s r1 f1 a)
+    (e : Expects w n (λ role. P.expect-as role 49) r f s r1 f1 a)
     (v : Abandoned r1 a (s .pos) j (s .reported) r2 b) where
   -- `:` is missing: returned by `?`; else the type follows
   pub typed-colon : Stopped b → TypedOn w x n d j o r f s o r2 f1 b
@@ -176,7 +178,7 @@ module _ {w x : List ℕ} {n d j : ℕ} {o r f r1 f1 r2 : List ℕ} {s : State} 
             λ rd name E es le h. say (go-bind d (P.expect 49) (or-return (colon-on name es)) _)
             (stops d (colon-on name es) _ nd
             (abandons {T = take (s .pos) o} {E = E} {rs = []} {es = es} (sym (append-nil _)) h (len-pos (q .0))
-            le (len-reported (q .0)) v (e .moved .pos) (omega (arith, q .1, e .moved .reported)) (e .is plain d rd o)));
+            le (len-reported (q .0)) v (e .moved .pos) (omega (arith, q .1, e .moved .reported)) (e .is x plain d rd o)));
       }
 
   module _ {o3 r3 f3 r4 : List ℕ} {c y : Answer} where
@@ -186,9 +188,9 @@ module _ {w x : List ℕ} {n d j : ℕ} {o r f r1 f1 r2 : List ℕ} {s : State} 
     unfolding P.typed recs-bytes
     typed-there z u k =
         let m = abandoned-moved (moved-onward (e .moved) (u .moved)) k in
-        let b : budget w x n (y .state .at) ≡ budget w x n (c .state .at) = ap (λ (i : ℕ). budget w x n i) (k .at) in
+        let b : budget w n (y .state .at) ≡ budget w n (c .state .at) = ap (λ (i : ℕ). budget w n i) (k .at) in
         let g : (rd : List Consumed) → Good (token (next-token (rest w x n (s .at)))) (take (s .pos) o) (errs r (s .reported)) [] [] w x n o r1 f1 a (go d (P.expect 49) (st-of w x n f rd s)) =
-        λ rd. good-of z (e .is plain d rd o) in
+        λ rd. good-of z (e .is x plain d rd o) in
         let da : done-of (a .status) ≡ 1 = rw z in
         record {
           moved = m;
@@ -234,18 +236,18 @@ error-same : (d : ℕ) {X Y : Err} {S S′ : St} → X ≡ Y → S ≡ S′
     → go d (make X (P.typed (ascii "<?>") (X ∷ []))) S ≡ go d (make Y (P.typed (ascii "<?>") (Y ∷ []))) S′
 error-same d p q = rw (p, q)
 
-module _ {w x : List ℕ} {n : ℕ} {o r f : List ℕ} {s : State} {t : Token} (q : Asked w x n o r f s) (v : Seen w x n (s .at) t) where
+module _ {w x : List ℕ} {n : ℕ} {o r f : List ℕ} {s : State} {t : Token} (q : Asked w x n o r f s) (v : Seen w n (s .at) t) where
   -- the first token is an identifier, the end, or another token: error 4 is refused or noted
   pub identifier-name : {d : ℕ} {o1 r1 f1 : List ℕ} {a : Answer} → t .kind ≡ 1
       → TypedOn w x n d (s .reported) o r f (fore s t) o1 r1 f1 a → ReadsTyped w x n d o r f s o1 r1 f1 a
   unfolding go run P.parse-typed-identifier
   identifier-name {d} {a = a} z u = record {
     moved = moved-trans (fore-moved (q .asks) v) (u .moved);
-    on = omega (arith, v .kind, v .on, u .moved .at);
-    spare = omega (arith, text-length v, v .pays, u .spare, done-le (a .status));
+    on = omega (arith, v .present, v .on, u .moved .at);
+    spare = omega (arith, text-length (q .parts) v, v .pays, u .spare, done-le (a .status));
     is =
-        λ rd. renamed (rw (eq-eqb _ _ (v .kind ∙ z))) (say (rw (run, yes v z)
-        (ap (λ (S : St). go d (P.typed (next-token (rest w x n (s .at)) .text) []) S) (adv s v (λ _. plain) f rd)))
+        λ rd. renamed (rw (eq-eqb _ _ (v .kind x ∙ z))) (say (rw (run, yes v z)
+        (ap (λ (S : St). go d (P.typed (next-token (rest w x n (s .at)) .text) []) S) (adv s v (λ _. plain) f rd _)))
         (u .is (past w x n (s .at) rd) (next-token (rest w x n (s .at)) .text) (errs r (s .reported)) [] (len-reported q)
         (sym (append-nil _))));
   }
@@ -257,16 +259,16 @@ module _ {w x : List ℕ} {n : ℕ} {o r f : List ℕ} {s : State} {t : Token} (
     identifier-end {d} {a = a} z i g =
         let u : Reads (typed (name-of (next-token (rest w x n (s .at))))) w x n d P.parse-typed-identifier o r f s o _ _ a =
         raise-reads (q .asks) v plain g d
-        (λ rd. rw (run, no v m1, yes v z) (raise-same d (sym i) (adv s v (λ _. plain) f rd))) in
+        (λ rd. rw (run, no v m1, yes v z) (raise-same d (sym i) (adv s v (λ _. plain) f rd _))) in
         record {
           moved = u .moved;
           on = u .on;
           spare =
               made-so Fatal n (fore s t)
-              (λ y. y .state .pos + budget w x n (y .state .at) + 32 * done-of (y .status) + length
-              (next-token (rest w x n (s .at)) .text) ≤ s .pos + budget w x n (s .at)) (g .is)
-              (λ _. omega (arith, text-length v, v .pays))
-              (λ _. omega (arith, text-length v, v .pays, spent w x n));
+              (λ y. y .state .pos + budget w n (y .state .at) + 32 * done-of (y .status) + length
+              (next-token (rest w x n (s .at)) .text) ≤ s .pos + budget w n (s .at)) (g .is)
+              (λ _. omega (arith, text-length (q .parts) v, v .pays))
+              (λ _. omega (arith, text-length (q .parts) v, v .pays, spent w n));
           is = u .is;
         }
 
@@ -279,16 +281,16 @@ module _ {w x : List ℕ} {n : ℕ} {o r f : List ℕ} {s : State} {t : Token} (
           ≡ go d (make (unpack e) (P.typed (ascii "<?>") (unpack e ∷ [])))
           (st-of w x n f (past w x n (s .at) rd) (fore s t))
       unfolding go run P.parse-typed-identifier
-      unnamed d rd = rw (run, no v m1, no v m0) (error-same d (rw (v .place) (sym i)) (adv s v (λ _. plain) f rd))
+      unnamed d rd = rw (run, no v m1, no v m0) (error-same d (rw (v .place) (sym i)) (adv s v (λ _. plain) f rd _))
 
       pub identifier-refused : {d : ℕ} → Stopped b → ReadsTyped w x n d o r f s o r1 f1 b
       identifier-refused {d} nd =
           let h = note-none n g nd in
           rw (h .1) (record {
             moved = moved-trans (fore-moved (q .asks) v) (refused-moved (asks-fore (q .asks) v) 12);
-            on = omega (arith, v .kind, v .on, v .end);
-            spare = omega (arith, text-length v, v .pays, spent w x n);
-            is = λ rd. record { told = unnamed d rd ∙ makes-none (asks-fore (q .asks) v) g d _ _ (h .0) };
+            on = omega (arith, v .present, v .on, v .end);
+            spare = omega (arith, text-length (q .parts) v, v .pays, spent w n);
+            is = λ rd. record { told = unnamed d rd ∙ makes-none (asks-fore (q .asks) v) g d _ _ x (h .0) };
           })
 
       pub identifier-noted : {d : ℕ} {o2 r2 f2 : List ℕ} {a : Answer} → b .status ≡ Done
@@ -296,14 +298,14 @@ module _ {w x : List ℕ} {n : ℕ} {o r f : List ℕ} {s : State} {t : Token} (
       identifier-noted {d} {o2} {r2} {f2} {a} z u =
           let h = note-there n g z in
           let k : TypedOn w x n d (s .reported) o r1 f1 (one-more (fore s t)) o2 r2 f2 a = rw (h .1) at u in
-          let m : Moved w x n (s .pos) (s .reported) s (a .state) = omega (arith, v, k .moved) in
+          let m : Moved w n (s .pos) (s .reported) s (a .state) = omega (arith, v, k .moved) in
           record {
             moved = m;
-            on = omega (arith, v .kind, v .on, k .moved .at);
-            spare = omega (arith, text-length v, v .pays, k .spare, done-le (a .status));
+            on = omega (arith, v .present, v .on, k .moved .at);
+            spare = omega (arith, text-length (q .parts) v, v .pays, k .spare, done-le (a .status));
             is =
-                λ rd. renamed {u′ = ascii "<?>"} (rw (ne-eqb _ _ (λ y. m1 (sym (v .kind) ∙ y))))
-                (say (unnamed d rd ∙ makes (asks-fore (q .asks) v) g d _ _ (h .0))
+                λ rd. renamed {u′ = ascii "<?>"} (rw (ne-eqb _ _ (λ y. m1 (sym (v .kind x) ∙ y))))
+                (say (unnamed d rd ∙ makes (asks-fore (q .asks) v) g d _ _ x (h .0))
                 (k .is (past w x n (s .at) rd) (ascii "<?>") (errs r (s .reported)) (unpack e ∷ []) (len-reported q)
                 (g .reported (h .0))));
           }
@@ -343,7 +345,7 @@ module _ {w x : List ℕ} {n d : ℕ} {o r f o1 r1 f1 : List ℕ} {s : State} {a
       → Reads node w x n d P.parse-named-type o r f s o2 r1 f1 y
   unfolding P.parse-named-type
   named-reads {o2} {y} b =
-      let e : budget w x n (y .state .at) ≡ budget w x n (a .state .at) = ap (λ (k : ℕ). budget w x n k) (b .at) in
+      let e : budget w n (y .state .at) ≡ budget w n (a .state .at) = ap (λ (k : ℕ). budget w n k) (b .at) in
       let m = u .moved in
       record {
         moved =
@@ -363,7 +365,7 @@ module _ {w x : List ℕ} {n d : ℕ} {o r f o1 r1 f1 : List ℕ} {s : State} {a
 
   -- there is room for the name
   pub named-room : length o1 ≡ length o → NameRoom w x n o1 a (s .at)
-  named-room l = record { held = q .asks .held; within = q .asks .at; room = omega (arith, q .room, u .spare) }
+  named-room l = record { held = q .asks .held; parts = q .parts; within = q .asks .at; room = omega (arith, q .room, u .spare) }
 
 -- ---- `expect` after an answer
 
@@ -380,20 +382,20 @@ pub record Met (w x : List ℕ) (n k : ℕ) (r f : List ℕ) (a : Answer) (r′ 
       → go d (P.expect k) (st-of w x n f rd (a .state))
       ≡ gives (ok (item d rd)) (st-of w x n f′ (read d rd) (y .state))
 
-pub expected-there : {w x : List ℕ} {n k i j : ℕ} {r f r′ f′ : List ℕ} {a y : Answer} → Expected w x n k i j r f a r′ f′ y
+pub expected-there : {w x : List ℕ} {n k i j : ℕ} {r f r′ f′ : List ℕ} {a y : Answer} → Expected w n k i j r f a r′ f′ y
     → y .status ≡ Done → Met w x n k r f a r′ f′ y
 expected-there {w} {x} {n} {k} {i} {j} {r} {f} {r′} {f′} {a} {y} v z = one (a .status) refl (v .is)
   where
     never : {h : Status} → a .status ≡ h → y ≡ a → (h ≡ Done → ⊥) → ⊥
     never e u m = m (sym e ∙ ap (λ (b : Answer). b .status) (sym u) ∙ z)
 
-    on : a .status ≡ Done → (F : Followed w x n k i j r f a r′ f′ y) → F .c .status ≡ Done
+    on : a .status ≡ Done → (F : Followed w n k i j r f a r′ f′ y) → F .c .status ≡ Done
         → (F .c ≡ F .b) × (r′ ≡ F .between) → Met w x n k r f a r′ f′ y
     on e F zc h =
         let zb : F .b .status ≡ Done = ap (λ (b : Answer). b .status) (sym (h .0)) ∙ zc in
         let st : y .state ≡ F .b .state = ap (λ (b : Answer). b .state) (F .is) ∙ ap (λ (b : Answer). b .state) (h .0) in
         let g : (d : ℕ) (rd : List Consumed) → Good (token (next-token (rest w x n (a .state .at)))) (take (a .state .pos) []) (errs r (a .state .reported)) [] [] w x n [] (F .between) f′ (F .b) (go d (P.expect k) (st-of w x n f rd (a .state))) =
-        λ d rd. good-of zb (F .expects .is plain d rd []) in
+        λ d rd. good-of zb (F .expects .is x plain d rd []) in
         record {
           there = e;
           pos = rw st (F .expects .pos);
@@ -408,7 +410,7 @@ expected-there {w} {x} {n} {k} {i} {j} {r} {f} {r′} {f′} {a} {y} v z = one (
               (st-of w x n f′ (g d rd .read) u)) (sym st);
         }
 
-    one : (h : Status) → a .status ≡ h → ExpectedOf h w x n k i j r f a r′ f′ y → Met w x n k r f a r′ f′ y
+    one : (h : Status) → a .status ≡ h → ExpectedOf h w n k i j r f a r′ f′ y → Met w x n k r f a r′ f′ y
     one Done e F = let zc : F .c .status ≡ Done = ap (λ (b : Answer). b .status) (sym (F .is)) ∙ z in on e F zc (kept-done (F .abandoned) zc)
     one Fatal e m = absurd (never e (m .0) (λ u. let c : _≡_ {A = ℕ} 0 1 = cc in omega arith))
     one (Refused p) e m = absurd (never e (m .0) (λ u. let c : _≡_ {A = ℕ} 0 1 = cc in omega arith))
@@ -430,13 +432,13 @@ relined {A} {K} {T} {E} {w} {x} {n} {l} {m} {o} {r} {f} {a} {q} nd v = record { 
 pub expected-stops : {A B : Type 0} {K : View A} {L : View B} {T : List ℕ} {E : List Err} {w x : List ℕ} {n k i j : ℕ}
     {o r f r′ f′ : List ℕ} {a y : Answer} {q : Res (Ans A)} (d : ℕ)
     (on : Fallible A → Fallible Tok → Act (Ans B))
-    → Follows w x n r f a i j → Expected w x n k i j r f a r′ f′ y → Stopped y → length T ≡ i → length E ≡ j
+    → Follows w n r f a i j → Expected w n k i j r f a r′ f′ y → Stopped y → length T ≡ i → length E ≡ j
     → Shows K T E [] [] w x n o r f a q
     → Shows L T E [] [] w x n o r′ f′ y (after q (λ z S. go d (or-return (λ e. P.expect k >>? on e) z) S))
 expected-stops {A} {B} {K} {L} {T} {E} {w} {x} {n} {k} {i} {j} {o} {r} {f} {r′} {f′} {a} {y} {q} d on p v nd li lj u =
     one (a .status) refl (v .is)
   where
-    one : (h : Status) → a .status ≡ h → ExpectedOf h w x n k i j r f a r′ f′ y
+    one : (h : Status) → a .status ≡ h → ExpectedOf h w n k i j r f a r′ f′ y
         → Shows L T E [] [] w x n o r′ f′ y (after q (λ z S. go d (or-return (λ e. P.expect k >>? on e) z) S))
     one Done e F =
         let g = good-of e u in
@@ -447,7 +449,7 @@ expected-stops {A} {B} {K} {L} {T} {E} {w} {x} {n} {k} {i} {j} {o} {r} {f} {r′
         (abandons {T = T} {E = E} (g .tree) (g .reported) li lj
         (errs-length r (a .state .reported) (omega (arith, p .asks))) (F .abandoned)
         (omega (arith, p .pos, F .expects .moved .pos))
-        (omega (arith, p .reported, F .expects .moved .reported)) (F .expects .is plain d (g .read) o)))))
+        (omega (arith, p .reported, F .expects .moved .reported)) (F .expects .is x plain d (g .read) o)))))
     one Fatal e m = let na : Stopped a = rw (m .0) at nd in rw (m .0, m .1 .0, m .1 .1) (stops d (λ e. P.expect k >>? on e) q na u)
     one (Refused c) e m = let na : Stopped a = rw (m .0) at nd in rw (m .0, m .1 .0, m .1 .1) (stops d (λ e. P.expect k >>? on e) q na u)
 
@@ -464,12 +466,12 @@ abbrev field-on : Fallible Tok → Act (Ans Node)
 field-on id = P.expect 26 >>? equals-on id
 
 module _ {w x : List ℕ} {n : ℕ} {o r f r1 f1 : List ℕ} {s : State} {t : Token} {a : Answer}
-    (q : Asked w x n o r f s) (v : Seen w x n (s .at) t)
-    (e : Expects w x n (λ role. P.expect-identifier) r f s r1 f1 a) where
-  pub field-follows : length r1 ≡ length r → length f1 ≡ length f → Follows w x n r1 f1 a (s .pos) (s .reported)
+    (q : Asked w x n o r f s) (v : Seen w n (s .at) t)
+    (e : Expects w n (λ role. P.expect-identifier) r f s r1 f1 a) where
+  pub field-follows : length r1 ≡ length r → length f1 ≡ length f → Follows w n r1 f1 a (s .pos) (s .reported)
   field-follows l k = record { asks = asks-moved (q .asks) (e .moved) l k; pos = e .moved .pos; reported = e .moved .reported }
 
-  module _ {r2 f2 : List ℕ} {b : Answer} (u : Expected w x n 26 (s .pos) (s .reported) r1 f1 a r2 f2 b) where
+  module _ {r2 f2 : List ℕ} {b : Answer} (u : Expected w n 26 (s .pos) (s .reported) r1 f1 a r2 f2 b) where
     pub field-asked : length r2 ≡ length r → length f2 ≡ length f → Asked w x n o r2 f2 (b .state)
     field-asked l k = asked-moved q (moved-trans (e .moved) (u .moved)) refl l k
 
@@ -481,13 +483,13 @@ module _ {w x : List ℕ} {n : ℕ} {o r f r1 f1 : List ℕ} {s : State} {t : To
       on = omega (arith, e .on, u .moved .at);
       is =
           λ rd. say (go-bind d P.expect-identifier (or-return field-on) _)
-          (expected-stops d equals-on (field-follows l k) u nd (len-pos q) (len-reported q) (e .is plain d rd o));
+          (expected-stops d equals-on (field-follows l k) u nd (len-pos q) (len-reported q) (e .is x plain d rd o));
     }
 
     module _ {d : ℕ} {o3 r3 f3 : List ℕ} {c : Answer} (z : b .status ≡ Done)
         (h : Reads node w x n d P.parse-expression o r2 f2 (b .state) o3 r3 f3 c) where
       -- the tokens account for the record
-      field-paid : c .state .pos + budget w x n (c .state .at) + 16 + t .len ≤ s .pos + budget w x n (s .at)
+      field-paid : c .state .pos + budget w n (c .state .at) + 16 + t .len ≤ s .pos + budget w n (s .at)
       field-paid =
           let db : done-of (b .status) ≡ 1 = rw z in
           omega (
@@ -496,12 +498,12 @@ module _ {w x : List ℕ} {n : ℕ} {o r f r1 f1 : List ℕ} {s : State} {t : To
             u .pays,
             u .high,
             e .pos,
-            paid (s .at) (a .state .at) (q .asks .held) (e .on),
-            text-length v,
+            paid (s .at) (a .state .at) (q .asks .held) (e .on) x,
+            text-length (q .parts) v,
           )
 
       pub field-room : length o3 ≡ length o → Room o3 x (c .state .pos) (16 + t .len) (t .start) (t .len)
-      field-room l = record { room = omega (arith, field-paid, q .room); part = v .part }
+      field-room l = record { room = omega (arith, field-paid, q .room); part = v .part (q .parts) }
 
       pub field-done : {o4 : List ℕ} {y : Answer}
           → NodeWritten x o3 c (record {
@@ -516,7 +518,7 @@ module _ {w x : List ℕ} {n : ℕ} {o r f r1 f1 : List ℕ} {s : State} {t : To
       field-done F =
           let m = expected-there u z in
           let g : (rd : List Consumed) → Good (token (next-token (rest w x n (s .at)))) (take (s .pos) o) (errs r (s .reported)) [] [] w x n o r1 f1 a (go d P.expect-identifier (st-of w x n f rd s)) =
-          λ rd. good-of (m .there) (e .is plain d rd o) in
+          λ rd. good-of (m .there) (e .is x plain d rd o) in
           let id : List Consumed → Fallible Tok = λ rd. record { item = g rd .item; errors = g rd .errors } in
           record-reads {K = node} (next-token (rest w x n (s .at)) .place) (λ _. []) (next-token (rest w x n (s .at)) .text) F
           (moved-onward (moved-trans (e .moved) (u .moved)) (h .moved))
@@ -532,8 +534,8 @@ module _ {w x : List ℕ} {n : ℕ} {o r f r1 f1 : List ℕ} {s : State} {t : To
 -- ---- what their calls require
 
 -- what `?` requires
-pub cuts-moved : {w x : List ℕ} {n i j : ℕ} {r f r1 : List ℕ} {s : State} {a : Answer} → Asks w x n r f s
-    → Moved w x n (s .pos) (s .reported) s (a .state) → i ≤ s .pos → j ≤ s .reported → length r1 ≡ length r
+pub cuts-moved : {w : List ℕ} {n i j : ℕ} {r f r1 : List ℕ} {s : State} {a : Answer} → Asks w n r f s
+    → Moved w n (s .pos) (s .reported) s (a .state) → i ≤ s .pos → j ≤ s .reported → length r1 ≡ length r
     → Cuts r1 a i j (s .reported)
 cuts-moved q m hi hj l =
     record {
@@ -545,7 +547,7 @@ cuts-moved q m hi hj l =
 
 module _ {w x : List ℕ} {n j : ℕ} {o r f r1 f1 : List ℕ} {s : State} {a : Answer}
     (q : Asked w x n o r f s × (j ≤ s .reported))
-    (e : Expects w x n (λ role. P.expect-as role 49) r f s r1 f1 a) where
+    (e : Expects w n (λ role. P.expect-as role 49) r f s r1 f1 a) where
   pub colon-cuts : length r1 ≡ length r → Cuts r1 a (s .pos) j (s .reported)
   colon-cuts l = cuts-moved (q .0 .asks) (e .moved) (omega arith) (q .1) l
 
@@ -560,9 +562,9 @@ module _ {w x : List ℕ} {n j : ℕ} {o r f r1 f1 : List ℕ} {s : State} {a : 
 
 -- after an error is noted
 module _ {w x : List ℕ} {n e : ℕ} {o r f r1 f1 : List ℕ} {s : State} {t : Token} {b : Answer}
-    (q : Asked w x n o r f s) (v : Seen w x n (s .at) t)
+    (q : Asked w x n o r f s) (v : Seen w n (s .at) t)
     (g : Raised (noted n (fore s t)) r f (fore s t) e r1 f1 b) where
-  pub noted-moved : Moved w x n (s .pos) (s .reported) s (b .state)
+  pub noted-moved : Moved w n (s .pos) (s .reported) s (b .state)
   noted-moved = rw (g .is) (moved-onward (fore-moved (q .asks) v) (making-moved (asks-fore (q .asks) v) Done))
 
   pub noted-asked : length r1 ≡ length r → length f1 ≡ length f

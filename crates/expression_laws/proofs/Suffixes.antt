@@ -48,16 +48,16 @@ dotted p e n =
     (Act.if_then_else_ (n is K.Identifier) (suffixes-on (P.wrap 0x29 p (n .text) e))
     (Act.make (P.error 4 (n .place) 0 0) (P.good (e .item) (e .errors ++ (P.error 4 (n .place) 0 0 ∷ [])))))
 
-dot-step : {w x : List ℕ} {n : ℕ} {t : Token} (d : ℕ) (f : List ℕ) (s : State) → Seen w x n (s .at) t → t .kind ≡ 34
-    → (e : Fallible Node) (rd : List Consumed)
+dot-step : {w : List ℕ} {n : ℕ} {t : Token} (d : ℕ) (f : List ℕ) (s : State) → Seen w n (s .at) t → t .kind ≡ 34
+    → (e : Fallible Node) (rd : List Consumed) (x : List ℕ)
     → go d (suffixes-on e) (st-of w x n f rd s)
     ≡ go d (Act.next (dotted (next-token (rest w x n (s .at)) .place) e))
     (st-of w x n f (past w x n (s .at) rd) (fore s t))
 unfolding go run P.suffixes-turn
-dot-step {w} {x} {n} d f s u h e rd =
+dot-step {w} {n} d f s u h e rd x =
     go-loop d (Suffixes e) (st-of w x n f rd s)
     ∙ rw (run, yes u h)
-    (ap (λ (S : St). go d (Act.next (dotted (next-token (rest w x n (s .at)) .place) e)) S) (adv s u (λ _. plain) f rd))
+    (ap (λ (S : St). go d (Act.next (dotted (next-token (rest w x n (s .at)) .place) e)) S) (adv s u (λ _. plain) f rd _))
 
 -- ---- a record after the operand alone, and the next turn
 
@@ -65,7 +65,7 @@ module _ {w x : List ℕ} {n d i j : ℕ} {o r f o2 o3 r3 f3 : List ℕ} {a y y�
     (F : NodeWritten x o (record { status = a .status; state = on; place = a .place; count = a .count }) v o2 y) (made : rec-of x v ≡ record { tag = v .tag; place = some p; numbers = []; text = text }) where
   -- the operand gets the record v, and the loop continues
   pub goes-wrapped : (rd′ : List Consumed → List Consumed) → on .pos ≡ a .state .pos → on .reported ≡ a .state .reported
-      → on .full ≡ a .state .full → Moved w x n i j (a .state) (y .state)
+      → on .full ≡ a .state .full → Moved w n i j (a .state) (y .state)
       → ((e : Fallible Node) (rd : List Consumed)
       → go d (suffixes-on e) (st-of w x n f rd (a .state))
       ≡ go d (suffixes-on (P.wrap (v .tag) p text e)) (st-of w x n f (rd′ rd) on))
@@ -91,13 +91,13 @@ module _ {w x : List ℕ} {n d i j : ℕ} {o r f o2 o3 r3 f3 : List ℕ} {a y y�
 
 -- how the state moves in a turn without an index
 module _ {w x : List ℕ} {n i j : ℕ} {o r f : List ℕ} {a : Answer} {t : Token} (q : GoesOn w x n o r f a i j)
-    (u : Seen w x n (a .state .at) t) where
+    (u : Seen w n (a .state .at) t) where
   pub star-moved : {o2 : List ℕ} {y : Answer} → t .kind ≡ 35
       → NodeWritten x o (record { status = a .status; state = fore (a .state) t; place = a .place; count = a .count })
       (record { tag = 0x28; place = t .place; numbers = None; start = 0; len = 0 }) o2 y
-      → Moved w x n i j (a .state) (y .state)
+      → Moved w n i j (a .state) (y .state)
   star-moved {y = y} k F =
-      let e : budget w x n (y .state .at) ≡ budget w x n (t .next) = ap (λ (k : ℕ). budget w x n k) (F .at) in
+      let e : budget w n (y .state .at) ≡ budget w n (t .next) = ap (λ (k : ℕ). budget w n k) (F .at) in
       record {
         at = omega (arith, F .at, u .up);
         end = omega (arith, F .at, u .end);
@@ -109,14 +109,14 @@ module _ {w x : List ℕ} {n i j : ℕ} {o r f : List ℕ} {a : Answer} {t : Tok
         few = omega (arith, F .full, q .asked .asks .few);
       }
 
-  pub dot-moved : {v : Token} {o2 : List ℕ} {y : Answer} → Seen w x n (t .next) v → v .kind ≡ 1
+  pub dot-moved : {v : Token} {o2 : List ℕ} {y : Answer} → Seen w n (t .next) v → v .kind ≡ 1
       → NodeWritten x o
       (record { status = a .status; state = fore (fore (a .state) t) v; place = a .place; count = a .count })
       (record { tag = 0x29; place = t .place; numbers = None; start = v .start; len = v .len })
       o2 y
-      → Moved w x n i j (a .state) (y .state)
+      → Moved w n i j (a .state) (y .state)
   dot-moved {v} {y = y} s k F =
-      let e : budget w x n (y .state .at) ≡ budget w x n (v .next) = ap (λ (k : ℕ). budget w x n k) (F .at) in
+      let e : budget w n (y .state .at) ≡ budget w n (v .next) = ap (λ (k : ℕ). budget w n k) (F .at) in
       record {
         at = omega (arith, F .at, u .up, s .up);
         end = omega (arith, F .at, s .end);
@@ -129,7 +129,7 @@ module _ {w x : List ℕ} {n i j : ℕ} {o r f : List ℕ} {a : Answer} {t : Tok
       }
 
 module _ {w x : List ℕ} {n d i j : ℕ} {o r f : List ℕ} {a : Answer} {t : Token} (q : GoesOn w x n o r f a i j)
-    (z : a .status ≡ Done) (u : Seen w x n (a .state .at) t) where
+    (z : a .status ≡ Done) (u : Seen w n (a .state .at) t) where
   -- no suffix follows
   pub suffix-none : (t .kind ≡ 34 → ⊥) → (t .kind ≡ 35 → ⊥) → (t .kind ≡ 43 → ⊥) → Goes node node w x n d suffixes-on i j o r f a o r f a
   unfolding go run P.suffixes-turn
@@ -147,11 +147,11 @@ module _ {w x : List ℕ} {n d i j : ℕ} {o r f : List ℕ} {a : Answer} {t : T
       (star-moved q u k F)
       (λ e rd. go-loop d (Suffixes e) (st-of w x n f rd (a .state)) ∙ rw (run, no u h, yes u k)
       (ap (λ (S : St). go d (suffixes-on (P.wrap 0x28 (next-token (rest w x n (a .state .at)) .place) [] e)) S)
-      (adv (a .state) u (λ _. plain) f rd))) G
+      (adv (a .state) u (λ _. plain) f rd _))) G
 
   -- ---- `.name`
 
-  module _ {v : Token} (h : t .kind ≡ 34) (s : Seen w x n (t .next) v) where
+  module _ {v : Token} (h : t .kind ≡ 34) (s : Seen w n (t .next) v) where
     -- the end after the dot is refused
     pub dot-end : {y : Answer} → v .kind ≡ 0 → y ≡ refused-at n (a .state) 11 → Goes node node w x n d suffixes-on i j o r f a o r f y
     unfolding go run P.suffixes-turn
@@ -174,7 +174,7 @@ module _ {w x : List ℕ} {n d i j : ℕ} {o r f : List ℕ} {a : Answer} {t : T
               λ T E p li lj w. let g = good-of z w in
               record {
                 told = follows d suffixes-on (g .is)
-                    ∙ dot-step d f (a .state) u h (record { item = g .item; errors = g .errors }) (g .read)
+                    ∙ dot-step d f (a .state) u h (record { item = g .item; errors = g .errors }) (g .read) x
                     ∙ rw (run, yes s k);
               };
         })
@@ -195,9 +195,9 @@ module _ {w x : List ℕ} {n d i j : ℕ} {o r f : List ℕ} {a : Answer} {t : T
         goes-wrapped (next-token (rest w x n (a .state .at)) .place) (next-token (rest w x n (t .next)) .text) q z F
         (rw (u .place, s .text)) (past-two w x n (a .state .at) (t .next)) refl refl refl
         (dot-moved q u s k F)
-        (λ e rd. dot-step d f (a .state) u h e rd ∙ rw (run, no s m, yes s k) (ap (λ (S : St). go d (suffixes-on
+        (λ e rd. dot-step d f (a .state) u h e rd x ∙ rw (run, no s m, yes s k) (ap (λ (S : St). go d (suffixes-on
         (P.wrap 0x29 (next-token (rest w x n (a .state .at)) .place) (next-token (rest w x n (t .next)) .text) e)) S)
-        (adv (fore (a .state) t) s (λ _. plain) f (past w x n (a .state .at) rd)))) G
+        (adv (fore (a .state) t) s (λ _. plain) f (past w x n (a .state .at) rd) _))) G
 
     -- another token than a name: error 4, and the loop ends
     pub dot-other : {e : ℕ} {r1 f1 : List ℕ} {b : Answer} → (v .kind ≡ 0 → ⊥) → (v .kind ≡ 1 → ⊥)
@@ -207,8 +207,8 @@ module _ {w x : List ℕ} {n d i j : ℕ} {o r f : List ℕ} {a : Answer} {t : T
         (record { status = b .status; state = b .state; place = a .place; count = a .count })
     unfolding go run P.suffixes-turn
     dot-other {e} {r1} {f1} {b} m k c g =
-        let q2 : Asks w x n r f (fore (fore (a .state) t) v) = asks-fore (asks-fore (q .asked .asks) u) s in
-        let mv : Moved w x n (a .state .pos) (a .state .reported) (a .state) (b .state) = rw (g .is)
+        let q2 : Asks w n r f (fore (fore (a .state) t) v) = asks-fore (asks-fore (q .asked .asks) u) s in
+        let mv : Moved w n (a .state .pos) (a .state .reported) (a .state) (b .state) = rw (g .is)
         (moved-trans (fore-moved (q .asked .asks) u)
         (moved-trans (fore-moved (asks-fore (q .asked .asks) u) s) (making-moved q2 Done))) in
         record {
@@ -226,9 +226,9 @@ module _ {w x : List ℕ} {n d i j : ℕ} {o r f : List ℕ} {a : Answer} {t : T
           is = λ T E p li lj y.
               let h2 = good-of z y in
               say
-              (follows d suffixes-on (h2 .is) ∙ dot-step d f (a .state) u h (record { item = h2 .item; errors = h2 .errors }) (h2 .read)
+              (follows d suffixes-on (h2 .is) ∙ dot-step d f (a .state) u h (record { item = h2 .item; errors = h2 .errors }) (h2 .read) x
               ∙ rw (run, no s m, no s k)
-              (ap (λ (S : St). go d (Act.make (P.error 4 (next-token (rest w x n (t .next)) .place) 0 0) (P.good (h2 .item) (h2 .errors ++ (P.error 4 (next-token (rest w x n (t .next)) .place) 0 0 ∷ [])))) S) (adv (fore (a .state) t) s (λ _. plain) f (past w x n (a .state .at) (h2 .read)))
+              (ap (λ (S : St). go d (Act.make (P.error 4 (next-token (rest w x n (t .next)) .place) 0 0) (P.good (h2 .item) (h2 .errors ++ (P.error 4 (next-token (rest w x n (t .next)) .place) 0 0 ∷ [])))) S) (adv (fore (a .state) t) s (λ _. plain) f (past w x n (a .state .at) (h2 .read)) _)
               ∙ ap (λ (er : Err). go d (Act.make er (P.good (h2 .item) (h2 .errors ++ (er ∷ []))))
               (st-of w x n f (past-two w x n (a .state .at) (t .next) (h2 .read)) (fore (fore (a .state) t) v)))
               (rw (s .place) (sym c))))
@@ -239,7 +239,7 @@ module _ {w x : List ℕ} {n d i j : ℕ} {o r f : List ℕ} {a : Answer} {t : T
                   errors = h2 .errors ++ (unpack e ∷ []);
                   read = past-two w x n (a .state .at) (t .next) (h2 .read);
                   is = makes q2 g d (P.good (h2 .item) (h2 .errors ++ (unpack e ∷ [])))
-                      (past-two w x n (a .state .at) (t .next) (h2 .read)) l;
+                      (past-two w x n (a .state .at) (t .next) (h2 .read)) x l;
                   tree = h2 .tree;
                   reported = errs-join E (h2 .errors) (unpack e ∷ []) (h2 .reported) (g .reported l);
                   holds = h2 .holds;
@@ -247,7 +247,7 @@ module _ {w x : List ℕ} {n d i j : ℕ} {o r f : List ℕ} {a : Answer} {t : T
               })
               (λ l. record {
                 told = makes-none q2 g d (P.good (h2 .item) (h2 .errors ++ (unpack e ∷ [])))
-                    (past-two w x n (a .state .at) (t .next) (h2 .read)) l;
+                    (past-two w x n (a .state .at) (t .next) (h2 .read)) x l;
               }));
         }
 
@@ -257,9 +257,9 @@ module _ {w x : List ℕ} {n d i j : ℕ} {o r f : List ℕ} {a : Answer} {t : T
   pub index-asks : {o1 r1 f1 r2 : List ℕ} {b c : Answer}
       → Reads node w x n d P.parse-expression o r f (fore (a .state) t) o1 r1 f1 b
       → Abandoned r1 b i j (a .state .reported) r2 c → length r2 ≡ length r → length f1 ≡ length f
-      → Follows w x n r2 f1 c i j
+      → Follows w n r2 f1 c i j
   index-asks {b = b} {c = c} B C lr lf =
-      let g : budget w x n (c .state .at) ≡ budget w x n (b .state .at) = ap (λ (k : ℕ). budget w x n k) (C .at) in
+      let g : budget w n (c .state .at) ≡ budget w n (b .state .at) = ap (λ (k : ℕ). budget w n k) (C .at) in
       record {
         asks =
             asks-moved {i = i} {j = j} (q .asked .asks) (record {
@@ -277,11 +277,11 @@ module _ {w x : List ℕ} {n d i j : ℕ} {o r f : List ℕ} {a : Answer} {t : T
       }
 
   module _ {o1 r1 f1 r2 r3 f3 o2 : List ℕ} {b c d1 y : Answer} (h : t .kind ≡ 43) (B : Reads node w x n d P.parse-expression o r f (fore (a .state) t) o1 r1 f1 b) (C : Abandoned r1 b i j (a .state .reported) r2 c) (lr : length r2 ≡ length r) (lf : length f1 ≡ length f)
-      (X : Expected w x n 44 i j r2 f1 c r3 f3 d1) (F : NodeWritten x o1 d1 (record { tag = 0x25; place = t .place; numbers = None; start = 0; len = 0 }) o2 y) where
-    pub index-moved : Moved w x n i j (a .state) (y .state)
+      (X : Expected w n 44 i j r2 f1 c r3 f3 d1) (F : NodeWritten x o1 d1 (record { tag = 0x25; place = t .place; numbers = None; start = 0; len = 0 }) o2 y) where
+    pub index-moved : Moved w n i j (a .state) (y .state)
     index-moved =
-        let e : budget w x n (y .state .at) ≡ budget w x n (d1 .state .at) = ap (λ (k : ℕ). budget w x n k) (F .at) in
-        let g : budget w x n (c .state .at) ≡ budget w x n (b .state .at) = ap (λ (k : ℕ). budget w x n k) (C .at) in
+        let e : budget w n (y .state .at) ≡ budget w n (d1 .state .at) = ap (λ (k : ℕ). budget w n k) (F .at) in
+        let g : budget w n (c .state .at) ≡ budget w n (b .state .at) = ap (λ (k : ℕ). budget w n k) (C .at) in
         record {
           at = omega (arith, F .at, X .moved, C .at, u .up, B .moved);
           end = omega (arith, F .at, X .moved);
@@ -309,7 +309,7 @@ module _ {w x : List ℕ} {n d i j : ℕ} {o r f : List ℕ} {a : Answer} {t : T
           (follows d suffixes-on (g .is) ∙ go-loop d (Suffixes e) (st-of w x n f (g .read) (a .state))
           ∙ rw (run, no u k, no u l, yes u h) (ap (λ (S : St). go d
           (P.parse-expression >>? λ x. P.expect-as plain 44 >>? λ _. suffixes-on (P.binary 0x25 [] pl e x)) S)
-          (adv (a .state) u (λ _. plain) f (g .read)))
+          (adv (a .state) u (λ _. plain) f (g .read) _))
           ∙ go-bind d P.parse-expression
           (or-return (λ x. P.expect-as plain 44 >>? λ _. suffixes-on (P.binary 0x25 [] pl e x))) S1
           ∙ expect-seam d plain 44 (λ x. suffixes-on (P.binary 0x25 [] pl e x)) q1

@@ -3,10 +3,10 @@ use mathlib.Core.Path.{_≡_, refl, sym, ap, _∙_}
 use mathlib.Core.Bool.{Bool, true, false, not}
 use mathlib.Core.Option.{some}
 use mathlib.Core.List.{List, [], _∷_, _++_, append-nil}
-use Prim.Native.Nat.{ℕ, zero, suc, min, _+_, _*_, _-_, _≤_, _<_}
+use Prim.Native.Nat.{ℕ, zero, suc, _+_, _*_, _-_, _≤_, _<_}
 use native.Mathlib.Omega.{arith}
 use lib.Dec.{ltb}
-use lib.ListN.{length, take, drop}
+use lib.ListN.{length, take, drop, getD, length-take}
 use lib.Seq.{take-at}
 use borrow.Author.Tests.{ltb-true, ltb-false}
 use Rattle.definition.specs.Source.{Place}
@@ -29,9 +29,9 @@ use Rattle.fallible.specs.Lists.{unpack, error-at, errs}
 use Rattle.fallible.specs.Answers.{refused-at, raised, Raised, silent}
 use Rattle.fallible.proofs.Grown.{errs-length}
 use Rattle.steps.specs.declared.Token.{Token}
-use Rattle.steps.specs.Tokens.{rest, spend, budget, Held, Seen}
+use Rattle.steps.specs.Tokens.{rest, budget, present, Held, Seen}
 use Rattle.steps.specs.Shows.{st-of, Asked, Moved, View, Good, ShowsOf, Shows, node, items, Reads, Expects, NodeWritten, texted, untexted}
-use Rattle.steps.proofs.Tokens.{rest-cons, rest-nil, alive, yes, no, fore, adv}
+use Rattle.steps.proofs.Tokens.{rest-cons, rest-nil, budget-cons, budget-nil, yes, no, fore, adv}
 use Rattle.steps.proofs.Moves.{fore-moved, asked-seen, asked-moved}
 use Rattle.steps.proofs.Answers.{Stopped, say, good-of, stops, follows, errs-take, wrapped, writes-node, raise-same}
 use Rattle.steps.proofs.Constructs.{deep, down, seam}
@@ -44,8 +44,8 @@ use Rattle.expression_laws.specs.Post.{as-answer, ReadsList}
 -- ---- numbers
 
 -- a part of a construct that began earlier
-pub moved-onward : {w x : List ℕ} {n i j : ℕ} {s t u : State} → Moved w x n i j s t → Moved w x n (t .pos) (t .reported) t u
-    → Moved w x n i j s u
+pub moved-onward : {w : List ℕ} {n i j : ℕ} {s t u : State} → Moved w n i j s t → Moved w n (t .pos) (t .reported) t u
+    → Moved w n i j s u
 moved-onward p q =
     record {
       at = omega arith;
@@ -74,30 +74,28 @@ either {C} n i p q = one (ltb i n) (λ e. ltb-true i n e) (λ e. ltb-false i n e
     one false g h = p (h refl)
 
 -- the budget does not grow as tokens are read
-passed : (w x : List ℕ) (n i k : ℕ) → budget w x n (i + k) ≤ budget w x n i
-unfolding spend
-passed w x n i zero = let e : i + 0 ≡ i = omega arith in rw e (omega arith)
-passed w x n i (suc k) =
+passed : (w : List ℕ) (n i k : ℕ) → budget w n (i + k) ≤ budget w n i
+passed w n i zero = let e : i + 0 ≡ i = omega arith in rw e (omega arith)
+passed w n i (suc k) =
     let e : i + suc k ≡ i + 1 + k = omega arith in
-    either n i (λ h. rw (rest-nil w x n (i + suc k) (omega arith)) (omega arith))
-    (λ h. rw (e, rest-cons w x n i h) (omega (arith, passed w x n (i + 1) k)))
+    either n i (λ h. rw (budget-nil w n (i + suc k) (omega arith)) (omega arith))
+    (λ h. rw e (omega (arith, budget-cons w n i h, passed w n (i + 1) k)))
 
 -- after the token at i its part of the budget is used up
-pub paid : {w x : List ℕ} {n : ℕ} (i j : ℕ) → Held w x n → i + min (next-token (rest w x n i) .kind) 1 ≤ j
-    → budget w x n j + 16 * min (next-token (rest w x n i) .kind) 1 + length (next-token (rest w x n i) .text) ≤ budget w x n
-    i
-unfolding spend
-paid {w} {x} {n} i j q h = either n i end on
+pub paid : {w : List ℕ} {n : ℕ} (i j : ℕ) → Held w n → i + present n i ≤ j
+    → (x : List ℕ) → budget w n j + 16 * present n i + length (next-token (rest w x n i) .text) ≤ budget w n i
+unfolding present
+paid {w} {n} i j q h x = either n i end on
   where
-    end : n ≤ i → budget w x n j + 16 * min (next-token (rest w x n i) .kind) 1 + length (next-token (rest w x n i) .text) ≤ budget w x n i
-    end g = let a : n ≤ j = omega arith in rw (rest-nil w x n j a, rest-nil w x n i g) (omega arith)
+    end : n ≤ i → budget w n j + 16 * present n i + length (next-token (rest w x n i) .text) ≤ budget w n i
+    end g = rw (rest-nil w x n i g) (omega (arith, budget-nil w n j (omega arith)))
 
-    on : i < n → budget w x n j + 16 * min (next-token (rest w x n i) .kind) 1 + length (next-token (rest w x n i) .text) ≤ budget w x n i
+    on : i < n → budget w n j + 16 * present n i + length (next-token (rest w x n i) .text) ≤ budget w n i
     on g =
-        let l = alive q g in
         let e : i + 1 + (j - (i + 1)) ≡ j = omega arith in
-        let p : budget w x n j ≤ budget w x n (i + 1) = rw (← e) (passed w x n (i + 1) (j - (i + 1))) in
-        rw (rest-cons w x n i g) (omega arith)
+        let p : budget w n j ≤ budget w n (i + 1) = rw (← e) (passed w n (i + 1) (j - (i + 1))) in
+        let l = length-take (getD w (8 * i + 4) 0) (drop (getD w (8 * i + 3) 0) x) in
+        rw (rest-cons w x n i g) (omega (arith, budget-cons w n i g, q .each i g .real, l))
 
 -- the same, where nothing was written or reported in between
 pub shown-from : {A : Type 0} {K : View A} {w x : List ℕ} {n d p : ℕ} {E : List Err} {m : Act (Ans A)}
@@ -110,11 +108,11 @@ shown-from u e h rd = rw (← e, ← h) (u .is rd)
 
 -- how the state moves, where the budget has room for the record
 pub node-written-moved : {w x : List ℕ} {n i j : ℕ} {o o′ : List ℕ} {s : State} {a y : Answer} {v : Record}
-    → Moved w x n i j s (a .state)
-    → a .state .pos + budget w x n (a .state .at) + size-of v ≤ s .pos + budget w x n (s .at)
-    → NodeWritten x o a v o′ y → Moved w x n i j s (y .state)
+    → Moved w n i j s (a .state)
+    → a .state .pos + budget w n (a .state .at) + size-of v ≤ s .pos + budget w n (s .at)
+    → NodeWritten x o a v o′ y → Moved w n i j s (y .state)
 node-written-moved {w} {x} {n} m h u =
-    let b = ap (λ (k : ℕ). budget w x n k) (u .at) in
+    let b = ap (λ (k : ℕ). budget w n k) (u .at) in
     record {
       at = omega arith;
       end = omega arith;
@@ -131,9 +129,9 @@ module _ {A : Type 0} {K : View A} {w x : List ℕ} {n d : ℕ} {m : Act (Ans No
     {s : State} {b y : Answer} {v : Record} (p : Place) (ns : A → List Num) (text : List ℕ)
     (F : NodeWritten x o1 b v o2 y) where
   -- the act reads a node
-  pub record-reads : Moved w x n (s .pos) (s .reported) s (b .state)
-      → s .at + min (next-token (rest w x n (s .at)) .kind) 1 ≤ b .state .at
-      → b .state .pos + budget w x n (b .state .at) + size-of v ≤ s .pos + budget w x n (s .at)
+  pub record-reads : Moved w n (s .pos) (s .reported) s (b .state)
+      → s .at + present n (s .at) ≤ b .state .at
+      → b .state .pos + budget w n (b .state .at) + size-of v ≤ s .pos + budget w n (s .at)
       → ((i : A) → K .fine (b .place) (b .count) i → rec-of x v ≡ record { tag = v .tag; place = some p; numbers = ns i; text = text })
       → (q : List Consumed → Res (Ans A))
       → ((rd : List Consumed)
@@ -205,7 +203,7 @@ module _ {w x : List ℕ} {n d : ℕ} {o r f : List ℕ} {s : State} (q : Asked 
   pub type-deep : {a : Answer} → d ≡ 0 → a ≡ refused-at n s 10 → Reads node w x n d P.parse-type o r f s o r f a
   type-deep z e = deep Type' (q .asks) z e
 
-  module _ {t : Token} (nz : d ≡ 0 → ⊥) (v : Seen w x n (s .at) t) where
+  module _ {t : Token} (nz : d ≡ 0 → ⊥) (v : Seen w n (s .at) t) where
     pub type-name : {o′ : List ℕ} {y : Answer} → t .kind ≡ 1 → NodeWritten x o (there s t) (texted (t .place) 16 None (t .start) (t .len)) o′ y
         → Reads node w x n d P.parse-type o r f s o′ r f y
     unfolding go run P.type-rule
@@ -224,10 +222,10 @@ module _ {w x : List ℕ} {n d : ℕ} {o r f : List ℕ} {s : State} (q : Asked 
           → NodeWritten x o1 b (untexted (t .place) 18 None) o2 y → Reads node w x n d P.parse-type o r f s o2 r1 f1 y
       unfolding go run P.type-rule
       type-star z u F = down Type' nz
-          (record-reads (next-token (rest w x n (s .at)) .place) (λ _. []) [] F (moved-onward (fore-moved (q .asks) v) (u .moved)) (omega (arith, v .kind, v .on, u .moved .at)) (omega arith) (λ _ _. rw (v .place))
+          (record-reads (next-token (rest w x n (s .at)) .place) (λ _. []) [] F (moved-onward (fore-moved (q .asks) v) (u .moved)) (omega (arith, v .present, v .on, u .moved .at)) (omega arith) (λ _ _. rw (v .place))
           (λ rd. go (d - 1) P.parse-type (st-of w x n f (past w x n (s .at) rd) (fore s t)))
           (λ rd. rw (run, no v m1, yes v z)
-          (ap (λ (S : St). go (d - 1) (P.parse-type >>? star-on) S) (adv s v (λ _. plain) f rd)) ∙ go-bind
+          (ap (λ (S : St). go (d - 1) (P.parse-type >>? star-on) S) (adv s v (λ _. plain) f rd _)) ∙ go-bind
           (d - 1) P.parse-type (or-return star-on) _)
           (λ rd. u .is (past w x n (s .at) rd)))
 
@@ -239,11 +237,11 @@ module _ {w x : List ℕ} {n d : ℕ} {o r f : List ℕ} {s : State} (q : Asked 
         unfolding go run P.type-rule
         type-array z u = down Type' nz (record {
           moved = moved-onward (fore-moved (q .asks) v) (u .moved);
-          on = omega (arith, v .kind, v .on, u .moved .at);
+          on = omega (arith, v .present, v .on, u .moved .at);
           is =
               λ rd. say (rw (run, no v m1, no v m24, yes v z, v .place)
               (ap (λ (S : St). go (d - 1) (P.parse-array-type (unpack-place (t .place))) S)
-              (adv s v (λ _. plain) f rd))) (u .is (past w x n (s .at) rd));
+              (adv s v (λ _. plain) f rd _))) (u .is (past w x n (s .at) rd));
         })
 
         module _ (m43 : t .kind ≡ 43 → ⊥) where
@@ -260,13 +258,13 @@ module _ {w x : List ℕ} {n d : ℕ} {o r f : List ℕ} {s : State} (q : Asked 
               let G : NodeWritten x o1 (silent a (s .reported)) (untexted (t .place) 20 (Two (a .count))) o2 y = rw e at F in
               let mv = moved-onward (fore-moved (q .asks) v) (u .moved) in
               down Type' nz
-              (record-reads {K = items} (next-token (rest w x n (s .at)) .place) (λ i. two (i .count) ∷ []) [] G (record { at = mv .at; end = mv .end; pos = mv .pos; room = mv .room; reported = omega arith; less = omega arith; full = mv .full; few = mv .few }) (omega (arith, v .kind, v .on, u .moved .at)) (omega arith) (λ i h. rw (v .place, h))
+              (record-reads {K = items} (next-token (rest w x n (s .at)) .place) (λ i. two (i .count) ∷ []) [] G (record { at = mv .at; end = mv .end; pos = mv .pos; room = mv .room; reported = omega arith; less = omega arith; full = mv .full; few = mv .few }) (omega (arith, v .present, v .on, u .moved .at)) (omega arith) (λ i h. rw (v .place, h))
               (λ rd. after (go (d - 1) (P.parse-list StructFields >>= as-answer)
               (st-of w x n f (past w x n (s .at) rd) (fore s t)))
               (λ z S. go (d - 1) (or-return (λ y. P.good (y .item) []) z) S))
               (λ rd. rw (run, no v m1, no v m24, no v m43, yes v z) (ap (λ (S : St). go (d - 1)
               (P.parse-list StructFields >>= λ i. struct-on (record { item = i; errors = [] })) S)
-              (adv s v (λ _. plain) f rd)) ∙ dropping (d - 1) (P.parse-list StructFields) _ struct-on
+              (adv s v (λ _. plain) f rd _)) ∙ dropping (d - 1) (P.parse-list StructFields) _ struct-on
               (λ i. refl) (st-of w x n f (past w x n (s .at) rd) (fore s t)))
               (λ rd. drops (d - 1) (u .never) (errs-length r (s .reported) (omega arith)) (u .moved .reported)
               (u .is (past w x n (s .at) rd))))
@@ -279,7 +277,7 @@ module _ {w x : List ℕ} {n d : ℕ} {o r f : List ℕ} {s : State} (q : Asked 
             type-end z i g =
                 down Type' nz (raise-reads (q .asks) v plain g (d - 1)
                 (λ rd. rw (run, no v m1, no v m24, no v m43, no v m16, yes v z)
-                (raise-same (d - 1) (sym i) (adv s v (λ _. plain) f rd))))
+                (raise-same (d - 1) (sym i) (adv s v (λ _. plain) f rd _))))
 
             pub type-other : (t .kind ≡ 0 → ⊥) → unpack e ≡ error-at 11 (t .place) 0 (t .kind)
                 → Raised (raised n (fore s t)) r f (fore s t) e r′ f′ y
@@ -288,7 +286,7 @@ module _ {w x : List ℕ} {n d : ℕ} {o r f : List ℕ} {s : State} (q : Asked 
             type-other z i g =
                 down Type' nz (raise-reads (q .asks) v plain g (d - 1)
                 (λ rd. rw (run, no v m1, no v m24, no v m43, no v m16, no v z)
-                (raise-same (d - 1) (rw (v .place, v .kind) (sym i)) (adv s v (λ _. plain) f rd))))
+                (raise-same (d - 1) (rw (v .place, v .kind) (sym i)) (adv s v (λ _. plain) f rd _))))
 
 -- ---- `array`, after `[`; with the place of the type
 
@@ -297,14 +295,14 @@ not-false true e = refl
 not-false false e = sym e
 
 module _ {w x : List ℕ} {n : ℕ} (place : ℕ) {o r f : List ℕ} {s : State} {t : Token}
-    (q : Asked w x n o r f s × (place < 0x100000000)) (v : Seen w x n (s .at) t) where
+    (q : Asked w x n o r f s × (place < 0x100000000)) (v : Seen w n (s .at) t) where
   pub array-no-integer : {d e : ℕ} {r′ f′ : List ℕ} {y : Answer} → (t .kind ≡ 2 → ⊥) → unpack e ≡ error-at 9 place 0 0
       → Raised (raised n (fore s t)) r f (fore s t) e r′ f′ y
       → Reads node w x n d (P.parse-array-type (unpack-place place)) o r f s o r′ f′ y
   unfolding go run P.parse-array-type
   array-no-integer {d} m i g =
       raise-reads (q .0 .asks) v size g d
-      (λ rd. rw (run, no v m) (raise-same d (sym i) (adv s v (λ _. size) f rd)))
+      (λ rd. rw (run, no v m) (raise-same d (sym i) (adv s v (λ _. size) f rd _)))
 
   module _ {u : Size} (z : t .kind ≡ 2) (k : Valued (take (t .len) (drop (t .start) x)) (t .base) u) where
     -- the size, as the definition has it
@@ -317,10 +315,10 @@ module _ {w x : List ℕ} {n : ℕ} (place : ℕ) {o r f : List ℕ} {s : State}
     unfolding go run P.parse-array-type
     array-no-size {d} m i g =
         raise-reads (q .0 .asks) v size g d
-        (λ rd. rw (run, yes v z, fit ∙ m) (raise-same d (sym i) (adv s v (λ _. size) f rd)))
+        (λ rd. rw (run, yes v z, fit ∙ m) (raise-same d (sym i) (adv s v (λ _. size) f rd _)))
 
     module _ {r1 f1 : List ℕ} {a : Answer} (fits : not (u .fits) ≡ false)
-        (e : Expects w x n (λ role. P.expect-as role 44) r f (fore s t) r1 f1 a) where
+        (e : Expects w n (λ role. P.expect-as role 44) r f (fore s t) r1 f1 a) where
       -- the continuations after the type, and after `]`
       abbrev array-on : Fallible Node → Act (Ans Node)
       array-on b =
@@ -337,7 +335,7 @@ module _ {w x : List ℕ} {n : ℕ} (place : ℕ) {o r f : List ℕ} {s : State}
       unfolding go run P.parse-array-type
       bracket d rd =
           rw (run, yes v z, fit ∙ fits)
-          (ap (λ (S : St). go d (P.expect 44 >>? bracket-on) S) (adv s v (λ _. size) f rd))
+          (ap (λ (S : St). go d (P.expect 44 >>? bracket-on) S) (adv s v (λ _. size) f rd _))
           ∙ go-bind d (P.expect 44) (or-return bracket-on)
           (st-of w x n f (past-as size w x n (s .at) rd) (fore s t))
 
@@ -345,9 +343,9 @@ module _ {w x : List ℕ} {n : ℕ} (place : ℕ) {o r f : List ℕ} {s : State}
       array-open {d} nd =
           record {
             moved = moved-onward (fore-moved (q .0 .asks) v) (e .moved);
-            on = omega (arith, v .kind, v .on, e .moved .at);
+            on = omega (arith, v .present, v .on, e .moved .at);
             is = λ rd. say (bracket d rd)
-                (stops d bracket-on _ nd (e .is plain d (past-as size w x n (s .at) rd) o));
+                (stops d bracket-on _ nd (e .is x plain d (past-as size w x n (s .at) rd) o));
           }
 
       pub array-done : {d : ℕ} {o2 r2 f2 o3 : List ℕ} {b y : Answer} → a .status ≡ Done
@@ -358,11 +356,11 @@ module _ {w x : List ℕ} {n : ℕ} (place : ℕ) {o r f : List ℕ} {s : State}
           → Reads node w x n d (P.parse-array-type (unpack-place place)) o r f s o3 r2 f2 y
       array-done {d} {o2} {r2} {f2} {o3} {b} {y} za c F =
           let g : (rd : List Consumed) → Good _ _ _ [] [] w x n o r1 f1 a (go d (P.expect 44) (st-of w x n f (past-as size w x n (s .at) rd) (fore s t))) =
-          λ rd. good-of za (e .is plain d (past-as size w x n (s .at) rd) o) in
+          λ rd. good-of za (e .is x plain d (past-as size w x n (s .at) rd) o) in
           record-reads {K = node} (unpack-place place)
           (λ _. eight (number (next-token (rest w x n (s .at)) .base) 0 (next-token (rest w x n (s .at)) .text)) ∷ []) [] F
           (moved-onward (fore-moved (q .0 .asks) v) (moved-onward (e .moved) (c .moved)))
-          (omega (arith, v .kind, v .on, e .moved .at, c .moved .at)) (omega arith)
+          (omega (arith, v .present, v .on, e .moved .at, c .moved .at)) (omega arith)
           (λ _ _. rw (v .text, v .base, k .number (not-false (u .fits) fits)))
           (λ rd. go d P.parse-type (st-of w x n f1 (g rd .read) (a .state)))
           (λ rd. bracket d rd ∙ follows d bracket-on (g rd .is) ∙ go-bind d P.parse-type (or-return array-on) _)
@@ -376,14 +374,10 @@ raise-asked q = (omega (arith, q .asks), omega (arith, q .asks))
 
 module _ {w x : List ℕ} {n : ℕ} {o r f : List ℕ} {s : State} (q : Asked w x n o r f s) where
   -- room for a record without text, in a later state
-  pub room-moved : {i j : ℕ} {o1 : List ℕ} {t : State} → Moved w x n i j s t → length o1 ≡ length o → Room o1 x (t .pos) (16 + 0) 0 0
+  pub room-moved : {i j : ℕ} {o1 : List ℕ} {t : State} → Moved w n i j s t → length o1 ≡ length o → Room o1 x (t .pos) (16 + 0) 0 0
   room-moved m l = record { room = omega (arith, q .room, m .room); part = omega arith }
 
-  module _ {t : Token} (v : Seen w x n (s .at) t) where
-    -- room for a record with the token's text
-    pub room-token : Room o x (s .pos) (16 + t .len) (t .start) (t .len)
-    room-token = record { room = omega (arith, q .room, v .pays); part = v .part }
-
+  module _ {t : Token} (v : Seen w n (s .at) t) where
     pub star-room : {d : ℕ} {m : Act (Ans Node)} {o1 r1 f1 : List ℕ} {b : Answer}
         → Reads node w x n d m o r f (fore s t) o1 r1 f1 b → length o1 ≡ length o
         → Room o1 x (b .state .pos) (16 + 0) 0 0
@@ -398,9 +392,9 @@ module _ {w x : List ℕ} {n : ℕ} {o r f : List ℕ} {s : State} (q : Asked w 
     array-asked = (asked-seen q v, v .places)
 
     pub size-asked : t .kind ≡ 2 → (t .start + t .len ≤ length x) × ((0 < t .base) × (t .base < 256))
-    size-asked z = (v .part, (v .based z, omega (arith, v .bases)))
+    size-asked z = (v .part (q .parts), (v .based z, omega (arith, v .bases)))
 
-    module _ {k : ℕ} {r1 f1 : List ℕ} {a : Answer} (e : Expects w x n (λ role. P.expect-as role k) r f (fore s t) r1 f1 a) where
+    module _ {k : ℕ} {r1 f1 : List ℕ} {a : Answer} (e : Expects w n (λ role. P.expect-as role k) r f (fore s t) r1 f1 a) where
       pub bracket-asked : length r1 ≡ length r → length f1 ≡ length f → Asked w x n o r1 f1 (a .state)
       bracket-asked l g = asked-moved (asked-seen q v) (e .moved) refl l g
 

@@ -1,7 +1,7 @@
 -- What the functions of `expression` ensure beyond `Reads` and `Goes`. Assumes nothing.
 use mathlib.Core.Path.{_≡_}
 use mathlib.Core.List.{List, [], _++_}
-use Prim.Native.Nat.{ℕ, zero, suc, min, _+_, _*_, _≤_}
+use Prim.Native.Nat.{ℕ, zero, suc, _+_, _*_, _≤_}
 use lib.Dec.{eqb}
 use lib.ListN.{length, take}
 use Rattle.definition.specs.Ascii.{ascii}
@@ -21,7 +21,7 @@ use Rattle.fallible.specs.declared.Status.{Status}
 use Rattle.fallible.specs.declared.Status.the-variants.{Done, Fatal, Refused}
 use Rattle.fallible.specs.declared.Answer.{Answer}
 use Rattle.fallible.specs.Lists.{errs}
-use Rattle.steps.specs.Tokens.{rest, budget, Held}
+use Rattle.steps.specs.Tokens.{rest, budget, present, Held, Parts}
 use Rattle.leaves.specs.Leaves.{level-at}
 use Rattle.steps.specs.Shows.{st-of, Moved, Shows, done-of, typed, items}
 
@@ -48,7 +48,8 @@ abbrev pub name-of : Tok → List ℕ
 name-of t = pick (eqb (t .kind) K.Identifier) (t .text) (ascii "<?>")
 
 pub record NameRoom (w x : List ℕ) (n : ℕ) (o : List ℕ) (a : Answer) (at : ℕ) : Type 0 where
-  pub held : Held w x n
+  pub held : Held w n
+  pub parts : Parts w x n
   pub within : at ≤ n
   pub room : a .state .pos + 19 * done-of (a .status) + length (next-token (rest w x n at) .text) ≤ length o
 
@@ -68,15 +69,15 @@ pub record BareNamed (w x : List ℕ) (n : ℕ) (o : List ℕ) (a : Answer) (tag
 -- ---- typed identifiers
 
 pub record ReadsTyped (w x : List ℕ) (n d : ℕ) (o r f : List ℕ) (s : State) (o′ r′ f′ : List ℕ) (a : Answer) : Type 0 where
-  pub moved : Moved w x n (s .pos) (s .reported) s (a .state)
-  pub on : s .at + min (next-token (rest w x n (s .at)) .kind) 1 ≤ a .state .at
-  pub spare : a .state .pos + budget w x n (a .state .at) + 32 * done-of (a .status) + length (next-token (rest w x n (s .at)) .text) ≤ s .pos + budget w x n (s .at)
+  pub moved : Moved w n (s .pos) (s .reported) s (a .state)
+  pub on : s .at + present n (s .at) ≤ a .state .at
+  pub spare : a .state .pos + budget w n (a .state .at) + 32 * done-of (a .status) + length (next-token (rest w x n (s .at)) .text) ≤ s .pos + budget w n (s .at)
   pub is : (rd : List Consumed) → Shows (typed (name-of (next-token (rest w x n (s .at))))) (take (s .pos) o) (errs r (s .reported)) [] [] w x n o′ r′ f′ a (go d P.parse-typed-identifier (st-of w x n f rd s))
 
 -- after the name, in a construct whose errors begin at j
 pub record TypedOn (w x : List ℕ) (n d j : ℕ) (o r f : List ℕ) (s : State) (o′ r′ f′ : List ℕ) (a : Answer) : Type 0 where
-  pub moved : Moved w x n (s .pos) j s (a .state)
-  pub spare : a .state .pos + budget w x n (a .state .at) + 16 * done-of (a .status) ≤ s .pos + budget w x n (s .at)
+  pub moved : Moved w n (s .pos) j s (a .state)
+  pub spare : a .state .pos + budget w n (a .state .at) + 16 * done-of (a .status) ≤ s .pos + budget w n (s .at)
   pub is : (rd : List Consumed) (name : List ℕ) (E es : List Err) → length E ≡ j → errs r (s .reported) ≡ E ++ es
       → Shows (typed name) (take (s .pos) o) E [] [] w x n o′ r′ f′ a (go d (P.typed name es) (st-of w x n f rd s))
 
@@ -87,9 +88,9 @@ abbrev pub as-answer : Items → Act (Ans Items)
 as-answer i = done (ok (record { item = i; errors = i .errors }))
 
 pub record ReadsList (w x : List ℕ) (n d : ℕ) (k : A.Listed) (o r f : List ℕ) (s : State) (o′ r′ f′ : List ℕ) (a : Answer) : Type 0 where
-  pub moved : Moved w x n (s .pos) (s .reported) s (a .state)
-  pub on : s .at + min (next-token (rest w x n (s .at)) .kind) 1 ≤ a .state .at
-  pub spare : a .state .pos + budget w x n (a .state .at) + 16 * min (next-token (rest w x n (s .at)) .kind) 1 ≤ s .pos + budget w x n (s .at)
+  pub moved : Moved w n (s .pos) (s .reported) s (a .state)
+  pub on : s .at + present n (s .at) ≤ a .state .at
+  pub spare : a .state .pos + budget w n (a .state .at) + 16 * present n (s .at) ≤ s .pos + budget w n (s .at)
   pub never : a .status ≡ Fatal → ⊥
   pub is : (rd : List Consumed) → Shows items (take (s .pos) o) (errs r (s .reported)) [] [] w x n o′ r′ f′ a (go d (P.parse-list k >>= as-answer) (st-of w x n f rd s))
 
@@ -97,7 +98,7 @@ pub record ReadsList (w x : List ℕ) (n d : ℕ) (k : A.Listed) (o r f : List �
 
 -- the loop `on`, after `count` items
 pub record LoopOn (on : Items → Act Items) (w x : List ℕ) (n d : ℕ) (count : ℕ) (o r f : List ℕ) (s : State) (o′ r′ f′ : List ℕ) (a : Answer) : Type 0 where
-  pub moved : Moved w x n (s .pos) (s .reported) s (a .state)
+  pub moved : Moved w n (s .pos) (s .reported) s (a .state)
   pub never : a .status ≡ Fatal → ⊥
   pub is : (rd : List Consumed) (T : List ℕ) (E : List Err) (i : Items) → take (s .pos) o ≡ T ++ recs-bytes (i .recs) → errs r (s .reported) ≡ E ++ i .errors → i .count ≡ count
       → Shows items T E [] [] w x n o′ r′ f′ a (go d (on i >>= as-answer) (st-of w x n f rd s))

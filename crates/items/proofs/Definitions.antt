@@ -56,12 +56,12 @@ outside-seam d p name (gives (fatal es) S) = refl
 outside-seam d p name (refused n) = refl
 
 module _ {w x : List ℕ} {n name i j : ℕ} {o r f : List ℕ} {a : Answer} (q : FunctionAsked w x n o r f name a i j) where
-  pub external-follows : Follows w x n r f a i j
+  pub external-follows : Follows w n r f a i j
   external-follows = record { asks = q .asked .asks; pos = q .pos; reported = q .reported }
 
-  module _ {t : Token} {r1 f1 : List ℕ} {b : Answer} (u : Seen w x n name t) (X : Expected w x n 50 i j r f a r1 f1 b) where
+  module _ {t : Token} {r1 f1 : List ℕ} {b : Answer} (u : Seen w n name t) (X : Expected w n 50 i j r f a r1 f1 b) where
     pub external-room : Room o x (b .state .pos) (16 + t .len) (t .start) (t .len)
-    external-room = record { room = omega (arith, q .room, X .high, text-length u); part = u .part }
+    external-room = record { room = omega (arith, q .room, X .high, text-length (q .asked .parts) u); part = u .part (q .asked .parts) }
 
     pub external-on : {o2 : List ℕ} {y : Answer} {place : ℕ} (d : ℕ)
         → NodeWritten x o b (record {
@@ -73,8 +73,8 @@ module _ {w x : List ℕ} {n name i j : ℕ} {o r f : List ℕ} {a : Answer} (q 
         }) o2 y
         → FunctionOn w x n d 1 (unpack-place place) name i j o r f a o2 r1 f1 y
     external-on {o2} {y} {place} d F =
-        let e : budget w x n (y .state .at) ≡ budget w x n (b .state .at) = ap (λ (k : ℕ). budget w x n k) (F .at) in
-        let l = text-length u in
+        let e : budget w n (y .state .at) ≡ budget w n (b .state .at) = ap (λ (k : ℕ). budget w n k) (F .at) in
+        let l = text-length (q .asked .parts) u in
         record {
           moved =
               record {
@@ -181,17 +181,17 @@ module _ {w x : List ℕ} {n d name i j : ℕ} {o r f : List ℕ} {a : Answer} (
     )
 
 module _ {w x : List ℕ} {n d name i j place : ℕ} {o r f : List ℕ} {a : Answer} (q : FunctionAsked w x n o r f name a i j) {o1 r1 f1 o2 : List ℕ} {b c : Answer} {t : Token} (z : a .status ≡ Done) (B : ReadsBody w x n d o r f (a .state) o1 r1 f1 b)
-    (F : NodeWritten x o1 b (record { tag = 0x40; place = place; numbers = Two (b .count); start = 0; len = 0 }) o2 c) (u : Seen w x n name t) where
+    (F : NodeWritten x o1 b (record { tag = 0x40; place = place; numbers = Two (b .count); start = 0; len = 0 }) o2 c) (u : Seen w n name t) where
   pub whole-room : length o2 ≡ length o → Room o2 x (c .state .pos) (16 + t .len) (t .start) (t .len)
-  whole-room l = record { room = omega (arith, q .room, B .moved .room, F .high, text-length u, l); part = u .part }
+  whole-room l = record { room = omega (arith, q .room, B .moved .room, F .high, text-length (q .asked .parts) u, l); part = u .part (q .asked .parts) }
 
   module _ {r2 o3 : List ℕ} {y : Answer} (h : b .status ≡ Done)
       (X : Exchanged r1 j (a .state .reported) (b .state .reported) r2)
       (G : NodeWritten x o2 c (record { tag = 0x50; place = place; numbers = ByteTwo 0 (a .count); start = t .start; len = t .len }) o3 y) where
-    whole-moved : Moved w x n i j (up (19 + length (next-token (rest w x n name) .text)) (a .state)) (y .state)
+    whole-moved : Moved w n i j (up (19 + length (next-token (rest w x n name) .text)) (a .state)) (y .state)
     whole-moved =
-        let e : budget w x n (y .state .at) ≡ budget w x n (b .state .at) = ap (λ (k : ℕ). budget w x n k) (G .at ∙ F .at) in
-        let k = text-length u in
+        let e : budget w n (y .state .at) ≡ budget w n (b .state .at) = ap (λ (k : ℕ). budget w n k) (G .at ∙ F .at) in
+        let k = text-length (q .asked .parts) u in
         record {
           at = omega (arith, G .at, F .at, B .moved);
           end = omega (arith, G .at, F .at, B .moved);
@@ -316,7 +316,7 @@ unfolding P.function
 fn-first d external p S = go-bind d (P.expect 4) (or-return (λ _. P.expect-identifier >>? headed p external)) S
 
 module _ {w x : List ℕ} {n d : ℕ} {o r f r1 f1 : List ℕ} {s : State} {a : Answer}
-    (X : Expects w x n (λ role. P.expect-as role 4) r f s r1 f1 a) where
+    (X : Expects w n (λ role. P.expect-as role 4) r f s r1 f1 a) where
   -- `fn` or the name is missing
   pub function-stops : (external : ℕ) (p : Place) → Stopped a → Reads node w x n d (P.function p external) o r f s o r1 f1 a
   function-stops external p nd =
@@ -324,11 +324,11 @@ module _ {w x : List ℕ} {n d : ℕ} {o r f r1 f1 : List ℕ} {s : State} {a : 
         moved = X .moved;
         on = X .on;
         is = λ rd. say (fn-first d external p (st-of w x n f rd s))
-            (stops d (λ _. P.expect-identifier >>? headed p external) _ nd (X .is plain d rd o));
+            (stops d (λ _. P.expect-identifier >>? headed p external) _ nd (X .is x plain d rd o));
       }
 
   module _ {r2 f2 : List ℕ} {b : Answer} (z : a .status ≡ Done)
-      (Y : Expects w x n (λ role. P.expect-identifier) r1 f1 (a .state) r2 f2 b) where
+      (Y : Expects w n (λ role. P.expect-identifier) r1 f1 (a .state) r2 f2 b) where
     pub function-unnamed : (external : ℕ) (p : Place) → Stopped b → Reads node w x n d (P.function p external) o r f s o r2 f2 b
     function-unnamed external p nd =
         let kept = X .kept z in
@@ -346,7 +346,7 @@ module _ {w x : List ℕ} {n d : ℕ} {o r f r1 f1 : List ℕ} {s : State} {a : 
               };
           on = omega (arith, X .on, Y .moved .at);
           is = λ rd.
-              let g = good-of z (X .is plain d rd o) in
+              let g = good-of z (X .is x plain d rd o) in
               say (fn-first d external p (st-of w x n f rd s)
               ∙ follows d (λ _. P.expect-identifier >>? headed p external) (g .is)
               ∙ go-bind d P.expect-identifier (or-return (headed p external))
@@ -356,19 +356,19 @@ module _ {w x : List ℕ} {n d : ℕ} {o r f r1 f1 : List ℕ} {s : State} {a : 
               (subst
               (λ (E : List Err). Shows (token (next-token (rest w x n (a .state .at)))) (take (a .state .pos) o) E []
               [] w x n o r2 f2 b (go d P.expect-identifier (st-of w x n f1 (g .read) (a .state)))) (kept .1)
-              (Y .is plain d (g .read) o))));
+              (Y .is x plain d (g .read) o))));
         }
 
     module _ {p : Place} {o3 r3 f3 : List ℕ} {c : Answer} (q : Asked w x n o r f s) (y : b .status ≡ Done)
         (G : ReadsSignature w x n d p o r2 f2 (b .state) o3 r3 f3 c) where
       -- `fn` and the name account for the records of the type, the block and the function
-      function-pays : c .state .pos + budget w x n (c .state .at) + 25 + length (next-token (rest w x n (a .state .at)) .text)
-          ≤ s .pos + budget w x n (s .at)
+      function-pays : c .state .pos + budget w n (c .state .at) + 25 + length (next-token (rest w x n (a .state .at)) .text)
+          ≤ s .pos + budget w n (s .at)
       function-pays =
           let da : done-of (a .status) ≡ 1 = rw z in
           let db : done-of (b .status) ≡ 1 = rw y in
-          let k = real (a .state .at) (q .asks .held) (omega (arith, Y .pays, db)) in
-          omega (arith, G .moved .room, X .pays, da, paid (a .state .at) (b .state .at) (q .asks .held) (Y .on), k, X .pos, Y .pos)
+          let k = real w n (a .state .at) (omega (arith, Y .pays, db)) in
+          omega (arith, G .moved .room, X .pays, da, paid (a .state .at) (b .state .at) (q .asks .held) (Y .on) x, k, X .pos, Y .pos)
 
       pub function-asked : length o3 ≡ length o → length r3 ≡ length r → length f3 ≡ length f
           → FunctionAsked w x n o3 r3 f3 (a .state .at) c (s .pos) (s .reported)
@@ -383,6 +383,7 @@ module _ {w x : List ℕ} {n d : ℕ} {o r f r1 f1 : List ℕ} {s : State} {a : 
                 reps = omega (arith, q .asks, lr);
                 fulls = omega (arith, q .asks, lf);
               };
+          parts = q .parts;
           room = omega (arith, function-pays, q .room, lo);
         };
         within = X .moved .end;
@@ -410,8 +411,8 @@ module _ {w x : List ℕ} {n d : ℕ} {o r f r1 f1 : List ℕ} {s : State} {a : 
                 };
             on = omega (arith, X .on, Y .moved .at, G .moved .at, W .moved .at);
             is = λ rd.
-                let g = good-of z (X .is plain d rd o) in
-                let h = good-of y (Y .is plain d (g .read) o) in
+                let g = good-of z (X .is x plain d rd o) in
+                let h = good-of y (Y .is x plain d (g .read) o) in
                 say
                 (fn-first d external p (st-of w x n f rd s) ∙ follows d (λ _. P.expect-identifier >>? headed p external) (g .is) ∙ go-bind d P.expect-identifier (or-return (headed p external)) (st-of w x n f1 (g .read) (a .state)) ∙ follows d (headed p external) (h .is) ∙ headed-seam d p external (h .item) (st-of w x n f2 (h .read) (b .state))
                 ∙ ap (λ (t : Tok). after (go d (signature-rule p) (st-of w x n f2 (h .read) (b .state)))
@@ -425,18 +426,18 @@ module _ {w x : List ℕ} {n d : ℕ} {o r f r1 f1 : List ℕ} {s : State} {a : 
 
 -- ---- `function_definition`
 
-module _ {w x : List ℕ} {n d : ℕ} {o r f o1 r1 f1 : List ℕ} {s : State} {t : Token} {y : Answer} (u : Seen w x n (s .at) t) where
+module _ {w x : List ℕ} {n d : ℕ} {o r f o1 r1 f1 : List ℕ} {s : State} {t : Token} {y : Answer} (u : Seen w n (s .at) t) where
   pub definition-external : t .kind ≡ 19
       → Reads node w x n d (P.function (unpack-place (t .place)) 1) o r f (fore s t) o1 r1 f1 y
       → Reads node w x n d P.parse-function-definition o r f s o1 r1 f1 y
   unfolding go run P.parse-function-definition
   definition-external h B = record {
     moved = omega (arith, B .moved, u .pays, u .up);
-    on = omega (arith, B .moved .at, u .on, u .kind);
+    on = omega (arith, B .moved .at, u .on, u .present);
     is =
         λ rd. say (rw (run, yes u h)
-        (ap (λ (S : St). go d (P.function (next-token (rest w x n (s .at)) .place) 1) S) (adv s u (λ _. plain) f rd)
-        ∙ ap (λ (p : Place). go d (P.function p 1) (st-of w x n f (past w x n (s .at) rd) (fore s t))) (u .place)))
+        (ap (λ (S : St). go d (P.function (next-token (rest w x n (s .at)) .place) 1) S) (adv s u (λ _. plain) f rd _)
+        ∙ ap (λ (p : Place). go d (P.function p 1) (st-of w x n f (past w x n (s .at) rd) (fore s t))) (u .place x)))
         (B .is (past w x n (s .at) rd));
   }
 
@@ -448,6 +449,6 @@ module _ {w x : List ℕ} {n d : ℕ} {o r f o1 r1 f1 : List ℕ} {s : State} {t
         moved = B .moved;
         on = B .on;
         is = λ rd. say
-            (rw (run, no u m) (ap (λ (p : Place). go d (P.function p 0) (st-of w x n f rd s)) (u .place)))
+            (rw (run, no u m) (ap (λ (p : Place). go d (P.function p 0) (st-of w x n f rd s)) (u .place x)))
             (B .is rd);
       }

@@ -34,15 +34,16 @@ use Rattle.items.specs.Items.{ReadsModule}
 -- ---- `top_level_item`
 
 -- a token of one of two kinds, or of three
-module _ {w x : List ℕ} {n at : ℕ} {t : Token} {c : Bool} (u : Seen w x n at t) where
-  either : (i j : ℕ) → (eqb (t .kind) i || eqb (t .kind) j) ≡ c → (next-token (rest w x n at) is i || next-token (rest w x n at) is j) ≡ c
-  either i j h = rw (u .kind) h
+module _ {w : List ℕ} {n at : ℕ} {t : Token} {c : Bool} (u : Seen w n at t) where
+  either : (i j : ℕ) → (eqb (t .kind) i || eqb (t .kind) j) ≡ c
+      → (x : List ℕ) → (next-token (rest w x n at) is i || next-token (rest w x n at) is j) ≡ c
+  either i j h x = rw (u .kind) h
 
   any : (i j k : ℕ) → ((eqb (t .kind) i || eqb (t .kind) j) || eqb (t .kind) k) ≡ c
-      → ((next-token (rest w x n at) is i || next-token (rest w x n at) is j) || next-token (rest w x n at) is k) ≡ c
-  any i j k h = rw (u .kind) h
+      → (x : List ℕ) → ((next-token (rest w x n at) is i || next-token (rest w x n at) is j) || next-token (rest w x n at) is k) ≡ c
+  any i j k h x = rw (u .kind) h
 
-module _ {w x : List ℕ} {n d : ℕ} {o r f : List ℕ} {s : State} {t : Token} (u : Seen w x n (s .at) t) where
+module _ {w x : List ℕ} {n d : ℕ} {o r f : List ℕ} {s : State} {t : Token} (u : Seen w n (s .at) t) where
   pub item-function : {o1 r1 f1 : List ℕ} {y : Answer} → (eqb (t .kind) 4 || eqb (t .kind) 19) ≡ true
       → Reads node w x n d P.parse-function-definition o r f s o1 r1 f1 y
       → Reads node w x n d P.parse-top-level-item o r f s o1 r1 f1 y
@@ -96,12 +97,12 @@ module _ {w x : List ℕ} {n d : ℕ} {o r f : List ℕ} {s : State} {t : Token}
           item-other m54 i g =
               raise-reads (q .asks) u plain g d
               (λ rd. rw (run, either u 4 19 mf, any u 15 20 21 ma, no u m18, no u m5, no u m54)
-              (raise-same d (rw (u .place, u .kind) (sym i)) (adv s u (λ _. plain) f rd)))
+              (raise-same d (rw (u .place, u .kind) (sym i)) (adv s u (λ _. plain) f rd _)))
 
 -- ---- the loop of `module`
 
 module _ {w x : List ℕ} {n d count : ℕ} {o r f : List ℕ} {s : State} {t : Token}
-    (q : Asked w x n o r f s × (count ≤ s .at)) (v : Seen w x n (s .at) t) where
+    (q : Asked w x n o r f s × (count ≤ s .at)) (v : Seen w n (s .at) t) where
   pub module-end : t .kind ≡ 0 → LoopOn items-on w x n d count o r f s o r f (record { status = Done; state = s; place = 0; count = count })
   unfolding go run P.module-turn
   module-end z = record {

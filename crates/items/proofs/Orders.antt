@@ -1,13 +1,12 @@
 -- Items with their errors, and the order in which the errors of a function definition are reported. Assumes nothing.
 use mathlib.Core.Path.{_≡_, refl, sym, ap, _∙_}
 use mathlib.Core.List.{List, _++_, append-assoc}
-use Prim.Native.Nat.{ℕ, _≤_, _<_}
+use Prim.Native.Nat.{ℕ, _≤_}
 use native.Mathlib.Omega.{arith}
 use native.Mathlib.Decide.{decLe}
 use lib.ListN.{length, take}
 use lib.Seq.{take-at}
 use Rattle.definition.specs.Fallible.{Err, Fallible, Ans}
-use Rattle.definition.specs.Token.{next-token}
 use Rattle.definition.specs.Act.{Act, Items, St, Res, gives, refused, after, or-return, run, _>>=_}
 use Rattle.definition.specs.Go.{go}
 use Rattle.definition.proofs.Flat.{go-bind}
@@ -18,8 +17,8 @@ use Rattle.fallible.specs.Lists.{errs}
 use Rattle.fallible.specs.Answers.{AbandonedOf, Abandoned}
 use Rattle.fallible.specs.Orders.{Exchanged}
 use Rattle.fallible.proofs.Exchanges.{exchange-errs}
-use Rattle.steps.specs.Tokens.{rest, spend, budget, Held}
-use Rattle.steps.proofs.Tokens.{rest-nil, alive}
+use Rattle.steps.specs.Tokens.{budget, present}
+use Rattle.steps.proofs.Tokens.{budget-nil, present-before}
 use Rattle.steps.specs.Shows.{done-of, ExpectedOf, Expected}
 use Rattle.steps.proofs.Answers.{errs-take}
 use Rattle.expression_laws.specs.Post.{as-answer}
@@ -49,11 +48,11 @@ still {r} {r′} {i} {j} {k} {b} {c} v z = one (b .status) (v .is)
     one (Refused n) m = m .0
 
 -- `expect` after an answer keeps its place
-pub expected-line : {w x : List ℕ} {n k i j : ℕ} {r f r′ f′ : List ℕ} {a y : Answer} → Expected w x n k i j r f a r′ f′ y
+pub expected-line : {w : List ℕ} {n k i j : ℕ} {r f r′ f′ : List ℕ} {a y : Answer} → Expected w n k i j r f a r′ f′ y
     → y .count ≡ a .count
-expected-line {w} {x} {n} {k} {i} {j} {r} {f} {r′} {f′} {a} {y} v = one (a .status) (v .is)
+expected-line {w} {n} {k} {i} {j} {r} {f} {r′} {f′} {a} {y} v = one (a .status) (v .is)
   where
-    one : (h : Status) → ExpectedOf h w x n k i j r f a r′ f′ y → y .count ≡ a .count
+    one : (h : Status) → ExpectedOf h w n k i j r f a r′ f′ y → y .count ≡ a .count
     one Done m = rw (m .is)
     one Fatal m = rw (m .0)
     one (Refused u) m = rw (m .0)
@@ -67,9 +66,8 @@ turned {r} {r′} {j} {k} {m} E es fs x jk km lj lk e =
     (errs-take r k m km ∙ ap (λ (l : List Err). take k l) (e ∙ sym (append-assoc E es fs)) ∙ take-at (E ++ es) fs k lk)
     (e ∙ sym (append-assoc E es fs))
 
--- if the budget from i on is at least 16, the token there is not the end
-pub real : {w x : List ℕ} {n : ℕ} (i : ℕ) → Held w x n → 16 ≤ budget w x n i → 0 < next-token (rest w x n i) .kind
-unfolding spend
-real {w} {x} {n} i q h =
+-- if the budget from i on is at least 16, a token is there
+pub real : (w : List ℕ) (n i : ℕ) → 16 ≤ budget w n i → present n i ≡ 1
+real w n i h =
     elim (decLe n i)
-    [ yes g ↦ let e : budget w x n i ≡ 0 = rw (rest-nil w x n i g) in absurd (omega (arith, e, h)) | no g ↦ alive q (omega (arith, g)) ]
+    [ yes g ↦ absurd (omega (arith, budget-nil w n i g, h)) | no g ↦ present-before n i (omega (arith, g)) ]

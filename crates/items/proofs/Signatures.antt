@@ -36,7 +36,7 @@ use Rattle.items.proofs.Orders.{answered, still, turned}
 
 -- ---- `return_type`
 
-module _ {w x : List ℕ} {n d : ℕ} {o r f : List ℕ} {s : State} {t : Token} (u : Seen w x n (s .at) t) where
+module _ {w x : List ℕ} {n d : ℕ} {o r f : List ℕ} {s : State} {t : Token} (u : Seen w n (s .at) t) where
   pub type-given : {o1 r1 f1 : List ℕ} {y : Answer} {p : Place} → t .kind ≡ 51
       → Reads node w x n d P.parse-type o r f (fore s t) o1 r1 f1 y
       → ReadsType w x n d p o r f s o1 r1 f1 y
@@ -53,7 +53,7 @@ module _ {w x : List ℕ} {n d : ℕ} {o r f : List ℕ} {s : State} {t : Token}
           full = B .moved .full;
           few = B .moved .few;
         };
-    is = λ rd. say (rw (run, yes u h) (ap (λ (S : St). go d P.parse-type S) (adv s u (λ _. plain) f rd))) (B .is (past w x n (s .at) rd));
+    is = λ rd. say (rw (run, yes u h) (ap (λ (S : St). go d P.parse-type S) (adv s u (λ _. plain) f rd _))) (B .is (past w x n (s .at) rd));
   }
 
   pub type-none : {o2 : List ℕ} {y : Answer} {place : ℕ} → Asked w x n o r f s → (t .kind ≡ 51 → ⊥)
@@ -62,7 +62,7 @@ module _ {w x : List ℕ} {n d : ℕ} {o r f : List ℕ} {s : State} {t : Token}
       → ReadsType w x n d (unpack-place place) o r f s o2 r f y
   unfolding go run recs-bytes
   type-none {o2} {y} {place} q m F =
-      let e : budget w x n (y .state .at) ≡ budget w x n (s .at) = ap (λ (k : ℕ). budget w x n k) (F .at) in
+      let e : budget w n (y .state .at) ≡ budget w n (s .at) = ap (λ (k : ℕ). budget w n k) (F .at) in
       let none : Fallible Node = record { item = record { place = unpack-place place; recs = [] }; errors = [] } in
       record {
         moved =
@@ -138,9 +138,9 @@ module _ {w x : List ℕ} {n d : ℕ} {p : Place} {o r f o1 r1 f1 : List ℕ} {s
         }
 
     module _ {r3 : List ℕ} {c : Answer} (C : Abandoned r2 b (s .pos) (s .reported) (a .state .reported) r3 c) where
-      signature-moved : Moved w x n (s .pos) (s .reported) (up 7 s) (c .state)
+      signature-moved : Moved w n (s .pos) (s .reported) (up 7 s) (c .state)
       signature-moved =
-          let e : budget w x n (c .state .at) ≡ budget w x n (b .state .at) = ap (λ (k : ℕ). budget w x n k) (C .at) in
+          let e : budget w n (c .state .at) ≡ budget w n (b .state .at) = ap (λ (k : ℕ). budget w n k) (C .at) in
           record {
             at = omega (arith, C .at, R .moved, B .moved);
             end = omega (arith, C .at, R .moved);

@@ -39,7 +39,7 @@ fn return_type(
     requires { ⌜ Asked tokens text n file reported full st ⌝ }
     ensures { λ r. ⌜ ReadsType (unpack-place place) tokens text n file reported full st nesting r ⌝ }
 {
-    let t = peek(tokens, text, n, st.at);
+    let t = peek(tokens, n, st.at);
     if t.kind == kind::R_ARROW {
         let on = State { at: t.next, ..st };
         return ty(tokens, text, n, file, reported, full, on, nesting);
@@ -108,8 +108,8 @@ fn external_function(
     requires { ⌜ FunctionAsked tokens text n file reported full name a from ⌝ }
     ensures { λ r. ⌜ ((d : ℕ) → FunctionOn 1 (unpack-place place) tokens text n file reported full name a from d r) ⌝ }
 {
-    let t = peek(tokens, text, n, name);
-    let b = and_expect(tokens, text, n, reported, full, a, kind::SEMICOLON, from);
+    let t = peek(tokens, n, name);
+    let b = and_expect(tokens, n, reported, full, a, kind::SEMICOLON, from);
     let numbers = Numbers::ByteTwo(1, a.count);
     write_text_node(
         file,
@@ -153,7 +153,7 @@ fn whole_function(
     let e = b.state;
     exchange(reported, from.reported, s.reported, e.reported);
     let c = write_node(file, text, b, place, tag::BLOCK, Numbers::Two(b.count));
-    let t = peek(tokens, text, n, name);
+    let t = peek(tokens, n, name);
     let numbers = Numbers::ByteTwo(0, a.count);
     write_text_node(
         file,
@@ -183,13 +183,13 @@ fn function(
     requires { ⌜ Asked tokens text n file reported full st ⌝ }
     ensures { λ r. ⌜ Parses (P.function (unpack-place place) (flag external)) tokens text n file reported full st nesting r ⌝ }
 {
-    let a = expect(tokens, text, n, reported, full, st, kind::KW_FN);
+    let a = expect(tokens, n, reported, full, st, kind::KW_FN);
     let status = a.status;
     let Status::Done = status else {
         return a;
     };
     let s = a.state;
-    let b = expect_identifier(tokens, text, n, reported, full, s);
+    let b = expect_identifier(tokens, n, reported, full, s);
     let h = b.status;
     let Status::Done = h else {
         return b;
@@ -228,7 +228,7 @@ pub fn function_definition(
     requires { ⌜ Asked tokens text n file reported full st ⌝ }
     ensures { λ r. ⌜ Parses P.parse-function-definition tokens text n file reported full st nesting r ⌝ }
 {
-    let t = peek(tokens, text, n, st.at);
+    let t = peek(tokens, n, st.at);
     if t.kind == kind::KW_EXTERN {
         let on = State { at: t.next, ..st };
         return function(

@@ -12,12 +12,12 @@ use fallible::entry;
 use fallible::raise;
 use functions::function_definition;
 use leaves::counted;
+use leaves::leaf;
 use node::Numbers;
 use others::top_level_var_declaration;
 use others::type_alias;
 use others::use_path;
 use steps::peek;
-use steps::write_text_node;
 ghost use Rattle.definition.specs.Parser as P;
 ghost use Rattle.steps.specs.Contract.{Asked, Parses};
 ghost use Rattle.expression_laws.specs.Contract.{LoopOn};
@@ -37,7 +37,7 @@ fn top_level_item(
     requires { ⌜ Asked tokens text n file reported full st ⌝ }
     ensures { λ r. ⌜ Parses P.parse-top-level-item tokens text n file reported full st nesting r ⌝ }
 {
-    let t = peek(tokens, text, n, st.at);
+    let t = peek(tokens, n, st.at);
     if (t.kind == kind::KW_FN) | (t.kind == kind::KW_EXTERN) {
         return function_definition(tokens, text, n, file, reported, full, st, nesting);
     }
@@ -50,25 +50,10 @@ fn top_level_item(
     if t.kind == kind::KW_VAR {
         return top_level_var_declaration(tokens, text, n, file, reported, full, st, nesting);
     }
-    let on = State { at: t.next, ..st };
     if t.kind == kind::INLINE_ASSEMBLY_FRAGMENT {
-        let a = Answer {
-            status: Status::Done,
-            state: on,
-            place: t.place,
-            count: 0,
-        };
-        return write_text_node(
-            file,
-            text,
-            a,
-            t.place,
-            tag::TOP_LEVEL_ASSEMBLY,
-            Numbers::None,
-            t.start,
-            t.len,
-        );
+        return leaf(file, text, st, t, tag::TOP_LEVEL_ASSEMBLY, Numbers::None);
     }
+    let on = State { at: t.next, ..st };
     let error = entry(parse_error::TOP_LEVEL, t.place, 0, t.kind);
     raise(n, reported, full, on, error)
 }
@@ -93,7 +78,7 @@ pub fn module(
     let mut count = 0;
     let mut st = from;
     loop {
-        let t = peek(tokens, text, n, st.at);
+        let t = peek(tokens, n, st.at);
         if t.kind == kind::END {
             return Answer {
                 status: Status::Done,

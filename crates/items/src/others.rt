@@ -31,15 +31,15 @@ struct AliasWords {
 }
 
 // Parses {`distinct` | `internal`}, from the token at index `from` on.
-fn modifiers(tokens: &[u32], text: &[u8], n: usize, from: usize) -> AliasWords
-    requires { ⌜ Held (now tokens) (now text) n × (from ≤ n) ⌝ }
-    ensures { λ r. ⌜ Modified (now (tokens .entry)) (now (text .entry)) n 0 0 from r ⌝ }
+fn modifiers(tokens: &[u32], n: usize, from: usize) -> AliasWords
+    requires { ⌜ Held (now tokens) n × (from ≤ n) ⌝ }
+    ensures { λ r. ⌜ Modified (now (tokens .entry)) n 0 0 from r ⌝ }
 {
     let mut distinct = 0;
     let mut internal = 0;
     let mut at = from;
     loop {
-        let t = peek(tokens, text, n, at);
+        let t = peek(tokens, n, at);
         if t.kind == kind::KW_DISTINCT {
             distinct = 1;
             at = t.next;
@@ -73,7 +73,7 @@ fn alias(
     requires { ⌜ Asked tokens text n file reported full st ⌝ }
     ensures { λ r. ⌜ Parses (alias-rule words (unpack-place place)) tokens text n file reported full st nesting r ⌝ }
 {
-    let t = peek(tokens, text, n, st.at);
+    let t = peek(tokens, n, st.at);
     let on = State { at: t.next, ..st };
     if t.kind == kind::END {
         return refuse(n, st, refusal::END_AFTER_WORD);
@@ -82,14 +82,14 @@ fn alias(
         let error = entry(parse_error::NAME_AFTER_TYPE, t.place, 0, 0);
         return raise(n, reported, full, on, error);
     }
-    let a = expect(tokens, text, n, reported, full, on, kind::EQUALS);
+    let a = expect(tokens, n, reported, full, on, kind::EQUALS);
     let status = a.status;
     let Status::Done = status else {
         return a;
     };
     let s = a.state;
     let b = ty(tokens, text, n, file, reported, full, s, nesting);
-    let c = and_expect(tokens, text, n, reported, full, b, kind::SEMICOLON, st);
+    let c = and_expect(tokens, n, reported, full, b, kind::SEMICOLON, st);
     let numbers = Numbers::Byte(words);
     write_text_node(
         file,
@@ -118,10 +118,10 @@ pub fn type_alias(
     ensures { λ r. ⌜ Parses P.parse-type-alias tokens text n file reported full st nesting r ⌝ }
 {
     let at = st.at;
-    let t = peek(tokens, text, n, at);
-    let m = modifiers(tokens, text, n, at);
+    let t = peek(tokens, n, at);
+    let m = modifiers(tokens, n, at);
     let on = State { at: m.next, ..st };
-    let a = expect(tokens, text, n, reported, full, on, kind::KW_TYPE);
+    let a = expect(tokens, n, reported, full, on, kind::KW_TYPE);
     let status = a.status;
     let Status::Done = status else {
         return a;
@@ -155,7 +155,7 @@ fn path(
     requires { ⌜ Asked tokens text n file reported full st ⌝ }
     ensures { λ r. ⌜ ((d : ℕ) → Parses (path-rule (unpack-place place)) tokens text n file reported full st d r) ⌝ }
 {
-    let t = peek(tokens, text, n, st.at);
+    let t = peek(tokens, n, st.at);
     let on = State { at: t.next, ..st };
     if t.kind == kind::END {
         return refuse(n, st, refusal::END_AFTER_WORD);
@@ -164,7 +164,7 @@ fn path(
         let error = entry(parse_error::PATH_AFTER_USE, t.place, 0, 0);
         return raise(n, reported, full, on, error);
     }
-    let a = expect(tokens, text, n, reported, full, on, kind::SEMICOLON);
+    let a = expect(tokens, n, reported, full, on, kind::SEMICOLON);
     write_text_node(
         file,
         text,
@@ -190,8 +190,8 @@ pub fn use_path(
     requires { ⌜ Asked tokens text n file reported full st ⌝ }
     ensures { λ r. ⌜ ((d : ℕ) → Parses P.parse-use tokens text n file reported full st d r) ⌝ }
 {
-    let t = peek(tokens, text, n, st.at);
-    let a = expect(tokens, text, n, reported, full, st, kind::KW_USE);
+    let t = peek(tokens, n, st.at);
+    let a = expect(tokens, n, reported, full, st, kind::KW_USE);
     let status = a.status;
     let Status::Done = status else {
         return a;
@@ -214,8 +214,8 @@ pub fn top_level_var_declaration(
     requires { ⌜ Asked tokens text n file reported full st ⌝ }
     ensures { λ r. ⌜ Parses P.parse-top-level-var-declaration tokens text n file reported full st nesting r ⌝ }
 {
-    let t = peek(tokens, text, n, st.at);
-    let a = expect(tokens, text, n, reported, full, st, kind::KW_VAR);
+    let t = peek(tokens, n, st.at);
+    let a = expect(tokens, n, reported, full, st, kind::KW_VAR);
     let status = a.status;
     let Status::Done = status else {
         return a;

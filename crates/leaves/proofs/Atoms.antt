@@ -36,7 +36,7 @@ use Rattle.leaves.proofs.Errors.{raise-reads}
 -- ---- a token that is a node: the record z is written for it
 
 module _ {w x : List ℕ} {n : ℕ} {o o′ r f : List ℕ} {s : State} {t : Token} {z : Record} {y : Answer}
-    {m : Act (Ans Node)} (q : Asks w x n r f s) (v : Seen w x n (s .at) t) (ns : List Num) (text : List ℕ)
+    {m : Act (Ans Node)} (q : Asks w n r f s) (v : Seen w n (s .at) t) (ns : List Num) (text : List ℕ)
     (u : NodeWritten x o (there s t) z o′ y) where
   -- an act that reads the token and writes its record reads a node
   pub leaf-reads : size-of z ≤ 16 * min (t .kind) 1 + t .len
@@ -51,7 +51,7 @@ module _ {w x : List ℕ} {n : ℕ} {o o′ r f : List ℕ} {s : State} {t : Tok
   unfolding recs-bytes
   leaf-reads h e d g = record {
     moved =
-        let b : budget w x n (y .state .at) ≡ budget w x n (t .next) = ap (λ (k : ℕ). budget w x n k) (u .at) in
+        let b : budget w n (y .state .at) ≡ budget w n (t .next) = ap (λ (k : ℕ). budget w n k) (u .at) in
         record {
           at = omega arith;
           end = omega arith;
@@ -62,11 +62,11 @@ module _ {w x : List ℕ} {n : ℕ} {o o′ r f : List ℕ} {s : State} {t : Tok
           full = omega arith;
           few = omega arith;
         };
-    on = omega (arith, v .kind, v .on, u .at);
+    on = omega (arith, v .present, v .on, u .at);
     is =
         λ rd. say (g rd
         ∙ ap (λ (S : St). go d (P.good (P.node [] (z .tag) (next-token (rest w x n (s .at)) .place) ns text) []) S)
-        (adv s v (λ _. plain) f rd))
+        (adv s v (λ _. plain) f rd _))
         (writes-node {K = token (next-token (rest w x n (s .at)))} {rs = []} {es = []} {q = gives (ok (record { item = next-token (rest w x n (s .at)); errors = [] })) (st-of w x n f (rd ++ now-read (λ _. plain) (rest w x n (s .at))) (fore s t))} d (λ _. next-token (rest w x n (s .at)) .place) (λ _. ns) text u (λ _ _. e)
         (record {
           told = record {
@@ -76,7 +76,7 @@ module _ {w x : List ℕ} {n : ℕ} {o o′ r f : List ℕ} {s : State} {t : Tok
             is = refl;
             tree = sym (append-nil (take (s .pos) o));
             reported = sym (append-nil (errs r (s .reported)));
-            holds = (refl, v .place);
+            holds = (refl, v .place x);
           };
         }));
   }
@@ -87,7 +87,7 @@ module _ {w x : List ℕ} {n : ℕ} {o o′ r f : List ℕ} {s : State} {t : Tok
 abbrev pub Atom : List ℕ → List ℕ → ℕ → List ℕ → List ℕ → List ℕ → State → List ℕ → List ℕ → List ℕ → Answer → Type 0
 Atom w x n o r f s o′ r′ f′ y = (d : ℕ) → Reads node w x n d P.parse-atom o r f s o′ r′ f′ y
 
-module _ {w x : List ℕ} {n : ℕ} {o r f : List ℕ} {s : State} {t : Token} (q : Literal w x n o r f s) (v : Seen w x n (s .at) t) where
+module _ {w x : List ℕ} {n : ℕ} {o r f : List ℕ} {s : State} {t : Token} (q : Literal w x n o r f s) (v : Seen w n (s .at) t) where
   pub integer-reads : {o′ : List ℕ} {y : Answer} → t .kind ≡ 2
       → NodeWritten x o (there s t) (texted (t .place) 33 (Byte (t .base % 256)) (t .start) (t .len)) o′ y → Atom w x n o r f s o′ r f y
   unfolding go run P.parse-atom
@@ -134,15 +134,15 @@ module _ {w x : List ℕ} {n : ℕ} {o r f : List ℕ} {s : State} {t : Token} (
             unfolding go run P.parse-atom
             end-reads z i d =
                 raise-reads (q .asked .asks) v plain g d (λ rd. rw
-                (run, no v m2, no v m1, no v m3, no v m12, no v m13, no v (λ b. q .bare (v .kind ∙ b)), yes v z)
-                (raise-same d (sym i) (adv s v (λ _. plain) f rd)))
+                (run, no v m2, no v m1, no v m3, no v m12, no v m13, no v (λ b. q .bare (v .kind x ∙ b)), yes v z)
+                (raise-same d (sym i) (adv s v (λ _. plain) f rd _)))
 
             pub other-reads : (t .kind ≡ 0 → ⊥) → unpack e ≡ error-at 7 (t .place) 0 (t .kind) → Atom w x n o r f s o r′ f′ y
             unfolding go run P.parse-atom
             other-reads z i d =
                 raise-reads (q .asked .asks) v plain g d (λ rd. rw
-                (run, no v m2, no v m1, no v m3, no v m12, no v m13, no v (λ b. q .bare (v .kind ∙ b)), no v z)
-                (raise-same d (rw (v .place, v .kind) (sym i)) (adv s v (λ _. plain) f rd)))
+                (run, no v m2, no v m1, no v m3, no v m12, no v m13, no v (λ b. q .bare (v .kind x ∙ b)), no v z)
+                (raise-same d (rw (v .place, v .kind) (sym i)) (adv s v (λ _. plain) f rd _)))
 
 -- ---- `close`
 
@@ -163,31 +163,31 @@ if-alive C Done e p q = p
 if-alive C Fatal e p q = q
 if-alive C (Refused m) e p q = absurd (⊎-elim (λ z. omega arith) (λ z. omega arith) e)
 
-module _ {w x : List ℕ} {n : ℕ} {r f : List ℕ} {a : Answer} (q : Asks w x n r f (a .state)) where
-  pub close-ended : Ended a → Closed w x n r f a r f a
+module _ {w : List ℕ} {n : ℕ} {r f : List ℕ} {a : Answer} (q : Asks w n r f (a .state)) where
+  pub close-ended : Ended a → Closed w n r f a r f a
   close-ended h =
       record {
         moved = stays q;
         pos = refl;
-        is = if-ended (λ k. ClosedOf k w x n r f a r f a) (a .status) h (λ m. (refl, (refl, refl)));
+        is = if-ended (λ k. ClosedOf k w n r f a r f a) (a .status) h (λ m. (refl, (refl, refl)));
       }
 
-  module _ {r′ f′ : List ℕ} {b : Answer} (l : Alive a) (e : Expects w x n (λ role. P.expect-as role 42) r f (a .state) r′ f′ b) where
+  module _ {r′ f′ : List ℕ} {b : Answer} (l : Alive a) (e : Expects w n (λ role. P.expect-as role 42) r f (a .state) r′ f′ b) where
     -- what `expect` answers decides
-    closes : (y : Answer) → y .state ≡ b .state → ClosingOf (b .status) a b y → Closed w x n r f a r′ f′ y
+    closes : (y : Answer) → y .state ≡ b .state → ClosingOf (b .status) a b y → Closed w n r f a r′ f′ y
     closes y z i =
         record {
           moved = rw z (e .moved);
           pos = rw z (e .pos);
-          is = if-alive (λ k. ClosedOf k w x n r f a r′ f′ y) (a .status) l (record { b = b; expects = e; is = i })
+          is = if-alive (λ k. ClosedOf k w n r f a r′ f′ y) (a .status) l (record { b = b; expects = e; is = i })
               (record { b = b; expects = e; is = i });
         }
 
     -- refused at `)`; else the answer a with the state after `)`
-    pub close-refused : Ended b → Closed w x n r f a r′ f′ b
+    pub close-refused : Ended b → Closed w n r f a r′ f′ b
     close-refused h = closes b refl (if-ended (λ k. ClosingOf k a b b) (b .status) h (λ m. refl))
 
-    pub close-on : Alive b → Closed w x n r f a r′ f′ (record { status = a .status; state = b .state; place = a .place; count = a .count })
+    pub close-on : Alive b → Closed w n r f a r′ f′ (record { status = a .status; state = b .state; place = a .place; count = a .count })
     close-on h =
         closes _ refl (if-alive
         (λ k. ClosingOf k a b (record { status = a .status; state = b .state; place = a .place; count = a .count }))

@@ -37,8 +37,8 @@ made-so h n s C e p c = subst C (sym e) (one (ltb (s .full) 255) refl)
     one false l = c (ltb-false _ _ l)
 
 -- the definition makes the error and continues, or is refused
-module _ {A : Type 0} {w x : List ℕ} {n : ℕ} {r f r′ f′ : List ℕ} {s : State} {e : ℕ} {c a : Answer}
-    (q : Asks w x n r f s) (g : Raised c r f s e r′ f′ a) (d : ℕ) (m : Act A) (rd : List Consumed) where
+module _ {A : Type 0} {w : List ℕ} {n : ℕ} {r f r′ f′ : List ℕ} {s : State} {e : ℕ} {c a : Answer}
+    (q : Asks w n r f s) (g : Raised c r f s e r′ f′ a) (d : ℕ) (m : Act A) (rd : List Consumed) (x : List ℕ) where
   few : length (errs f (s .full)) ≡ s .full
   few = errs-length f (s .full) (omega arith)
 
@@ -55,7 +55,7 @@ module _ {A : Type 0} {w x : List ℕ} {n : ℕ} {r f r′ f′ : List ℕ} {s :
 
 -- an error is raised after a token
 module _ {A : Type 0} {K : View A} {w x : List ℕ} {n : ℕ} {o r f r′ f′ : List ℕ} {s : State} {t : Token}
-    {m : Act (Ans A)} {e : ℕ} {a : Answer} (q : Asks w x n r f s) (v : Seen w x n (s .at) t) (role : Role)
+    {m : Act (Ans A)} {e : ℕ} {a : Answer} (q : Asks w n r f s) (v : Seen w n (s .at) t) (role : Role)
     (g : Raised (raised n (fore s t)) r f (fore s t) e r′ f′ a) (d : ℕ) where
   pub raise-reads : ((rd : List Consumed)
       → go d m (st-of w x n f rd s)
@@ -64,6 +64,6 @@ module _ {A : Type 0} {K : View A} {w x : List ℕ} {n : ℕ} {o r f r′ f′ :
       → Reads K w x n d m o r f s o r′ f′ a
   raise-reads h = record {
     moved = rw (g .is) (moved-trans (fore-moved q v) (making-moved (asks-fore q v) Fatal));
-    on = let up : t .next ≤ a .state .at = rw (g .is) (making-moved (asks-fore q v) Fatal .at) in omega (arith, v .kind, v .on);
+    on = let up : t .next ≤ a .state .at = rw (g .is) (making-moved (asks-fore q v) Fatal .at) in omega (arith, v .present, v .on);
     is = λ rd. say (h rd) (raise-shows K (asks-fore q v) g d (rd ++ now-read (λ _. role) (rest w x n (s .at))) o);
   }

@@ -29,65 +29,65 @@ make-same : (d : ℕ) (k : Listed) (i : Items) {X Y : Err} {S S′ : St} → X �
     ≡ go d (make Y (loop (ListOf k (P.with-error i Y)) done)) S′
 make-same d k i p q = rw (p, q)
 
-module _ {w x : List ℕ} {n : ℕ} {r f : List ℕ} {s : State} {close : ℕ} {t : Token} (q : Asks w x n r f s) (v : Seen w x n (s .at) t) where
+module _ {w : List ℕ} {n : ℕ} {r f : List ℕ} {s : State} {close : ℕ} {t : Token} (q : Asks w n r f s) (v : Seen w n (s .at) t) where
   -- no error is made, and the list continues
-  goes : {s′ : State} (read : Listed → List Consumed → List Consumed) → Moved w x n (s .pos) (s .reported) s s′
+  goes : {s′ : State} (read : List ℕ → Listed → List Consumed → List Consumed) → Moved w n (s .pos) (s .reported) s s′
       → s′ .pos ≡ s .pos → s′ .reported ≡ s .reported
-      → ((k : Listed) → P.closer k ≡ close → (d : ℕ) (rd : List Consumed) (i : Items)
+      → ((x : List ℕ) (k : Listed) → P.closer k ≡ close → (d : ℕ) (rd : List Consumed) (i : Items)
       → go d (P.after-item k i) (st-of w x n f rd s)
-      ≡ go d (loop (ListOf k i) done) (st-of w x n f (read k rd) s′))
-      → Commas w x n r f s close r f (record { status = Done; state = s′; place = 0; count = 0 })
+      ≡ go d (loop (ListOf k i) done) (st-of w x n f (read x k rd) s′))
+      → Commas w n r f s close r f (record { status = Done; state = s′; place = 0; count = 0 })
   goes read m p e h =
       record {
         moved = m;
         pos = p;
-        is = λ k ck d rd i.
-            record { errors = []; read = read k rd; is = h k ck d rd i ∙ rw append-nil; reported = rw (e, append-nil) };
+        is = λ x k ck d rd i.
+            record { errors = []; read = read x k rd; is = h x k ck d rd i ∙ rw append-nil; reported = rw (e, append-nil) };
       }
 
-  pub comma-there : t .kind ≡ 53 → Commas w x n r f s close r f (record { status = Done; state = fore s t; place = 0; count = 0 })
+  pub comma-there : t .kind ≡ 53 → Commas w n r f s close r f (record { status = Done; state = fore s t; place = 0; count = 0 })
   unfolding go run P.after-item
   comma-there z =
-      goes (λ k rd. rd ++ now-read (P.comma-role k) (rest w x n (s .at))) (fore-moved q v) refl refl
-      (λ k ck d rd i. rw (run, yes v z, v .tail))
+      goes (λ x k rd. rd ++ now-read (P.comma-role k) (rest w x n (s .at))) (fore-moved q v) refl refl
+      (λ x k ck d rd i. rw (run, yes v z, v .tail))
 
   module _ (m : t .kind ≡ 53 → ⊥) where
-    pub comma-close : t .kind ≡ close → Commas w x n r f s close r f (record { status = Done; state = s; place = 0; count = 0 })
+    pub comma-close : t .kind ≡ close → Commas w n r f s close r f (record { status = Done; state = s; place = 0; count = 0 })
     unfolding go run P.after-item
-    comma-close z = goes (λ k rd. rd) (stays q) refl refl (λ k ck d rd i. rw (run, no v m, yes v (z ∙ sym ck)))
+    comma-close z = goes (λ x k rd. rd) (stays q) refl refl (λ x k ck d rd i. rw (run, no v m, yes v (z ∙ sym ck)))
 
     module _ (mc : t .kind ≡ close → ⊥) where
-      pub comma-end : t .kind ≡ 0 → Commas w x n r f s close r f (record { status = Done; state = s; place = 0; count = 0 })
+      pub comma-end : t .kind ≡ 0 → Commas w n r f s close r f (record { status = Done; state = s; place = 0; count = 0 })
       unfolding go run P.after-item
-      comma-end z = goes (λ k rd. rd) (stays q) refl refl (λ k ck d rd i. rw (run, no v m, no v (λ y. mc (y ∙ ck)), yes v z))
+      comma-end z = goes (λ x k rd. rd) (stays q) refl refl (λ x k ck d rd i. rw (run, no v m, no v (λ y. mc (y ∙ ck)), yes v z))
 
       module _ {e : ℕ} {r′ f′ : List ℕ} {a : Answer} (z : t .kind ≡ 0 → ⊥)
           (u : unpack e ≡ error-at 15 (t .place) 0 (t .kind))
           (g : Raised (noted n (fore s t)) r f (fore s t) e r′ f′ a) where
         -- the token is consumed, and the error made
-        passed : (k : Listed) → P.closer k ≡ close → (d : ℕ) (rd : List Consumed) (i : Items)
+        passed : (x : List ℕ) (k : Listed) → P.closer k ≡ close → (d : ℕ) (rd : List Consumed) (i : Items)
             → go d (P.after-item k i) (st-of w x n f rd s)
             ≡ go d (make (unpack e) (loop (ListOf k (P.with-error i (unpack e))) done))
             (st-of w x n f (rd ++ now-read (λ _. plain) (rest w x n (s .at))) (fore s t))
         unfolding go run P.after-item
-        passed k ck d rd i =
+        passed x k ck d rd i =
             rw (run, no v m, no v (λ y. mc (y ∙ ck)), no v z)
-            (make-same d k i (rw (v .place, v .kind) (sym u)) (adv s v (λ _. plain) f rd))
+            (make-same d k i (rw (v .place, v .kind) (sym u)) (adv s v (λ _. plain) f rd _))
 
-        pub comma-other : Commas w x n r f s close r′ f′ a
+        pub comma-other : Commas w n r f s close r′ f′ a
         comma-other = record {
           moved = rw (g .is) (moved-trans (fore-moved q v) (making-moved (asks-fore q v) Done));
           pos = made-so Done n (fore s t) (λ y. y .state .pos ≡ s .pos) (g .is) (λ l. refl) (λ l. refl);
-          is = λ k ck d rd i. made-so Done n (fore s t) (λ y. CommasOf (y .status) w x n k r f s r′ f′ (y .state) d rd i) (g .is)
+          is = λ x k ck d rd i. made-so Done n (fore s t) (λ y. CommasOf (y .status) w x n k r f s r′ f′ (y .state) d rd i) (g .is)
               (λ l. record {
                 errors = unpack e ∷ [];
                 read = rd ++ now-read (λ _. plain) (rest w x n (s .at));
-                is = passed k ck d rd i
+                is = passed x k ck d rd i
                     ∙ makes (asks-fore q v) g d (loop (ListOf k (P.with-error i (unpack e))) done)
-                    (rd ++ now-read (λ _. plain) (rest w x n (s .at))) l;
+                    (rd ++ now-read (λ _. plain) (rest w x n (s .at))) x l;
                 reported = g .reported l;
               })
-              (λ l. passed k ck d rd i ∙ makes-none (asks-fore q v) g d
+              (λ l. passed x k ck d rd i ∙ makes-none (asks-fore q v) g d
               (loop (ListOf k (P.with-error i (unpack e))) done)
-              (rd ++ now-read (λ _. plain) (rest w x n (s .at))) l);
+              (rd ++ now-read (λ _. plain) (rest w x n (s .at))) x l);
         }

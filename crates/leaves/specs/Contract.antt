@@ -9,10 +9,10 @@ use Rattle.leaves.specs.Leaves as L
 abbrev pub Literal : Slice → Slice → ℕ → Slice → Slice → Slice → State → Type 0
 Literal tokens text n file reported full st = L.Literal (now tokens) (now text) n (now file) (now reported) (now full) st
 
-abbrev pub Commas : ℕ → Lent → Lent → ℕ → Lent → Lent → State → Answer → Type 0
-Commas close tokens text n reported full st r =
-    L.Commas (at-entry tokens) (at-entry text) n (at-entry reported) (at-entry full) st close (at-exit reported) (at-exit full) r
+abbrev pub Commas : ℕ → Lent → ℕ → Lent → Lent → State → Answer → Type 0
+Commas close tokens n reported full st r =
+    L.Commas (at-entry tokens) n (at-entry reported) (at-entry full) st close (at-exit reported) (at-exit full) r
 
-abbrev pub Closed : Lent → Lent → ℕ → Lent → Lent → Answer → Answer → Type 0
-Closed tokens text n reported full a r =
-    L.Closed (at-entry tokens) (at-entry text) n (at-entry reported) (at-entry full) a (at-exit reported) (at-exit full) r
+abbrev pub Closed : Lent → ℕ → Lent → Lent → Answer → Answer → Type 0
+Closed tokens n reported full a r =
+    L.Closed (at-entry tokens) n (at-entry reported) (at-entry full) a (at-exit reported) (at-exit full) r

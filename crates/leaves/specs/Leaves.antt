@@ -64,10 +64,10 @@ CommasOf Done w x n k r f s r′ f′ s′ d rd i = Next w x n k r f s r′ f′
 CommasOf Fatal w x n k r f s r′ f′ s′ d rd i = ⊥
 CommasOf (Refused m) w x n k r f s r′ f′ s′ d rd i = go d (P.after-item k i) (st-of w x n f rd s) ≡ refused m
 
-pub record Commas (w x : List ℕ) (n : ℕ) (r f : List ℕ) (s : State) (close : ℕ) (r′ f′ : List ℕ) (a : Answer) : Type 0 where
-  pub moved : Moved w x n (s .pos) (s .reported) s (a .state)
+pub record Commas (w : List ℕ) (n : ℕ) (r f : List ℕ) (s : State) (close : ℕ) (r′ f′ : List ℕ) (a : Answer) : Type 0 where
+  pub moved : Moved w n (s .pos) (s .reported) s (a .state)
   pub pos : a .state .pos ≡ s .pos
-  pub is : (k : A.Listed) → P.closer k ≡ close → (d : ℕ) (rd : List Consumed) (i : Items) → CommasOf (a .status) w x n k r f s r′ f′ (a .state) d rd i
+  pub is : (x : List ℕ) (k : A.Listed) → P.closer k ≡ close → (d : ℕ) (rd : List Consumed) (i : Items) → CommasOf (a .status) w x n k r f s r′ f′ (a .state) d rd i
 
 -- ---- array sizes
 
@@ -134,17 +134,17 @@ ClosingOf Done a b y = y ≡ record { status = a .status; state = b .state; plac
 ClosingOf Fatal a b y = y ≡ record { status = a .status; state = b .state; place = a .place; count = a .count }
 ClosingOf (Refused m) a b y = y ≡ b
 
-pub record Closing (w x : List ℕ) (n : ℕ) (r f : List ℕ) (a : Answer) (r′ f′ : List ℕ) (y : Answer) : Type 0 where
+pub record Closing (w : List ℕ) (n : ℕ) (r f : List ℕ) (a : Answer) (r′ f′ : List ℕ) (y : Answer) : Type 0 where
   pub b : Answer
-  pub expects : Expects w x n (λ role. P.expect-as role K.RParen) r f (a .state) r′ f′ b
+  pub expects : Expects w n (λ role. P.expect-as role K.RParen) r f (a .state) r′ f′ b
   pub is : ClosingOf (b .status) a b y
 
-abbrev pub ClosedOf : Status → List ℕ → List ℕ → ℕ → List ℕ → List ℕ → Answer → List ℕ → List ℕ → Answer → Type 0
-ClosedOf Done w x n r f a r′ f′ y = Closing w x n r f a r′ f′ y
-ClosedOf Fatal w x n r f a r′ f′ y = Closing w x n r f a r′ f′ y
-ClosedOf (Refused m) w x n r f a r′ f′ y = (y ≡ a) × ((r′ ≡ r) × (f′ ≡ f))
+abbrev pub ClosedOf : Status → List ℕ → ℕ → List ℕ → List ℕ → Answer → List ℕ → List ℕ → Answer → Type 0
+ClosedOf Done w n r f a r′ f′ y = Closing w n r f a r′ f′ y
+ClosedOf Fatal w n r f a r′ f′ y = Closing w n r f a r′ f′ y
+ClosedOf (Refused m) w n r f a r′ f′ y = (y ≡ a) × ((r′ ≡ r) × (f′ ≡ f))
 
-pub record Closed (w x : List ℕ) (n : ℕ) (r f : List ℕ) (a : Answer) (r′ f′ : List ℕ) (y : Answer) : Type 0 where
-  pub moved : Moved w x n (a .state .pos) (a .state .reported) (a .state) (y .state)
+pub record Closed (w : List ℕ) (n : ℕ) (r f : List ℕ) (a : Answer) (r′ f′ : List ℕ) (y : Answer) : Type 0 where
+  pub moved : Moved w n (a .state .pos) (a .state .reported) (a .state) (y .state)
   pub pos : y .state .pos ≡ a .state .pos
-  pub is : ClosedOf (a .status) w x n r f a r′ f′ y
+  pub is : ClosedOf (a .status) w n r f a r′ f′ y

@@ -85,17 +85,16 @@ pub fn counted(status: Status, count: usize) -> usize
 // Parses the separator after a list item: a comma; the closer or the end is left; another token is an error.
 pub fn comma(
     tokens: &[u32],
-    text: &[u8],
     n: usize,
     reported: &mut [usize],
     full: &mut [usize],
     st: State,
     close: u32,
 ) -> Answer
-    requires { ⌜ Asks tokens text n reported full st ⌝ }
-    ensures { λ r. ⌜ Commas close tokens text n reported full st r ⌝ }
+    requires { ⌜ Asks tokens n reported full st ⌝ }
+    ensures { λ r. ⌜ Commas close tokens n reported full st r ⌝ }
 {
-    let t = peek(tokens, text, n, st.at);
+    let t = peek(tokens, n, st.at);
     let on = State { at: t.next, ..st };
     if t.kind == kind::COMMA {
         return Answer {
@@ -278,7 +277,7 @@ pub fn prefix(k: u32) -> u8
 }
 
 // Consumes the token `t` and writes its record.
-fn leaf(file: &mut [u8], text: &[u8], st: State, t: Token, tag: u8, numbers: Numbers) -> Answer
+pub fn leaf(file: &mut [u8], text: &[u8], st: State, t: Token, tag: u8, numbers: Numbers) -> Answer
     requires { ⌜ Room file text (st .pos) (16 + t .len) (t .start) (t .len) ⌝ }
     ensures { λ r. ⌜ WritesNode (texted (t .place) tag numbers (t .start) (t .len)) file text (there st t) r ⌝ }
 {
@@ -334,7 +333,7 @@ pub fn literal(
     requires { ⌜ Literal tokens text n file reported full st ⌝ }
     ensures { λ r. ⌜ ((d : ℕ) → Parses P.parse-atom tokens text n file reported full st d r) ⌝ }
 {
-    let t = peek(tokens, text, n, st.at);
+    let t = peek(tokens, n, st.at);
     if t.kind == kind::INTEGER {
         let base = (t.base % 256) as u8;
         return leaf(file, text, st, t, tag::INTEGER, Numbers::Byte(base));
@@ -368,21 +367,20 @@ pub fn literal(
 // Parses the `)` of a group. Keeps the item and errors of `a`, also if it is fatal, and adds the errors of the `)`.
 pub fn close(
     tokens: &[u32],
-    text: &[u8],
     n: usize,
     reported: &mut [usize],
     full: &mut [usize],
     a: Answer,
 ) -> Answer
-    requires { ⌜ Asks tokens text n reported full (a .state) ⌝ }
-    ensures { λ r. ⌜ Closed tokens text n reported full a r ⌝ }
+    requires { ⌜ Asks tokens n reported full (a .state) ⌝ }
+    ensures { λ r. ⌜ Closed tokens n reported full a r ⌝ }
 {
     let status = a.status;
     if let Status::Refused(_) = status {
         return a;
     }
     let s = a.state;
-    let b = expect(tokens, text, n, reported, full, s, kind::R_PAREN);
+    let b = expect(tokens, n, reported, full, s, kind::R_PAREN);
     let h = b.status;
     if let Status::Refused(_) = h {
         return b;

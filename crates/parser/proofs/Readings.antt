@@ -199,6 +199,7 @@ module _ (T : List ℕ) (n : ℕ) (E : List ℕ) (m : ℕ) (X : List ℕ) (g : i
           reps = lr;
           fulls = lf;
         };
+        parts = good .parts;
         room = omega (arith, lo, good .room, good .held .few);
       }
 

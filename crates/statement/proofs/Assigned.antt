@@ -47,10 +47,10 @@ abbrev any-node : View Node
 any-node = record { recs = λ y. y .recs; fine = λ l c y. Unit {0} }
 
 module _ {w x : List ℕ} {n d : ℕ} {o r f : List ℕ} {s : State} {t : Token} {i place : ℕ}
-    (q : Asked w x n o r f s) (hi : i ≤ s .pos) (u : Seen w x n (s .at) t) where
+    (q : Asked w x n o r f s) (hi : i ≤ s .pos) (u : Seen w n (s .at) t) where
   -- `=` or `<-`, a value parsed by m, `;`
   module _ {o1 r1 f1 r2 r3 f2 o2 : List ℕ} {a b c y : Answer} {m : Act (Ans Node)} (tag : ℕ) (B : Reads node w x n d m o r f (fore s t) o1 r1 f1 a) (C : Abandoned r1 a i (s .reported) (s .reported) r2 b) (lr : length r2 ≡ length r) (lf : length f1 ≡ length f)
-      (X : Expected w x n 50 i (s .reported) r2 f1 b r3 f2 c) (F : NodeWritten x o1 c (placed tag place) o2 y) where
+      (X : Expected w n 50 i (s .reported) r2 f1 b r3 f2 c) (F : NodeWritten x o1 c (placed tag place) o2 y) where
     assigned-after : 0 < t .kind
         → ((e : Node) (rd : List Consumed)
         → go d (P.after-expression (unpack-place place) e) (st-of w x n f rd s)
@@ -59,8 +59,8 @@ module _ {w x : List ℕ} {n d : ℕ} {o r f : List ℕ} {s : State} {t : Token}
         (st-of w x n f (past w x n (s .at) rd) (fore s t)))
         → ReadsAfter w x n d (P.after-expression (unpack-place place)) i o r f s o2 r3 f2 y
     assigned-after k step =
-        let e : budget w x n (y .state .at) ≡ budget w x n (c .state .at) = ap (λ (k : ℕ). budget w x n k) (F .at) in
-        let M : Moved w x n i (s .reported) (fore s t) (b .state) = abandoned-moved (B .moved) C in
+        let e : budget w n (y .state .at) ≡ budget w n (c .state .at) = ap (λ (k : ℕ). budget w n k) (F .at) in
+        let M : Moved w n i (s .reported) (fore s t) (b .state) = abandoned-moved (B .moved) C in
         record {
           moved =
               record {
@@ -85,27 +85,27 @@ module _ {w x : List ℕ} {n d : ℕ} {o r f : List ℕ} {s : State} {t : Token}
         }
 
   module _ {o1 r1 f1 r2 r3 f2 o2 : List ℕ} {a b c y : Answer} (h : t .kind ≡ 26) (B : Reads node w x n d P.parse-expression o r f (fore s t) o1 r1 f1 a) (C : Abandoned r1 a i (s .reported) (s .reported) r2 b) (lr : length r2 ≡ length r) (lf : length f1 ≡ length f)
-      (X : Expected w x n 50 i (s .reported) r2 f1 b r3 f2 c) (F : NodeWritten x o1 c (placed 0x43 place) o2 y) where
+      (X : Expected w n 50 i (s .reported) r2 f1 b r3 f2 c) (F : NodeWritten x o1 c (placed 0x43 place) o2 y) where
     pub assignment-after : ReadsAfter w x n d (P.after-expression (unpack-place place)) i o r f s o2 r3 f2 y
     unfolding go run P.after-expression
     assignment-after =
         assigned-after 0x43 B C lr lf X F (omega (arith, h)) (λ e rd. rw (run, yes u h)
         (ap (λ (S : St). go d (P.parse-expression >>? λ v. P.expect 50 >>? λ _. wrapped node (e .recs) [] 0x43
-        (λ _. unpack-place place) (λ _. []) [] v) S) (adv s u (λ _. plain) f rd)))
+        (λ _. unpack-place place) (λ _. []) [] v) S) (adv s u (λ _. plain) f rd _)))
 
   module _ {o1 r1 f1 r2 r3 f2 o2 : List ℕ} {a b c y : Answer} (h : t .kind ≡ 52) (B : Reads node w x n d P.parse-compound o r f (fore s t) o1 r1 f1 a) (C : Abandoned r1 a i (s .reported) (s .reported) r2 b) (lr : length r2 ≡ length r) (lf : length f1 ≡ length f)
-      (X : Expected w x n 50 i (s .reported) r2 f1 b r3 f2 c) (F : NodeWritten x o1 c (placed 0x44 place) o2 y) where
+      (X : Expected w n 50 i (s .reported) r2 f1 b r3 f2 c) (F : NodeWritten x o1 c (placed 0x44 place) o2 y) where
     pub compound-after : ReadsAfter w x n d (P.after-expression (unpack-place place)) i o r f s o2 r3 f2 y
     unfolding go run P.after-expression
     compound-after =
         assigned-after 0x44 B C lr lf X F (omega (arith, h))
         (λ e rd. rw (run, no {k = 26} u (λ e. omega (arith, h)), yes u h)
         (ap (λ (S : St). go d (P.parse-compound >>? λ v. P.expect 50 >>? λ _. wrapped node (e .recs) [] 0x44
-        (λ _. unpack-place place) (λ _. []) [] v) S) (adv s u (λ _. plain) f rd)))
+        (λ _. unpack-place place) (λ _. []) [] v) S) (adv s u (λ _. plain) f rd _)))
 
 -- what the steps after a value require
 module _ {w x : List ℕ} {n d : ℕ} {o r f : List ℕ} {s : State} {t : Token} {i : ℕ} (q : Asked w x n o r f s)
-    (hi : i ≤ s .pos) (u : Seen w x n (s .at) t) where
+    (hi : i ≤ s .pos) (u : Seen w n (s .at) t) where
   module _ {o1 r1 f1 : List ℕ} {a : Answer} {m : Act (Ans Node)} (B : Reads node w x n d m o r f (fore s t) o1 r1 f1 a) where
     pub assigned-cuts : length r1 ≡ length r → Cuts r1 a i (s .reported) (s .reported)
     assigned-cuts l =
@@ -118,13 +118,13 @@ module _ {w x : List ℕ} {n d : ℕ} {o r f : List ℕ} {s : State} {t : Token}
 
     module _ {r2 : List ℕ} {b : Answer} (C : Abandoned r1 a i (s .reported) (s .reported) r2 b) where
       -- from the end of the target to the end of the value
-      assigned-moved : Moved w x n i (s .reported) s (b .state)
+      assigned-moved : Moved w n i (s .reported) s (b .state)
       assigned-moved = moved-trans (fore-moved (q .asks) u) (abandoned-moved (B .moved) C)
 
-      pub assigned-asks : length r2 ≡ length r → length f1 ≡ length f → Follows w x n r2 f1 b i (s .reported)
+      pub assigned-asks : length r2 ≡ length r → length f1 ≡ length f → Follows w n r2 f1 b i (s .reported)
       assigned-asks lr lf = record { asks = asks-moved (q .asks) assigned-moved lr lf; pos = C .low; reported = C .first }
 
-      pub assigned-room : {r3 f2 : List ℕ} {c : Answer} → Expected w x n 50 i (s .reported) r2 f1 b r3 f2 c
+      pub assigned-room : {r3 f2 : List ℕ} {c : Answer} → Expected w n 50 i (s .reported) r2 f1 b r3 f2 c
           → length o1 ≡ length o → Room o1 x (c .state .pos) (16 + 0) 0 0
       assigned-room X l = record { room = omega (arith, q .room, assigned-moved .room, X .high); part = omega arith }
 
@@ -140,14 +140,14 @@ node-written-high {x} {o} {o′} {b} {y} {tag} {place} F = one (b .status) (F .i
 
 -- `;`
 module _ {w x : List ℕ} {n d : ℕ} {o r f : List ℕ} {t : Token} {i place : ℕ} {a : Answer}
-    (q : Asked w x n o r f (a .state)) (hi : i ≤ a .state .pos) (u : Seen w x n (a .state .at) t)
+    (q : Asked w x n o r f (a .state)) (hi : i ≤ a .state .pos) (u : Seen w n (a .state .at) t)
     (z : a .status ≡ Done) where
   pub expression-after : {r1 f1 o2 : List ℕ} {b y : Answer} → (t .kind ≡ 26 → ⊥) → (t .kind ≡ 52 → ⊥)
-      → Expected w x n 50 i (a .state .reported) r f a r1 f1 b → NodeWritten x o b (placed 0x41 place) o2 y
+      → Expected w n 50 i (a .state .reported) r f a r1 f1 b → NodeWritten x o b (placed 0x41 place) o2 y
       → ReadsAfter w x n d (P.after-expression (unpack-place place)) i o r f (a .state) o2 r1 f1 y
   unfolding go run P.after-expression
   expression-after {b = b} {y = y} m26 m52 X F =
-      let e : budget w x n (y .state .at) ≡ budget w x n (b .state .at) = ap (λ (k : ℕ). budget w x n k) (F .at) in
+      let e : budget w n (y .state .at) ≡ budget w n (b .state .at) = ap (λ (k : ℕ). budget w n k) (F .at) in
       record {
         moved =
             record {
@@ -215,7 +215,7 @@ module _ {w x : List ℕ} {n d : ℕ} {o r f o1 r1 f1 : List ℕ} {s : State} {a
           → Reads node w x n d (P.expression-statement (unpack-place place)) o r f s o2 r1 f1 y
       unfolding go run P.expression-statement
       statement-errors {o2} {y} h F =
-          let e : budget w x n (y .state .at) ≡ budget w x n (a .state .at) = ap (λ (k : ℕ). budget w x n k) (F .at) in
+          let e : budget w n (y .state .at) ≡ budget w n (a .state .at) = ap (λ (k : ℕ). budget w n k) (F .at) in
           let k : Fallible Node → Act (Ans Node) = wrapped node [] [] 0x41 (λ _. unpack-place place) (λ _. []) [] in
           record {
             moved =

@@ -53,14 +53,14 @@ fatal-of : {A : Type 0} {K : View A} {T : List ℕ} {E : List Err} {w x : List �
 fatal-of {A} {K} {T} {E} {w} {x} {n} {o} {r} {f} {a} {q} z v = subst (λ (h : Status). ShowsOf h K T E [] [] w x n o r f a q) z (v .told)
 
 module _ {w x : List ℕ} {n d : ℕ} {o r f r1 f1 : List ℕ} {s : State} {a : Answer} (q : Asked w x n o r f s)
-    (e : Expects w x n (λ role. P.expect-as role 39) r f s r1 f1 a) where
+    (e : Expects w n (λ role. P.expect-as role 39) r f s r1 f1 a) where
   pub body-refused : Ended a → ReadsBody w x n d o r f s o r1 f1 a
   body-refused h = record {
     moved = e .moved;
     on = e .on;
-    spare = omega (arith, e .pos, paid (s .at) (a .state .at) (q .asks .held) (e .on));
+    spare = omega (arith, e .pos, paid (s .at) (a .state .at) (q .asks .held) (e .on) x);
     never = not-fatal (a .status) h;
-    is = λ rd. refusal h (λ m g. opening d _ ∙ rw g) (e .is plain d rd o);
+    is = λ rd. refusal h (λ m g. opening d _ ∙ rw g) (e .is x plain d rd o);
   }
 
   -- the brace is missing: a body without statements
@@ -69,9 +69,9 @@ module _ {w x : List ℕ} {n d : ℕ} {o r f r1 f1 : List ℕ} {s : State} {a : 
   body-none z = record {
     moved = e .moved;
     on = e .on;
-    spare = omega (arith, e .pos, paid (s .at) (a .state .at) (q .asks .held) (e .on));
+    spare = omega (arith, e .pos, paid (s .at) (a .state .at) (q .asks .held) (e .on) x);
     never = λ y. let e : _≡_ {A = ℕ} 0 1 = cc in omega arith;
-    is = λ rd. one rd (fatal-of z (e .is plain d rd o));
+    is = λ rd. one rd (fatal-of z (e .is x plain d rd o));
   }
     where
       one : (rd : List Consumed) → Bad (take (s .pos) o) (errs r (s .reported)) w x n o r1 f1 a (go d (P.expect 39) (st-of w x n f rd s))
@@ -97,9 +97,9 @@ module _ {w x : List ℕ} {n d : ℕ} {o r f r1 f1 : List ℕ} {s : State} {a : 
   body-on {o2} {r2} {f2} {y} z u = record {
     moved = moved-onward (e .moved) (u .moved);
     on = omega (arith, e .on, u .moved .at);
-    spare = omega (arith, u .moved .room, e .pos, paid (s .at) (a .state .at) (q .asks .held) (e .on));
+    spare = omega (arith, u .moved .room, e .pos, paid (s .at) (a .state .at) (q .asks .held) (e .on) x);
     never = u .never;
-    is = λ rd. one rd (good-of z (e .is plain d rd o));
+    is = λ rd. one rd (good-of z (e .is x plain d rd o));
   }
     where
       one : (rd : List Consumed)
@@ -115,14 +115,14 @@ module _ {w x : List ℕ} {n d : ℕ} {o r f r1 f1 : List ℕ} {s : State} {a : 
 -- ---- `body_rest`
 
 module _ {w x : List ℕ} {n count : ℕ} {o r f : List ℕ} {s : State} {t : Token}
-    (q : Asked w x n o r f s × (count ≤ s .at)) (v : Seen w x n (s .at) t) where
+    (q : Asked w x n o r f s × (count ≤ s .at)) (v : Seen w n (s .at) t) where
   pub rest-closed : {d : ℕ} → t .kind ≡ 40
       → LoopOn statements-on w x n d count o r f s o r f
       (record { status = Done; state = fore s t; place = 0; count = count })
   unfolding go run P.body-turn
   rest-closed {d} z =
       loop-closed statements-on q v (λ rd l. go-loop d (Body l) (st-of w x n f rd s) ∙ rw (run, yes v z)
-      (ap (λ (S : St). gives l S) (adv s v (λ _. plain) f rd)))
+      (ap (λ (S : St). gives l S) (adv s v (λ _. plain) f rd _)))
 
   module _ (m40 : t .kind ≡ 40 → ⊥) where
     pub rest-end : {d e : ℕ} {r1 f1 : List ℕ} {b : Answer} → t .kind ≡ 0 → unpack e ≡ error-at 13 0 0 0

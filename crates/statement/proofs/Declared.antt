@@ -26,9 +26,9 @@ use Rattle.fallible.specs.Lists.{unpack, error-at, errs}
 use Rattle.fallible.specs.Answers.{raised, Raised}
 use Rattle.node.specs.declared.Numbers.the-variants.{None, Two}
 use Rattle.steps.specs.declared.Token.{Token}
-use Rattle.steps.specs.Tokens.{rest, budget, Seen}
+use Rattle.steps.specs.Tokens.{rest, budget, Parts, Seen}
 use Rattle.steps.specs.Shows.{st-of, Asks, Asked, Moved, ShowsOf, Shows, Reads, node, items, typed, Expects, Expected, done-of, NodeWrittenOf, NodeWritten}
-use Rattle.steps.proofs.Tokens.{yes, no}
+use Rattle.steps.proofs.Tokens.{present-kind, yes, no}
 use Rattle.steps.proofs.Moves.{making-moved, asks-moved}
 use Rattle.steps.proofs.Answers.{Stopped, say, good-of, stops, follows, wrapped, writes-node, wrote, raise-shows, not-done, done-le, raise-same}
 use Rattle.steps.proofs.Following.{expects-after}
@@ -52,14 +52,14 @@ module _ {w x : List ℕ} {n d : ℕ} {o r f o1 r1 f1 o2 : List ℕ} {s : State}
     (F : NodeWritten x o1 b (record { tag = tag; place = place; numbers = Two (b .count); start = 0; len = 0 }) o2 y) where
   pub values-reads : Reads node w x n d (values-rule k tag (unpack-place place)) o r f s o2 r1 f1 y
   values-reads =
-      let e : budget w x n (y .state .at) ≡ budget w x n (b .state .at) = ap (λ (k : ℕ). budget w x n k) (F .at) in
+      let e : budget w n (y .state .at) ≡ budget w n (b .state .at) = ap (λ (k : ℕ). budget w n k) (F .at) in
       record {
         moved =
             record {
               at = omega (arith, F .at, B .moved);
               end = omega (arith, F .at, B .moved);
               pos = omega (arith, F .low, B .moved);
-              room = omega (arith, F .high, B .spare, q .kind, opens k);
+              room = omega (arith, F .high, B .spare, q .kind, present-kind (s .at) (q .asked .asks .held) x, opens k);
               reported = omega (arith, F .reported, B .moved);
               less = omega (arith, F .reported, F .full, B .moved);
               full = omega (arith, F .full, B .moved);
@@ -85,7 +85,7 @@ hashed =
     (P.raise (P.error 19 (t .place) 0 (t .kind)))))
 
 module _ {w x : List ℕ} {n d : ℕ} {o r f r1 f1 : List ℕ} {s : State} {a : Answer}
-    (X : Expects w x n (λ role. P.expect-as role 38) r f s r1 f1 a) where
+    (X : Expects w n (λ role. P.expect-as role 38) r f s r1 f1 a) where
   pub compound-stops : Stopped a → Reads node w x n d P.parse-compound o r f s o r1 f1 a
   unfolding P.parse-compound
   compound-stops nd =
@@ -93,7 +93,7 @@ module _ {w x : List ℕ} {n d : ℕ} {o r f r1 f1 : List ℕ} {s : State} {a : 
         moved = X .moved;
         on = X .on;
         is = λ rd. say (go-bind d (P.expect 38) (or-return (λ _. hashed)) _)
-            (stops d (λ _. hashed) _ nd (X .is plain d rd o));
+            (stops d (λ _. hashed) _ nd (X .is x plain d rd o));
       }
 
   module _ (z : a .status ≡ Done) where
@@ -101,7 +101,7 @@ module _ {w x : List ℕ} {n d : ℕ} {o r f r1 f1 : List ℕ} {s : State} {a : 
     compound-on : {o1 r2 f2 : List ℕ} {y : Answer} (m : Act (Ans Node))
         → ((rd : List Consumed)
         → go d hashed (st-of w x n f1 rd (a .state)) ≡ go d m (st-of w x n f1 rd (a .state)))
-        → Moved w x n (a .state .pos) (a .state .reported) (a .state) (y .state)
+        → Moved w n (a .state .pos) (a .state .reported) (a .state) (y .state)
         → ((rd : List Consumed)
         → Shows node (take (a .state .pos) o) (errs r1 (a .state .reported)) [] [] w x n o1 r2 f2 y
         (go d m (st-of w x n f1 rd (a .state))))
@@ -123,14 +123,14 @@ module _ {w x : List ℕ} {n d : ℕ} {o r f r1 f1 : List ℕ} {s : State} {a : 
               };
           on = omega (arith, X .on, M .at);
           is = λ rd.
-              let g = good-of z (X .is plain d rd o) in
+              let g = good-of z (X .is x plain d rd o) in
               say (go-bind d (P.expect 38) (or-return (λ _. hashed)) _ ∙ follows d (λ _. hashed) (g .is) ∙ step (g .read))
               (subst (λ (T : List ℕ). Shows node T (errs r (s .reported)) [] [] w x n o1 r2 f2 y (go d m (st-of w x n f1 (g .read) (a .state)))) (ap (λ (k : ℕ). take k o) (X .pos))
               (subst (λ (E : List Err). Shows node (take (a .state .pos) o) E [] [] w x n o1 r2 f2 y
               (go d m (st-of w x n f1 (g .read) (a .state)))) (kept .1) (shown (g .read))));
         }
 
-    module _ {t : Token} (u : Seen w x n (a .state .at) t) where
+    module _ {t : Token} (u : Seen w n (a .state .at) t) where
       pub compound-array : {o1 r2 f2 : List ℕ} {y : Answer} → t .kind ≡ 43
           → Reads node w x n d (values-rule A.ArrayValues 0x30 (unpack-place (t .place))) o r1 f1
           (a .state) o1 r2 f2 y
@@ -139,7 +139,7 @@ module _ {w x : List ℕ} {n d : ℕ} {o r f r1 f1 : List ℕ} {s : State} {a : 
       compound-array h B =
           compound-on (values-rule A.ArrayValues 0x30 (unpack-place (t .place)))
           (λ rd. rw (run, no {k = 0} u (λ e. omega (arith, h)), yes u h)
-          (ap (λ (p : Place). go d (values-rule A.ArrayValues 0x30 p) (st-of w x n f1 rd (a .state))) (u .place)))
+          (ap (λ (p : Place). go d (values-rule A.ArrayValues 0x30 p) (st-of w x n f1 rd (a .state))) (u .place x)))
           (B .moved) (B .is)
 
       pub compound-struct : {o1 r2 f2 : List ℕ} {y : Answer} → t .kind ≡ 39
@@ -150,10 +150,10 @@ module _ {w x : List ℕ} {n d : ℕ} {o r f r1 f1 : List ℕ} {s : State} {a : 
       compound-struct h B =
           compound-on (values-rule A.StructValues 0x31 (unpack-place (t .place)))
           (λ rd. rw (run, no {k = 0} u (λ e. omega (arith, h)), no {k = 43} u (λ e. omega (arith, h)), yes u h)
-          (ap (λ (p : Place). go d (values-rule A.StructValues 0x31 p) (st-of w x n f1 rd (a .state))) (u .place)))
+          (ap (λ (p : Place). go d (values-rule A.StructValues 0x31 p) (st-of w x n f1 rd (a .state))) (u .place x)))
           (B .moved) (B .is)
 
-      module _ {e : ℕ} {r2 f2 : List ℕ} {y : Answer} (q : Asks w x n r1 f1 (a .state))
+      module _ {e : ℕ} {r2 f2 : List ℕ} {y : Answer} (q : Asks w n r1 f1 (a .state))
           (g : Raised (raised n (a .state)) r1 f1 (a .state) e r2 f2 y) where
         failed : ((rd : List Consumed)
             → go d hashed (st-of w x n f1 rd (a .state))
@@ -193,7 +193,7 @@ named-stops {w} {x} {n} {o} {a} {tag} {place} {p} nd =
     one (Refused m) z = (refl, refl)
 
 module _ {w x : List ℕ} {n : ℕ} {o o2 : List ℕ} {a y : Answer} {tag place p : ℕ} {t : Token}
-    (z : a .status ≡ Done) (u : Seen w x n p t) where
+    (z : a .status ≡ Done) (u : Seen w n p t) where
   -- the record has the name
   named-so : (X : List ℕ) (start len : ℕ) → name-of (next-token (rest w x n p)) ≡ take len (drop start X)
       → length (name-of (next-token (rest w x n p))) ≡ len → len ≤ 3 + length (next-token (rest w x n p) .text)
@@ -216,15 +216,15 @@ module _ {w x : List ℕ} {n : ℕ} {o o2 : List ℕ} {a y : Answer} {tag place 
       }
 
   -- the token is an identifier, or not: then the name is `<?>`
-  pub named-there : t .kind ≡ 1
+  pub named-there : Parts w x n → t .kind ≡ 1
       → NodeWritten x o a
       (record { tag = tag; place = place; numbers = None; start = t .start; len = t .len }) o2 y
       → Named w x n o a tag place p o2 y
-  named-there h F =
+  named-there parts h F =
       let i : name-of (next-token (rest w x n p)) ≡ next-token (rest w x n p) .text = rw (yes u h) in
       let l : length (take (t .len) (drop (t .start) x)) ≡ t .len = length-take-le (t .len) (drop (t .start) x)
-      (simp length-drop (omega (arith, u .part))) in
-      named-so x (t .start) (t .len) (i ∙ u .text) (ap length (i ∙ u .text) ∙ l) (omega (arith, ap length (u .text) ∙ l)) F
+      (simp length-drop (omega (arith, u .part parts))) in
+      named-so x (t .start) (t .len) (i ∙ u .text x) (ap length (i ∙ u .text x) ∙ l) (omega (arith, ap length (u .text x) ∙ l)) F
 
   pub named-none : (t .kind ≡ 1 → ⊥)
       → NodeWritten (60 ∷ 63 ∷ 62 ∷ []) o a
@@ -268,21 +268,22 @@ names {T} {E} {w} {x} {n} {o} {o′} {r} {f} {b} {y} {tag} {place} {at} {q} d N 
     one (Refused k) z m g = rw (m .0, z, g)
 
 pub declaration-room : {w x : List ℕ} {n d i j : ℕ} {o r f o1 r1 f1 r2 f2 : List ℕ} {s : State} {a b : Answer}
-    → Asked w x n o r f s → ReadsDeclared w x n d o r f s o1 r1 f1 a → Expected w x n 50 i j r1 f1 a r2 f2 b
+    → Asked w x n o r f s → ReadsDeclared w x n d o r f s o1 r1 f1 a → Expected w n 50 i j r1 f1 a r2 f2 b
     → length o1 ≡ length o → NameRoom w x n o1 b (s .at)
 declaration-room {b = b} q D X l =
     record {
       held = q .asks .held;
+      parts = q .parts;
       within = q .asks .at;
       room = omega (arith, q .room, D .spare, X .high, X .pays, done-le (b .status));
     }
 
 module _ {w x : List ℕ} {n d : ℕ} {o r f o1 r1 f1 r2 f2 o2 : List ℕ} {s : State} {a b y : Answer} {tag place : ℕ} (q : Asked w x n o r f s) (D : ReadsDeclared w x n d o r f s o1 r1 f1 a) (lr : length r1 ≡ length r) (lf : length f1 ≡ length f)
-    (X : Expected w x n 50 (s .pos) (s .reported) r1 f1 a r2 f2 b) (N : Named w x n o1 b tag place (s .at) o2 y) where
+    (X : Expected w n 50 (s .pos) (s .reported) r1 f1 a r2 f2 b) (N : Named w x n o1 b tag place (s .at) o2 y) where
   pub declaration-reads : Reads node w x n d (P.declaration tag (unpack-place place)) o r f s o2 r2 f2 y
   unfolding P.declaration
   declaration-reads =
-      let e : budget w x n (y .state .at) ≡ budget w x n (b .state .at) = ap (λ (k : ℕ). budget w x n k) (N .at) in
+      let e : budget w n (y .state .at) ≡ budget w n (b .state .at) = ap (λ (k : ℕ). budget w n k) (N .at) in
       record {
         moved =
             record {

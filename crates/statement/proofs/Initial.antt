@@ -120,7 +120,7 @@ module _ {w x : List ℕ} {n d i j : ℕ} {o r f : List ℕ} {a : Answer} (q : G
     is = λ name T E p li lj v. stops d value-on p nd v;
   }
 
-  module _ {t : Token} (z : a .status ≡ Done) (u : Seen w x n (a .state .at) t) where
+  module _ {t : Token} (z : a .status ≡ Done) (u : Seen w n (a .state .at) t) where
     -- m parses a value, after the token
     module _ {o1 r1 f1 r2 o2 : List ℕ} {b c y : Answer} {m : Act (Ans Node)} {tag : ℕ}
         (B : Reads node w x n d m o r f (fore (a .state) t) o1 r1 f1 b)
@@ -132,7 +132,7 @@ module _ {w x : List ℕ} {n d i j : ℕ} {o r f : List ℕ} {a : Answer} (q : G
           (st-of w x n f (past w x n (a .state .at) rd) (fore (a .state) t)))
           → done-of (y .status) ≤ 1 → ValueOn w x n d i j o r f a o2 r2 f1 y
       given k step le =
-          let e : budget w x n (y .state .at) ≡ budget w x n (b .state .at) = ap (λ (k : ℕ). budget w x n k) (G .at ∙ C .at) in
+          let e : budget w n (y .state .at) ≡ budget w n (b .state .at) = ap (λ (k : ℕ). budget w n k) (G .at ∙ C .at) in
           let one : done-of (a .status) ≡ 1 = rw z in
           let three : done-of (c .status) ≤ 1 = done-le (c .status) in
           record {
@@ -167,7 +167,7 @@ module _ {w x : List ℕ} {n d i j : ℕ} {o r f : List ℕ} {a : Answer} (q : G
     value-assigned {y = y} h B C G =
         given B C G (omega (arith, h)) (λ X rd. rw (run, yes u h) (ap
         (λ (S : St). go d (P.parse-expression >>? λ e. P.declared X (P.bare (e .item .recs) 0x34 []) (e .errors))
-        S) (adv (a .state) u (λ _. plain) f rd))) (done-le (y .status))
+        S) (adv (a .state) u (λ _. plain) f rd _))) (done-le (y .status))
 
     pub value-compound : {o1 r1 f1 r2 o2 : List ℕ} {b c y : Answer} → t .kind ≡ 52
         → Reads node w x n d P.parse-compound o r f (fore (a .state) t) o1 r1 f1 b
@@ -177,13 +177,13 @@ module _ {w x : List ℕ} {n d i j : ℕ} {o r f : List ℕ} {a : Answer} (q : G
     value-compound {y = y} h B C G =
         given B C G (omega (arith, h)) (λ X rd. rw (run, no {k = 26} u (λ e. omega (arith, h)), yes u h) (ap
         (λ (S : St). go d (P.parse-compound >>? λ e. P.declared X (P.bare (e .item .recs) 0x35 []) (e .errors)) S)
-        (adv (a .state) u (λ _. plain) f rd))) (done-le (y .status))
+        (adv (a .state) u (λ _. plain) f rd _))) (done-le (y .status))
 
     pub value-none : {o2 : List ℕ} {y : Answer} → (t .kind ≡ 26 → ⊥) → (t .kind ≡ 52 → ⊥) → Bared o a 0x33 o2 y
         → ValueOn w x n d i j o r f a o2 r f y
     unfolding go run
     value-none {o2} {y} m26 m52 G =
-        let e : budget w x n (y .state .at) ≡ budget w x n (a .state .at) = ap (λ (k : ℕ). budget w x n k) (G .at) in
+        let e : budget w n (y .state .at) ≡ budget w n (a .state .at) = ap (λ (k : ℕ). budget w n k) (G .at) in
         let one : done-of (a .status) ≡ 1 = rw z in
         record {
           moved =

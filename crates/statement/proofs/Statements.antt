@@ -2,7 +2,7 @@
 use mathlib.Core.Path.{_≡_, refl, sym, ap, _∙_}
 use mathlib.Core.Bool.{Bool, true, false}
 use mathlib.Core.List.{List, [], _∷_, _++_, append-nil, append-assoc}
-use Prim.Native.Nat.{ℕ, min, _+_, _≤_}
+use Prim.Native.Nat.{ℕ, _+_, _≤_}
 use native.Mathlib.Omega.{arith}
 use lib.ListN.{length, take}
 use lib.Seq.{length-take-le}
@@ -27,9 +27,9 @@ use Rattle.fallible.specs.Answers.{raised, Raised, Abandoned, Cuts}
 use Rattle.node.specs.Put.{Room}
 use Rattle.node.specs.declared.Numbers.the-variants.{None, Byte, Two}
 use Rattle.steps.specs.declared.Token.{Token}
-use Rattle.steps.specs.Tokens.{rest, budget, Seen}
+use Rattle.steps.specs.Tokens.{rest, budget, present, Seen}
 use Rattle.steps.specs.Shows.{st-of, Asked, Moved, ShowsOf, Shows, Reads, node, items, token, Expects, Expected, NodeWritten, texted, untexted}
-use Rattle.steps.proofs.Tokens.{yes, no, fore, adv}
+use Rattle.steps.proofs.Tokens.{present-kind, yes, no, fore, adv}
 use Rattle.steps.proofs.Moves.{making-moved, fore-moved, moved-trans, asks-moved, asked-seen, asked-moved}
 use Rattle.steps.proofs.Answers.{Stopped, say, good-of, stops, follows, abandons, wrapped, writes-node, raise-shows, raise-same}
 use Rattle.steps.proofs.Constructs.{then-stops}
@@ -244,50 +244,54 @@ clean d k f g e S =
 -- ---- the functions
 
 pub begins : {w x : List ℕ} {n k : ℕ} {o r f : List ℕ} {s : State} {t : Token} → Asked w x n o r f s
-    → Seen w x n (s .at) t → t .kind ≡ k → Starts k w x n o r f s
-begins q u h = record { asked = q; kind = u .kind ∙ h }
+    → Seen w n (s .at) t → t .kind ≡ k → Starts k w x n o r f s
+begins {x = x} q u h = record { asked = q; kind = u .kind x ∙ h }
+
+pub starts-kind : {w x : List ℕ} {n k : ℕ} {o r f : List ℕ} {s : State} {t : Token} → Starts k w x n o r f s
+    → Seen w n (s .at) t → t .kind ≡ k
+starts-kind {x = x} q u = sym (u .kind x) ∙ q .kind
 
 -- at the end no token is consumed
-ended-on : {w x : List ℕ} {n i j : ℕ} {s s′ : State} → Moved w x n i j s s′ → next-token (rest w x n (s .at)) .kind ≡ 0
-    → s .at + min (next-token (rest w x n (s .at)) .kind) 1 ≤ s′ .at
-ended-on m z = omega (arith, m .at, z)
+ended-on : {w : List ℕ} {n i j : ℕ} {s s′ : State} {t : Token} → Moved w n i j s s′ → Seen w n (s .at) t → t .kind ≡ 0
+    → s .at + present n (s .at) ≤ s′ .at
+ended-on m u z = omega (arith, m .at, u .present, z)
 
-module _ {w x : List ℕ} {n d : ℕ} {o r f : List ℕ} {s : State} {t : Token} (u : Seen w x n (s .at) t) where
+module _ {w x : List ℕ} {n d : ℕ} {o r f : List ℕ} {s : State} {t : Token} (u : Seen w n (s .at) t) where
   pub loop-reads : {o1 r1 f1 o2 : List ℕ} {b y : Answer} → Starts K.KwLoop w x n o r f s
       → Reads node w x n d P.parse-statement o r f (fore s t) o1 r1 f1 b
       → NodeWritten x o1 b (untexted (t .place) 0x46 None) o2 y → Reads node w x n d P.statement-rule o r f s o2 r1 f1 y
   loop-reads q B F =
-      wraps-token (λ _. here w x n s) (λ _. []) [] (q .asked) u B F (omega (arith, q .kind, u .kind))
+      wraps-token (λ _. here w x n s) (λ _. []) [] (q .asked) u B F (omega (arith, q .kind, u .kind x))
       (λ i e. rw (u .place)) (past w x n (s .at))
       (λ rd. loop-step d (st-of w x n f rd s) (q .kind) ∙ ap
       (λ (S : St). go d (P.parse-statement >>? wrapped node [] [] 0x46 (λ _. here w x n s) (λ _. []) []) S)
-      (adv s u (λ _. plain) f rd))
+      (adv s u (λ _. plain) f rd _))
 
   pub while-reads : {o1 r1 f1 o2 : List ℕ} {b y : Answer} → Starts K.KwWhile w x n o r f s
       → Reads node w x n d guarded-rule o r f (fore s t) o1 r1 f1 b
       → NodeWritten x o1 b (untexted (t .place) 0x47 None) o2 y → Reads node w x n d P.statement-rule o r f s o2 r1 f1 y
   while-reads q B F =
-      wraps-token (λ _. here w x n s) (λ _. []) [] (q .asked) u B F (omega (arith, q .kind, u .kind))
+      wraps-token (λ _. here w x n s) (λ _. []) [] (q .asked) u B F (omega (arith, q .kind, u .kind x))
       (λ i e. rw (u .place)) (past w x n (s .at))
       (λ rd. while-step d (st-of w x n f rd s) (q .kind) ∙ guarded-seam d
       (λ c b. done (ok (P.binary 0x47 [] (here w x n s) c b)))
       (wrapped node [] [] 0x47 (λ _. here w x n s) (λ _. []) []) (λ c b S. refl)
       (advance (λ _. plain) (st-of w x n f rd s)) ∙ ap
       (λ (S : St). go d (guarded-rule >>? wrapped node [] [] 0x47 (λ _. here w x n s) (λ _. []) []) S)
-      (adv s u (λ _. plain) f rd))
+      (adv s u (λ _. plain) f rd _))
 
-  pub assembly-reads : {o2 : List ℕ} {y : Answer} → Starts K.InlineAssemblyFragment w x n o r f s
+  pub assembly-reads : {o2 : List ℕ} {y : Answer} → Asked w x n o r f s → t .kind ≡ K.InlineAssemblyFragment
       → NodeWritten x o (there s t) (texted (t .place) 0x4A None (t .start) (t .len)) o2 y
       → Reads node w x n d P.statement-rule o r f s o2 r f y
-  assembly-reads q F =
-      leaf-reads (q .asked .asks) u [] (next-token (rest w x n (s .at)) .text) F (omega (arith, q .kind, u .kind))
-      (rw (u .place, u .text)) d (λ rd. assembly-step d (st-of w x n f rd s) (q .kind))
+  assembly-reads q h F =
+      leaf-reads (q .asks) u [] (next-token (rest w x n (s .at)) .text) F (omega (arith, h))
+      (rw (u .place, u .text)) d (λ rd. assembly-step d (st-of w x n f rd s) (u .kind x ∙ h))
 
   pub break-reads : {r1 f1 o2 : List ℕ} {a y : Answer} → Starts K.KwBreak w x n o r f s
-      → Expects w x n (λ role. P.expect-as role 50) r f (fore s t) r1 f1 a
+      → Expects w n (λ role. P.expect-as role 50) r f (fore s t) r1 f1 a
       → NodeWritten x o a (untexted (t .place) 0x48 None) o2 y → Reads node w x n d P.statement-rule o r f s o2 r1 f1 y
   break-reads {a = a} {y = y} q X F =
-      let e : budget w x n (y .state .at) ≡ budget w x n (a .state .at) = ap (λ (k : ℕ). budget w x n k) (F .at) in
+      let e : budget w n (y .state .at) ≡ budget w n (a .state .at) = ap (λ (k : ℕ). budget w n k) (F .at) in
       let k : Fallible Tok → Act (Ans Node) = wrapped (token (next-token (rest w x n (t .next)))) [] [] 0x48 (λ _. here w x n s) (λ _. []) [] in
       record {
         moved =
@@ -295,21 +299,21 @@ module _ {w x : List ℕ} {n d : ℕ} {o r f : List ℕ} {s : State} {t : Token}
               at = omega (arith, F .at, X .moved, u .up);
               end = omega (arith, F .at, X .moved);
               pos = omega (arith, F .low, X .pos);
-              room = omega (arith, F .high, X .moved, u .pays, q .kind, u .kind);
+              room = omega (arith, F .high, X .moved, u .pays, q .kind, u .kind x);
               reported = omega (arith, F .reported, X .moved);
               less = omega (arith, F .reported, F .full, X .moved);
               full = omega (arith, F .full, X .moved);
               few = omega (arith, F .full, X .moved);
             };
-        on = omega (arith, F .at, X .moved .at, u .on, u .kind);
+        on = omega (arith, F .at, X .moved .at, u .on, u .present);
         is =
             λ rd. say (break-step d (st-of w x n f rd s) (q .kind)
             ∙ ap (λ (S : St). go d (P.expect 50 >>? λ _. P.good (P.node [] 0x48 (here w x n s) [] []) []) S)
-            (adv s u (λ _. plain) f rd)
+            (adv s u (λ _. plain) f rd _)
             ∙ clean d 50 k (P.good (P.node [] 0x48 (here w x n s) [] []) []) (λ _. refl) _
             ∙ go-bind d (P.expect 50) (or-return k) _)
             (writes-node d (λ _. here w x n s) (λ _. []) [] F (λ i _. rw (u .place))
-            (X .is plain d (past w x n (s .at) rd) o));
+            (X .is x plain d (past w x n (s .at) rd) o));
       }
 
   -- ---- dispatch: the rest is the function's own
@@ -319,12 +323,12 @@ module _ {w x : List ℕ} {n d : ℕ} {o r f : List ℕ} {s : State} {t : Token}
       → Reads node w x n d P.statement-rule o r f s o1 r1 f1 y
   var-reads q B = record {
     moved = omega (arith, B .moved, u .pays, u .up);
-    on = omega (arith, B .moved .at, u .on, u .kind);
+    on = omega (arith, B .moved .at, u .on, u .present);
     is =
         λ rd. say (var-step d (st-of w x n f rd s) (q .kind)
-        ∙ ap (λ (S : St). go d (P.declaration 0x42 (here w x n s)) S) (adv s u (λ _. plain) f rd)
+        ∙ ap (λ (S : St). go d (P.declaration 0x42 (here w x n s)) S) (adv s u (λ _. plain) f rd _)
         ∙ ap (λ (p : Place). go d (P.declaration 0x42 p) (st-of w x n f (past w x n (s .at) rd) (fore s t)))
-        (u .place)) (B .is (past w x n (s .at) rd));
+        (u .place x)) (B .is (past w x n (s .at) rd));
   }
 
   module _ (m6 : t .kind ≡ 6 → ⊥) (m5 : t .kind ≡ 5 → ⊥) (m39 : t .kind ≡ 39 → ⊥) (m7 : t .kind ≡ 7 → ⊥)
@@ -334,10 +338,10 @@ module _ {w x : List ℕ} {n d : ℕ} {o r f : List ℕ} {s : State} {t : Token}
         → Reads node w x n d P.statement-rule o r f s o r1 f1 y
     unfolding go run P.statement-rule
     end-reads {e} {y = y} q z i g =
-        let M : Moved w x n (s .pos) (s .reported) s (y .state) = rw (g .is) (making-moved (q .asks) Fatal) in
+        let M : Moved w n (s .pos) (s .reported) s (y .state) = rw (g .is) (making-moved (q .asks) Fatal) in
         record {
           moved = M;
-          on = ended-on M (u .kind ∙ z);
+          on = ended-on M u z;
           is = λ rd. say
               (rw (run, no u m6, no u m5, no u m39, no u m7, no u m8, no u m9, no u m10, no u m54, yes u z)
               (raise-same d {S = st-of w x n f rd s} (sym i) refl)) (raise-shows node (q .asks) g d rd o);
@@ -353,37 +357,37 @@ module _ {w x : List ℕ} {n d : ℕ} {o r f : List ℕ} {s : State} {t : Token}
           on = B .on;
           is = λ rd. say
               (rw (run, no u m6, no u m5, no u m39, no u m7, no u m8, no u m9, no u m10, no u m54, no u z)
-              (ap (λ (p : Place). go d (P.expression-statement p) (st-of w x n f rd s)) (u .place))) (B .is rd);
+              (ap (λ (p : Place). go d (P.expression-statement p) (st-of w x n f rd s)) (u .place x))) (B .is rd);
         }
 
   -- ---- `return`
 
-  pub return-none : {t2 : Token} {o2 : List ℕ} {y : Answer} → Starts K.KwReturn w x n o r f s → Seen w x n (t .next) t2 → t2 .kind ≡ 50
+  pub return-none : {t2 : Token} {o2 : List ℕ} {y : Answer} → Starts K.KwReturn w x n o r f s → Seen w n (t .next) t2 → t2 .kind ≡ 50
       → NodeWritten x o (record { status = Done; state = fore (fore s t) t2; place = t .place; count = 0 })
       (untexted (t .place) 0x45 (Byte 0)) o2 y
       → Reads node w x n d P.statement-rule o r f s o2 r f y
   unfolding go run P.parse-return recs-bytes
   return-none {t2} {o2} {y} q v h F =
-      let e : budget w x n (y .state .at) ≡ budget w x n (t2 .next) = ap (λ (k : ℕ). budget w x n k) (F .at) in
+      let e : budget w n (y .state .at) ≡ budget w n (t2 .next) = ap (λ (k : ℕ). budget w n k) (F .at) in
       record {
         moved =
             record {
               at = omega (arith, F .at, u .up, v .up);
               end = omega (arith, F .at, v .end);
               pos = omega (arith, F .low);
-              room = omega (arith, F .high, u .pays, v .pays, q .kind, u .kind);
+              room = omega (arith, F .high, u .pays, v .pays, q .kind, u .kind x);
               reported = omega (arith, F .reported);
               less = omega (arith, F .reported, F .full);
               full = omega (arith, F .full);
               few = omega (arith, F .full, q .asked .asks .few);
             };
-        on = omega (arith, F .at, v .up, u .on, u .kind);
+        on = omega (arith, F .at, v .up, u .on, u .present);
         is = λ rd.
             say (return-step d (st-of w x n f rd s) (q .kind)
-            ∙ ap (λ (S : St). go d (P.parse-return (here w x n s)) S) (adv s u (λ _. plain) f rd)
+            ∙ ap (λ (S : St). go d (P.parse-return (here w x n s)) S) (adv s u (λ _. plain) f rd _)
             ∙ rw (run, yes v h)
             (ap (λ (S : St). go d (P.good (P.node [] 0x45 (here w x n s) (byte 0 ∷ []) []) []) S)
-            (adv (fore s t) v (λ _. plain) f (past w x n (s .at) rd))))
+            (adv (fore s t) v (λ _. plain) f (past w x n (s .at) rd) _)))
             (writes-node {K = token (next-token (rest w x n (s .at)))} {rs = []} {es = []} {q = gives (ok (record { item = next-token (rest w x n (s .at)); errors = [] })) (st-of w x n f (past w x n (t .next) (past w x n (s .at) rd)) (fore (fore s t) t2))} d (λ _. here w x n s) (λ _. byte 0 ∷ []) [] F (λ i _. rw (u .place))
             (record {
               told = record {
@@ -393,20 +397,20 @@ module _ {w x : List ℕ} {n d : ℕ} {o r f : List ℕ} {s : State} {t : Token}
                 is = refl;
                 tree = sym (append-nil (take (s .pos) o));
                 reported = sym (append-nil (errs r (s .reported)));
-                holds = (refl, u .place);
+                holds = (refl, u .place x);
               };
             }));
       }
 
   pub return-value : {t2 : Token} {o1 r1 f1 r2 f2 o2 : List ℕ} {b c y : Answer} → Starts K.KwReturn w x n o r f s
-      → Seen w x n (t .next) t2 → (t2 .kind ≡ 50 → ⊥)
+      → Seen w n (t .next) t2 → (t2 .kind ≡ 50 → ⊥)
       → Reads node w x n d P.parse-expression o r f (fore s t) o1 r1 f1 b → length r1 ≡ length r
       → length f1 ≡ length f
-      → Expected w x n 50 (s .pos) (s .reported) r1 f1 b r2 f2 c
+      → Expected w n 50 (s .pos) (s .reported) r1 f1 b r2 f2 c
       → NodeWritten x o1 c (untexted (t .place) 0x45 (Byte 1)) o2 y → Reads node w x n d P.statement-rule o r f s o2 r2 f2 y
   unfolding go run P.parse-return
   return-value {b = b} {c = c} {y = y} q v h B lr lf C F =
-      let e : budget w x n (y .state .at) ≡ budget w x n (c .state .at) = ap (λ (k : ℕ). budget w x n k) (F .at) in
+      let e : budget w n (y .state .at) ≡ budget w n (c .state .at) = ap (λ (k : ℕ). budget w n k) (F .at) in
       let k : Fallible Node → Act (Ans Node) = wrapped node [] [] 0x45 (λ _. here w x n s) (λ _. byte 1 ∷ []) [] in
       record {
         moved =
@@ -414,16 +418,16 @@ module _ {w x : List ℕ} {n d : ℕ} {o r f : List ℕ} {s : State} {t : Token}
               at = omega (arith, F .at, C .moved, B .moved, u .up);
               end = omega (arith, F .at, C .moved);
               pos = omega (arith, F .low, C .moved);
-              room = omega (arith, F .high, C .moved, B .moved, u .pays, q .kind, u .kind);
+              room = omega (arith, F .high, C .moved, B .moved, u .pays, q .kind, u .kind x);
               reported = omega (arith, F .reported, C .moved);
               less = omega (arith, F .reported, F .full, C .moved, B .moved);
               full = omega (arith, F .full, C .moved, B .moved);
               few = omega (arith, F .full, C .moved);
             };
-        on = omega (arith, F .at, C .moved .at, B .moved .at, u .on, u .kind);
+        on = omega (arith, F .at, C .moved .at, B .moved .at, u .on, u .present);
         is = λ rd.
             say (return-step d (st-of w x n f rd s) (q .kind)
-            ∙ ap (λ (S : St). go d (P.parse-return (here w x n s)) S) (adv s u (λ _. plain) f rd)
+            ∙ ap (λ (S : St). go d (P.parse-return (here w x n s)) S) (adv s u (λ _. plain) f rd _)
             ∙ rw (run, no v h) (go-bind d P.parse-expression (or-return (λ e. P.expect 50 >>? λ _. k e)) _)
             ∙ expect-seam d plain 50 k
             (go d P.parse-expression (st-of w x n f (past w x n (s .at) rd) (fore s t))))
@@ -443,14 +447,14 @@ module _ {w x : List ℕ} {n d : ℕ} {o r f : List ℕ} {s : State} {t : Token}
       → Reads node w x n d P.statement-rule o r f s o2 r1 f1 y
   unfolding go run
   block-reads {b = b} {y = y} q B F =
-      let e : budget w x n (y .state .at) ≡ budget w x n (b .state .at) = ap (λ (k : ℕ). budget w x n k) (F .at) in
+      let e : budget w n (y .state .at) ≡ budget w n (b .state .at) = ap (λ (k : ℕ). budget w n k) (F .at) in
       record {
         moved =
             record {
               at = omega (arith, F .at, B .moved);
               end = omega (arith, F .at, B .moved);
               pos = omega (arith, F .low, B .moved);
-              room = omega (arith, F .high, B .spare, q .kind);
+              room = omega (arith, F .high, B .spare, q .kind, present-kind (s .at) (q .asked .asks .held) x);
               reported = omega (arith, F .reported, B .moved);
               less = omega (arith, F .reported, F .full, B .moved);
               full = omega (arith, F .full, B .moved);
@@ -479,24 +483,24 @@ module _ {w x : List ℕ} {n d : ℕ} {o r f : List ℕ} {s : State} {t : Token}
         if-step d (st-of w x n f rd s) (q .kind)
         ∙ guarded-seam d (if-parts (here w x n s)) (else-on (here w x n s)) (if-joined d (here w x n s))
         (advance (λ _. plain) (st-of w x n f rd s))
-        ∙ ap (λ (S : St). go d (guarded-rule >>? else-on (here w x n s)) S) (adv s u (λ _. plain) f rd)
+        ∙ ap (λ (S : St). go d (guarded-rule >>? else-on (here w x n s)) S) (adv s u (λ _. plain) f rd _)
         ∙ go-bind d guarded-rule (or-return (else-on (here w x n s))) _
 
     pub if-stops : Stopped a → Reads node w x n d P.statement-rule o r f s o1 r1 f1 a
     if-stops nd =
         record {
           moved = omega (arith, B .moved, u .pays, u .up);
-          on = omega (arith, B .moved .at, u .on, u .kind);
+          on = omega (arith, B .moved .at, u .on, u .present);
           is = λ rd. say (if-guarded rd) (stops d (else-on (here w x n s)) _ nd (B .is (past w x n (s .at) rd)));
         }
 
-    module _ {t2 : Token} (z : a .status ≡ Done) (v : Seen w x n (a .state .at) t2) where
+    module _ {t2 : Token} (z : a .status ≡ Done) (v : Seen w n (a .state .at) t2) where
       -- without `else`, and with it
       pub if-two : {o2 : List ℕ} {y : Answer} → (t2 .kind ≡ 11 → ⊥) → NodeWritten x o1 a (untexted (t .place) 0x49 (Byte 2)) o2 y
           → Reads node w x n d P.statement-rule o r f s o2 r1 f1 y
       unfolding go run
       if-two {o2} {y} h F =
-          let e : budget w x n (y .state .at) ≡ budget w x n (a .state .at) = ap (λ (k : ℕ). budget w x n k) (F .at) in
+          let e : budget w n (y .state .at) ≡ budget w n (a .state .at) = ap (λ (k : ℕ). budget w n k) (F .at) in
           let k : Fallible Node → Act (Ans Node) = wrapped node [] [] 0x49 (λ _. here w x n s) (λ _. byte 2 ∷ []) [] in
           record {
             moved =
@@ -504,13 +508,13 @@ module _ {w x : List ℕ} {n d : ℕ} {o r f : List ℕ} {s : State} {t : Token}
                   at = omega (arith, F .at, B .moved, u .up);
                   end = omega (arith, F .at, B .moved);
                   pos = omega (arith, F .low, B .moved);
-                  room = omega (arith, F .high, B .moved, u .pays, q .kind, u .kind);
+                  room = omega (arith, F .high, B .moved, u .pays, q .kind, u .kind x);
                   reported = omega (arith, F .reported, B .moved);
                   less = omega (arith, F .reported, F .full, B .moved);
                   full = omega (arith, F .full, B .moved);
                   few = omega (arith, F .full, B .moved);
                 };
-            on = omega (arith, F .at, B .moved .at, u .on, u .kind);
+            on = omega (arith, F .at, B .moved .at, u .on, u .present);
             is = λ rd.
                 let g = good-of z (B .is (past w x n (s .at) rd)) in
                 let step : go d (else-on (here w x n s) (record { item = g .item; errors = g .errors })) (st-of w x n f1 (g .read) (a .state)) ≡ go d (k (record { item = g .item; errors = g .errors })) (st-of w x n f1 (g .read) (a .state)) =
@@ -527,27 +531,27 @@ module _ {w x : List ℕ} {n d : ℕ} {o r f : List ℕ} {s : State} {t : Token}
           → NodeWritten x o2 c (untexted (t .place) 0x49 (Byte 3)) o3 y → Reads node w x n d P.statement-rule o r f s o3 r3 f2 y
       unfolding go run
       if-three {b = b} {c = c} {y = y} h D lr C F =
-          let e : budget w x n (y .state .at) ≡ budget w x n (b .state .at) = ap (λ (k : ℕ). budget w x n k) (F .at ∙ C .at) in
+          let e : budget w n (y .state .at) ≡ budget w n (b .state .at) = ap (λ (k : ℕ). budget w n k) (F .at ∙ C .at) in
           record {
             moved =
                 record {
                   at = omega (arith, F .at, C .at, D .moved, v .up, B .moved, u .up);
                   end = omega (arith, F .at, C .at, D .moved);
                   pos = omega (arith, F .low, C .low);
-                  room = omega (arith, F .high, C .high, D .moved, v .pays, B .moved, u .pays, q .kind, u .kind);
+                  room = omega (arith, F .high, C .high, D .moved, v .pays, B .moved, u .pays, q .kind, u .kind x);
                   reported = omega (arith, F .reported, C .first);
                   less = omega (arith, F .reported, F .full, C .last, C .full, D .moved, B .moved);
                   full = omega (arith, F .full, C .full, D .moved, B .moved);
                   few = omega (arith, F .full, C .full, D .moved);
                 };
-            on = omega (arith, F .at, C .at, D .moved .at, v .up, B .moved .at, u .on, u .kind);
+            on = omega (arith, F .at, C .at, D .moved .at, v .up, B .moved .at, u .on, u .present);
             is = λ rd.
                 let g = good-of z (B .is (past w x n (s .at) rd)) in
                 let k : Fallible Node → Act (Ans Node) = wrapped node (g .item .recs) (g .errors) 0x49
                 (λ _. here w x n s) (λ _. byte 3 ∷ []) [] in
                 let step : go d (else-on (here w x n s) (record { item = g .item; errors = g .errors })) (st-of w x n f1 (g .read) (a .state)) ≡ go d (P.parse-statement >>? k) (st-of w x n f1 (past w x n (a .state .at) (g .read)) (fore (a .state) t2)) =
                 rw (run, yes v h)
-                (ap (λ (S : St). go d (P.parse-statement >>? k) S) (adv (a .state) v (λ _. plain) f1 (g .read))) in
+                (ap (λ (S : St). go d (P.parse-statement >>? k) S) (adv (a .state) v (λ _. plain) f1 (g .read) _)) in
                 say (if-guarded rd ∙ follows d (else-on (here w x n s)) (g .is) ∙ step ∙ go-bind d P.parse-statement (or-return k) _)
                 (writes-node d (λ _. here w x n s) (λ _. byte 3 ∷ []) [] F (λ i _. rw (u .place))
                 (abandons {T = take (s .pos) o} {E = errs r (s .reported)} (g .tree) (g .reported)
@@ -571,7 +575,7 @@ module _ {w x : List ℕ} {n d : ℕ} {o r f o1 r1 f1 : List ℕ} {s : State} {a
       (C : Abandoned r2 b (s .pos) (s .reported) (a .state .reported) r3 c) where
     pub guarded-reads : Reads node w x n d guarded-rule o r f s o2 r3 f2 c
     guarded-reads =
-        let e : budget w x n (c .state .at) ≡ budget w x n (b .state .at) = ap (λ (k : ℕ). budget w x n k) (C .at) in
+        let e : budget w n (c .state .at) ≡ budget w n (b .state .at) = ap (λ (k : ℕ). budget w n k) (C .at) in
         record {
           moved =
               record {
@@ -604,8 +608,8 @@ module _ {w x : List ℕ} {n d : ℕ} {o r f o1 r1 f1 : List ℕ} {s : State} {a
 
 module _ {w x : List ℕ} {n : ℕ} {o r f : List ℕ} {s : State} (q : Asked w x n o r f s) where
   -- a second part, parsed from t′, whose error counts are those at the end t of the first part
-  pub later-cuts : {r2 : List ℕ} {t t′ : State} {b : Answer} → Moved w x n (s .pos) (s .reported) s t
-      → Moved w x n (t .pos) (t .reported) t′ (b .state) → t′ .reported ≡ t .reported → t′ .full ≡ t .full
+  pub later-cuts : {r2 : List ℕ} {t t′ : State} {b : Answer} → Moved w n (s .pos) (s .reported) s t
+      → Moved w n (t .pos) (t .reported) t′ (b .state) → t′ .reported ≡ t .reported → t′ .full ≡ t .full
       → length r2 ≡ length r → Cuts r2 b (s .pos) (s .reported) (t .reported)
   later-cuts M B e g l =
       record {
@@ -615,12 +619,12 @@ module _ {w x : List ℕ} {n : ℕ} {o r f : List ℕ} {s : State} (q : Asked w 
         within = omega (arith, M, B, q .asks, e, g, l);
       }
 
-  module _ {i j : ℕ} {t u : Token} {a : State} (v : Seen w x n (s .at) t) (M : Moved w x n i j (fore s t) a)
-      (y : Seen w x n (a .at) u) where
+  module _ {i j : ℕ} {t u : Token} {a : State} (v : Seen w n (s .at) t) (M : Moved w n i j (fore s t) a)
+      (y : Seen w n (a .at) u) where
     pub later-asked : {o′ r′ f′ : List ℕ} → length o′ ≡ length o → length r′ ≡ length r → length f′ ≡ length f
         → Asked w x n o′ r′ f′ (fore a u)
     later-asked lo lr lf = asked-seen (asked-moved q (moved-trans (fore-moved (q .asks) v) M) lo lr lf) y
 
-    pub later-room : {i′ j′ k : ℕ} {o′ r′ r2 : List ℕ} {b c : Answer} → Moved w x n i′ j′ (fore a u) (b .state)
+    pub later-room : {i′ j′ k : ℕ} {o′ r′ r2 : List ℕ} {b c : Answer} → Moved w n i′ j′ (fore a u) (b .state)
         → Abandoned r′ b i j k r2 c → length o′ ≡ length o → Room o′ x (c .state .pos) (16 + 0) 0 0
     later-room B C l = record { room = omega (arith, q .room, v .pays, M .room, y .pays, B .room, C .high, l); part = omega arith }

@@ -2,7 +2,7 @@
 use mathlib.Core.Path.{_≡_}
 use mathlib.Core.Option.{some}
 use mathlib.Core.List.{List, [], _++_}
-use Prim.Native.Nat.{ℕ, min, _+_, _*_, _≤_}
+use Prim.Native.Nat.{ℕ, _+_, _*_, _≤_}
 use lib.ListN.{length, take}
 use Rattle.definition.specs.Node.{Rec, recs-bytes}
 use Rattle.definition.specs.Fallible.{Err, Ans}
@@ -18,7 +18,7 @@ use Rattle.fallible.specs.declared.Status.{Status}
 use Rattle.fallible.specs.declared.Status.the-variants.{Done, Fatal, Refused}
 use Rattle.fallible.specs.declared.Answer.{Answer}
 use Rattle.fallible.specs.Lists.{errs}
-use Rattle.steps.specs.Tokens.{rest, budget}
+use Rattle.steps.specs.Tokens.{rest, budget, present}
 use Rattle.steps.specs.Shows.{st-of, Asked, Moved, Shows, done-of, node, typed, items}
 use Rattle.expression_laws.specs.Post.{name-of, as-answer}
 use Rattle.statement.specs.Rules.{value-on}
@@ -50,15 +50,15 @@ pub record Bared (o : List ℕ) (a : Answer) (tag : ℕ) (o′ : List ℕ) (y : 
 
 -- after a typed identifier, in a construct that began at i and j; no token accounts for the record of an absent value
 pub record ValueOn (w x : List ℕ) (n d i j : ℕ) (o r f : List ℕ) (a : Answer) (o′ r′ f′ : List ℕ) (y : Answer) : Type 0 where
-  pub moved : Moved w x n i j (up (3 * done-of (a .status)) (a .state)) (y .state)
+  pub moved : Moved w n i j (up (3 * done-of (a .status)) (a .state)) (y .state)
   pub there : done-of (y .status) ≤ done-of (a .status)
   pub is : (name : List ℕ) (T : List ℕ) (E : List Err) (q : Res (Ans P.Typed)) → length T ≡ i → length E ≡ j → Shows (typed name) T E [] [] w x n o r f a q
       → Shows (typed name) T E [] [] w x n o′ r′ f′ y (after q (λ z S. go d (or-return value-on z) S))
 
 pub record ReadsDeclared (w x : List ℕ) (n d : ℕ) (o r f : List ℕ) (s : State) (o′ r′ f′ : List ℕ) (a : Answer) : Type 0 where
-  pub moved : Moved w x n (s .pos) (s .reported) s (a .state)
-  pub on : s .at + min (next-token (rest w x n (s .at)) .kind) 1 ≤ a .state .at
-  pub spare : a .state .pos + budget w x n (a .state .at) + 16 * done-of (a .status) + length (next-token (rest w x n (s .at)) .text) ≤ s .pos + budget w x n (s .at)
+  pub moved : Moved w n (s .pos) (s .reported) s (a .state)
+  pub on : s .at + present n (s .at) ≤ a .state .at
+  pub spare : a .state .pos + budget w n (a .state .at) + 16 * done-of (a .status) + length (next-token (rest w x n (s .at)) .text) ≤ s .pos + budget w n (s .at)
   pub is : (rd : List Consumed) → Shows (typed (name-of (next-token (rest w x n (s .at))))) (take (s .pos) o) (errs r (s .reported)) [] [] w x n o′ r′ f′ a (go d P.parse-var-like-declaration (st-of w x n f rd s))
 
 -- a record with a place and a name
@@ -81,9 +81,9 @@ pub record Named (w x : List ℕ) (n : ℕ) (o : List ℕ) (a : Answer) (tag : �
 -- ---- bodies
 
 pub record ReadsBody (w x : List ℕ) (n d : ℕ) (o r f : List ℕ) (s : State) (o′ r′ f′ : List ℕ) (a : Answer) : Type 0 where
-  pub moved : Moved w x n (s .pos) (s .reported) s (a .state)
-  pub on : s .at + min (next-token (rest w x n (s .at)) .kind) 1 ≤ a .state .at
-  pub spare : a .state .pos + budget w x n (a .state .at) + 16 * min (next-token (rest w x n (s .at)) .kind) 1 ≤ s .pos + budget w x n (s .at)
+  pub moved : Moved w n (s .pos) (s .reported) s (a .state)
+  pub on : s .at + present n (s .at) ≤ a .state .at
+  pub spare : a .state .pos + budget w n (a .state .at) + 16 * present n (s .at) ≤ s .pos + budget w n (s .at)
   pub never : a .status ≡ Fatal → ⊥
   pub is : (rd : List Consumed) → Shows items (take (s .pos) o) (errs r (s .reported)) [] [] w x n o′ r′ f′ a (go d (P.parse-body >>= as-answer) (st-of w x n f rd s))
 
@@ -95,6 +95,6 @@ statements-on i = loop (Body i) done
 
 -- after an expression without errors, whose records begin at i
 pub record ReadsAfter (w x : List ℕ) (n d : ℕ) (k : Node → Act (Ans Node)) (i : ℕ) (o r f : List ℕ) (s : State) (o′ r′ f′ : List ℕ) (y : Answer) : Type 0 where
-  pub moved : Moved w x n i (s .reported) s (y .state)
+  pub moved : Moved w n i (s .reported) s (y .state)
   pub is : (rd : List Consumed) (T : List ℕ) (e : Node) → length T ≡ i → take (s .pos) o ≡ T ++ recs-bytes (e .recs)
       → Shows node T (errs r (s .reported)) [] [] w x n o′ r′ f′ y (go d (k e) (st-of w x n f rd s))

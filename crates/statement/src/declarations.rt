@@ -42,13 +42,13 @@ pub fn compound(
     requires { ⌜ Asked tokens text n file reported full st ⌝ }
     ensures { λ r. ⌜ Parses P.parse-compound tokens text n file reported full st nesting r ⌝ }
 {
-    let a = expect(tokens, text, n, reported, full, st, kind::HASH);
+    let a = expect(tokens, n, reported, full, st, kind::HASH);
     let status = a.status;
     let Status::Done = status else {
         return a;
     };
     let s = a.state;
-    let t = peek(tokens, text, n, s.at);
+    let t = peek(tokens, n, s.at);
     if t.kind == kind::END {
         let error = entry(parse_error::COMPOUND_AT_END, 0, 0, 0);
         return raise(n, reported, full, s, error);
@@ -151,7 +151,7 @@ fn initial_value(
         return a;
     };
     let s = a.state;
-    let t = peek(tokens, text, n, s.at);
+    let t = peek(tokens, n, s.at);
     let on = State { at: t.next, ..s };
     if t.kind == kind::EQUALS {
         let b = expression(tokens, text, n, file, reported, full, on, nesting);
@@ -203,7 +203,7 @@ fn named(
     let Status::Done = status else {
         return a;
     };
-    let t = peek(tokens, text, n, at);
+    let t = peek(tokens, n, at);
     if t.kind == kind::IDENTIFIER {
         return write_text_node(file, text, a, place, tag, Numbers::None, t.start, t.len);
     }
@@ -227,6 +227,6 @@ pub fn declaration(
     ensures { λ r. ⌜ Parses (P.declaration tag (unpack-place place)) tokens text n file reported full st nesting r ⌝ }
 {
     let a = var_like_declaration(tokens, text, n, file, reported, full, st, nesting);
-    let b = and_expect(tokens, text, n, reported, full, a, kind::SEMICOLON, st);
+    let b = and_expect(tokens, n, reported, full, a, kind::SEMICOLON, st);
     named(tokens, text, n, file, b, tag, place, st.at)
 }

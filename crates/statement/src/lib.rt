@@ -16,8 +16,8 @@ use fallible::note;
 use fallible::raise;
 use fallible::refuse;
 use leaves::counted;
+use leaves::leaf;
 use node::Numbers;
-use simple::assembly_statement;
 use simple::break_statement;
 use simple::expression_statement;
 use simple::return_statement;
@@ -49,7 +49,7 @@ pub fn body(
     requires { ⌜ Asked tokens text n file reported full st ⌝ }
     ensures { λ r. ⌜ ReadsBody tokens text n file reported full st nesting r ⌝ }
 {
-    let a = expect(tokens, text, n, reported, full, st, kind::L_BRACE);
+    let a = expect(tokens, n, reported, full, st, kind::L_BRACE);
     let status = a.status;
     let s = a.state;
     match status {
@@ -81,7 +81,7 @@ fn body_rest(
     let mut count = 0;
     let mut st = from;
     loop {
-        let t = peek(tokens, text, n, st.at);
+        let t = peek(tokens, n, st.at);
         if t.kind == kind::R_BRACE {
             return Answer {
                 status: Status::Done,
@@ -129,7 +129,7 @@ fn block(
     requires { ⌜ Starts K.LBrace tokens text n file reported full st ⌝ }
     ensures { λ r. ⌜ Parses P.statement-rule tokens text n file reported full st nesting r ⌝ }
 {
-    let t = peek(tokens, text, n, st.at);
+    let t = peek(tokens, n, st.at);
     let a = body(tokens, text, n, file, reported, full, st, nesting);
     write_node(file, text, a, t.place, tag::BLOCK, Numbers::Two(a.count))
 }
@@ -148,7 +148,7 @@ fn loop_statement(
     requires { ⌜ Starts K.KwLoop tokens text n file reported full st ⌝ }
     ensures { λ r. ⌜ Parses P.statement-rule tokens text n file reported full st nesting r ⌝ }
 {
-    let t = peek(tokens, text, n, st.at);
+    let t = peek(tokens, n, st.at);
     let on = State { at: t.next, ..st };
     let a = statement(tokens, text, n, file, reported, full, on, nesting);
     write_node(file, text, a, t.place, tag::LOOP, Numbers::None)
@@ -192,7 +192,7 @@ fn while_statement(
     requires { ⌜ Starts K.KwWhile tokens text n file reported full st ⌝ }
     ensures { λ r. ⌜ Parses P.statement-rule tokens text n file reported full st nesting r ⌝ }
 {
-    let t = peek(tokens, text, n, st.at);
+    let t = peek(tokens, n, st.at);
     let on = State { at: t.next, ..st };
     let a = guarded(tokens, text, n, file, reported, full, on, nesting);
     write_node(file, text, a, t.place, tag::WHILE, Numbers::None)
@@ -212,7 +212,7 @@ fn if_statement(
     requires { ⌜ Starts K.KwIf tokens text n file reported full st ⌝ }
     ensures { λ r. ⌜ Parses P.statement-rule tokens text n file reported full st nesting r ⌝ }
 {
-    let t = peek(tokens, text, n, st.at);
+    let t = peek(tokens, n, st.at);
     let on = State { at: t.next, ..st };
     let a = guarded(tokens, text, n, file, reported, full, on, nesting);
     let status = a.status;
@@ -220,7 +220,7 @@ fn if_statement(
         return a;
     };
     let s = a.state;
-    let u = peek(tokens, text, n, s.at);
+    let u = peek(tokens, n, s.at);
     if u.kind != kind::KW_ELSE {
         return write_node(file, text, a, t.place, tag::IF, Numbers::Byte(2));
     }
@@ -244,7 +244,7 @@ fn statement_rule(
     requires { ⌜ Asked tokens text n file reported full st ⌝ }
     ensures { λ r. ⌜ Parses P.statement-rule tokens text n file reported full st nesting r ⌝ }
 {
-    let t = peek(tokens, text, n, st.at);
+    let t = peek(tokens, n, st.at);
     if t.kind == kind::KW_RETURN {
         return return_statement(tokens, text, n, file, reported, full, st, nesting);
     }
@@ -267,7 +267,7 @@ fn statement_rule(
         return if_statement(tokens, text, n, file, reported, full, st, nesting);
     }
     if t.kind == kind::INLINE_ASSEMBLY_FRAGMENT {
-        return assembly_statement(tokens, text, n, file, reported, full, st);
+        return leaf(file, text, st, t, tag::INLINE_ASSEMBLY, Numbers::None);
     }
     if t.kind == kind::END {
         let error = entry(parse_error::STATEMENT_AT_END, 0, 0, 0);

@@ -13,7 +13,6 @@ use steps::and_expect;
 use steps::expect;
 use steps::peek;
 use steps::write_node;
-use steps::write_text_node;
 ghost use mathlib.Core.Path.{_≡_};
 ghost use Prim.Native.Nat.{ℕ, _≤_};
 ghost use Rattle.definition.specs.Kind as K;
@@ -36,8 +35,8 @@ pub fn return_statement(
     requires { ⌜ Starts K.KwReturn tokens text n file reported full st ⌝ }
     ensures { λ r. ⌜ Parses P.statement-rule tokens text n file reported full st nesting r ⌝ }
 {
-    let t = peek(tokens, text, n, st.at);
-    let u = peek(tokens, text, n, t.next);
+    let t = peek(tokens, n, st.at);
+    let u = peek(tokens, n, t.next);
     if u.kind == kind::SEMICOLON {
         let a = Answer {
             status: Status::Done,
@@ -49,7 +48,7 @@ pub fn return_statement(
     }
     let on = State { at: t.next, ..st };
     let a = expression(tokens, text, n, file, reported, full, on, nesting);
-    let b = and_expect(tokens, text, n, reported, full, a, kind::SEMICOLON, st);
+    let b = and_expect(tokens, n, reported, full, a, kind::SEMICOLON, st);
     write_node(file, text, b, t.place, tag::RETURN, Numbers::Byte(1))
 }
 
@@ -67,7 +66,7 @@ pub fn var_statement(
     requires { ⌜ Starts K.KwVar tokens text n file reported full st ⌝ }
     ensures { λ r. ⌜ Parses P.statement-rule tokens text n file reported full st nesting r ⌝ }
 {
-    let t = peek(tokens, text, n, st.at);
+    let t = peek(tokens, n, st.at);
     let on = State { at: t.next, ..st };
     let tag = tag::VARIABLE_DECLARATION;
     declaration(
@@ -97,42 +96,10 @@ pub fn break_statement(
     requires { ⌜ Starts K.KwBreak tokens text n file reported full st ⌝ }
     ensures { λ r. ⌜ ((d : ℕ) → Parses P.statement-rule tokens text n file reported full st d r) ⌝ }
 {
-    let t = peek(tokens, text, n, st.at);
+    let t = peek(tokens, n, st.at);
     let on = State { at: t.next, ..st };
-    let a = expect(tokens, text, n, reported, full, on, kind::SEMICOLON);
+    let a = expect(tokens, n, reported, full, on, kind::SEMICOLON);
     write_node(file, text, a, t.place, tag::BREAK, Numbers::None)
-}
-
-// A statement of inline assembly: one token.
-pub fn assembly_statement(
-    tokens: &[u32],
-    text: &[u8],
-    n: usize,
-    file: &mut [u8],
-    reported: &mut [usize],
-    full: &mut [usize],
-    st: State,
-) -> Answer
-    requires { ⌜ Starts K.InlineAssemblyFragment tokens text n file reported full st ⌝ }
-    ensures { λ r. ⌜ ((d : ℕ) → Parses P.statement-rule tokens text n file reported full st d r) ⌝ }
-{
-    let t = peek(tokens, text, n, st.at);
-    let a = Answer {
-        status: Status::Done,
-        state: State { at: t.next, ..st },
-        place: t.place,
-        count: 0,
-    };
-    write_text_node(
-        file,
-        text,
-        a,
-        t.place,
-        tag::INLINE_ASSEMBLY,
-        Numbers::None,
-        t.start,
-        t.len,
-    )
 }
 
 // Parses an assignment after its target, in a statement that began in the state `from`: `=` expression `;`
@@ -151,11 +118,11 @@ fn assignment(
     requires { ⌜ Starts K.Equals tokens text n file reported full st × ((from .pos ≤ st .pos) × (from .reported ≡ st .reported)) ⌝ }
     ensures { λ r. ⌜ ReadsAfter (P.after-expression (unpack-place place)) tokens text n file reported full from st nesting r ⌝ }
 {
-    let t = peek(tokens, text, n, st.at);
+    let t = peek(tokens, n, st.at);
     let on = State { at: t.next, ..st };
     let a = expression(tokens, text, n, file, reported, full, on, nesting);
     let b = abandon(reported, a, from, st);
-    let c = and_expect(tokens, text, n, reported, full, b, kind::SEMICOLON, from);
+    let c = and_expect(tokens, n, reported, full, b, kind::SEMICOLON, from);
     write_node(file, text, c, place, tag::ASSIGNMENT, Numbers::None)
 }
 
@@ -175,11 +142,11 @@ fn compound_assignment(
     requires { ⌜ Starts K.LArrow tokens text n file reported full st × ((from .pos ≤ st .pos) × (from .reported ≡ st .reported)) ⌝ }
     ensures { λ r. ⌜ ReadsAfter (P.after-expression (unpack-place place)) tokens text n file reported full from st nesting r ⌝ }
 {
-    let t = peek(tokens, text, n, st.at);
+    let t = peek(tokens, n, st.at);
     let on = State { at: t.next, ..st };
     let a = compound(tokens, text, n, file, reported, full, on, nesting);
     let b = abandon(reported, a, from, st);
-    let c = and_expect(tokens, text, n, reported, full, b, kind::SEMICOLON, from);
+    let c = and_expect(tokens, n, reported, full, b, kind::SEMICOLON, from);
     write_node(
         file,
         text,
@@ -207,7 +174,7 @@ fn after_expression(
     requires { ⌜ Asked tokens text n file reported full st × ((from .pos ≤ st .pos) × (from .reported ≡ st .reported)) ⌝ }
     ensures { λ r. ⌜ ReadsAfter (P.after-expression (unpack-place place)) tokens text n file reported full from st nesting r ⌝ }
 {
-    let t = peek(tokens, text, n, st.at);
+    let t = peek(tokens, n, st.at);
     if t.kind == kind::EQUALS {
         return assignment(
             tokens,
@@ -242,7 +209,7 @@ fn after_expression(
         place,
         count: 0,
     };
-    let b = and_expect(tokens, text, n, reported, full, a, kind::SEMICOLON, from);
+    let b = and_expect(tokens, n, reported, full, a, kind::SEMICOLON, from);
     write_node(file, text, b, place, tag::EXPRESSION, Numbers::None)
 }
 

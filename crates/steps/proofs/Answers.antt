@@ -89,7 +89,7 @@ pub raise-same : {A : Type 0} (d : ℕ) {X Y : Err} {S S′ : St} → X ≡ Y �
 raise-same d p q = rw (p, q)
 
 module _ {A : Type 0} (K : View A) {w x : List ℕ} {n : ℕ} {r f r′ f′ : List ℕ} {s : State} {e : ℕ} {a : Answer}
-    (q : Asks w x n r f s) (v : Raised (raised n s) r f s e r′ f′ a) (d : ℕ) (rd : List Consumed) (o : List ℕ) where
+    (q : Asks w n r f s) (v : Raised (raised n s) r f s e r′ f′ a) (d : ℕ) (rd : List Consumed) (o : List ℕ) where
   -- `raise` represents the definition's `raise`
   pub raise-shows : Shows K (take (s .pos) o) (errs r (s .reported)) [] [] w x n o r′ f′ a
       (go d (P.raise {A = A} (unpack e)) (st-of w x n f rd s))

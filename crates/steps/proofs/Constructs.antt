@@ -1,13 +1,11 @@
 -- Constructs of several parts: what follows an answer, an operand joined to another, a counted call. Assumes nothing.
 use mathlib.Core.Path.{_≡_, refl, sym, _∙_}
 use mathlib.Core.List.{List}
-use Prim.Native.Nat.{ℕ, zero, suc, min, _+_, _-_, _≤_}
+use Prim.Native.Nat.{ℕ, zero, suc, _-_, _≤_}
 use native.Mathlib.Omega.{arith}
-use native.Mathlib.Decide.{decLe}
 use lib.ListN.{length}
 use lib.Seq.{length-take-le}
 use Rattle.definition.specs.Fallible.{Fallible, Ans, ok, fatal}
-use Rattle.definition.specs.Token.{next-token}
 use Rattle.definition.specs.Act.{Act, done, call, Goal, St, Res, gives, refused, after, or-return, run, _>>?_}
 use Rattle.definition.specs.Parser.{parse, rule}
 use Rattle.definition.specs.Go.{go}
@@ -16,26 +14,21 @@ use Rattle.fallible.proofs.Grown.{errs-length}
 use Rattle.fallible.specs.declared.State.{State}
 use Rattle.fallible.specs.declared.Answer.{Answer}
 use Rattle.fallible.specs.Answers.{refused-at}
-use Rattle.steps.specs.Tokens.{rest}
 use Rattle.steps.specs.Shows.{Asks, View, Reads, Goes, node}
-use Rattle.steps.proofs.Tokens.{rest-nil}
+use Rattle.steps.proofs.Tokens.{present-within}
 use Rattle.steps.proofs.Moves.{refused-moved}
 use Rattle.steps.proofs.Answers.{Stopped, say, stops}
-
--- a token that is not the end is before the end of the list
-pub within : (w x : List ℕ) (n i : ℕ) → i ≤ n → i + min (next-token (rest w x n i) .kind) 1 ≤ n
-within w x n i h = elim (decLe n i) [ yes g ↦ rw (rest-nil w x n i g) (omega arith) | no g ↦ omega arith ]
 
 -- ---- the counted calls
 
 module _ {w x : List ℕ} {n d : ℕ} {o r f : List ℕ} {s : State} (g : Goal) where
   -- no more call may be opened: refused; else the rule is parsed with one less
-  pub deep : {a : Answer} → Asks w x n r f s → d ≡ 0 → a ≡ refused-at n s 10 → Reads node w x n d (call g done) o r f s o r f a
+  pub deep : {a : Answer} → Asks w n r f s → d ≡ 0 → a ≡ refused-at n s 10 → Reads node w x n d (call g done) o r f s o r f a
   unfolding parse
   deep q z e =
       rw e (record {
         moved = refused-moved q 10;
-        on = within w x n (s .at) (q .at);
+        on = present-within n (s .at) (q .at);
         is = λ rd. record { told = rw z (go-call 0 g _) };
       })
 

@@ -26,17 +26,17 @@ abbrev pub expecting : {A : Type 0} → Role → ℕ → Fallible A → Act (Ans
 expecting role k e = P.expect-as role k >>? λ _. done (ok e)
 
 module _ {A : Type 0} {K : View A} {w x : List ℕ} {n k i j : ℕ} {r f r′ f′ : List ℕ} {a y : Answer}
-    (p : Follows w x n r f a i j) (u : Expected w x n k i j r f a r′ f′ y) (role : Role) (d : ℕ) {T : List ℕ}
+    (p : Follows w n r f a i j) (u : Expected w n k i j r f a r′ f′ y) (role : Role) (d : ℕ) {T : List ℕ}
     {E : List Err} {rs : List Rec} {es : List Err} {o : List ℕ} {q : Res (Ans A)} (li : length T ≡ i)
     (lj : length E ≡ j) where
   -- the answer is done
-  there : a .status ≡ Done → Good K T E rs es w x n o r f a q → Followed w x n k i j r f a r′ f′ y
+  there : a .status ≡ Done → Good K T E rs es w x n o r f a q → Followed w n k i j r f a r′ f′ y
       → Shows K T E rs es w x n o r′ f′ y (after q (λ z S. go d (or-return (expecting role k) z) S))
   unfolding go run
   there z g v =
       subst (λ (a′ : Answer). Shows K T E rs es w x n o r′ f′ a′
       (after q (λ z S. go d (or-return (expecting role k) z) S))) (sym (v .is))
-      (record { told = one (v .b .status) refl (v .abandoned .is) (v .expects .is role d (g .read) o .told) })
+      (record { told = one (v .b .status) refl (v .abandoned .is) (v .expects .is x role d (g .read) o .told) })
     where
       S : St
       S = st-of w x n f (g .read) (a .state)
@@ -95,7 +95,7 @@ module _ {A : Type 0} {K : View A} {w x : List ℕ} {n k i j : ℕ} {r f r′ f�
   unfolding go run
   expects-after v = one (a .status) refl (u .is) (v .told)
     where
-      one : (h : Status) → a .status ≡ h → ExpectedOf h w x n k i j r f a r′ f′ y
+      one : (h : Status) → a .status ≡ h → ExpectedOf h w n k i j r f a r′ f′ y
           → ShowsOf h K T E rs es w x n o r f a q
           → Shows K T E rs es w x n o r′ f′ y (after q (λ z S. go d (or-return (expecting role k) z) S))
       one Done z m g = there z g m

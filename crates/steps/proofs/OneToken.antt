@@ -49,23 +49,23 @@ making-pos h n s = go (ltb (s .full) 255)
     go true = refl
     go false = refl
 
-module _ {w x : List ℕ} {n : ℕ} {r f : List ℕ} {s : State} {t : Token} (q : Asks w x n r f s) (v : Seen w x n (s .at) t) where
+module _ {w : List ℕ} {n : ℕ} {r f : List ℕ} {s : State} {t : Token} (q : Asks w n r f s) (v : Seen w n (s .at) t) where
   -- the token is there
   there : {m : Role → Act (Ans Tok)} {k : ℕ} (of : Role → Role) → 0 < k → t .kind ≡ k
-      → ((role : Role) (d : ℕ) (rd : List Consumed)
+      → ((x : List ℕ) (role : Role) (d : ℕ) (rd : List Consumed)
       → go d (m role) (st-of w x n f rd s)
       ≡ go d (P.good (next-token (rest w x n (s .at))) [])
       (st-of w x n f (rd ++ now-read (λ _. of role) (rest w x n (s .at))) (fore s t)))
-      → Expects w x n m r f s r f (record { status = Done; state = fore s t; place = t .place; count = 0 })
+      → Expects w n m r f s r f (record { status = Done; state = fore s t; place = t .place; count = 0 })
   unfolding go run recs-bytes
   there of g z h = record {
     moved = fore-moved q v;
     pos = refl;
-    on = omega (arith, v .kind);
+    on = omega (arith, v .present);
     pays = omega arith;
     kept = λ _. (refl, refl);
     is =
-        λ role d rd o. say (h role d rd) (record {
+        λ x role d rd o. say (h x role d rd) (record {
           told = record {
             item = next-token (rest w x n (s .at));
             errors = [];
@@ -73,7 +73,7 @@ module _ {w x : List ℕ} {n : ℕ} {r f : List ℕ} {s : State} {t : Token} (q 
             is = refl;
             tree = sym (append-nil (take (s .pos) o));
             reported = sym (append-nil (errs r (s .reported)));
-            holds = (refl, v .place);
+            holds = (refl, v .place x);
           };
         });
   }
@@ -81,13 +81,13 @@ module _ {w x : List ℕ} {n : ℕ} {r f : List ℕ} {s : State} {t : Token} (q 
   -- an error is raised after the token
   missing : {m : Role → Act (Ans Tok)} {e : ℕ} {r′ f′ : List ℕ} {a : Answer} (of : Role → Role)
       → Raised (raised n (fore s t)) r f (fore s t) e r′ f′ a
-      → ((role : Role) (d : ℕ) (rd : List Consumed)
+      → ((x : List ℕ) (role : Role) (d : ℕ) (rd : List Consumed)
       → go d (m role) (st-of w x n f rd s)
       ≡ go d (P.raise {A = Tok} (unpack e))
       (st-of w x n f (rd ++ now-read (λ _. of role) (rest w x n (s .at))) (fore s t)))
-      → Expects w x n m r f s r′ f′ a
+      → Expects w n m r f s r′ f′ a
   missing {m} {e} {r′} {f′} {a} of g h =
-      let mv : Moved w x n (s .pos) (s .reported) s (a .state) = rw (g .is)
+      let mv : Moved w n (s .pos) (s .reported) s (a .state) = rw (g .is)
       (moved-trans (fore-moved q v) (making-moved (asks-fore q v) Fatal)) in
       let nd : done-of (a .status) ≡ 0 = rw (g .is) (raised-status n (fore s t)) in
       let ps : a .state .pos ≡ s .pos = rw (g .is) (making-pos Fatal n (fore s t)) in
@@ -95,11 +95,11 @@ module _ {w x : List ℕ} {n : ℕ} {r f : List ℕ} {s : State} {t : Token} (q 
       record {
         moved = mv;
         pos = ps;
-        on = omega (arith, v .kind);
+        on = omega (arith, v .present);
         pays = omega arith;
         kept = λ z. absurd (omega (arith, nd, ap done-of z));
         is =
-            λ role d rd o. say (h role d rd)
+            λ x role d rd o. say (h x role d rd)
             (raise-shows (token (next-token (rest w x n (s .at)))) (asks-fore q v) g d
             (rd ++ now-read (λ _. of role) (rest w x n (s .at))) o);
       }
@@ -107,50 +107,50 @@ module _ {w x : List ℕ} {n : ℕ} {r f : List ℕ} {s : State} {t : Token} (q 
   -- ---- `expect`
 
   pub expect-there : {k : ℕ} → 0 < k → t .kind ≡ k
-      → Expects w x n (λ role. P.expect-as role k) r f s r f
+      → Expects w n (λ role. P.expect-as role k) r f s r f
       (record { status = Done; state = fore s t; place = t .place; count = 0 })
   unfolding go run
-  expect-there {k} g z = there (λ role. role) g z (λ role d rd. rw (run, yes v z, v .tail))
+  expect-there {k} g z = there (λ role. role) g z (λ x role d rd. rw (run, yes v z, v .tail))
 
   module _ {k e : ℕ} {r′ f′ : List ℕ} {a : Answer} (m : t .kind ≡ k → ⊥) (g : Raised (raised n (fore s t)) r f (fore s t) e r′ f′ a) where
-    pub expect-end : t .kind ≡ 0 → unpack e ≡ error-at 3 0 k 0 → Expects w x n (λ role. P.expect-as role k) r f s r′ f′ a
+    pub expect-end : t .kind ≡ 0 → unpack e ≡ error-at 3 0 k 0 → Expects w n (λ role. P.expect-as role k) r f s r′ f′ a
     unfolding go run
-    expect-end z i = missing (λ role. role) g (λ role d rd. rw (run, no v m, yes v z) (raise-same d (sym i) (adv s v (λ _. role) f rd)))
+    expect-end z i = missing (λ role. role) g (λ x role d rd. rw (run, no v m, yes v z) (raise-same d (sym i) (adv s v (λ _. role) f rd _)))
 
     pub expect-other : (t .kind ≡ 0 → ⊥) → unpack e ≡ error-at 2 (t .place) k (t .kind)
-        → Expects w x n (λ role. P.expect-as role k) r f s r′ f′ a
+        → Expects w n (λ role. P.expect-as role k) r f s r′ f′ a
     unfolding go run
     expect-other z i =
-        missing (λ role. role) g (λ role d rd. rw (run, no v m, no v z)
-        (raise-same d (rw (v .place, v .kind) (sym i)) (adv s v (λ _. role) f rd)))
+        missing (λ role. role) g (λ x role d rd. rw (run, no v m, no v z)
+        (raise-same d (rw (v .place, v .kind) (sym i)) (adv s v (λ _. role) f rd _)))
 
   -- ---- `expect_identifier`
 
   pub identifier-there : t .kind ≡ 1
-      → Expects w x n (λ role. P.expect-identifier) r f s r f
+      → Expects w n (λ role. P.expect-identifier) r f s r f
       (record { status = Done; state = fore s t; place = t .place; count = 0 })
   unfolding go run
-  identifier-there z = there (λ role. plain) (omega arith) z (λ role d rd. rw (run, yes v z, v .tail))
+  identifier-there z = there (λ role. plain) (omega arith) z (λ x role d rd. rw (run, yes v z, v .tail))
 
   module _ {e : ℕ} {r′ f′ : List ℕ} {a : Answer} (m : t .kind ≡ 1 → ⊥) (g : Raised (raised n (fore s t)) r f (fore s t) e r′ f′ a) where
-    pub identifier-end : t .kind ≡ 0 → unpack e ≡ error-at 5 0 0 0 → Expects w x n (λ role. P.expect-identifier) r f s r′ f′ a
+    pub identifier-end : t .kind ≡ 0 → unpack e ≡ error-at 5 0 0 0 → Expects w n (λ role. P.expect-identifier) r f s r′ f′ a
     unfolding go run
     identifier-end z i =
         missing (λ role. plain) g
-        (λ role d rd. rw (run, no v m, yes v z) (raise-same d (sym i) (adv s v (λ _. plain) f rd)))
+        (λ x role d rd. rw (run, no v m, yes v z) (raise-same d (sym i) (adv s v (λ _. plain) f rd _)))
 
     pub identifier-other : (t .kind ≡ 0 → ⊥) → unpack e ≡ error-at 4 (t .place) 0 0
-        → Expects w x n (λ role. P.expect-identifier) r f s r′ f′ a
+        → Expects w n (λ role. P.expect-identifier) r f s r′ f′ a
     unfolding go run
     identifier-other z i =
         missing (λ role. plain) g
-        (λ role d rd. rw (run, no v m, no v z) (raise-same d (rw (v .place) (sym i)) (adv s v (λ _. plain) f rd)))
+        (λ x role d rd. rw (run, no v m, no v z) (raise-same d (rw (v .place) (sym i)) (adv s v (λ _. plain) f rd _)))
 
 -- ---- `expect` after an answer
 
-module _ {w x : List ℕ} {n k i j : ℕ} {r f : List ℕ} {a : Answer} (q : Follows w x n r f a i j) where
+module _ {w : List ℕ} {n k i j : ℕ} {r f : List ℕ} {a : Answer} (q : Follows w n r f a i j) where
   -- a fatal or refused answer is returned; after a good one `expect(..)?` runs
-  pub expected-stop : Stopped a → Expected w x n k i j r f a r f a
+  pub expected-stop : Stopped a → Expected w n k i j r f a r f a
   expected-stop nd = record {
     moved =
         record {
@@ -168,24 +168,24 @@ module _ {w x : List ℕ} {n k i j : ℕ} {r f : List ℕ} {a : Answer} (q : Fol
     is = one (a .status) nd;
   }
     where
-      one : (h : Status) → OneOf (1 ∷ 2 ∷ []) (tagOf the-type h) → ExpectedOf h w x n k i j r f a r f a
+      one : (h : Status) → OneOf (1 ∷ 2 ∷ []) (tagOf the-type h) → ExpectedOf h w n k i j r f a r f a
       one Done nd = absurd (⊎-elim (λ z. omega arith) (λ z. omega arith) nd)
       one Fatal nd = (refl, (refl, refl))
       one (Refused m) nd = (refl, (refl, refl))
 
   pub expected-on : {r1 r′ f′ : List ℕ} {b c : Answer} → a .status ≡ Done
-      → Expects w x n (λ role. P.expect-as role k) r f (a .state) r1 f′ b
+      → Expects w n (λ role. P.expect-as role k) r f (a .state) r1 f′ b
       → Abandoned r1 b i j (a .state .reported) r′ c
-      → Expected w x n k i j r f a r′ f′ (record { status = c .status; state = c .state; place = a .place; count = a .count })
+      → Expected w n k i j r f a r′ f′ (record { status = c .status; state = c .state; place = a .place; count = a .count })
   expected-on {r1} {r′} {f′} {b} {c} z e v =
-      let at : budget w x n (c .state .at) ≡ budget w x n (b .state .at) = ap (λ (k : ℕ). budget w x n k) (v .at) in
+      let at : budget w n (c .state .at) ≡ budget w n (b .state .at) = ap (λ (k : ℕ). budget w n k) (v .at) in
       let hw : done-of (c .status) ≤ done-of (b .status) = fewer (b .status) refl (v .is) in
       record {
         moved = abandoned-moved (e .moved) v;
         high = omega (arith, e .pos, v .high);
         pays = omega (arith, e .pays);
         is =
-            subst (λ (h : Status). ExpectedOf h w x n k i j r f a r′ f′
+            subst (λ (h : Status). ExpectedOf h w n k i j r f a r′ f′
             (record { status = c .status; state = c .state; place = a .place; count = a .count })) (sym z)
             (record { b = b; c = c; between = r1; expects = e; abandoned = v; is = refl });
       }

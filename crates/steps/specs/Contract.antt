@@ -14,17 +14,17 @@ use Rattle.steps.specs.Shows as S
 
 -- ---- required
 
-abbrev pub Asks : Slice → Slice → ℕ → Slice → Slice → State → Type 0
-Asks tokens text n reported full st = S.Asks (now tokens) (now text) n (now reported) (now full) st
+abbrev pub Asks : Slice → ℕ → Slice → Slice → State → Type 0
+Asks tokens n reported full st = S.Asks (now tokens) n (now reported) (now full) st
 
--- the same with room in the file
+-- the same with room in the file, and with the text of the tokens
 abbrev pub Asked : Slice → Slice → ℕ → Slice → Slice → Slice → State → Type 0
 Asked tokens text n file reported full st = S.Asked (now tokens) (now text) n (now file) (now reported) (now full) st
 
 -- after an answer, in a construct that began in the state `from`
-abbrev pub Follows : Slice → Slice → ℕ → Slice → Slice → Answer → State → Type 0
-Follows tokens text n reported full a from =
-    S.Follows (now tokens) (now text) n (now reported) (now full) a (from .pos) (from .reported)
+abbrev pub Follows : Slice → ℕ → Slice → Slice → Answer → State → Type 0
+Follows tokens n reported full a from =
+    S.Follows (now tokens) n (now reported) (now full) a (from .pos) (from .reported)
 
 abbrev pub GoesOn : Slice → Slice → ℕ → Slice → Slice → Slice → Answer → State → Type 0
 GoesOn tokens text n file reported full a from =
@@ -33,13 +33,13 @@ GoesOn tokens text n file reported full a from =
 -- ---- ensured
 
 -- a function that consumes one token
-abbrev pub Expects : (Role → Act (Ans Tok)) → Lent → Lent → ℕ → Lent → Lent → State → Answer → Type 0
-Expects m tokens text n reported full st r =
-    S.Expects (at-entry tokens) (at-entry text) n m (at-entry reported) (at-entry full) st (at-exit reported) (at-exit full) r
+abbrev pub Expects : (Role → Act (Ans Tok)) → Lent → ℕ → Lent → Lent → State → Answer → Type 0
+Expects m tokens n reported full st r =
+    S.Expects (at-entry tokens) n m (at-entry reported) (at-entry full) st (at-exit reported) (at-exit full) r
 
-abbrev pub Expected : ℕ → Lent → Lent → ℕ → Lent → Lent → Answer → State → Answer → Type 0
-Expected wanted tokens text n reported full a from r =
-    S.Expected (at-entry tokens) (at-entry text) n wanted (from .pos) (from .reported) (at-entry reported) (at-entry full) a
+abbrev pub Expected : ℕ → Lent → ℕ → Lent → Lent → Answer → State → Answer → Type 0
+Expected wanted tokens n reported full a from r =
+    S.Expected (at-entry tokens) n wanted (from .pos) (from .reported) (at-entry reported) (at-entry full) a
     (at-exit reported) (at-exit full) r
 
 -- a function that parses a node by the rule m, where `nesting` more counted calls may be opened

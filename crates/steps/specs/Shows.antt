@@ -4,7 +4,7 @@
 -- file offset and the count of reported errors where a construct began; d more counted calls may be opened.
 use mathlib.Core.Path.{_≡_}
 use mathlib.Core.List.{List, [], _++_}
-use Prim.Native.Nat.{ℕ, min, _+_, _*_, _≤_}
+use Prim.Native.Nat.{ℕ, _+_, _*_, _≤_}
 use lib.ListN.{length, take}
 use Rattle.definition.specs.Node.{Rec, recs-bytes}
 use Rattle.definition.specs.Fallible.{Err, Fallible, Ans, ok, fatal}
@@ -22,16 +22,16 @@ use Rattle.fallible.specs.declared.Status.the-variants.{Done, Fatal, Refused}
 use Rattle.fallible.specs.declared.Answer.{Answer}
 use Rattle.fallible.specs.Lists.{errs}
 use Rattle.fallible.specs.Answers.{Abandoned}
-use Rattle.steps.specs.Tokens.{rest, budget, Held}
+use Rattle.steps.specs.Tokens.{rest, budget, present, Held, Parts}
 
 -- ---- states
 
 abbrev pub st-of : List ℕ → List ℕ → ℕ → List ℕ → List Consumed → State → St
 st-of w x n f rd s = record { tokens = rest w x n (s .at); read = rd; full = errs f (s .full) }
 
--- what each function requires of a state; those that write also require room
-pub record Asks (w x : List ℕ) (n : ℕ) (r f : List ℕ) (s : State) : Type 0 where
-  pub held : Held w x n
+-- what each function requires of a state; those that write also require room, and the parts of the tokens in the text
+pub record Asks (w : List ℕ) (n : ℕ) (r f : List ℕ) (s : State) : Type 0 where
+  pub held : Held w n
   pub at : s .at ≤ n
   pub reported : s .reported ≤ s .full
   pub few : s .full ≤ 255
@@ -39,15 +39,16 @@ pub record Asks (w x : List ℕ) (n : ℕ) (r f : List ℕ) (s : State) : Type 0
   pub fulls : 256 ≤ length f
 
 pub record Asked (w x : List ℕ) (n : ℕ) (o r f : List ℕ) (s : State) : Type 0 where
-  pub asks : Asks w x n r f s
-  pub room : s .pos + budget w x n (s .at) + 16 ≤ length o
+  pub asks : Asks w n r f s
+  pub parts : Parts w x n
+  pub room : s .pos + budget w n (s .at) + 16 ≤ length o
 
 -- how the numbers change from one state to a later one, in a construct that began at i and j
-pub record Moved (w x : List ℕ) (n i j : ℕ) (s s′ : State) : Type 0 where
+pub record Moved (w : List ℕ) (n i j : ℕ) (s s′ : State) : Type 0 where
   pub at : s .at ≤ s′ .at
   pub end : s′ .at ≤ n
   pub pos : i ≤ s′ .pos
-  pub room : s′ .pos + budget w x n (s′ .at) ≤ s .pos + budget w x n (s .at)
+  pub room : s′ .pos + budget w n (s′ .at) ≤ s .pos + budget w n (s .at)
   pub reported : j ≤ s′ .reported
   pub less : s′ .reported + s .full ≤ s .reported + s′ .full
   pub full : s .full ≤ s′ .full
@@ -116,13 +117,13 @@ items = record { recs = λ y. y .recs; fine = λ p k y. y .count ≡ k }
 
 -- a function that parses by the act m, where d more counted calls may be opened
 pub record Reads {A : Type 0} (K : View A) (w x : List ℕ) (n d : ℕ) (m : Act (Ans A)) (o r f : List ℕ) (s : State) (o′ r′ f′ : List ℕ) (a : Answer) : Type 0 where
-  pub moved : Moved w x n (s .pos) (s .reported) s (a .state)
-  pub on : s .at + min (next-token (rest w x n (s .at)) .kind) 1 ≤ a .state .at
+  pub moved : Moved w n (s .pos) (s .reported) s (a .state)
+  pub on : s .at + present n (s .at) ≤ a .state .at
   pub is : (rd : List Consumed) → Shows K (take (s .pos) o) (errs r (s .reported)) [] [] w x n o′ r′ f′ a (go d m (st-of w x n f rd s))
 
 -- a function that continues the answer a by k, with the answer y, in a construct that began at i and j
 pub record Goes {A B : Type 0} (K : View A) (L : View B) (w x : List ℕ) (n d : ℕ) (k : Fallible A → Act (Ans B)) (i j : ℕ) (o r f : List ℕ) (a : Answer) (o′ r′ f′ : List ℕ) (y : Answer) : Type 0 where
-  pub moved : Moved w x n i j (a .state) (y .state)
+  pub moved : Moved w n i j (a .state) (y .state)
   pub is : (T : List ℕ) (E : List Err) (q : Res (Ans A)) → length T ≡ i → length E ≡ j → Shows K T E [] [] w x n o r f a q → Shows L T E [] [] w x n o′ r′ f′ y (after q (λ z S. go d (or-return k z) S))
 
 pub record GoesOn (w x : List ℕ) (n : ℕ) (o r f : List ℕ) (a : Answer) (i j : ℕ) : Type 0 where
@@ -132,40 +133,40 @@ pub record GoesOn (w x : List ℕ) (n : ℕ) (o r f : List ℕ) (a : Answer) (i 
 
 -- ---- `expect`
 
--- `m` consumes one token, in any role and at any nesting
-pub record Expects (w x : List ℕ) (n : ℕ) (m : Role → Act (Ans Tok)) (r f : List ℕ) (s : State) (r′ f′ : List ℕ) (a : Answer) : Type 0 where
-  pub moved : Moved w x n (s .pos) (s .reported) s (a .state)
+-- `m` consumes one token, whatever the text and the file hold, in any role and at any nesting
+pub record Expects (w : List ℕ) (n : ℕ) (m : Role → Act (Ans Tok)) (r f : List ℕ) (s : State) (r′ f′ : List ℕ) (a : Answer) : Type 0 where
+  pub moved : Moved w n (s .pos) (s .reported) s (a .state)
   pub pos : a .state .pos ≡ s .pos
-  pub on : s .at + min (next-token (rest w x n (s .at)) .kind) 1 ≤ a .state .at
-  pub pays : budget w x n (a .state .at) + 16 * done-of (a .status) ≤ budget w x n (s .at)
+  pub on : s .at + present n (s .at) ≤ a .state .at
+  pub pays : budget w n (a .state .at) + 16 * done-of (a .status) ≤ budget w n (s .at)
   pub kept : a .status ≡ Done → (a .state .reported ≡ s .reported) × (errs r′ (a .state .reported) ≡ errs r (s .reported))
-  pub is : (role : Role) (d : ℕ) (rd : List Consumed) (o : List ℕ) → Shows (token (next-token (rest w x n (s .at)))) (take (s .pos) o) (errs r (s .reported)) [] [] w x n o r′ f′ a (go d (m role) (st-of w x n f rd s))
+  pub is : (x : List ℕ) (role : Role) (d : ℕ) (rd : List Consumed) (o : List ℕ) → Shows (token (next-token (rest w x n (s .at)))) (take (s .pos) o) (errs r (s .reported)) [] [] w x n o r′ f′ a (go d (m role) (st-of w x n f rd s))
 
 -- what a function requires of an answer, in a construct that began at i and j
-pub record Follows (w x : List ℕ) (n : ℕ) (r f : List ℕ) (a : Answer) (i j : ℕ) : Type 0 where
-  pub asks : Asks w x n r f (a .state)
+pub record Follows (w : List ℕ) (n : ℕ) (r f : List ℕ) (a : Answer) (i j : ℕ) : Type 0 where
+  pub asks : Asks w n r f (a .state)
   pub pos : i ≤ a .state .pos
   pub reported : j ≤ a .state .reported
 
 -- `expect(..)?` after an answer, in a construct that began at i and j: b is the answer of `expect`, c that of `?`
-pub record Followed (w x : List ℕ) (n k i j : ℕ) (r f : List ℕ) (a : Answer) (r′ f′ : List ℕ) (y : Answer) : Type 0 where
+pub record Followed (w : List ℕ) (n k i j : ℕ) (r f : List ℕ) (a : Answer) (r′ f′ : List ℕ) (y : Answer) : Type 0 where
   pub b : Answer
   pub c : Answer
   pub between : List ℕ
-  pub expects : Expects w x n (λ role. P.expect-as role k) r f (a .state) between f′ b
+  pub expects : Expects w n (λ role. P.expect-as role k) r f (a .state) between f′ b
   pub abandoned : Abandoned between b i j (a .state .reported) r′ c
   pub is : y ≡ record { status = c .status; state = c .state; place = a .place; count = a .count }
 
-abbrev pub ExpectedOf : Status → List ℕ → List ℕ → ℕ → ℕ → ℕ → ℕ → List ℕ → List ℕ → Answer → List ℕ → List ℕ → Answer → Type 0
-ExpectedOf Done w x n k i j r f a r′ f′ y = Followed w x n k i j r f a r′ f′ y
-ExpectedOf Fatal w x n k i j r f a r′ f′ y = (y ≡ a) × ((r′ ≡ r) × (f′ ≡ f))
-ExpectedOf (Refused m) w x n k i j r f a r′ f′ y = (y ≡ a) × ((r′ ≡ r) × (f′ ≡ f))
+abbrev pub ExpectedOf : Status → List ℕ → ℕ → ℕ → ℕ → ℕ → List ℕ → List ℕ → Answer → List ℕ → List ℕ → Answer → Type 0
+ExpectedOf Done w n k i j r f a r′ f′ y = Followed w n k i j r f a r′ f′ y
+ExpectedOf Fatal w n k i j r f a r′ f′ y = (y ≡ a) × ((r′ ≡ r) × (f′ ≡ f))
+ExpectedOf (Refused m) w n k i j r f a r′ f′ y = (y ≡ a) × ((r′ ≡ r) × (f′ ≡ f))
 
-pub record Expected (w x : List ℕ) (n k i j : ℕ) (r f : List ℕ) (a : Answer) (r′ f′ : List ℕ) (y : Answer) : Type 0 where
-  pub moved : Moved w x n i j (a .state) (y .state)
+pub record Expected (w : List ℕ) (n k i j : ℕ) (r f : List ℕ) (a : Answer) (r′ f′ : List ℕ) (y : Answer) : Type 0 where
+  pub moved : Moved w n i j (a .state) (y .state)
   pub high : y .state .pos ≤ a .state .pos
-  pub pays : budget w x n (y .state .at) + 16 * done-of (y .status) ≤ budget w x n (a .state .at)
-  pub is : ExpectedOf (a .status) w x n k i j r f a r′ f′ y
+  pub pays : budget w n (y .state .at) + 16 * done-of (y .status) ≤ budget w n (a .state .at)
+  pub is : ExpectedOf (a .status) w n k i j r f a r′ f′ y
 
 -- ---- a record after an answer
 

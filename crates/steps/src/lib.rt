@@ -30,9 +30,9 @@ pub struct Token {
 }
 
 // Decodes the token at index `at`, without consuming it.
-pub fn peek(tokens: &[u32], text: &[u8], n: usize, at: usize) -> Token
-    requires { ⌜ Held (now tokens) (now text) n × (at ≤ n) ⌝ }
-    ensures { λ r. ⌜ Seen (now (tokens .entry)) (now (text .entry)) n at r ⌝ }
+pub fn peek(tokens: &[u32], n: usize, at: usize) -> Token
+    requires { ⌜ Held (now tokens) n × (at ≤ n) ⌝ }
+    ensures { λ r. ⌜ Seen (now (tokens .entry)) n at r ⌝ }
 {
     if at < n {
         let i = 8 * at;
@@ -59,17 +59,16 @@ pub fn peek(tokens: &[u32], text: &[u8], n: usize, at: usize) -> Token
 // `expect`: consumes the next token. Another kind than `wanted`, or the end, is a fatal error.
 pub fn expect(
     tokens: &[u32],
-    text: &[u8],
     n: usize,
     reported: &mut [usize],
     full: &mut [usize],
     st: State,
     wanted: u32,
 ) -> Answer
-    requires { ⌜ Asks tokens text n reported full st × ((0 < wanted) × (wanted < 256)) ⌝ }
-    ensures { λ r. ⌜ Expects (λ role. P.expect-as role wanted) tokens text n reported full st r ⌝ }
+    requires { ⌜ Asks tokens n reported full st × ((0 < wanted) × (wanted < 256)) ⌝ }
+    ensures { λ r. ⌜ Expects (λ role. P.expect-as role wanted) tokens n reported full st r ⌝ }
 {
-    let t = peek(tokens, text, n, st.at);
+    let t = peek(tokens, n, st.at);
     let on = State { at: t.next, ..st };
     if t.kind == wanted {
         return Answer {
@@ -90,16 +89,15 @@ pub fn expect(
 // `expect_identifier`: consumes the next token. Another kind than an identifier, or the end, is a fatal error.
 pub fn expect_identifier(
     tokens: &[u32],
-    text: &[u8],
     n: usize,
     reported: &mut [usize],
     full: &mut [usize],
     st: State,
 ) -> Answer
-    requires { ⌜ Asks tokens text n reported full st ⌝ }
-    ensures { λ r. ⌜ Expects (λ role. P.expect-identifier) tokens text n reported full st r ⌝ }
+    requires { ⌜ Asks tokens n reported full st ⌝ }
+    ensures { λ r. ⌜ Expects (λ role. P.expect-identifier) tokens n reported full st r ⌝ }
 {
-    let t = peek(tokens, text, n, st.at);
+    let t = peek(tokens, n, st.at);
     let on = State { at: t.next, ..st };
     if t.kind == kind::IDENTIFIER {
         return Answer {
@@ -120,7 +118,6 @@ pub fn expect_identifier(
 // `expect(..)?` after the answer `a`, in a construct that began in the state `from`. Keeps the place of `a`.
 pub fn and_expect(
     tokens: &[u32],
-    text: &[u8],
     n: usize,
     reported: &mut [usize],
     full: &mut [usize],
@@ -128,15 +125,15 @@ pub fn and_expect(
     wanted: u32,
     from: State,
 ) -> Answer
-    requires { ⌜ Follows tokens text n reported full a from × ((0 < wanted) × (wanted < 256)) ⌝ }
-    ensures { λ r. ⌜ Expected wanted tokens text n reported full a from r ⌝ }
+    requires { ⌜ Follows tokens n reported full a from × ((0 < wanted) × (wanted < 256)) ⌝ }
+    ensures { λ r. ⌜ Expected wanted tokens n reported full a from r ⌝ }
 {
     let status = a.status;
     let Status::Done = status else {
         return a;
     };
     let s = a.state;
-    let b = expect(tokens, text, n, reported, full, s, wanted);
+    let b = expect(tokens, n, reported, full, s, wanted);
     let c = abandon(reported, b, from, s);
     let h = c.status;
     let e = c.state;

@@ -8,7 +8,7 @@ use native.Mathlib.Numerals.{add-one}
 use native.Mathlib.Omega.{arith}
 use borrow.Author.Tests.{eqb-true, eq-eqb}
 use lib.Dec.{eqb}
-use lib.ListN.{length, drop, length-take}
+use lib.ListN.{length, drop, getD, length-take}
 use Rattle.definition.specs.Choice.{pick}
 use Rattle.definition.specs.Kind as K
 use Rattle.definition.specs.Source.{Place, nowhere, is-some}
@@ -17,7 +17,9 @@ use Rattle.definition.specs.Records.{words-at, base-fits, place-of, text-end, t
 use Rattle.definition.specs.Operations.{Validated, validate}
 use Rattle.definition.proofs.Tests.{either-true, clash}
 use Rattle.definition.proofs.Validated.{Fits, fits, Lies, lies, First, first, split}
-use Rattle.steps.specs.Tokens.{tok-at, from, rest, spend, Sound}
+unfoldable use Rattle.definition.specs.Cost.{spend}
+use Rattle.steps.specs.Tokens.{tok-at, from, rest, Sound, Parts}
+use Rattle.steps.proofs.Tokens.{budget-spend}
 use Rattle.validate.specs.Tested.{Tested}
 
 -- a value that is present, by `is-some`
@@ -52,14 +54,18 @@ module _ (k b : ℕ) where
   base-there : base-fits k b ≡ true → k ≡ K.Integer → 0 < b
   base-there e h = integer-base (rw (eq-eqb k K.Integer h) at e) .0
 
-sound : (T X : List ℕ) (i : ℕ) → Fits X (words-at T i) → words-at T i .start + words-at T i .size ≤ length X → Sound T X i
-sound T X i f h =
+-- a record that can be decoded, with its part in the text
+record Decodes (T X : List ℕ) (i : ℕ) : Type 0 where
+  sound : Sound T i
+  part : getD T (8 * i + 3) 0 + getD T (8 * i + 4) 0 ≤ length X
+
+sound : (T X : List ℕ) (i : ℕ) → Fits X (words-at T i) → Sound T i
+sound T X i f =
     record {
       real = f .kind .0;
       kind = f .kind .1;
       line = f .line .1;
       column = f .column .1;
-      part = h;
       base = base-low (words-at T i .kind) (words-at T i .base) (f .base);
       based = base-there (words-at T i .kind) (words-at T i .base) (f .base);
     }
@@ -68,7 +74,7 @@ sound T X i f h =
 
 -- n records from index i on, where the text before ends at e
 record Taken (T X : List ℕ) (e i n : ℕ) (ts : List Tok) : Type 0 where
-  each : (j : ℕ) → j < n → Sound T X (i + j)
+  each : (j : ℕ) → j < n → Decodes T X (i + j)
   is : from T X i n ≡ ts
   room : e + spend ts ≤ 16 * n + 16384
 
@@ -93,9 +99,9 @@ taken T X (suc n) p e i ts h q =
               (omega (arith, length-take (words-at T i .size) (drop (words-at T i .start) X), l .up, r .room));
         }
       where
-        each : (j : ℕ) → j < suc n → Sound T X (i + j)
-        each zero k = subst (λ (j : ℕ). Sound T X j) (omega arith) (sound T X i f (l .inside))
-        each (suc j) k = subst (λ (j : ℕ). Sound T X j) (omega arith) (r .each j (omega arith))
+        each : (j : ℕ) → j < suc n → Decodes T X (i + j)
+        each zero k = subst (λ (j : ℕ). Decodes T X j) (omega arith) (record { sound = sound T X i f; part = l .inside })
+        each (suc j) k = subst (λ (j : ℕ). Decodes T X j) (omega arith) (r .each j (omega arith))
 
 -- ---- all records together
 
@@ -106,10 +112,14 @@ tested T n E m X h q =
     let s = split T n E m X h q in
     let t = taken T X n nowhere 0 0 (h .tokens) (omega arith) (s .tokens) in
     let z : n - 0 ≡ n = omega arith in
+    let each : (i : ℕ) → i < n → Decodes T X i = λ i l. subst (λ (j : ℕ). Decodes T X j) (omega arith) (t .each i l) in
+    let tokens : rest T X n 0 ≡ h .tokens = rw z (t .is) in
+    let parts : Parts T X n = record { each = λ i l. each i l .part } in
     record {
-      held = record { words = s .words; few = s .few; each = λ i l. subst (λ (j : ℕ). Sound T X j) (omega arith) (t .each i l) };
-      tokens = rw z (t .is);
-      room = rw (z, t .is) (omega arith);
+      held = record { words = s .words; few = s .few; each = λ i l. each i l .sound };
+      parts = parts;
+      tokens = tokens;
+      room = rw (budget-spend 0 parts, tokens) (omega (arith, t .room));
       errors = s .errors;
       few = s .few-errors;
       words = s .error-words;

@@ -99,7 +99,7 @@ loop-less c =
     omega (
       arith,
       at-loop .loop .inv .0 .0 .asks .at,
-      at-peek .peek .ensures .kind,
+      at-peek .peek .ensures .present,
       at-if1 .if1 .left,
       at-top-level-item .top-level-item .ensures .on,
       at-top-level-item .top-level-item .ensures .moved,

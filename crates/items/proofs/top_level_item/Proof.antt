@@ -1,6 +1,6 @@
 use Rattle.items.proofs.Modules.{item-function, item-alias, item-use, item-variable, item-assembly, item-other}
 use Rattle.expression_laws.proofs.Types.{raise-asked}
-use Rattle.steps.proofs.Moves.{asked-seen}
+use Rattle.steps.proofs.Moves.{asked-seen, room-token}
 use native.Mathlib.Omega.{arith}
 use Rattle.items.proofs.top_level_item.Statement.{statement}
 use Rattle.items.proofs.top_level_item.Tie as tie
@@ -128,21 +128,21 @@ returns-4 c =
     item-variable (at-peek .peek .ensures) (at-if1 .if1 .left) (at-if2 .if2 .left) (at-if3 .if3 .left)
     (at-if4 .if4 .taken) (at-top-level-var-declaration .top-level-var-declaration .ensures)
 
-write-text-node-requires : tie.Need-write-text-node-requires
-write-text-node-requires c κs =
+leaf-requires : tie.Need-leaf-requires
+leaf-requires c κs =
     let at-peek = c .before .before .before .before .before .before .before .before .before .before .before .before .before .before in
     let start = at-peek .before .before .before .before .before .before in
-    record { room = omega (arith, (start .pre) .room, at-peek .peek .ensures .pays); part = at-peek .peek .ensures .part }
+    room-token (start .pre) (at-peek .peek .ensures)
 
 same-length-13 : tie.Need-same-length-13
 same-length-13 c =
-    let at-write-text-node = c .before .before in
-    omega (arith, at-write-text-node .write-text-node .kept)
+    let at-leaf = c .before .before in
+    omega (arith, at-leaf .leaf .kept)
 
 returns-5 : tie.Need-returns-5
 returns-5 c =
-    let at-write-text-node = c .before .before in
-    let at-if5 = at-write-text-node .before .before in
+    let at-leaf = c .before .before in
+    let at-if5 = at-leaf .before .before in
     let at-if4 = at-if5 .before .before in
     let at-if3 = at-if4 .before .before in
     let at-if2 = at-if3 .before .before in
@@ -150,7 +150,7 @@ returns-5 c =
     let at-peek = at-if1 .before .before .before in
     let start = at-peek .before .before .before .before .before .before in
     item-assembly (at-peek .peek .ensures) (at-if1 .if1 .left) (at-if2 .if2 .left) (at-if3 .if3 .left)
-    (at-if4 .if4 .left) (start .pre) (at-if5 .if5 .taken) (at-write-text-node .write-text-node .ensures)
+    (at-if4 .if4 .left) (start .pre) (at-if5 .if5 .taken) (at-leaf .leaf .ensures)
 
 entry-requires : tie.Need-entry-requires
 entry-requires c κs =
@@ -213,7 +213,7 @@ top-level-item-spec =
     same-length-11
     same-length-12
     returns-4
-    write-text-node-requires
+    leaf-requires
     same-length-13
     returns-5
     entry-requires

@@ -8,7 +8,7 @@ enum-told c = search needs
 
 returns : tie.Need-returns
 returns c =
-    let start = c .before .before .before .before .before .before in
+    let start = c .before .before .before .before .before in
     close-ended (start .pre) (c .before .match .keys1)
 
 expect-requires : tie.Need-expect-requires
@@ -27,7 +27,7 @@ returns-2 : tie.Need-returns-2
 returns-2 c =
     let at-expect = c .before .before .before .before .before .before in
     let at-match = at-expect .before .before .before .before in
-    let start = at-match .before .before .before .before .before in
+    let start = at-match .before .before .before .before in
     close-refused (start .pre) (at-match .match .keys2) (at-expect .expect .ensures)
     (c .before .match2 .keys1)
 
@@ -41,7 +41,7 @@ returns-3 : tie.Need-returns-3
 returns-3 c =
     let at-expect = c .before .before .before .before .before .before in
     let at-match = at-expect .before .before .before .before in
-    let start = at-match .before .before .before .before .before in
+    let start = at-match .before .before .before .before in
     close-on (start .pre) (at-match .match .keys2) (at-expect .expect .ensures) (c .before .match2 .keys2)
 
 pub close-spec : {M : Type 1} → statement M

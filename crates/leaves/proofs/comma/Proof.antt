@@ -9,14 +9,14 @@ peek-requires c κs = search needs
 returns : tie.Need-returns
 returns c =
     let at-peek = c .before .before in
-    let start = at-peek .before .before .before .before .before in
+    let start = at-peek .before .before .before .before in
     comma-there (start .pre) (at-peek .peek .ensures) (c .if1 .taken)
 
 returns-2 : tie.Need-returns-2
 returns-2 c =
     let at-if1 = c .before .before in
     let at-peek = at-if1 .before .before in
-    let start = at-peek .before .before .before .before .before in
+    let start = at-peek .before .before .before .before in
     comma-close (start .pre) (at-peek .peek .ensures) (at-if1 .if1 .left) (c .if2 .taken)
 
 returns-3 : tie.Need-returns-3
@@ -24,7 +24,7 @@ returns-3 c =
     let at-if2 = c .before .before in
     let at-if1 = at-if2 .before .before in
     let at-peek = at-if1 .before .before in
-    let start = at-peek .before .before .before .before .before in
+    let start = at-peek .before .before .before .before in
     comma-end (start .pre) (at-peek .peek .ensures) (at-if1 .if1 .left) (at-if2 .if2 .left) (c .if3 .taken)
 
 entry-requires : tie.Need-entry-requires
@@ -47,7 +47,7 @@ returns-4 c =
     let at-if2 = at-if3 .before .before in
     let at-if1 = at-if2 .before .before in
     let at-peek = at-if1 .before .before in
-    let start = at-peek .before .before .before .before .before in
+    let start = at-peek .before .before .before .before in
     comma-other (start .pre) (at-peek .peek .ensures) (at-if1 .if1 .left) (at-if2 .if2 .left)
     (at-if3 .if3 .left) (at-entry .entry .ensures) (at-note .note .ensures)
 

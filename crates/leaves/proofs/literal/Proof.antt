@@ -1,4 +1,5 @@
 use Rattle.leaves.proofs.Atoms.{integer-reads, name-reads, string-reads, true-reads, false-reads, end-reads, other-reads}
+use Rattle.steps.proofs.Moves.{room-token}
 use native.Mathlib.Omega.{arith}
 use borrow.Author.Needs.{needs}
 use Rattle.leaves.proofs.literal.Statement.{statement}
@@ -11,7 +12,10 @@ cast-base : tie.Need-cast-base
 cast-base c = search needs
 
 leaf-requires : tie.Need-leaf-requires
-leaf-requires c κs = search needs
+leaf-requires c κs =
+    let at-peek = c .before .before .before .before in
+    let start = at-peek .before .before .before .before .before .before in
+    room-token (start .pre .asked) (at-peek .peek .ensures)
 
 same-length : tie.Need-same-length
 same-length c = search needs
@@ -25,7 +29,10 @@ returns c =
     integer-reads (start .pre) (at-peek .peek .ensures) (at-if1 .if1 .taken) (at-leaf .leaf .ensures)
 
 name-requires : tie.Need-name-requires
-name-requires c κs = search needs
+name-requires c κs =
+    let at-peek = c .before .before .before .before .before in
+    let start = at-peek .before .before .before .before .before .before in
+    room-token (start .pre .asked) (at-peek .peek .ensures)
 
 same-length-2 : tie.Need-same-length-2
 same-length-2 c = search needs
@@ -41,7 +48,10 @@ returns-2 c =
     (at-name .name .ensures)
 
 leaf-requires-2 : tie.Need-leaf-requires-2
-leaf-requires-2 c κs = search needs
+leaf-requires-2 c κs =
+    let at-peek = c .before .before .before .before .before .before .before in
+    let start = at-peek .before .before .before .before .before .before in
+    room-token (start .pre .asked) (at-peek .peek .ensures)
 
 same-length-3 : tie.Need-same-length-3
 same-length-3 c = search needs

@@ -8,7 +8,7 @@ enum-told c = search needs
 
 returns : tie.Need-returns
 returns c =
-    let start = c .before .before .before .before .before in
+    let start = c .before .before .before .before in
     expected-stop (start .pre .0) (c .match .keys2)
 
 expect-requires : tie.Need-expect-requires
@@ -28,7 +28,7 @@ returns-2 c =
     let at-abandon = c .before .before .before in
     let at-expect = at-abandon .before .before .before .before .before .before in
     let at-enum-told = at-expect .before .before .before .before in
-    let start = at-enum-told .before .before .before .before .before .before in
+    let start = at-enum-told .before .before .before .before .before in
     expected-on (start .pre .0) (at-enum-told .enum-told .given .1) (at-expect .expect .ensures)
     (at-abandon .abandon .ensures)
 

@@ -9,7 +9,7 @@ peek-requires c κs = search needs
 returns : tie.Need-returns
 returns c =
     let at-peek = c .before .before in
-    let start = at-peek .before .before .before .before .before in
+    let start = at-peek .before .before .before .before in
     identifier-there (start .pre) (at-peek .peek .ensures) (c .if1 .taken)
 
 entry-requires : tie.Need-entry-requires
@@ -31,7 +31,7 @@ returns-2 c =
     let at-if2 = at-entry .before in
     let at-if1 = at-if2 .before .before in
     let at-peek = at-if1 .before .before in
-    let start = at-peek .before .before .before .before .before in
+    let start = at-peek .before .before .before .before in
     identifier-end (start .pre) (at-peek .peek .ensures) (at-if1 .if1 .left) (at-raise .raise .ensures)
     (at-if2 .if2 .taken) (at-entry .entry .ensures)
 
@@ -54,7 +54,7 @@ returns-3 c =
     let at-if2 = at-entry2 .before in
     let at-if1 = at-if2 .before .before in
     let at-peek = at-if1 .before .before in
-    let start = at-peek .before .before .before .before .before in
+    let start = at-peek .before .before .before .before in
     identifier-other (start .pre) (at-peek .peek .ensures) (at-if1 .if1 .left) (at-raise2 .raise2 .ensures)
     (at-if2 .if2 .left) (at-entry2 .entry2 .ensures)
 

@@ -6,11 +6,11 @@ use Rattle.steps.proofs.peek.Tie as tie
 mul-i : tie.Need-mul-i
 mul-i c = search needs
 
-mul-t8 : tie.Need-mul-t8
-mul-t8 c = search needs
+mul-t7 : tie.Need-mul-t7
+mul-t7 c = search needs
 
-shared-slice-read-t10 : tie.Need-shared-slice-read-t10
-shared-slice-read-t10 c = search needs
+shared-slice-read-t9 : tie.Need-shared-slice-read-t9
+shared-slice-read-t9 c = search needs
 
 add-place-at : tie.Need-add-place-at
 add-place-at c = search needs
@@ -33,7 +33,7 @@ shared-slice-read-place-at-2 c = search needs
 place-at-requires : tie.Need-place-at-requires
 place-at-requires c κs =
     let at-if1 = c .before .before .before in
-    let start = at-if1 .before .before .before in
+    let start = at-if1 .before .before in
     place-sound (start .pre .0) (at-if1 .if1 .taken)
 
 add-wide : tie.Need-add-wide
@@ -72,8 +72,8 @@ shared-slice-read-wide-3 c = search needs
 wide-requires-3 : tie.Need-wide-requires-3
 wide-requires-3 c κs = search needs
 
-add-t35 : tie.Need-add-t35
-add-t35 c = search needs
+add-t34 : tie.Need-add-t34
+add-t34 c = search needs
 
 returns : tie.Need-returns
 returns c =
@@ -82,13 +82,13 @@ returns c =
     let at-wide = at-wide2 .before .before in
     let at-place-at = at-wide .before .before in
     let at-if1 = at-place-at .before .before .before .before in
-    let start = at-if1 .before .before .before in
+    let start = at-if1 .before .before in
     seen-wide _ (start .pre .0) (at-if1 .if1 .taken) (at-place-at .place-at .ensures) (at-wide .wide .ensures)
     (at-wide2 .wide2 .ensures) (c .wide3 .ensures)
 
 returns-2 : tie.Need-returns-2
 returns-2 c =
-    let start = c .before .before .before in
+    let start = c .before .before in
     seen-end (start .pre .1) (c .if1 .left)
 
 pub peek-spec : {M : Type 1} → statement M
@@ -96,8 +96,8 @@ peek-spec =
     tie.close
     (tie.spec
     mul-i
-    mul-t8
-    shared-slice-read-t10
+    mul-t7
+    shared-slice-read-t9
     add-place-at
     mul-place-at
     shared-slice-read-place-at
@@ -117,6 +117,6 @@ peek-spec =
     mul-wide-3
     shared-slice-read-wide-3
     wide-requires-3
-    add-t35
+    add-t34
     returns
     returns-2)

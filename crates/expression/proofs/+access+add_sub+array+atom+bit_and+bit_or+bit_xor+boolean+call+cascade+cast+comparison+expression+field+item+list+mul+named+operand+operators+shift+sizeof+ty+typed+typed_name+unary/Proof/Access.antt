@@ -1,7 +1,7 @@
 -- The needs of `access`.
 use mathlib.Core.Path.{refl}
 use Rattle.definition.specs.Parser as P
-use Rattle.steps.proofs.Moves.{asked-seen}
+use Rattle.steps.proofs.Moves.{asked-seen, room-token}
 use Rattle.expression_laws.specs.Post.{suffixes-on}
 use Rattle.expression_laws.proofs.Joins.{then-asked, goes-on, goes-stops, join-cuts, turn-on}
 use Rattle.expression_laws.proofs.Turns.{GoesTurned, at-start, one-turn}
@@ -196,15 +196,7 @@ module _ (t : ℕ) where
       let at-peek2 = c .before .before .before .before .before in
       let at-peek = at-peek2 .before .before .before in
       let at-loop = at-peek .before .before .before .before in
-      record {
-        room = omega (
-          arith,
-          at-loop .loop .inv .0 .asked .room,
-          at-peek .peek .ensures .pays,
-          at-peek2 .peek2 .ensures .pays,
-        );
-        part = at-peek2 .peek2 .ensures .part;
-      }
+      room-token (asked-seen (at-loop .loop .inv .0 .asked) (at-peek .peek .ensures)) (at-peek2 .peek2 .ensures)
 
   pub loop-less : lts.Need-loop-less given (access-at t) access.Post Inv-loop μ-loop
   loop-less c =

@@ -36,7 +36,7 @@ module _ (t : ℕ) where
       let at-if1 = c .before .before .before in
       let at-peek = at-if1 .before .before in
       let start = at-peek .before .before .before .before .before .before in
-      record { asked = start .pre .1; bare = λ e. at-if1 .if1 .taken (sym (at-peek .peek .ensures .kind) ∙ e) }
+      record { asked = start .pre .1; bare = λ e. at-if1 .if1 .taken (sym (at-peek .peek .ensures .kind _) ∙ e) }
 
   pub same-length : lts.Need-same-length given (atom-at t) atom.Post
   same-length c =

@@ -318,7 +318,7 @@ module _ (t : ℕ) where
       omega (
         arith,
         at-loop .loop .inv .0 .0 .asks .at,
-        at-peek .peek .ensures .kind,
+        at-peek .peek .ensures .present,
         at-if1 .if1 .left,
         at-item .item .ensures .on,
         at-item .item .ensures .moved,

@@ -1,4 +1,5 @@
 -- The needs of `operand`.
+use Rattle.steps.proofs.Moves.{room-token}
 use Rattle.expression_laws.proofs.Operands.{name-operand}
 use borrow.Author.Needs.{needs}
 use native.Mathlib.Omega.{arith}
@@ -66,7 +67,7 @@ module _ (t : ℕ) where
   name-requires c κs =
       let at-peek = c .before .before .before .before in
       let start = at-peek .before .before .before .before .before .before in
-      record { room = omega (arith, start .pre .1 .room, at-peek .peek .ensures .pays); part = at-peek .peek .ensures .part }
+      room-token (start .pre .1) (at-peek .peek .ensures)
 
   pub same-length-4 : lts.Need-same-length-4 given (operand-at t) operand.Post
   same-length-4 c =

@@ -1,6 +1,6 @@
 -- The needs of `ty`.
-use Rattle.steps.proofs.Moves.{asked-seen}
-use Rattle.expression_laws.proofs.Types.{type-deep, type-name, type-star, type-array, type-struct, type-end, type-other, room-token, star-room, struct-room, raise-asked, array-asked}
+use Rattle.steps.proofs.Moves.{asked-seen, room-token}
+use Rattle.expression_laws.proofs.Types.{type-deep, type-name, type-star, type-array, type-struct, type-end, type-other, star-room, struct-room, raise-asked, array-asked}
 use borrow.Author.Needs.{needs}
 use native.Mathlib.Omega.{arith}
 use Prim.Native.Nat.{ℕ}

@@ -8,20 +8,20 @@ use Rattle.items.proofs.others.modifiers.Tie as tie
 
 -- the invariant: what the loop ensures from here, it ensures from its start
 abbrev Inv-loop : tie.InvT-loop
-Inv-loop w x n from d₀ i₀ at₀ d i at =
-    ((at ≤ n) × ((d ≤ 1) × (i ≤ 2))) × ((m : AliasWords) → Modified w x n d i at m → Modified w x n 0 0 from m)
+Inv-loop w n from d₀ i₀ at₀ d i at =
+    ((at ≤ n) × ((d ≤ 1) × (i ≤ 2))) × ((m : AliasWords) → Modified w n d i at m → Modified w n 0 0 from m)
 
 abbrev μ-loop : tie.MeasureT-loop
-μ-loop w x n from d₀ i₀ at₀ d i at = n - at
+μ-loop w n from d₀ i₀ at₀ d i at = n - at
 
 loop-holds : tie.Need-loop-holds Inv-loop μ-loop
 loop-holds c =
-    let start = c .before .before in
+    let start = c .before in
     ((start .pre .1, (omega arith, omega arith)), λ m g. g)
 
 peek-requires : tie.Need-peek-requires Inv-loop μ-loop
 peek-requires c κs =
-    let start = c .before .before .before in
+    let start = c .before .before in
     (start .pre .0, c .loop .inv .0 .0)
 
 loop-less : tie.Need-loop-less Inv-loop μ-loop
@@ -54,8 +54,8 @@ loop-again-2 c =
           (modifiers-internal (at-peek .peek .ensures) (at-if1 .if1 .left) (c .if2 .taken) g),
     )
 
-add-t10 : tie.Need-add-t10 Inv-loop μ-loop
-add-t10 c =
+add-t9 : tie.Need-add-t9 Inv-loop μ-loop
+add-t9 c =
     let at-loop = c .before .before .before .before .before in
     omega (arith, at-loop .loop .inv .0)
 
@@ -79,5 +79,5 @@ modifiers-spec =
     loop-again
     loop-less-2
     loop-again-2
-    add-t10
+    add-t9
     returns)

@@ -162,7 +162,7 @@ module _ (t : ℕ) where
       omega (
         arith,
         at-loop .loop .inv .0 .0 .asks .at,
-        at-peek .peek .ensures .kind,
+        at-peek .peek .ensures .present,
         at-if2 .if2 .left,
         at-statement .statement .ensures .on,
         at-statement .statement .ensures .moved,

@@ -2,7 +2,7 @@
 use mathlib.Core.Path.{refl}
 use Rattle.steps.proofs.Moves.{asked-seen, fore-moved, moved-trans}
 use Rattle.expression_laws.proofs.Joins.{room-at}
-use Rattle.statement.proofs.Statements.{if-stops, if-two, if-three, later-cuts, later-asked, later-room}
+use Rattle.statement.proofs.Statements.{starts-kind, if-stops, if-two, if-three, later-cuts, later-asked, later-room}
 use borrow.Author.Needs.{needs}
 use native.Mathlib.Omega.{arith}
 use Prim.Native.Nat.{ℕ}
@@ -42,8 +42,7 @@ module _ (t : ℕ) where
         omega (
           arith,
           start .pre .0,
-          start .pre .1 .kind,
-          at-peek .peek .ensures .kind,
+          starts-kind (start .pre .1) (at-peek .peek .ensures),
           at-peek .peek .ensures .on,
           at-peek .peek .ensures .end,
         ),
@@ -130,8 +129,7 @@ module _ (t : ℕ) where
         omega (
           arith,
           start .pre .0,
-          start .pre .1 .kind,
-          at-peek .peek .ensures .kind,
+          starts-kind (start .pre .1) (at-peek .peek .ensures),
           at-peek .peek .ensures .on,
           at-guarded .guarded .ensures .moved .at,
           at-peek2 .peek2 .ensures .up,

@@ -1,7 +1,7 @@
 -- The needs of `loop_statement`.
 use Rattle.steps.proofs.Moves.{asked-seen, fore-moved, moved-trans}
 use Rattle.expression_laws.proofs.Joins.{room-at}
-use Rattle.statement.proofs.Statements.{loop-reads}
+use Rattle.statement.proofs.Statements.{starts-kind, loop-reads}
 use native.Mathlib.Omega.{arith}
 use Prim.Native.Nat.{ℕ}
 use Rattle.statement.proofs.+block+body+body_rest+guarded+if_statement+loop_statement+statement+statement_rule+while_statement.Lts-loop_statement as lts
@@ -27,8 +27,7 @@ module _ (t : ℕ) where
         omega (
           arith,
           start .pre .0,
-          start .pre .1 .kind,
-          at-peek .peek .ensures .kind,
+          starts-kind (start .pre .1) (at-peek .peek .ensures),
           at-peek .peek .ensures .on,
           at-peek .peek .ensures .end,
         ),

@@ -1,6 +1,7 @@
 -- The needs of `statement_rule`.
+use Rattle.steps.proofs.Moves.{room-token}
 use Rattle.expression_laws.proofs.Types.{raise-asked}
-use Rattle.statement.proofs.Statements.{begins, end-reads, other-reads}
+use Rattle.statement.proofs.Statements.{begins, assembly-reads, end-reads, other-reads}
 use native.Mathlib.Omega.{arith}
 use Prim.Native.Nat.{ℕ}
 use Rattle.statement.proofs.+block+body+body_rest+guarded+if_statement+loop_statement+statement+statement_rule+while_statement.Lts-statement_rule as lts
@@ -11,7 +12,7 @@ use Rattle.statement.proofs.statement_rule.Reads as statement-rule
 use Rattle.statement.proofs.while_statement.Reads as while-statement
 use Rattle.fallible.proofs.entry.Reads as entry-reads
 use Rattle.fallible.proofs.raise.Reads as raise-reads
-use Rattle.statement.proofs.simple.assembly_statement.Reads as assembly-statement-reads
+use Rattle.leaves.proofs.leaf.Reads as leaf-reads
 use Rattle.statement.proofs.simple.break_statement.Reads as break-statement-reads
 use Rattle.statement.proofs.simple.expression_statement.Reads as expression-statement-reads
 use Rattle.statement.proofs.simple.return_statement.Reads as return-statement-reads
@@ -38,8 +39,8 @@ module _ (t : ℕ) where
     break-statement-reads.Learnt,
     if-statement-below t,
     if-statement.Post,
-    assembly-statement-reads.Asked,
-    assembly-statement-reads.Learnt,
+    leaf-reads.Asked,
+    leaf-reads.Learnt,
     entry-reads.Asked,
     entry-reads.Learnt,
     raise-reads.Asked,
@@ -242,32 +243,25 @@ module _ (t : ℕ) where
       let at-if-statement = c .before .before .before .before .before .before in
       at-if-statement .if-statement .ensures
 
-  pub assembly-statement-requires : lts.Need-assembly-statement-requires given (statement-rule-at t) statement-rule.Post
-  assembly-statement-requires c κs =
-      let at-if8 = c .before .before .before in
-      let at-peek = at-if8 .before .before .before .before .before .before .before .before .before .before .before .before .before .before .before .before in
+  pub leaf-requires : lts.Need-leaf-requires given (statement-rule-at t) statement-rule.Post
+  leaf-requires c κs =
+      let at-peek = c .before .before .before .before .before .before .before .before .before .before .before .before .before .before .before .before .before in
       let start = at-peek .before .before .before .before .before .before in
-      begins (start .pre .1) (at-peek .peek .ensures) (at-if8 .if8 .taken)
+      room-token (start .pre .1) (at-peek .peek .ensures)
 
   pub same-length-22 : lts.Need-same-length-22 given (statement-rule-at t) statement-rule.Post
   same-length-22 c =
-      let at-assembly-statement = c .before .before .before .before .before .before in
-      omega (arith, at-assembly-statement .assembly-statement .kept)
-
-  pub same-length-23 : lts.Need-same-length-23 given (statement-rule-at t) statement-rule.Post
-  same-length-23 c =
-      let at-assembly-statement = c .before .before .before .before .before .before in
-      omega (arith, at-assembly-statement .assembly-statement .kept)
-
-  pub same-length-24 : lts.Need-same-length-24 given (statement-rule-at t) statement-rule.Post
-  same-length-24 c =
-      let at-assembly-statement = c .before .before .before .before .before .before in
-      omega (arith, at-assembly-statement .assembly-statement .kept)
+      let at-leaf = c .before .before in
+      omega (arith, at-leaf .leaf .kept)
 
   pub returns-8 : lts.Need-returns-8 given (statement-rule-at t) statement-rule.Post
   returns-8 c =
-      let at-assembly-statement = c .before .before .before .before .before .before in
-      at-assembly-statement .assembly-statement .ensures _
+      let at-leaf = c .before .before in
+      let at-if8 = at-leaf .before .before in
+      let at-peek = at-if8 .before .before .before .before .before .before .before .before .before .before .before .before .before .before .before .before in
+      let start = at-peek .before .before .before .before .before .before in
+      assembly-reads (at-peek .peek .ensures) (start .pre .1) (at-if8 .if8 .taken)
+      (at-leaf .leaf .ensures)
 
   pub entry-requires : lts.Need-entry-requires given (statement-rule-at t) statement-rule.Post
   entry-requires c κs = omega arith
@@ -277,13 +271,13 @@ module _ (t : ℕ) where
       let start = c .before .before .before .before .before .before .before .before .before .before .before .before .before .before .before .before .before .before .before .before .before .before .before .before .before .before .before in
       raise-asked (start .pre .1)
 
-  pub same-length-25 : lts.Need-same-length-25 given (statement-rule-at t) statement-rule.Post
-  same-length-25 c =
+  pub same-length-23 : lts.Need-same-length-23 given (statement-rule-at t) statement-rule.Post
+  same-length-23 c =
       let at-raise = c .before .before .before .before in
       omega (arith, at-raise .raise .kept)
 
-  pub same-length-26 : lts.Need-same-length-26 given (statement-rule-at t) statement-rule.Post
-  same-length-26 c =
+  pub same-length-24 : lts.Need-same-length-24 given (statement-rule-at t) statement-rule.Post
+  same-length-24 c =
       let at-raise = c .before .before .before .before in
       omega (arith, at-raise .raise .kept)
 
@@ -311,18 +305,18 @@ module _ (t : ℕ) where
       let start = c .before .before .before .before .before .before .before .before .before .before .before .before .before .before .before .before .before .before .before .before .before .before .before .before .before .before .before in
       start .pre .1
 
+  pub same-length-25 : lts.Need-same-length-25 given (statement-rule-at t) statement-rule.Post
+  same-length-25 c =
+      let at-expression-statement = c .before .before .before .before .before .before in
+      omega (arith, at-expression-statement .expression-statement .kept)
+
+  pub same-length-26 : lts.Need-same-length-26 given (statement-rule-at t) statement-rule.Post
+  same-length-26 c =
+      let at-expression-statement = c .before .before .before .before .before .before in
+      omega (arith, at-expression-statement .expression-statement .kept)
+
   pub same-length-27 : lts.Need-same-length-27 given (statement-rule-at t) statement-rule.Post
   same-length-27 c =
-      let at-expression-statement = c .before .before .before .before .before .before in
-      omega (arith, at-expression-statement .expression-statement .kept)
-
-  pub same-length-28 : lts.Need-same-length-28 given (statement-rule-at t) statement-rule.Post
-  same-length-28 c =
-      let at-expression-statement = c .before .before .before .before .before .before in
-      omega (arith, at-expression-statement .expression-statement .kept)
-
-  pub same-length-29 : lts.Need-same-length-29 given (statement-rule-at t) statement-rule.Post
-  same-length-29 c =
       let at-expression-statement = c .before .before .before .before .before .before in
       omega (arith, at-expression-statement .expression-statement .kept)
 

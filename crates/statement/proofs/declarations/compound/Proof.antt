@@ -79,7 +79,7 @@ values-requires c κs =
     record {
       asked = asked-moved (start .pre) (at-expect .expect .ensures .moved) refl
           (omega (arith, at-expect .expect .kept)) (omega (arith, at-expect .expect .kept));
-      kind = at-peek .peek .ensures .kind ∙ at-if2 .if2 .taken;
+      kind = at-peek .peek .ensures .kind _ ∙ at-if2 .if2 .taken;
     }
 
 same-length-5 : tie.Need-same-length-5
@@ -119,7 +119,7 @@ values-requires-2 c κs =
     record {
       asked = asked-moved (start .pre) (at-expect .expect .ensures .moved) refl
           (omega (arith, at-expect .expect .kept)) (omega (arith, at-expect .expect .kept));
-      kind = at-peek .peek .ensures .kind ∙ at-if3 .if3 .taken;
+      kind = at-peek .peek .ensures .kind _ ∙ at-if3 .if3 .taken;
     }
 
 same-length-8 : tie.Need-same-length-8

@@ -34,7 +34,8 @@ returns-2 c =
     let at-if1 = at-write-text-node .before .before in
     let at-peek = at-if1 .before .before in
     let at-enum-told = at-peek .before in
-    named-there (at-enum-told .enum-told .given .1) (at-peek .peek .ensures) (at-if1 .if1 .taken)
+    let start = at-enum-told .before .before .before .before .before in
+    named-there (at-enum-told .enum-told .given .1) (at-peek .peek .ensures) (start .pre .parts) (at-if1 .if1 .taken)
     (at-write-text-node .write-text-node .ensures)
 
 slice-aggregate-write-text-node : tie.Need-slice-aggregate-write-text-node

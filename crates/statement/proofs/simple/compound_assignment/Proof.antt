@@ -1,6 +1,6 @@
+use Rattle.statement.proofs.Statements.{starts-kind}
 use Rattle.statement.proofs.Assigned.{compound-after, assigned-cuts, assigned-asks, assigned-room}
 use Rattle.steps.proofs.Moves.{asked-seen}
-use mathlib.Core.Path.{sym, _∙_}
 use native.Mathlib.Omega.{arith}
 use Rattle.statement.proofs.simple.compound_assignment.Statement.{statement}
 use Rattle.statement.proofs.simple.compound_assignment.Tie as tie
@@ -100,7 +100,7 @@ returns c =
     let at-peek = at-compound .before .before .before .before in
     let start = at-peek .before .before .before .before .before .before in
     compound-after (start .pre .0 .asked) (start .pre .1 .0) (at-peek .peek .ensures)
-    (sym (at-peek .peek .ensures .kind) ∙ start .pre .0 .kind) (at-compound .compound .ensures)
+    (starts-kind (start .pre .0) (at-peek .peek .ensures)) (at-compound .compound .ensures)
     (rw (start .pre .1 .1) at (at-abandon .abandon .ensures)) (omega (arith, at-abandon .abandon .kept, at-compound .compound .kept))
     (omega (arith, at-compound .compound .kept)) (rw (start .pre .1 .1) at (at-and-expect .and-expect .ensures))
     (at-write-node .write-node .ensures)
