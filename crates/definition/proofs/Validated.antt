@@ -9,6 +9,7 @@ use native.Mathlib.Omega.{arith}
 use borrow.Author.Tests.{leb-true, eqb-true}
 use lib.Dec.{eqb, leb}
 use lib.ListN.{length}
+use Rattle.definition.specs.Kind as K
 use Rattle.definition.specs.Choice.{pick}
 use Rattle.definition.specs.Classes.{between}
 use Rattle.definition.specs.Source.{Place, nowhere}
@@ -40,7 +41,7 @@ pub record Fits (X : List ℕ) (w : TokenWords) : Type 0 where
 pub fits : (X : List ℕ) (w : TokenWords) → valid-alone X w ≡ true → Fits X w
 unfolding valid-alone
 fits X w g =
-    let k = between 1 54 (w .kind) in
+    let k = between K.Identifier K.InlineAssemblyFragment (w .kind) in
     let l = between 1 16384 (w .line) in
     let c = between 1 16384 (w .column) in
     let b = base-fits (w .kind) (w .base) in

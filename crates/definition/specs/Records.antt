@@ -77,7 +77,8 @@ text-fits text w = leb (w .start + w .size) 16384 && leb (w .start + w .size) (l
 unfoldable pub valid-alone : List ℕ → TokenWords → Bool
 unfolding utf8 all-digits
 valid-alone text w =
-    between 1 54 (w .kind) && between 1 16384 (w .line) && between 1 16384 (w .column) && base-fits (w .kind) (w .base) && eqb (w .seventh) 0 && eqb (w .eighth) 0
+    between K.Identifier K.InlineAssemblyFragment (w .kind) && between 1 16384 (w .line) && between 1 16384 (w .column)
+    && base-fits (w .kind) (w .base) && eqb (w .seventh) 0 && eqb (w .eighth) 0
     && pick (has-text (w .kind)) (text-fits text w) (eqb (w .start) 0 && eqb (w .size) 0)
     && pick (eqb (w .kind) K.Integer) (integer-text (w .base) (part text w)) true
 

@@ -4,6 +4,7 @@ use mathlib.Core.List.{List}
 use Prim.Native.Nat.{ℕ, _-_}
 use lib.Dec.{eqb, leb}
 use lib.ListN.{length, take, drop}
+use Rattle.definition.specs.Kind as K
 use Rattle.definition.specs.Classes.{between}
 use Rattle.definition.specs.Source.{utf8}
 use Rattle.definition.specs.Records.{TokenWords, base-fits}
@@ -11,7 +12,8 @@ use Rattle.token_records.specs.declared.Words.{Words}
 
 -- all words but the start and length of the text
 abbrev pub fields-fit : ℕ → ℕ → ℕ → ℕ → ℕ → ℕ → Bool
-fields-fit k line column base seventh eighth = between 1 54 k && between 1 16384 line && between 1 16384 column && base-fits k base && eqb seventh 0 && eqb eighth 0
+fields-fit k line column base seventh eighth =
+    between K.Identifier K.InlineAssemblyFragment k && between 1 16384 line && between 1 16384 column && base-fits k base && eqb seventh 0 && eqb eighth 0
 
 -- the part of the text slice from start to end
 abbrev pub part-fits : List ℕ → ℕ → ℕ → Bool
