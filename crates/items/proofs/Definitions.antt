@@ -39,7 +39,7 @@ use Rattle.expression_laws.proofs.Calls.{rebased, expect-seam}
 use Rattle.statement.specs.Post.{up, ReadsBody}
 use Rattle.items.specs.Rules.{return-rule, signed, signature-rule, function-on}
 use Rattle.items.specs.Items.{ReadsSignature, FunctionAsked, FunctionOn}
-use Rattle.items.proofs.Orders.{answered, expected-line, turned, real}
+use Rattle.items.proofs.Orders.{answered, expected-count, turned, real}
 
 -- ---- `external_function`
 
@@ -91,7 +91,7 @@ module _ {w x : List ℕ} {n name i j : ℕ} {o r f : List ℕ} {a : Answer} (q 
               say (outside-seam d (unpack-place place) (next-token (rest w x n name)) p
               ∙ expect-seam d plain 50 (outside (unpack-place place) (next-token (rest w x n name))) p)
               (writes-node d (λ _. unpack-place place) (λ i. byte 1 ∷ two (i .count) ∷ [])
-              (next-token (rest w x n name) .text) F (λ k h. rw (h, expected-line X, u .text))
+              (next-token (rest w x n name) .text) F (λ k h. rw (h, expected-count X, u .text))
               (expects-after external-follows X plain d li lj v));
         }
 

@@ -47,10 +47,10 @@ still {r} {r′} {i} {j} {k} {b} {c} v z = one (b .status) (v .is)
     one Fatal m = let y : done-of (c .status) ≡ 0 = rw (m .status) in let u : done-of (c .status) ≡ 1 = rw z in absurd (omega (arith, y, u))
     one (Refused n) m = m .0
 
--- `expect` after an answer keeps its place
-pub expected-line : {w : List ℕ} {n k i j : ℕ} {r f r′ f′ : List ℕ} {a y : Answer} → Expected w n k i j r f a r′ f′ y
+-- `expect` after an answer keeps its count
+pub expected-count : {w : List ℕ} {n k i j : ℕ} {r f r′ f′ : List ℕ} {a y : Answer} → Expected w n k i j r f a r′ f′ y
     → y .count ≡ a .count
-expected-line {w} {n} {k} {i} {j} {r} {f} {r′} {f′} {a} {y} v = one (a .status) (v .is)
+expected-count {w} {n} {k} {i} {j} {r} {f} {r′} {f′} {a} {y} v = one (a .status) (v .is)
   where
     one : (h : Status) → ExpectedOf h w n k i j r f a r′ f′ y → y .count ≡ a .count
     one Done m = rw (m .is)
