@@ -6,13 +6,15 @@ use mathlib.Core.Option.{Option, none, some}
 use mathlib.Core.List.{List, [], _∷_, _++_, map}
 use Prim.Native.Nat.{ℕ, suc, _+_, _<_, _≤_, pred}
 use native.Mathlib.Omega.{arith}
-use borrow.Author.Tests.{lt-ltb, leb-true}
+use borrow.Author.Tests.{lt-ltb}
 use lib.Dec.{eqb, leb}
 use lib.ListN.{length, length-append, take, drop}
 use lib.Seq.{append-snoc, take-append-seam, drop-append-seam, drop-drop}
 use Rattle.definition.specs.Choice.{pick}
-use Rattle.definition.specs.Source.{Place, At, Ch, Lead, single, with-more, wrong, lead, char-at, past, place-at, Pending, fresh, within, and-then, decode, start, characters, is-some, utf8}
-use Rattle.definition.proofs.Tests.{left-true, All}
+use Rattle.definition.specs.Classes.{between}
+use Rattle.definition.specs.Source.{Place, At, Ch, Lead, single, with-more, wrong, lead, char-at, past, place-at, Pending, fresh, within, and-then, decode, start, characters, code, is-some, utf8}
+use Rattle.definition.specs.Understood.{encode}
+use Rattle.definition.proofs.Tests.{between-bounds, All}
 use Rattle.definition.proofs.Codes.{Coded, coded-single, Completes, completes-end, completes-more, LeadCompletes, lead-completes}
 
 -- ---- the bytes of a character
@@ -57,7 +59,7 @@ Reached w = (p : At) (bs : List ℕ) → decode fresh p (held w ++ bs) ≡ decod
 -- whatever bytes complete it, its number will be as its first byte says
 abbrev Going : Pending → Type 0
 Going fresh = Unit {0}
-Going (within l m n lo hi) = Completes l m n lo
+Going (within l m n lo hi) = Completes l m n lo hi
 
 spelt-char : (p : At) (c : Ch) (bs rest : List ℕ) (o : Option (List Ch)) → bs ≡ spelling c ++ rest → Sound c
     → SpeltOf (beyond p c) rest o → SpeltOf p bs (and-then (at p c) o)
@@ -78,7 +80,7 @@ spelt-from (b ∷ bs) fresh p r g =
         [ single ↦ and-then (char-at p b []) (decode fresh (past p b []) bs) | with-more n lo hi ↦ decode (within b [] n lo hi) p bs | wrong ↦ none ])
     go single e i f s =
         spelt-char p (char-at p b []) (b ∷ bs) bs (decode fresh (past p b []) bs) refl
-        (λ q cs. rw (decode, e), coded-single b) s
+        (λ q cs. rw (decode, e), coded-single b i) s
     go (with-more n lo hi) e i f s = f (within b [] n lo hi) (λ q cs. rw (decode, e)) i
     go wrong e i f s = tt
 spelt-from (b ∷ bs) (within l m n lo hi) p r g =
@@ -93,11 +95,11 @@ spelt-from (b ∷ bs) (within l m n lo hi) p r g =
     more : (bs′ : List ℕ) → (l ∷ m ++ (b ∷ [])) ++ bs′ ≡ (l ∷ m) ++ (b ∷ bs′)
     more bs′ = ap (λ (x : List ℕ). l ∷ x) (append-snoc m b bs′)
 
-    least : leb lo b && leb b hi ≡ true → lo ≤ b
-    least e = leb-true lo b (left-true (leb lo b) (leb b hi) e)
+    bounds : between lo hi b ≡ true → (lo ≤ b) × (b ≤ hi)
+    bounds = between-bounds lo hi b
 
     go : (x : Bool) → leb lo b && leb b hi ≡ x → (y : Bool) → leb n 1 ≡ y
-        → (Reached (within l (m ++ (b ∷ [])) (pred n) 0x80 0xBF) → Completes l (m ++ (b ∷ [])) (pred n) 0x80
+        → (Reached (within l (m ++ (b ∷ [])) (pred n) 0x80 0xBF) → Completes l (m ++ (b ∷ [])) (pred n) 0x80 0xBF
         → SpeltOf p ((l ∷ m ++ (b ∷ [])) ++ bs) (decode (within l (m ++ (b ∷ [])) (pred n) 0x80 0xBF) p bs))
         → SpeltOf (beyond p c) bs (decode fresh (beyond p c) bs)
         → SpeltOf p ((l ∷ m) ++ (b ∷ bs)) (elim x as (λ _. Option (List Ch)) [
@@ -106,13 +108,15 @@ spelt-from (b ∷ bs) (within l m n lo hi) p r g =
           | false ↦ none
         ])
     go true e true d f s =
-        spelt-char p c ((l ∷ m) ++ (b ∷ bs)) bs (decode fresh (beyond p c) bs) (sym (more bs))
-        (λ q bs′. ap (decode fresh q) (more bs′) ∙ r q (b ∷ bs′) ∙ rw (decode, e, d), completes-end l m n lo b g (least e) d)
+        spelt-char p c ((l ∷ m) ++ (b ∷ bs)) bs (decode fresh (beyond p c) bs) (sym (more bs)) (
+          λ q bs′. ap (decode fresh q) (more bs′) ∙ r q (b ∷ bs′) ∙ rw (decode, e, d),
+          completes-end l m n lo hi b g (bounds e .0) (bounds e .1) d,
+        )
         s
     go true e false d f s =
         subst (λ (x : List ℕ). SpeltOf p x (decode (within l (m ++ (b ∷ [])) (pred n) 0x80 0xBF) p bs))
         (more bs) (f (λ q bs′. ap (decode fresh q) (more bs′) ∙ r q (b ∷ bs′) ∙ rw (decode, e, d))
-        (completes-more l m n lo b g (least e) d))
+        (completes-more l m n lo hi b g (bounds e .0) (bounds e .1) d))
     go false e y d f s = tt
 
 spelt-at : (p : At) (bs : List ℕ) (cs : List Ch) → decode fresh p bs ≡ some cs → Spelt p bs cs
@@ -130,6 +134,19 @@ spelt-coded (c ∷ cs) p bs s = (s .3 .1, spelt-coded cs (beyond p c) (s .0) (s 
 -- each character that the decoder gives is coded
 pub decode-coded : (p : At) (bs : List ℕ) (cs : List Ch) → decode fresh p bs ≡ some cs → All Coded cs
 decode-coded p bs cs e = spelt-coded cs p bs (spelt-at p bs cs e)
+
+-- the bytes of characters, by their numbers
+abbrev pub encode-all : List Ch → List ℕ
+encode-all [] = []
+encode-all (c ∷ cs) = encode (code c) ++ encode-all cs
+
+spelt-encoded : (cs : List Ch) (p : At) (bs : List ℕ) → Spelt p bs cs → encode-all cs ≡ bs
+spelt-encoded [] p bs s = sym s
+spelt-encoded (c ∷ cs) p bs s = ap₂ _++_ (s .3 .1 .bytes) (spelt-encoded cs (beyond p c) (s .0) (s .4)) ∙ sym (s .2)
+
+-- the numbers of a script's characters give its bytes back
+pub encoded : (bs : List ℕ) (cs : List Ch) → characters bs ≡ some cs → encode-all cs ≡ bs
+encoded bs cs e = spelt-encoded cs start bs (spelt bs cs e)
 
 -- ---- UTF-8 at any place
 

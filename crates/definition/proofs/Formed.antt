@@ -40,7 +40,7 @@ pub record Formed (t : Tok) : Type 0 where
 pub record Plain (k : ℕ) : Type 0 where
   pub plain : eqb k 0 || between 4 53 k ≡ true
 
-plain-bounds : (k : ℕ) → Plain k → 0 < k → (4 ≤ k) × (k ≤ 53)
+pub plain-bounds : (k : ℕ) → Plain k → 0 < k → (4 ≤ k) × (k ≤ 53)
 plain-bounds k p h = either-true (eqb k 0) (between 4 53 k) (λ e. absurd (omega (arith, eqb-true k 0 e))) (between-bounds 4 53 k) (p .plain)
 
 plain-number : (k : ℕ) → eqb k 0 || between 4 53 k ≡ true → Plain k

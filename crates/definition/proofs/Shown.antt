@@ -7,7 +7,7 @@ use native.Mathlib.Omega.{arith}
 use lib.Dec.{eqb, ltb, T, eqb-refl, ltb→lt}
 use Rattle.definition.specs.Choice.{pick}
 use Rattle.definition.specs.Kind as K
-use Rattle.definition.specs.Source.{Place}
+use Rattle.definition.specs.Source.{Place, same-place}
 use Rattle.definition.specs.Node.{Rec}
 use Rattle.definition.specs.Fallible.{Err, Fallible, ok}
 use Rattle.definition.specs.Token.{Tok, next-token, tail, _is_, end-token, number}
@@ -17,7 +17,7 @@ use Rattle.definition.proofs.Tests.{passed, is-kind}
 use Rattle.definition.proofs.Strip.{Norm, symbol, named, integer, sized, is-named, norm, strip}
 use Rattle.definition.specs.Demand.{is-modifier}
 use Rattle.definition.proofs.Later.{Later, toks}
-use Rattle.definition.proofs.Unparse.{Entry, entry, Gathered, gathered, gather, unparse, unparse-append, step, same-place, sym1, extend, gather-one-more}
+use Rattle.definition.proofs.Unparse.{Entry, entry, Gathered, gathered, gather, unparse, unparse-append, step, sym1, extend, gather-one-more}
 
 -- ---- places: no two tokens left have the same place
 

@@ -1,16 +1,17 @@
--- Laws about `&&`, `||`, `between`, the kind of a token, a choice by a test, and predicates on all entries of a list.
--- Assumes nothing.
+-- Laws about `&&`, `||`, `between`, the kind of a token, a choice by a test, predicates on all entries of a list, and
+-- tests of all entries or of all numbers below a bound. Assumes nothing.
 -- The first two imports are only checked: if a definition is misread, they fail before any proof.
 use Rattle.definition.specs.Table.{holds}
 use Rattle.definition.proofs.Readings.{unsorted}
-use mathlib.Core.Path.{_≡_, refl}
+use mathlib.Core.Path.{_≡_, refl, sym, subst}
 use mathlib.Core.Bool.{Bool, true, false, _&&_, _||_}
 use mathlib.Core.List.{List, [], _∷_, _++_}
+use mathlib.Core.Option.{some}
 use Prim.Native.Nat.{ℕ, zero, suc, _≤_, _<_}
 use native.Mathlib.Omega.{arith}
-use borrow.Author.Tests.{leb-true, le-leb, eqb-true}
+use borrow.Author.Tests.{leb-true, le-leb, eqb-true, eqb-false}
 use lib.Dec.{eqb, leb, T}
-use lib.ListN.{replicate}
+use lib.ListN.{drop, getElem?, getD, replicate}
 use Rattle.definition.specs.Choice.{pick}
 use Rattle.definition.specs.Classes.{between}
 use Rattle.definition.specs.Token.{Tok, _is_}
@@ -98,3 +99,68 @@ all-replicate P (suc n) x p = (p, all-replicate P n x p)
 pub all-map : {A : Type 0} (P Q : A → Type 0) → ((x : A) → P x → Q x) → (xs : List A) → All P xs → All Q xs
 all-map P Q f [] a = tt
 all-map P Q f (x ∷ xs) a = (f x (a .0), all-map P Q f xs (a .1))
+
+-- an entry of a list
+pub data _∈_ {A : Type 0} (x : A) : List A → Type 0 where
+  here : {xs : List A} → x ∈ (x ∷ xs)
+  there : {y : A} {xs : List A} → x ∈ xs → x ∈ (y ∷ xs)
+
+infix 50 _∈_
+pub all-in : {A : Type 0} (P : A → Type 0) (x : A) (xs : List A) → All P xs → x ∈ xs → P x
+all-in P x xs a here = a .0
+all-in P x xs a (there m) = all-in P x _ (a .1) m
+
+pub in-drop : {A : Type 0} {x : A} (n : ℕ) (xs : List A) → x ∈ drop n xs → x ∈ xs
+in-drop zero xs m = m
+in-drop (suc n) [] m = m
+in-drop (suc n) (y ∷ ys) m = there (in-drop n ys m)
+
+-- the entry at a position
+pub all-at : {A : Type 0} (P : A → Type 0) (xs : List A) (i : ℕ) (x : A) → All P xs → getElem? xs i ≡ some x → P x
+all-at P [] i x a e = absurd (let z : _≡_ {A = ℕ} 0 1 = cc in omega arith)
+all-at P (y ∷ ys) zero x a e = let q : y ≡ x = cc in subst P q (a .0)
+all-at P (y ∷ ys) (suc i) x a e = all-at P ys i x (a .1) e
+
+-- ---- tests that are computed
+
+-- of all entries of a list
+abbrev pub each : {A : Type 0} → (A → Bool) → List A → Bool
+each f [] = true
+each f (x ∷ xs) = f x && each f xs
+
+pub each-getD : {A : Type 0} (f : A → Bool) (xs : List A) (i : ℕ) (d : A) → each f xs ≡ true → f d ≡ true
+    → f (getD xs i d) ≡ true
+each-getD f [] i d e h = h
+each-getD f (x ∷ xs) zero d e h = left-true (f x) (each f xs) e
+each-getD f (x ∷ xs) (suc i) d e h = each-getD f xs i d (right-true (f x) (each f xs) e) h
+
+-- of a number: whether it is in a list
+abbrev pub is-in : ℕ → List ℕ → Bool
+is-in n [] = false
+is-in n (x ∷ xs) = eqb n x || is-in n xs
+
+pub is-in-all : (P : ℕ → Type 0) (n : ℕ) (xs : List ℕ) → is-in n xs ≡ true → All P xs → P n
+is-in-all P n [] e a = clash (sym e)
+is-in-all P n (x ∷ xs) e a =
+    either-true (eqb n x) (is-in n xs) (λ q. subst P (sym (eqb-true n x q)) (a .0)) (λ q. is-in-all P n xs q (a .1)) e
+
+pub is-in-each : (f : ℕ → Bool) (n : ℕ) (xs : List ℕ) → is-in n xs ≡ true → each f xs ≡ true → f n ≡ true
+is-in-each f n [] e a = clash (sym e)
+is-in-each f n (x ∷ xs) e a =
+    parts-true (f x) (each f xs) a
+    λ p q. either-true (eqb n x) (is-in n xs) (λ z. subst (λ (y : ℕ). f y ≡ true) (sym (eqb-true n x z)) p)
+    (λ z. is-in-each f n xs z q) e
+
+-- of all numbers below n
+
+abbrev pub every : (ℕ → Bool) → ℕ → Bool
+every f zero = true
+every f (suc n) = f n && every f n
+
+pub every-below : (f : ℕ → Bool) (n k : ℕ) → every f n ≡ true → k < n → f k ≡ true
+every-below f zero k e h = absurd (omega arith)
+every-below f (suc n) k e h = parts-true (f n) (every f n) e λ p q. go (eqb k n) refl p (λ l. every-below f n k q l)
+  where
+    go : (b : Bool) → eqb k n ≡ b → f n ≡ true → (k < n → f k ≡ true) → f k ≡ true
+    go true d p r = subst (λ (x : ℕ). f x ≡ true) (sym (eqb-true k n d)) p
+    go false d p r = r (omega (arith, eqb-false k n d))

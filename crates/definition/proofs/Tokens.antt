@@ -4,256 +4,58 @@ use mathlib.Core.Path.{_≡_, refl, sym, ap, subst}
 use mathlib.Core.Bool.{Bool, true, false, _&&_, _||_}
 use mathlib.Core.Option.{some}
 use mathlib.Core.List.{List, [], _∷_, _++_}
-use Prim.Native.Nat.{ℕ, zero, suc, _+_, _*_, _≤_, _<_}
+use Prim.Native.Nat.{ℕ, zero, suc, _+_, _-_, _≤_, _<_}
 use native.Mathlib.Omega.{arith}
-use borrow.Author.Tests.{ltb-false, leb-true, eqb-true, eq-eqb, lt-ltb}
-use lib.Dec.{eqb, ltb, leb, T, lit<}
+use borrow.Author.Tests.{ltb-false, leb-true, eqb-true, eq-eqb, ne-eqb, lt-ltb}
+use lib.Dec.{eqb, ltb, leb, T}
 use lib.ListN.{length, length-append, replicate}
 use Rattle.definition.specs.Ascii.{ascii}
 use Rattle.definition.specs.Choice.{pick}
 use Rattle.definition.specs.Classes as C
 use Rattle.definition.specs.Kind as K
-use Rattle.definition.specs.Source.{Place, At, Ch, code, after, nowhere, start, characters}
+use Rattle.definition.specs.Source.{Place, same-place, Ch, code, nowhere, characters}
 use Rattle.definition.specs.Fallible.{Err}
-use Rattle.definition.specs.Token.{Tok, tok}
+use Rattle.definition.specs.Token.{Tok, _is_}
 use Rattle.definition.specs.Records.{base-fits, comes-after}
 use Rattle.definition.specs.Tokenizer as Z
 use Rattle.definition.specs.Tokenizer.{Turn, goes, refused, Span, Quoted, Run, ends, foreign, Class, Foreign, White, Comment, Pair, Symbol, Quote, Word, Dash, Zero, Digit, Unknown, Tokens, tokens, turn, tokenize, tokenize-from, comment, digits, assembly, quoted, word, white, look, drop-one}
-use Rattle.definition.proofs.Unparse.{same-place}
-use Rattle.definition.proofs.Shown.{Apart, Distinct}
-use Rattle.definition.proofs.Tests.{both-true, chosen, picked, counted, All, all-append, all-replicate, all-map}
-use Rattle.definition.proofs.Characters.{spelling, beyond, Sound, Spelt, spelt, Utf8, utf8-none, utf8-char, utf8-byte}
-use Rattle.definition.proofs.Codes.{Coded, coded-below}
-use Rattle.definition.proofs.Formed.{Formed, Plain, plain-formed, pair-plain, symbol-plain, keyword-plain, Classed, is-foreign, is-white, is-comment, is-pair, is-symbol, is-quote, is-word, is-dash, is-zero, is-digit, is-unknown, classed, coded-class, text-formed, letter-bounds, Numeral, dash-numeral, numeral, or-zero-numeral, integer-formed, digits-all, digit-first}
-
--- ---- a script's characters
-
--- places as numbers, in their order
-abbrev key : Place → ℕ
-key p = p .line * 65536 + p .column
-
--- the place is at least 1:1, and n lines and n columns from it on are within 16,384
-pub record Placed (n : ℕ) (p : Place) : Type 0 where
-  pub line-low : 1 ≤ p .line
-  pub line-high : p .line + n ≤ 16385
-  pub column-low : 1 ≤ p .column
-  pub column-high : p .column + n ≤ 16385
-
-placed-less : (m n : ℕ) (p : Place) → m ≤ n → Placed n p → Placed m p
-placed-less m n p h r = omega arith
-
--- characters in the order of their places, the first after the key k, within the limits, and each whole
-abbrev Chars : ℕ → List Ch → Type 0
-Chars k [] = Unit {0}
-Chars k (c ∷ cs) = (k < key (c .place)) × Placed 1 (c .place) × Sound c × Chars (key (c .place)) cs
-
-abbrev bytes : List Ch → ℕ
-bytes [] = 0
-bytes (c ∷ cs) = 1 + length (c .more) + bytes cs
-
-chars-weaken : (k j : ℕ) (cs : List Ch) → j ≤ k → Chars k cs → Chars j cs
-chars-weaken k j [] h p = tt
-chars-weaken k j (c ∷ cs) h p = (omega (arith, p .0), p .1, p .2, p .3)
-
-chars-tail : (k : ℕ) (c : Ch) (cs : List Ch) → Chars k (c ∷ cs) → Chars k cs
-chars-tail k c cs p = chars-weaken (key (c .place)) k cs (omega (arith, p .0)) (p .3)
-
-further : (b : ℕ) (p : Place) → Placed 1 p → key p < key (after b p)
-further b p h = picked (λ (q : Place). key p < key q) (eqb b 10) _ _ (λ _. omega arith) (omega arith)
-
-placed-after : (b n : ℕ) (p : Place) → Placed (suc n) p → Placed n (after b p)
-placed-after b n p h = picked (Placed n) (eqb b 10) _ _ (λ _. omega arith) (omega arith)
-
-spelt-bytes : (cs : List Ch) (p : At) (bs : List ℕ) → Spelt p bs cs → bytes cs ≡ length bs
-spelt-bytes [] p bs s = omega (arith, ap length s)
-spelt-bytes (c ∷ cs) p bs s = omega (arith, simp length-append at (ap length (s .2)), spelt-bytes cs (beyond p c) (s .0) (s .4))
-
-spelt-chars : (cs : List Ch) (p : At) (bs : List ℕ) (k : ℕ) → k < key (p .place) → Placed (length bs) (p .place) → Spelt p bs cs → Chars k cs
-spelt-chars [] p bs k h r s = tt
-spelt-chars (c ∷ cs) p bs k h r s =
-    let n : length bs ≡ 1 + length (c .more) + length (s .0) = omega (arith, simp length-append at (ap length (s .2))) in
-    let r′ : Placed (suc (length (s .0))) (p .place) = placed-less (suc (length (s .0))) (length bs) (p .place) (omega arith) r in
-    let o : Placed 1 (p .place) = placed-less 1 (length bs) (p .place) (omega arith) r in
-    subst (λ (q : Place). (k < key q) × Placed 1 q × Sound c × Chars (key q) cs) (sym (ap (λ (x : Ch). x .place) (s .1))) (
-      h,
-      o,
-      s .3,
-      spelt-chars cs (beyond p c) (s .0) (key (p .place)) (further (c .byte) (p .place) o)
-          (placed-after (c .byte) (length (s .0)) (p .place) r′) (s .4),
-    )
-
-record Script (cs : List Ch) : Type 0 where
-  chars : Chars 0 cs
-  size : bytes cs ≤ 16384
-
-script : (bs : List ℕ) (cs : List Ch) → length bs ≤ 16384 → characters bs ≡ some cs → Script cs
-script bs cs h e =
-    record {
-      chars = spelt-chars cs start bs 0 (omega arith) (omega arith) (spelt bs cs e);
-      size = omega (arith, spelt-bytes cs start bs (spelt bs cs e));
-    }
-
--- ---- what each part of the tokenizer leaves
-
--- a scan that leaves rest, with n bytes of text
-record Ran (cs rest : List Ch) (n : ℕ) : Type 0 where
-  keeps : (k : ℕ) → Chars k cs → Chars k rest
-  size : n + bytes rest ≤ bytes cs
-  fewer : length rest ≤ length cs
-
-ran-none : (cs : List Ch) → Ran cs cs 0
-ran-none cs = record { keeps = λ k p. p; size = omega arith; fewer = omega arith }
-
-ran-one : (c : Ch) (cs : List Ch) → Ran (c ∷ cs) cs 0
-ran-one c cs = record { keeps = λ k p. chars-tail k c cs p; size = omega arith; fewer = omega arith }
-
-ran-drop : (cs : List Ch) → Ran cs (drop-one cs) 0
-ran-drop [] = ran-none []
-ran-drop (c ∷ cs) = ran-one c cs
-
-ran-less : {xs ys : List Ch} {n : ℕ} → Ran xs ys n → Ran xs ys 0
-ran-less p = record { keeps = p .keeps; size = omega (arith, p .size); fewer = p .fewer }
-
--- characters that are skipped first add no text
-ran-trans : {xs ys zs : List Ch} {m n : ℕ} → Ran xs ys m → Ran ys zs n → Ran xs zs n
-ran-trans p q =
-    record {
-      keeps = λ k h. q .keeps k (p .keeps k h);
-      size = omega (arith, p .size, q .size);
-      fewer = omega (arith, p .fewer, q .fewer);
-    }
-
--- m bytes of the first character, and n after it
-ran-char : (c : Ch) (cs rest : List Ch) (n m l : ℕ) → m ≤ 1 + length (c .more) → l ≤ m + n → Ran cs rest n → Ran (c ∷ cs) rest l
-ran-char c cs rest n m l h k p =
-    record {
-      keeps = λ j q. p .keeps j (chars-tail j c cs q);
-      size = omega (arith, p .size);
-      fewer = omega (arith, p .fewer);
-    }
-
-comment-ran : (cs : List Ch) → Ran cs (comment cs) 0
-unfolding comment
-comment-ran [] = ran-none []
-comment-ran (c ∷ cs) =
-    chosen (λ (rest : List Ch). Ran (c ∷ cs) rest 0) (eqb (c .byte) 10) _ _ (λ _. ran-one c cs)
-    (λ _. ran-char c cs (comment cs) 0 0 0 (omega arith) (omega arith) (comment-ran cs))
-
--- a scan whose text is UTF-8, if the characters are whole
-record Spans (cs : List Ch) (text : List ℕ) (rest : List Ch) : Type 0 where
-  ran : Ran cs rest (length text)
-  utf8 : (k : ℕ) → Chars k cs → Utf8 text
-
-abbrev SpanOf : List Ch → Span → Type 0
-SpanOf cs s = Spans cs (s .text) (s .rest)
-
-spans-none : (cs rest : List Ch) → Ran cs rest 0 → Spans cs [] rest
-spans-none cs rest r = record { ran = r; utf8 = λ _ _. utf8-none }
-
--- a character that is skipped, one whose bytes are all text, and one that is one byte of text
-spans-skip : (c : Ch) (cs : List Ch) (text : List ℕ) (rest : List Ch) → Spans cs text rest → Spans (c ∷ cs) text rest
-spans-skip c cs text rest s =
-    record {
-      ran = ran-char c cs rest (length text) 0 (length text) (omega arith) (omega arith) (s .ran);
-      utf8 = λ k h. s .utf8 (key (c .place)) (h .3);
-    }
-
-spans-char : (c : Ch) (cs : List Ch) (text : List ℕ) (rest : List Ch) → Spans cs text rest → Spans (c ∷ cs) (spelling c ++ text) rest
-spans-char c cs text rest s = record {
-  ran =
-      ran-char c cs rest (length text) (1 + length (c .more)) (length (spelling c ++ text)) (omega arith)
-      (omega (arith, length-append (c .more) text)) (s .ran);
-  utf8 = λ k h. utf8-char c text (h .2 .0) (s .utf8 (key (c .place)) (h .3));
-}
-
-spans-byte : (b : ℕ) (c : Ch) (cs : List Ch) (text : List ℕ) (rest : List Ch) → (Coded c → b < 128) → Spans cs text rest
-    → Spans (c ∷ cs) (b ∷ text) rest
-spans-byte b c cs text rest l s =
-    record {
-      ran = ran-char c cs rest (length text) 1 (length (b ∷ text)) (omega arith) (omega arith) (s .ran);
-      utf8 = λ k h. utf8-byte b text (l (h .2 .1)) (s .utf8 (key (c .place)) (h .3));
-    }
-
-digits-ran : (base : ℕ) (cs : List Ch) → Ran cs (digits base cs .rest) (length (digits base cs .text))
-unfolding digits
-digits-ran base [] = ran-none []
-digits-ran base (c ∷ cs) =
-    chosen (λ (s : Span). Ran (c ∷ cs) (s .rest) (length (s .text))) (C.is-digit-of base (c .byte)) _ _
-    (λ _. ran-char c cs _ _ 1 _ (omega arith) (omega arith) (digits-ran base cs)) (λ _. ran-none (c ∷ cs))
-
-digits-some : (c : Ch) (cs : List Ch) → C.is-digit (c .byte) ≡ true → 0 < length (digits 10 (c ∷ cs) .text)
-unfolding digits
-digits-some c cs e = rw (digits, e) (omega arith)
-
-assembly-spans : (cs : List Ch) → SpanOf cs (assembly cs)
-unfolding assembly
-assembly-spans [] = spans-none [] [] (ran-none [])
-assembly-spans (c ∷ cs) =
-    chosen (SpanOf (c ∷ cs)) (eqb (c .byte) 125) _ _ (λ _. spans-none (c ∷ cs) cs (ran-one c cs))
-    (λ _. spans-char c cs _ _ (assembly-spans cs))
-
-abbrev QuotedOf : List Ch → Quoted → Type 0
-QuotedOf cs q = Spans cs (q .text) (q .rest)
-
-pick-low : (b : Bool) (m n : ℕ) → m < 128 → n < 128 → pick b m n < 128
-pick-low b m n h k = picked (λ (x : ℕ). x < 128) b m n (λ _. h) k
-
-escape-low : (c : ℕ) → Z.escape c < 128
-escape-low c = search (pick-low, lit<) depth 10
-
-quoted-spans : (f : Bool) (cs : List Ch) → QuotedOf cs (quoted f cs)
-unfolding quoted
-quoted-spans false [] = spans-none [] [] (ran-none [])
-quoted-spans true [] = spans-none [] [] (ran-none [])
-quoted-spans false (c ∷ cs) =
-    chosen (QuotedOf (c ∷ cs)) (eqb (c .byte) 34) _ _ (λ _. spans-none (c ∷ cs) cs (ran-one c cs))
-    (λ _. chosen (QuotedOf (c ∷ cs)) (eqb (c .byte) 92) _ _ (λ _. spans-skip c cs _ _ (quoted-spans true cs))
-    (λ _. spans-char c cs _ _ (quoted-spans false cs)))
-quoted-spans true (c ∷ cs) =
-    counted (QuotedOf (c ∷ cs)) (Z.escape (c .byte)) _ _ (spans-skip c cs _ _ (quoted-spans false cs))
-    (λ e z. spans-byte (suc e) c cs _ _ (λ _. omega (arith, escape-low (c .byte))) (quoted-spans false cs))
-
-abbrev RunOf : List Ch → Run → Type 0
-RunOf cs (ends s) = SpanOf cs s
-RunOf cs foreign = Unit {0}
-
-run-byte : (c : Ch) (cs : List Ch) (r : Run) → (Coded c → c .byte < 128) → RunOf cs r → RunOf (c ∷ cs) (Z.run-ahead (c .byte ∷ []) r)
-run-byte c cs (ends s) l p = spans-byte (c .byte) c cs (s .text) (s .rest) l p
-run-byte c cs foreign l p = tt
-
-run-skip : (c : Ch) (cs : List Ch) (r : Run) → RunOf cs r → RunOf (c ∷ cs) r
-run-skip c cs (ends s) p = spans-skip c cs (s .text) (s .rest) p
-run-skip c cs foreign p = tt
-
--- a run after characters that are skipped
-run-after : (cs rest : List Ch) (n : ℕ) (r : Run) → Ran cs rest n → RunOf rest r → RunOf cs r
-run-after cs rest n (ends s) p q = record { ran = ran-trans p (q .ran); utf8 = λ k h. q .utf8 k (p .keeps k h) }
-run-after cs rest n foreign p q = tt
-
-word-spans : (cs : List Ch) → RunOf cs (word cs)
-unfolding word
-word-spans [] = spans-none [] [] (ran-none [])
-word-spans (c ∷ cs) =
-    chosen (RunOf (c ∷ cs)) (C.is-foreign (code c)) _ _ (λ _. tt)
-    (λ l. chosen (RunOf (c ∷ cs)) (C.is-word (code c)) _ _
-    (λ _. run-byte c cs (word cs) (λ q. coded-below q (omega (arith, ltb-false 127 (code c) l))) (word-spans cs))
-    (λ _. spans-none (c ∷ cs) (c ∷ cs) (ran-none (c ∷ cs))))
-
-white-spans : (cs : List Ch) → RunOf cs (white cs)
-unfolding white
-white-spans [] = spans-none [] [] (ran-none [])
-white-spans (c ∷ cs) =
-    chosen (RunOf (c ∷ cs)) (C.is-foreign (code c)) _ _ (λ _. tt)
-    (λ _. chosen (RunOf (c ∷ cs)) (C.is-white (code c)) _ _ (λ _. run-skip c cs (white cs) (white-spans cs))
-    (λ _. spans-none (c ∷ cs) (c ∷ cs) (ran-none (c ∷ cs))))
+use Rattle.definition.specs.Sentence.{character-at}
+use Rattle.definition.proofs.Shown.{Apart, Distinct, same-self}
+use Rattle.definition.proofs.Tests.{clash, both-true, right-true, chosen, picked, counted, All, all-append, all-replicate, all-map, _∈_, here, there, each}
+use Rattle.definition.proofs.Characters.{spelling, utf8-byte}
+use Rattle.definition.proofs.Codes.{Coded}
+pub use Rattle.definition.proofs.Scans.{Placed}
+use Rattle.definition.proofs.Scans.{key, Placed, Chars, bytes, Script, script, Ran, ran-none, ran-one, ran-drop, ran-more, ran-less, ran-trans, ran-look, comment-ran, SpanOf, digits-ran, digits-some, assembly-spans, QuotedOf, quoted-spans, ClosedOf, quoted-closed, RunOf, word-spans, WordOf, word-letters, white-spans}
+use Rattle.definition.proofs.Formed.{Formed, Plain, plain-bounds, plain-formed, pair-plain, symbol-plain, keyword-plain, Classed, is-foreign, is-white, is-comment, is-pair, is-symbol, is-quote, is-word, is-dash, is-zero, is-digit, is-unknown, classed, coded-class, text-formed, letter-bounds, Numeral, dash-numeral, numeral, or-zero-numeral, integer-formed, digits-all, digit-first}
 
 -- ---- one turn: at most one token, and errors, placed at its first character
 
--- a token at the place p; n bytes were left before its text, at most r are left after it
+-- the least number of a script's bytes that a token takes: one, its text, with its quotes, or with `asm{`
+abbrev pub width : Tok → ℕ
+width t =
+    pick (t is K.String) (2 + length (t .text))
+    (pick (t is K.InlineAssemblyFragment) (4 + length (t .text)) (suc (length (t .text) - 1)))
+
+pub width-text : (t : Tok) → length (t .text) ≤ width t
+width-text t =
+    picked (λ (n : ℕ). length (t .text) ≤ n) (t is K.String) _ _ (λ _. omega arith)
+    (picked (λ (n : ℕ). length (t .text) ≤ n) (t is K.InlineAssemblyFragment) _ _ (λ _. omega arith) (omega arith))
+
+pub width-one : (t : Tok) → 1 ≤ width t
+width-one t =
+    picked (λ (n : ℕ). 1 ≤ n) (t is K.String) _ _ (λ _. omega arith)
+    (picked (λ (n : ℕ). 1 ≤ n) (t is K.InlineAssemblyFragment) _ _ (λ _. omega arith) (omega arith))
+
+-- the text of an identifier is a word
+abbrev pub Lettered : Tok → Type 0
+Lettered t = pick (t is K.Identifier) (each C.is-word (t .text)) true ≡ true
+
+-- a token at the place p; n bytes were left before it, at most r are left after it
 record New (p : Place) (r n : ℕ) (t : Tok) : Type 0 where
   place : t .place ≡ p
-  size : length (t .text) + r ≤ n
+  size : width t + r ≤ n
   formed : Formed t
+  lettered : Lettered t
 
 abbrev OneToken : Place → ℕ → ℕ → List Tok → Type 0
 OneToken p r n [] = Unit {0}
@@ -271,6 +73,13 @@ record ErrorAt (p : Place) (e : Err) : Type 0 where
 error-at : (n : ℕ) (p : Place) → 1 ≤ n → n ≤ 4 → ErrorAt p (Z.token-error n p)
 error-at n p l h = record { place = refl; low = l; high = h; expected = refl; got = refl }
 
+same-length : (xs ys : List ℕ) → Z.same xs ys ≡ true → length xs ≡ length ys
+unfolding Z.same
+same-length [] [] e = refl
+same-length [] (y ∷ ys) e = clash (sym e)
+same-length (x ∷ xs) [] e = clash (sym e)
+same-length (x ∷ xs) (y ∷ ys) e = ap suc (same-length xs ys (right-true (eqb x y) (Z.same xs ys) e))
+
 or-zero-length : (xs : List ℕ) → length (Z.or-zero xs) ≤ 1 + length xs
 or-zero-length [] = omega arith
 or-zero-length (x ∷ xs) = omega arith
@@ -285,29 +94,34 @@ TurnOf c cs (goes rest es ts) = Turned c cs rest es ts
 TurnOf c cs (refused n) = T (C.between 4 7 n)
 
 module _ (c : Ch) (cs : List Ch) where
-  -- a turn that makes a token, whose text has at most one byte more than were scanned; a turn that makes none
+  -- a turn that makes a token, of at most one byte more than were scanned; a turn that makes none
   gives-token : (rest : List Ch) (n : ℕ) (es : List Err) (t : Tok) → Ran cs rest n → t .place ≡ c .place
-      → length (t .text) ≤ 1 + n → Formed t → All (ErrorAt (c .place)) es → Turned c cs rest es (t ∷ [])
-  gives-token rest n es t r e l f a =
+      → width t ≤ 1 + n → Formed t → Lettered t → All (ErrorAt (c .place)) es → Turned c cs rest es (t ∷ [])
+  gives-token rest n es t r e l f w a =
       record {
         ran = ran-less r;
-        token = record { place = e; size = omega (arith, r .size); formed = f };
+        token = record { place = e; size = omega (arith, r .size, l); formed = f; lettered = w };
         errors = a;
       }
 
   gives-none : (rest : List Ch) (n : ℕ) (es : List Err) → Ran cs rest n → All (ErrorAt (c .place)) es → Turned c cs rest es []
   gives-none rest n es r a = record { ran = ran-less r; token = tt; errors = a }
 
-  plain-turned : (rest : List Ch) (n k : ℕ) → Ran cs rest n → Formed (tok k (c .place) [] 0)
-      → TurnOf c cs (Z.token rest k (c .place))
-  plain-turned rest n k r f = gives-token rest n [] _ r refl (omega arith) f tt
+  plain-turned : (rest : List Ch) (n k : ℕ) → Ran cs rest n → Plain k → 0 < k → TurnOf c cs (Z.token rest k (c .place))
+  plain-turned rest n k r p h =
+      let b = plain-bounds k p h in
+      gives-token rest n [] _ r refl
+      (rw (ne-eqb k K.String (λ z. omega (arith, b)), ne-eqb k K.InlineAssemblyFragment (λ z. omega (arith, b)))
+      (omega arith))
+      (plain-formed k (c .place) p h) (rw (ne-eqb k K.Identifier (λ z. omega (arith, b)))) tt
 
-  string-turned : (k : ℕ) → Chars k cs → (q : Quoted) → QuotedOf cs q → TurnOf c cs (Z.string-turn (c .place) q)
+  string-turned : (k : ℕ) → Chars k cs → (q : Quoted) → QuotedOf cs q → ClosedOf cs q
+      → TurnOf c cs (Z.string-turn (c .place) q)
   unfolding Z.string-turn
-  string-turned k h q p =
+  string-turned k h q p l =
       chosen (TurnOf c cs) (q .closed) _ _
-      (λ _. gives-token (q .rest) (length (q .text)) _ _ (p .ran) refl (omega arith)
-      (text-formed K.String (c .place) (q .text) refl refl (omega arith) (omega arith) (p .utf8 k h)) unknown)
+      (λ e. gives-token (q .rest) (suc (length (q .text))) _ _ (ran-more (p .ran) (l e)) refl (omega arith)
+      (text-formed K.String (c .place) (q .text) refl refl (omega arith) (omega arith) (p .utf8 k h)) refl unknown)
       (λ _. gives-none (q .rest) (length (q .text)) _ (p .ran)
       (all-append (ErrorAt (c .place)) (replicate (q .unknown) (Z.token-error 1 (c .place)))
       (Z.token-error 2 (c .place) ∷ []) unknown (error-at 2 (c .place) (omega arith) (omega arith), tt)))
@@ -317,14 +131,16 @@ module _ (c : Ch) (cs : List Ch) where
           all-replicate (ErrorAt (c .place)) (q .unknown) (Z.token-error 1 (c .place))
           (error-at 1 (c .place) (omega arith) (omega arith))
 
-  assembly-turned : (k : ℕ) → Chars k cs → (r : Run) → RunOf cs r → TurnOf c cs (Z.assembly-turn (c .place) r)
+  -- after `asm` and white space
+  assembly-turned : (k : ℕ) → Chars k cs → (before : List Ch) → Ran cs before 2 → (r : Run) → RunOf before r
+      → TurnOf c cs (Z.assembly-turn (c .place) r)
   unfolding Z.assembly-turn
-  assembly-turned k h foreign p = tt
-  assembly-turned k h (ends s) p =
+  assembly-turned k h before o foreign p = tt
+  assembly-turned k h before o (ends s) p =
       chosen (TurnOf c cs) (eqb (look (s .rest)) 123) _ _
-      (λ _. gives-token (a .rest) (length (a .text)) [] _ (ran-trans ran-on (b .ran)) refl (omega arith)
+      (λ e. gives-token (a .rest) (3 + length (a .text)) [] _ (opened e) refl (omega arith)
       (text-formed K.InlineAssemblyFragment (c .place) (a .text) refl refl (omega arith) (omega arith)
-      (b .utf8 k (ran-on .keeps k h))) tt)
+      (b .utf8 k (ran-on .keeps k h))) refl tt)
       (λ _. gives-none (drop-one (s .rest)) 0 _ ran-on (error-at 3 (c .place) (omega arith) (omega arith), tt))
     where
       a : Span
@@ -334,23 +150,34 @@ module _ (c : Ch) (cs : List Ch) where
       b = assembly-spans (drop-one (s .rest))
 
       ran-on : Ran cs (drop-one (s .rest)) 0
-      ran-on = ran-trans (p .ran) (ran-drop (s .rest))
+      ran-on = ran-trans o (ran-trans (p .ran) (ran-drop (s .rest)))
 
-  word-turned : (k : ℕ) → Chars k cs → c .byte < 128 → (r : Run) → RunOf cs r
+      opened : eqb (look (s .rest)) 123 ≡ true → Ran cs (a .rest) (3 + length (a .text))
+      opened e =
+          let l = ran-look (s .rest) 123 (omega arith) e in
+          ran-more (ran-trans ran-on (b .ran)) (omega (arith, p .ran .size, o .size, l .size, b .ran .size))
+
+  word-turned : (k : ℕ) → Chars k cs → C.is-letter (c .byte) ≡ true → (r : Run) → RunOf cs r → WordOf r
       → TurnOf c cs (Z.word-turn (c .place) (Z.run-ahead (c .byte ∷ []) r))
   unfolding Z.word-turn
-  word-turned k h l foreign p = tt
-  word-turned k h l (ends s) p =
+  word-turned k h l foreign p q = tt
+  word-turned k h l (ends s) p q =
       chosen (TurnOf c cs) (Z.same (c .byte ∷ s .text) (ascii "asm")) _ _
-      (λ _. assembly-turned k h (white (s .rest))
-      (run-after cs (s .rest) (length (s .text)) (white (s .rest)) (p .ran) (white-spans (s .rest))))
-      (λ _. counted (TurnOf c cs) (Z.keyword (c .byte ∷ s .text)) _ _ (gives-token (s .rest) (length (s .text)) [] _ (p .ran) refl (omega arith) (text-formed K.Identifier (c .place) (c .byte ∷ s .text) refl refl (omega arith) (omega arith) (utf8-byte (c .byte) (s .text) l (p .utf8 k h))) tt)
+      (λ e. assembly-turned k h (s .rest)
+      (ran-more (p .ran) (omega (arith, p .ran .size, same-length (c .byte ∷ s .text) (ascii "asm") e)))
+      (white (s .rest)) (white-spans (s .rest)))
+      (λ _. counted (TurnOf c cs) (Z.keyword (c .byte ∷ s .text)) _ _
+      (gives-token (s .rest) (length (s .text)) [] _ (p .ran) refl (omega arith)
+      (text-formed K.Identifier (c .place) (c .byte ∷ s .text) refl refl (omega arith) (omega arith)
+      (utf8-byte (c .byte) (s .text) (letter-bounds (c .byte) l .1) (p .utf8 k h)))
+      (both-true {a = C.is-word (c .byte)} (rw l) q) tt)
       (λ j e. plain-turned (s .rest) (length (s .text)) (suc j) (p .ran)
-      (plain-formed (suc j) (c .place) (subst Plain e (keyword-plain (c .byte ∷ s .text))) (omega arith))))
+      (subst Plain e (keyword-plain (c .byte ∷ s .text))) (omega arith)))
 
   integer-turned : (base : ℕ) (text : List ℕ) (rest : List Ch) (n : ℕ) → base-fits 2 base ≡ true → Ran cs rest n
       → length text ≤ 1 + n → Numeral base text → TurnOf c cs (Z.token-text rest K.Integer (c .place) text base)
-  integer-turned base text rest n b r l t = gives-token rest n [] _ r refl l (integer-formed base (c .place) text b t) tt
+  integer-turned base text rest n b r l t =
+      gives-token rest n [] _ r refl (omega (arith, l)) (integer-formed base (c .place) text b t) refl tt
 
   -- digits after a prefix that is not text
   based-turned : (base : ℕ) (rest : List Ch) → base-fits 2 base ≡ true → C.is-digit-of base 48 ≡ true → Ran cs rest 0
@@ -372,10 +199,13 @@ dash-turned : (c : Ch) (cs : List Ch) → TurnOf c cs (Z.dash-turn (c .place) cs
 unfolding Z.dash-turn
 dash-turned c [] = tt
 dash-turned c (d ∷ cs) =
-    chosen (TurnOf c (d ∷ cs)) (eqb (d .byte) 62) _ _ (λ _. plain-turned c (d ∷ cs) cs 0 K.RArrow (ran-one d cs)
-    (plain-formed K.RArrow (c .place) (record { plain = refl }) (omega arith)))
-    (λ _. chosen (TurnOf c (d ∷ cs)) (C.is-digit (d .byte)) _ _ (λ e. integer-turned c (d ∷ cs) 10 (45 ∷ digits 10 (d ∷ cs) .text) (digits 10 (d ∷ cs) .rest) _ refl (digits-ran 10 (d ∷ cs)) (omega arith) (dash-numeral (digits 10 (d ∷ cs) .text) (digits-all 10 (d ∷ cs)) (digits-some d cs e)))
-    (λ _. plain-turned c (d ∷ cs) cs 0 K.Minus (ran-one d cs) (plain-formed K.Minus (c .place) (record { plain = refl }) (omega arith))))
+    chosen (TurnOf c (d ∷ cs)) (eqb (d .byte) 62) _ _
+    (λ _. plain-turned c (d ∷ cs) cs 0 K.RArrow (ran-one d cs) (record { plain = refl }) (omega arith))
+    (λ _. chosen (TurnOf c (d ∷ cs)) (C.is-digit (d .byte)) _ _
+    (λ e. integer-turned c (d ∷ cs) 10 (45 ∷ digits 10 (d ∷ cs) .text) (digits 10 (d ∷ cs) .rest) _ refl
+    (digits-ran 10 (d ∷ cs)) (omega arith)
+    (dash-numeral (digits 10 (d ∷ cs) .text) (digits-all 10 (d ∷ cs)) (digits-some d cs e)))
+    (λ _. plain-turned c (d ∷ cs) cs 0 K.Minus (ran-one d cs) (record { plain = refl }) (omega arith)))
 
 turned : (c : Ch) (cs : List Ch) (k : ℕ) → Coded c → Chars k cs → TurnOf c cs (turn c cs)
 unfolding turn
@@ -400,12 +230,11 @@ turned c cs k q h =
     go x is-comment = gives-none c cs (comment (drop-one cs)) 0 [] (ran-trans (ran-drop cs) (comment-ran (drop-one cs))) tt
     go x (is-pair l) =
         plain-turned c cs (drop-one cs) 0 (Z.pair (c .byte) (look cs)) (ran-drop cs)
-        (plain-formed (Z.pair (c .byte) (look cs)) (c .place) (pair-plain (c .byte) (look cs)) l)
+        (pair-plain (c .byte) (look cs)) l
     go x (is-symbol l) =
-        plain-turned c cs cs 0 (Z.symbol (c .byte)) (ran-none cs)
-        (plain-formed (Z.symbol (c .byte)) (c .place) (symbol-plain (c .byte)) l)
-    go x is-quote = string-turned c cs k h (quoted false cs) (quoted-spans false cs)
-    go x (is-word l) = word-turned c cs k h (letter-bounds (c .byte) l .1) (word cs) (word-spans cs)
+        plain-turned c cs cs 0 (Z.symbol (c .byte)) (ran-none cs) (symbol-plain (c .byte)) l
+    go x is-quote = string-turned c cs k h (quoted false cs) (quoted-spans false cs) (quoted-closed false cs)
+    go x (is-word l) = word-turned c cs k h l (word cs) (word-spans cs) (word-letters k cs h)
     go x is-dash = dash-turned c cs
     go x is-zero = zero-turned c cs
     go x (is-digit e) =
@@ -431,6 +260,7 @@ pub record Good (t : Tok) : Type 0 where
   pub formed : Formed t
   pub placed : Placed 1 (t .place)
   pub short : length (t .text) ≤ 16384
+  pub lettered : Lettered t
 
 -- a token error that its record can hold
 pub record Fault (e : Err) : Type 0 where
@@ -454,9 +284,18 @@ abbrev pub texts : List Tok → ℕ
 texts [] = 0
 texts (t ∷ ts) = length (t .text) + texts ts
 
-texts-append : (xs ys : List Tok) → texts (xs ++ ys) ≡ texts xs + texts ys
-texts-append [] ys = omega arith
-texts-append (x ∷ xs) ys = omega (arith, texts-append xs ys)
+-- and of all widths
+abbrev pub widths : List Tok → ℕ
+widths [] = 0
+widths (t ∷ ts) = width t + widths ts
+
+widths-append : (xs ys : List Tok) → widths (xs ++ ys) ≡ widths xs + widths ys
+widths-append [] ys = omega arith
+widths-append (x ∷ xs) ys = omega (arith, widths-append xs ys)
+
+widths-texts : (ts : List Tok) → texts ts ≤ widths ts
+widths-texts [] = omega arith
+widths-texts (t ∷ ts) = omega (arith, width-text t, widths-texts ts)
 
 -- ---- what follows for a list of tokens
 
@@ -476,17 +315,17 @@ in-order p (t ∷ ts) k h r g = (
   in-order (t .place) ts k (omega (arith, g .0 .placed)) (r .1) (g .1),
 )
 
-differ : (p q : Place) → key p < key q → same-place p q ≡ false
+differ : (p q : Place) → (key p ≡ key q → ⊥) → same-place p q ≡ false
 differ p q h = go (eqb (p .line) (q .line)) (eqb (p .column) (q .column)) (eqb-true (p .line) (q .line)) (eqb-true (p .column) (q .column))
   where
     go : (a b : Bool) → (a ≡ true → p .line ≡ q .line) → (b ≡ true → p .column ≡ q .column) → a && b ≡ false
-    go true true f g = absurd (omega (arith, f refl, g refl))
+    go true true f g = absurd (h (omega (arith, f refl, g refl)))
     go true false f g = refl
     go false b f g = refl
 
 apart : (p : Place) (ts : List Tok) (j k : ℕ) → key p ≤ j → Rising j ts k → Apart p ts
 apart p [] j k h r = tt
-apart p (t ∷ ts) j k h r = (differ p (t .place) (omega (arith, r .0)), apart p ts (key (t .place)) k (omega (arith, r .0)) (r .1))
+apart p (t ∷ ts) j k h r = (differ p (t .place) (λ z. omega (arith, r .0)), apart p ts (key (t .place)) k (omega (arith, r .0)) (r .1))
 
 distinct : (ts : List Tok) (j k : ℕ) → Rising j ts k → Distinct ts
 distinct [] j k r = tt
@@ -500,6 +339,7 @@ pub record Made (ts : List Tok) (es : List Err) : Type 0 where
   pub distinct : Distinct ts
   pub kinds : Kinds ts
   pub text : texts ts ≤ 16384
+  pub width : widths ts ≤ 16384
   pub tokens : length ts ≤ 2048
   pub errors : length es ≤ 255
 
@@ -528,16 +368,17 @@ module _ (p : Place) (r n : ℕ) where
     record {
       formed = o .formed;
       placed = subst (Placed 1) (sym (o .place)) h;
-      short = omega (arith, o .size);
+      short = omega (arith, o .size, width-text t);
+      lettered = o .lettered;
     },
     tt,
   )
   one-good (t ∷ u ∷ us) h m o = absurd o
 
-  one-text : (us : List Tok) → r ≤ n → OneToken p r n us → texts us + r ≤ n
-  one-text [] h o = omega arith
-  one-text (t ∷ []) h o = omega (arith, o .size)
-  one-text (t ∷ u ∷ us) h o = absurd o
+  one-width : (us : List Tok) → r ≤ n → OneToken p r n us → widths us + r ≤ n
+  one-width [] h o = omega arith
+  one-width (t ∷ []) h o = omega (arith, o .size)
+  one-width (t ∷ u ∷ us) h o = absurd o
 
   fault : Placed 1 p → (e : Err) → ErrorAt p e → Fault e
   fault h e a = record { low = a .low; high = a .high; placed = subst (Placed 1) (sym (a .place)) h; expected = a .expected; got = a .got }
@@ -550,8 +391,28 @@ module _ (p : Place) (r n : ℕ) where
     faults = all-append Fault es fs (h .faults) (all-map (ErrorAt p) Fault (fault b) fs e);
   }
 
+-- one turn of the loop: a refusal with 4 to 7, or the loop goes on, with at most 2,048 tokens and 255 errors
+module _ (P : Tokens → Type 0) (refuses : (j : ℕ) → T (C.between 4 7 j) → P (Tokens.refused j)) where
+  stepped : (n : ℕ) (x : Ch) (cs : List Ch) (ts : List Tok) (es : List Err) (t : Turn) → TurnOf x cs t
+      → ((cs′ : List Ch) (ts′ : List Tok) (es′ : List Err) → Turned x cs cs′ es′ ts′
+      → length ts + length ts′ ≤ 2048 → length es + length es′ ≤ 255
+      → P (tokenize-from 2048 n cs′ (ts ++ ts′) (es ++ es′)))
+      → P (elim t as (λ _. Tokens) [
+        | refused j ↦ Tokens.refused j
+        | goes cs′ es′ ts′ ↦ elim (leb (length es + length es′) 255) as (λ _. Tokens) [
+          | false ↦ Tokens.refused 7
+          | true ↦ elim (leb (length ts + length ts′) 2048) as (λ _. Tokens)
+              [ false ↦ Tokens.refused 6 | true ↦ tokenize-from 2048 n cs′ (ts ++ ts′) (es ++ es′) ]
+        ]
+      ])
+  stepped n x cs ts es (refused j) p f = refuses j p
+  stepped n x cs ts es (goes cs′ es′ ts′) p f =
+      chosen P (leb (length es + length es′) 255) _ _
+      (λ y. chosen P (leb (length ts + length ts′) 2048) _ _
+      (λ z. f cs′ ts′ es′ p (leb-true _ _ z) (leb-true _ _ y)) (λ _. refuses 6 tt)) (λ _. refuses 7 tt)
+
 tokens-from : (n : ℕ) (cs : List Ch) (ts : List Tok) (es : List Err) (k : ℕ) → length cs < n → Chars k cs
-    → texts ts + bytes cs ≤ 16384 → Have k ts es → length ts ≤ 2048 → length es ≤ 255
+    → widths ts + bytes cs ≤ 16384 → Have k ts es → length ts ≤ 2048 → length es ≤ 255
     → TokensOf (tokenize-from 2048 n cs ts es)
 unfolding tokenize-from
 tokens-from zero cs ts es k f c b h m w = absurd (omega arith)
@@ -561,40 +422,29 @@ tokens-from (suc n) [] ts es k f c b h m w = record {
   faults = h .faults;
   distinct = distinct ts 0 k (h .rising);
   kinds = all-map Good (λ t. 0 < t .kind) (λ t g. g .formed .low) ts (h .good);
-  text = omega arith;
+  text = omega (arith, widths-texts ts, b);
+  width = omega (arith, b);
   tokens = m;
   errors = w;
 }
 tokens-from (suc n) (x ∷ cs) ts es k f c b h m w =
-    go (turn x cs) (turned x cs (key (x .place)) (c .2 .1) (c .3))
+    stepped TokensOf (λ j p. p) n x cs ts es (turn x cs) (turned x cs (key (x .place)) (c .2 .1) (c .3))
     (λ cs′ ts′ es′ t z y. tokens-from n cs′ (ts ++ ts′) (es ++ es′) (key (x .place))
     (omega (arith, t .ran .fewer)) (t .ran .keeps (key (x .place)) (c .3)) (fits cs′ ts′ es′ t)
     (more cs′ ts′ es′ t) (rw length-append z) (rw length-append y))
   where
-    fits : (cs′ : List Ch) (ts′ : List Tok) (es′ : List Err) → Turned x cs cs′ es′ ts′ → texts (ts ++ ts′) + bytes cs′ ≤ 16384
+    fits : (cs′ : List Ch) (ts′ : List Tok) (es′ : List Err) → Turned x cs cs′ es′ ts′ → widths (ts ++ ts′) + bytes cs′ ≤ 16384
     fits cs′ ts′ es′ t =
         omega (
           arith,
-          texts-append ts ts′,
-          one-text (x .place) (bytes cs′) (bytes (x ∷ cs)) ts′ (omega (arith, t .ran .size)) (t .token),
+          widths-append ts ts′,
+          one-width (x .place) (bytes cs′) (bytes (x ∷ cs)) ts′ (omega (arith, t .ran .size)) (t .token),
         )
 
     more : (cs′ : List Ch) (ts′ : List Tok) (es′ : List Err) → Turned x cs cs′ es′ ts′ → Have (key (x .place)) (ts ++ ts′) (es ++ es′)
     more cs′ ts′ es′ t =
         have-more (x .place) (bytes cs′) (bytes (x ∷ cs)) k ts ts′ es es′ h (c .0) (c .1) (omega arith)
         (t .token) (t .errors)
-
-    go : (t : Turn) → TurnOf x cs t
-        → ((cs′ : List Ch) (ts′ : List Tok) (es′ : List Err) → Turned x cs cs′ es′ ts′
-        → length ts + length ts′ ≤ 2048 → length es + length es′ ≤ 255
-        → TokensOf (tokenize-from 2048 n cs′ (ts ++ ts′) (es ++ es′)))
-        → TokensOf (elim t as (λ _. Tokens)
-        [ refused j ↦ Tokens.refused j | goes cs′ es′ ts′ ↦ elim (leb (length es + length es′) 255) as (λ _. Tokens) [ false ↦ Tokens.refused 7 | true ↦ elim (leb (length ts + length ts′) 2048) as (λ _. Tokens) [ false ↦ Tokens.refused 6 | true ↦ tokenize-from 2048 n cs′ (ts ++ ts′) (es ++ es′) ] ] ])
-    go (refused j) p f = p
-    go (goes cs′ es′ ts′) p f =
-        chosen TokensOf (leb (length es + length es′) 255) _ _
-        (λ y. chosen TokensOf (leb (length ts + length ts′) 2048) _ _
-        (λ z. f cs′ ts′ es′ p (leb-true _ _ z) (leb-true _ _ y)) (λ _. tt)) (λ _. tt)
 
 -- the tokenizer gives tokens and errors that fit their records, or refuses with 4 to 7
 pub script-tokens : (bs : List ℕ) (cs : List Ch) → length bs ≤ 16384 → characters bs ≡ some cs → TokensOf (tokenize cs)
@@ -603,3 +453,53 @@ script-tokens bs cs h e =
     let d : Script cs = script bs cs h e in
     tokens-from (suc (length cs)) cs [] [] 0 (omega arith) (d .chars) (omega (arith, d .size))
     (record { rising = omega arith; good = tt; faults = tt }) (omega arith) (omega arith)
+
+-- ---- where the token errors stand
+
+-- no two characters share a place, so the one found at a character's place is that character
+chars-in : (k : ℕ) (c : Ch) (cs : List Ch) → Chars k cs → c ∈ cs → k < key (c .place)
+chars-in k c cs h here = h .0
+chars-in k c cs h (there {y = d} m) = omega (arith, h .0, chars-in (key (d .place)) c _ (h .3) m)
+
+character-in : (k : ℕ) (c : Ch) (cs : List Ch) → Chars k cs → c ∈ cs → character-at (c .place) cs ≡ spelling c
+unfolding character-at
+character-in k c cs h here = rw (character-at, same-self (c .place))
+character-in k c cs h (there {y = d} {xs = ds} m) =
+    rw (character-at, differ (c .place) (d .place) (λ z. omega (arith, chars-in (key (d .place)) c ds (h .3) m)))
+    (character-in (key (d .place)) c ds (h .3) m)
+
+pub character-there : (bs : List ℕ) (cs : List Ch) → length bs ≤ 16384 → characters bs ≡ some cs → (c : Ch) → c ∈ cs
+    → character-at (c .place) cs ≡ spelling c
+character-there bs cs h e c m = character-in 0 c cs (script bs cs h e .chars) m
+
+-- a token error stands at a character
+pub record AtCharacter (cs : List Ch) (e : Err) : Type 0 where
+  pub char : Ch
+  pub among : char ∈ cs
+  pub place : char .place ≡ e .place
+
+module _ (us : List Ch) where
+  abbrev pub Stand : Tokens → Type 0
+  Stand (tokens ts es) = All (AtCharacter us) es
+  Stand (refused n) = Unit {0}
+
+  stand-from : (n : ℕ) (cs : List Ch) (ts : List Tok) (es : List Err) (k : ℕ) → Chars k cs
+      → ((d : Ch) → d ∈ cs → d ∈ us) → All (AtCharacter us) es → Stand (tokenize-from 2048 n cs ts es)
+  unfolding tokenize-from
+  stand-from zero cs ts es k c i a = tt
+  stand-from (suc n) [] ts es k c i a = a
+  stand-from (suc n) (x ∷ cs) ts es k c i a =
+      stepped Stand (λ j p. tt) n x cs ts es (turn x cs) (turned x cs (key (x .place)) (c .2 .1) (c .3))
+      (λ cs′ ts′ es′ t _ _. stand-from n cs′ (ts ++ ts′) (es ++ es′) (key (x .place))
+      (t .ran .keeps (key (x .place)) (c .3))
+      (λ d m. i d (there (t .ran .within d m))) (more es′ (t .errors)))
+    where
+      more : (es′ : List Err) → All (ErrorAt (x .place)) es′ → All (AtCharacter us) (es ++ es′)
+      more es′ h =
+          all-append (AtCharacter us) es es′ a
+          (all-map (ErrorAt (x .place)) (AtCharacter us)
+          (λ e q. record { char = x; among = i x here; place = sym (q .place) }) es′ h)
+
+pub errors-stand : (bs : List ℕ) (cs : List Ch) → length bs ≤ 16384 → characters bs ≡ some cs → Stand cs (tokenize cs)
+unfolding tokenize
+errors-stand bs cs h e = stand-from cs (suc (length cs)) cs [] [] 0 (script bs cs h e .chars) (λ d m. m) tt

@@ -1,6 +1,6 @@
 -- A stack machine that runs over the records of a tree and rebuilds the stripped tokens. Assumes nothing.
 use mathlib.Core.Path.{_≡_, refl, ap}
-use mathlib.Core.Bool.{Bool, true, false, _&&_}
+use mathlib.Core.Bool.{true, false}
 use mathlib.Core.Option.{Option, none, some}
 use mathlib.Core.List.{List, [], _∷_, _++_}
 use Prim.Native.Nat.{ℕ, zero, suc}
@@ -9,7 +9,7 @@ use lib.ListN.{getD}
 use Rattle.definition.specs.Tag as Tag
 use Rattle.definition.specs.Choice.{pick}
 use Rattle.definition.specs.Kind as K
-use Rattle.definition.specs.Source.{Place, nowhere}
+use Rattle.definition.specs.Source.{Place, nowhere, same-place}
 use Rattle.definition.specs.Node.{Num, byte, two, eight, Rec}
 use Rattle.definition.proofs.Strip.{Norm, symbol, named, integer, sized}
 
@@ -35,9 +35,6 @@ abbrev pub number-at : ℕ → List Num → ℕ
 number-at i [] = 0
 number-at zero (n ∷ ns) = value n
 number-at (suc i) (n ∷ ns) = number-at i ns
-
-abbrev pub same-place : Place → Place → Bool
-same-place p q = eqb (p .line) (q .line) && eqb (p .column) (q .column)
 
 -- entries popped from the stack and joined, with a separator between them; the stack left
 pub record Gathered : Type 0 where

@@ -22,6 +22,9 @@ place-at line column = record { line = line; column = column }
 abbrev pub nowhere : Place
 nowhere = record { line = 0; column = 0 }
 
+abbrev pub same-place : Place → Place → Bool
+same-place p q = eqb (p .line) (q .line) && eqb (p .column) (q .column)
+
 -- the place after the character that begins with the byte b; a newline belongs to the line it ends
 abbrev pub after : ℕ → Place → Place
 after b p = pick (eqb b 10) (record { line = suc (p .line); column = 1 }) (record { line = p .line; column = suc (p .column) })

@@ -22,3 +22,5 @@ pub const NESTING: u8 = 10;
 pub const END_AFTER_WORD: u8 = 11;
 
 pub const ERRORS: u8 = 12;
+
+pub const SENTENCE_LENGTH: u32 = 13;
