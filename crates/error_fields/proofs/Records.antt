@@ -74,7 +74,7 @@ small-at ws i (suc n) (suc j) h g =
     let e : i + suc j ≡ suc i + j = omega arith in
     rw e (small-at ws (suc i) n j (good-next ws i n h .1) (omega arith))
 
-listed-is : (ws : List ℕ) (i n : ℕ) → is-some (errors-of ws i n) ≡ true → errors-of ws i n ≡ some (listed ws i n)
+pub listed-is : (ws : List ℕ) (i n : ℕ) → is-some (errors-of ws i n) ≡ true → errors-of ws i n ≡ some (listed ws i n)
 unfolding errors-of listed
 listed-is ws i zero h = refl
 listed-is ws i (suc n) h = let s = good-next ws i n h in rw (errors-of, s .0, listed-is ws (suc i) n (s .1))

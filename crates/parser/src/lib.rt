@@ -31,7 +31,7 @@ fn refused(number: u32) -> Written
 }
 
 // The number of the refusal in an answer, or 0.
-fn number_of(status: Status) -> u32
+pub fn number_of(status: Status) -> u32
     ensures { λ r. ⌜ r ≡ refusal-number status ⌝ }
 {
     match status {

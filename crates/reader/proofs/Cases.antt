@@ -74,6 +74,22 @@ cleared-is {o} k c = ap (λ (v : List ℕ). answer (record { number = k; bytes =
 before-rest : (n : ℕ) (T ws : List ℕ) → take n T ≡ ws → T ≡ ws ++ drop n T
 before-rest n T ws e = sym (take-append-drop n T) ∙ ap (λ (v : List ℕ). v ++ drop n T) e
 
+-- the records of the loop are valid
+module _ (s : List ℕ) (z : Stands s origin) (h : length s ≤ 16384) {T E X : List ℕ} {f : State}
+    (d : Done 2048 (rest s origin) T E X f) where
+  pub validated-back : validate T (f .tokens) E (f .errors) X ≡ some (record { tokens = d .ts; errors = d .es })
+  validated-back =
+      cc (
+        before-rest (8 * f .tokens) T (tokens-words 0 (d .ts)) (d .holds .toks),
+        d .holds .tokens,
+        before-rest (4 * f .errors) E (errors-words (d .es)) (d .holds .errs),
+        d .holds .errors,
+        before-rest (f .text) X (tokens-text (d .ts)) (d .holds .text),
+        read-back s (rest s origin) (d .ts) (d .es) h (the-characters s z)
+            (within-limit (rest s origin) ∙ d .is) (drop (8 * f .tokens) T) (drop (4 * f .errors) E)
+            (drop (f .text) X),
+      )
+
 module _ (s o : List ℕ) (q : Stands s origin × (length s ≤ 16384) × (65536 ≤ length o)) where
   -- by the result of the loop
   runs : {t : Z.Tokens} → Z.tokenize-within 2048 (rest s origin) ≡ t → written o (read-tokenised t) ≡ whole s o
@@ -94,22 +110,8 @@ module _ (s o : List ℕ) (q : Stands s origin × (length s ≤ 16384) × (65536
       d : Done 2048 (rest s origin) T E X f
       d = ran-done g n
 
-      -- the records of the loop are valid
-      validated-back : validate T (f .tokens) E (f .errors) X ≡ some (record { tokens = d .ts; errors = d .es })
-      validated-back =
-          cc (
-            before-rest (8 * f .tokens) T (tokens-words 0 (d .ts)) (d .holds .toks),
-            d .holds .tokens,
-            before-rest (4 * f .errors) E (errors-words (d .es)) (d .holds .errs),
-            d .holds .errors,
-            before-rest (f .text) X (tokens-text (d .ts)) (d .holds .text),
-            read-back s (rest s origin) (d .ts) (d .es) (q .1) (the-characters s (q .0))
-                (within-limit (rest s origin) ∙ d .is) (drop (8 * f .tokens) T) (drop (4 * f .errors) E)
-                (drop (f .text) X),
-          )
-
       pub whole-validated : is-some (validate T (f .tokens) E (f .errors) X) ≡ true
-      whole-validated = ap is-some validated-back
+      whole-validated = ap is-some (validated-back s (q .0) (q .1) d)
 
       pub whole-none : f .tokens ≡ 0 → written o (O.refused 9) ≡ whole s o
       unfolding read-tokens
@@ -122,7 +124,7 @@ module _ (s o : List ℕ) (q : Stands s origin × (length s ≤ 16384) × (65536
       pub whole-read : {o′ : List ℕ} {w : Written} → (f .tokens ≡ 0 → ⊥) → ReadValidated T (f .tokens) E (f .errors) X o o′ w
           → answer w o′ ≡ whole s o
       unfolding read-tokens
-      whole-read {o′} {w} k r = go (d .ts) (λ m. k (d .holds .tokens ∙ m)) (r _ validated-back) (runs (d .is))
+      whole-read {o′} {w} k r = go (d .ts) (λ m. k (d .holds .tokens ∙ m)) (r _ (validated-back s (q .0) (q .1) d)) (runs (d .is))
         where
           go : (ts : List Tok) → (length ts ≡ 0 → ⊥) → answer w o′ ≡ O.read-validated o ts (d .es)
               → written o (read-tokens ts (d .es)) ≡ whole s o → answer w o′ ≡ whole s o

@@ -2,3 +2,4 @@ pub mod Cases
 pub mod Answers
 pub mod Demand3
 pub mod Starred
+pub mod Complaints

@@ -1,4 +1,6 @@
-// The whole operation: reads a script and writes its tree file.
+// The whole operation: reads a script and writes its tree file. Complaints in words: sentence.rt.
+pub mod sentence;
+
 use definition::limit;
 use definition::refusal;
 use parser::Written;

@@ -24,6 +24,10 @@ pub fn long(word: u32) -> usize {
     word as usize
 }
 
+pub fn eight(high: u32, low: u32) -> usize {
+    long(high) % 4294967296 * 4294967296 + long(low) % 4294967296
+}
+
 // ---- bytes
 
 // Reads `n` bytes to the start of a slice; false if there are fewer.

@@ -3,6 +3,7 @@
 use libc::STDIN_FILENO;
 use replay_cases::Counts;
 use replay_cases::Found;
+use replay_cases::eight;
 use replay_cases::four;
 use replay_cases::long;
 use replay_cases::pair;
@@ -24,11 +25,6 @@ struct Opening {
     errors: usize,
     number: u32,
     bytes: usize,
-}
-
-// A number in eight bytes.
-fn eight(high: u32, low: u32) -> usize {
-    long(high) % 4294967296 * 4294967296 + long(low) % 4294967296
 }
 
 fn opened(b: &[u8; 32]) -> Opening {

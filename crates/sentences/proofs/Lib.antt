@@ -1,0 +1,4 @@
+pub mod Saying
+pub mod Lines
+pub mod Spelled
+pub mod Messages

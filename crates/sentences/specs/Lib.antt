@@ -1,0 +1,5 @@
+pub mod Said
+pub mod Lines
+pub mod Spelling
+pub mod Messages
+pub mod Contract
