@@ -1,7 +1,8 @@
 /*
  * tree SCRIPT: reads a script with dn_read and prints its tree, a line for each node, children indented
- * below their parent; then the errors in words, each with its line of the script.
- * tree --file FILE: the same of a stored tree file, without the lines of the script.
+ * below their parent; then the errors, each with its sentence by dn_sentence and its line of the script.
+ * tree --file FILE: the same of a stored tree file. Without its script there are no sentences and no lines:
+ * an error is printed as its numbers.
  * `-` is standard input.
  *
  * Status: 0 read without an error, 1 read with errors, 2 refused, 3 something else failed.
@@ -20,6 +21,7 @@ enum status { CLEAN = 0, ERRORS = 1, REFUSED = 2, FAILED = 3 };
 static uint8_t script[DN_MAX_SCRIPT_BYTES + 1];
 static size_t script_bytes;
 static uint8_t file[DN_FILE_BUFFER_BYTES + 1];
+static uint8_t sentence[DN_SENTENCE_BUFFER_BYTES];
 
 /* ---- what the fields of each tag hold ---- */
 
@@ -110,44 +112,7 @@ static const char *const REFUSALS[] = {
     "nested too deep",
     "the script ends after `type`, `use` or a dot, where a name has to follow",
     "too many errors",
-};
-
-static const char *const TOKEN_ERRORS[] = {
-    "no error",
-    "unknown escape in a string, left out",
-    "string without a closing quote, left out",
-    "no { after asm, left out",
-    "unknown character, left out",
-};
-
-static const char *const PARSE_ERRORS[] = {
-    "no error",
-    "not an item of a module",
-    "another token expected",
-    "a token is missing",
-    "a name expected",
-    "a name expected",
-    "a statement expected",
-    "an expression expected",
-    "an expression expected",
-    "an array's size expected",
-    "an array's size must be positive",
-    "a type expected",
-    "a type expected",
-    "a block has no }",
-    "a list has no end",
-    "a list's item is followed by neither a comma nor the end of the list",
-    "a name expected after type",
-    "a string expected after use",
-    "a compound expected after #",
-    "a compound expected after #",
-};
-
-static const char *const KINDS[] = {
-    "nothing", "a name", "an integer", "a string", "fn", "var", "return", "loop", "while", "break",
-    "if", "else", "true", "false", "as", "type", "struct", "sizeof", "use", "extern", "distinct",
-    "internal", "+", "-", "*", "/", "=", "==", "&", "&&", "|", "^", "~", "!", ".", ".*", "<<", ">>",
-    "#", "{", "}", "(", ")", "[", "]", "<", "<=", ">", ">=", ":", ";", "->", "<-", ",", "assembly",
+    "the sentence buffer is too short",
 };
 
 static const char *const ARITHMETIC[] = {"+", "-", "*", "&", "^", "|", "<<", ">>"};
@@ -155,19 +120,13 @@ static const char *const COMPARISON[] = {"==", ">", ">=", "<", "<="};
 
 /* The compiler refuses a table that does not end with the last number. */
 #define ENDS_WITH(table, last) typedef char table##_ends_with[sizeof table / sizeof table[0] == (last) + 1 ? 1 : -1]
-ENDS_WITH(REFUSALS, DN_REFUSED_TOO_MANY_ERRORS);
-ENDS_WITH(TOKEN_ERRORS, DN_TOKEN_ERROR_UNKNOWN_CHARACTER);
-ENDS_WITH(PARSE_ERRORS, DN_PARSE_ERROR_COMPOUND);
-ENDS_WITH(KINDS, DN_KIND_INLINE_ASSEMBLY_FRAGMENT);
+ENDS_WITH(REFUSALS, DN_REFUSED_SENTENCE_LENGTH);
 ENDS_WITH(ARITHMETIC, DN_OP_RIGHT_SHIFT);
 ENDS_WITH(COMPARISON, DN_OP_LESS_THAN_OR_EQUALS);
 
-/* NULL for a number that the table does not have */
-#define WORDS(table, number) words(table, sizeof table / sizeof table[0], number)
-
-static const char *words(const char *const *table, size_t count, uint32_t number)
+static const char *refusal(uint32_t number)
 {
-    return number < count ? table[number] : NULL;
+    return number < sizeof REFUSALS / sizeof REFUSALS[0] ? REFUSALS[number] : "unknown number";
 }
 
 /* ---- fields ---- */
@@ -450,26 +409,47 @@ static void print_line(struct place p)
     printf("^\n");
 }
 
-/* Prints an error; whether it has a known number and known kinds. */
-static int print_error(const struct field *f)
+/* Prints the sentence of an error; whether there is one. A control character is printed as \xHH. */
+static int print_sentence(int list, size_t position)
 {
-    const char *what, *expected, *got;
+    size_t bytes = 0, i;
+    uint32_t number = dn_sentence(script, script_bytes, (uint32_t)list, position, sentence, sizeof sentence, &bytes);
+    if (number != DN_OK || bytes == 0 || bytes > sizeof sentence)
+        return 0;
+    for (i = 0; i < bytes; i++)
+        if (sentence[i] < 32 || sentence[i] == 127)
+            printf("\\x%02X", (unsigned)sentence[i]);
+        else
+            putchar(sentence[i]);
+    putchar('\n');
+    return 1;
+}
+
+/* the numbers of an error, where there is no script to ask for its sentence */
+static void print_numbers(const uint8_t *body)
+{
+    printf("error %u", (unsigned)body[0]);
+    if (body[5] != DN_KIND_NONE)
+        printf(", expected kind %u", (unsigned)body[5]);
+    if (body[6] != DN_KIND_NONE)
+        printf(", got kind %u", (unsigned)body[6]);
+    putchar('\n');
+}
+
+/* Prints an error, which is at a position of its list; whether it could be printed. */
+static int print_error(const struct field *f, size_t position)
+{
     struct place p;
     if (f->length != DN_ERROR_BODY_BYTES)
         return 0;
-    what = f->tag == DN_TAG_TOKEN_ERROR ? WORDS(TOKEN_ERRORS, f->body[0]) : WORDS(PARSE_ERRORS, f->body[0]);
     p = place_at(f->body + 1);
-    expected = WORDS(KINDS, f->body[5]);
-    got = WORDS(KINDS, f->body[6]);
-    if (what == NULL || expected == NULL || got == NULL)
-        return 0;
     print_place(p);
-    printf("%s%s", p.line == 0 ? "at the end of the script: " : "", what);
-    if (f->body[5] != DN_KIND_NONE)
-        printf(", expected: %s", expected);
-    if (f->body[6] != DN_KIND_NONE)
-        printf(", found: %s", got);
-    printf(" (%u)\n", (unsigned)f->body[0]);
+    if (p.line == 0)
+        printf("end of script: ");
+    if (script_bytes == 0)
+        print_numbers(f->body);
+    else if (!print_sentence(f->tag, position))
+        return 0;
     print_line(p);
     return 1;
 }
@@ -489,7 +469,7 @@ static const struct list {
 /* Builds the tree, which ends with the module's field, prints it, then prints the lists of errors. */
 static enum status print_file(size_t bytes)
 {
-    size_t at = 0, list = 0, errors = 0;
+    size_t at = 0, list = 0, errors = 0, position = 0;
     int heading = -1;
     struct field f;
     do {
@@ -510,10 +490,11 @@ static enum status print_file(size_t bytes)
             list++;
         if (list == sizeof LISTS / sizeof LISTS[0])
             return FAILED;
+        position = heading == f.tag ? position + 1 : 0;
         if (heading != f.tag)
             printf("\n%s:\n", LISTS[list].name);
         heading = f.tag;
-        if (!print_error(&f))
+        if (!print_error(&f, position))
             return FAILED;
         errors++;
     }
@@ -547,8 +528,7 @@ static enum status print_script(void)
     size_t bytes = 0;
     uint32_t number = dn_read(script, script_bytes, file, DN_FILE_BUFFER_BYTES, &bytes);
     if (number != DN_OK) {
-        const char *why = WORDS(REFUSALS, number);
-        printf("Refused, no tree: %s (%" PRIu32 ")\n", why == NULL ? "unknown number" : why, number);
+        printf("Refused, no tree: %s (%" PRIu32 ")\n", refusal(number), number);
         return REFUSED;
     }
     return bytes <= DN_FILE_BUFFER_BYTES ? print_file(bytes) : FAILED;

@@ -1,12 +1,18 @@
 /*
  * delta_null.h: reading Delta Null placement scripts from C.
  *
- * One call, dn_read, takes a script and writes its tree file to a buffer of yours: the tree, and every
- * error that was found in the script.
+ * dn_read takes a script and writes its tree file to a buffer of yours: the tree, and every error that
+ * was found in the script.
  *
  *     static uint8_t file[DN_FILE_BUFFER_BYTES];
  *     size_t bytes;
  *     uint32_t number = dn_read(script, script_len, file, sizeof file, &bytes);
+ *
+ * dn_sentence takes the script again and writes what one of these errors says in words, here the first
+ * of the full list.
+ *
+ *     static uint8_t sentence[DN_SENTENCE_BUFFER_BYTES];
+ *     number = dn_sentence(script, script_len, DN_TAG_FULL_ERROR, 0, sentence, sizeof sentence, &bytes);
  *
  * Compile and link with `pkg-config --cflags --libs delta_null`.
  *
@@ -17,7 +23,7 @@
  * and in the fields of a struct type are not reported.
  *
  * A dash before a digit belongs to the number: in centre(width -12) the argument is width, -12 is lost,
- * and the error is in the full list alone. Write width - 12.
+ * and the error is in the full list alone: unexpected token Integer("-12", 10) in list. Write width - 12.
  *
  * Two things are lost without an error. A minus consumes the character after it, so that a - b is read
  * as it looks, and a -bc as a - c. Assembly with no closing brace runs to the end of the script:
@@ -26,7 +32,7 @@
  * In the repository, docs/FORMAT.md defines the language, the tree file and each answer, and examples/tree.c
  * builds the tree of a file and prints it, with the errors in words.
  *
- * Names: DN_REFUSED_ what dn_read returns, DN_MAX_ limits, DN_TAG_ fields of the file, DN_OP_ operators,
+ * Names: DN_REFUSED_ what the calls return, DN_MAX_ limits, DN_TAG_ fields of the file, DN_OP_ operators,
  * DN_ALIAS_ words before a type alias, DN_TOKEN_ERROR_ and DN_PARSE_ERROR_ numbers of errors, DN_KIND_
  * kinds of tokens. tools/header compares each number with the definition.
  */
@@ -53,9 +59,9 @@ extern "C" {
  * is 0 it rises for both. PATCH rises where neither did.
  */
 #define DN_VERSION_MAJOR 0
-#define DN_VERSION_MINOR 1
+#define DN_VERSION_MINOR 2
 #define DN_VERSION_PATCH 0
-#define DN_VERSION_STRING "0.1.0"
+#define DN_VERSION_STRING "0.2.0"
 
 /* ---- limits ---- */
 
@@ -69,16 +75,23 @@ extern "C" {
 /* The least length of a file buffer. The tree file of each script that is read fits into it. */
 #define DN_FILE_BUFFER_BYTES 65536
 
-/* ---- what dn_read returns ---- */
+/* The bytes of the longest sentence. A sentence buffer may be shorter; this one is never too short. */
+#define DN_SENTENCE_BUFFER_BYTES 98333
 
-/* Take a number that is not listed here for a refusal too: a later version may have more of them. */
+/* ---- what the calls return ---- */
+
+/*
+ * Take a number that is not listed here for a refusal too: a later version may have more of them. What is
+ * said of the file buffer is about dn_read; dn_sentence changes nothing in its buffer if it refuses.
+ */
 enum dn_number {
-    DN_OK = 0, /* the script was read: there is a tree file */
+    DN_OK = 0, /* the script was read: there is a tree file, or a sentence */
 
     /* refused before any work: the file buffer is not changed; tested in this order */
     DN_REFUSED_SCRIPT_LENGTH = 1, /* the script has more than DN_MAX_SCRIPT_BYTES bytes */
     DN_REFUSED_NOT_UTF8 = 2,      /* the script is not UTF-8 (RFC 3629) */
-    DN_REFUSED_BUFFER_LENGTH = 3, /* the file buffer has fewer than DN_FILE_BUFFER_BYTES bytes */
+    DN_REFUSED_BUFFER_LENGTH = 3, /* the file buffer has fewer than DN_FILE_BUFFER_BYTES bytes;
+                                     dn_sentence has none and never returns this */
 
     /* refused by the tokenizer, which stops at the first: the file buffer is all zeros */
     DN_REFUSED_FOREIGN_CHARACTER = 4,     /* a character above 127, and not in a string, a comment or
@@ -87,17 +100,20 @@ enum dn_number {
     DN_REFUSED_TOO_MANY_TOKENS = 6,       /* more than DN_MAX_TOKENS */
     DN_REFUSED_TOO_MANY_TOKEN_ERRORS = 7, /* more than DN_MAX_TOKEN_ERRORS */
 
-    /* for token records that a caller passes; dn_read makes its own and never returns this */
+    /* for token records that a caller passes; both calls make their own and never return this */
     DN_REFUSED_BAD_RECORD = 8,
 
     /* refused by the parser, which stops at the first: the file buffer is all zeros */
     DN_REFUSED_NO_TOKENS = 9,        /* the script has no token */
     DN_REFUSED_NESTED_TOO_DEEP = 10, /* more than DN_MAX_NESTING calls are open */
     DN_REFUSED_END_AFTER_WORD = 11,  /* the script ends right after `type`, `use` or the dot of `.name` */
-    DN_REFUSED_TOO_MANY_ERRORS = 12  /* more than DN_MAX_ERRORS */
+    DN_REFUSED_TOO_MANY_ERRORS = 12, /* more than DN_MAX_ERRORS */
+
+    /* refused by dn_sentence alone, of a script that is read */
+    DN_REFUSED_SENTENCE_LENGTH = 13 /* the sentence buffer is shorter than the sentence */
 };
 
-/* ---- the call ---- */
+/* ---- the calls ---- */
 
 /*
  * Reads script[0 .. script_len - 1] and writes its tree file to file[0 .. file_len - 1].
@@ -122,6 +138,45 @@ enum dn_number {
  */
 uint32_t dn_read(const uint8_t *script, size_t script_len,
                  uint8_t *file, size_t file_len, size_t *bytes);
+
+/*
+ * Writes the sentence of one error of script[0 .. script_len - 1] to sentence[0 .. sentence_len - 1]: what
+ * the error says in words, without its place. It is the message of the Rust front end, where a token has the
+ * name of its kind, with its text and base: unexpected token Integer("-12", 10) in list.
+ *
+ *     list      is the tag of the error's field: DN_TAG_TOKEN_ERROR, DN_TAG_REPORTED_ERROR or
+ *               DN_TAG_FULL_ERROR.
+ *     position  is the number of the fields of that tag before it in the tree file of the script, so 0 for
+ *               the first.
+ *
+ * Each call reads the script anew; no tree file is needed.
+ *
+ * Numbers, tested in this order. *bytes is set by every call: to the length of the sentence, or to 0 if
+ * there is a refusal.
+ *     1. A script that dn_read refuses, with a buffer that is long enough for it, keeps its refusal.
+ *     2. Any other list, or a position with no error: DN_OK and the empty sentence, so *bytes is 0.
+ *     3. A buffer that is shorter than the sentence: DN_REFUSED_SENTENCE_LENGTH.
+ *     4. DN_OK and the sentence.
+ *
+ * Buffers. All three are the caller's, as with dn_read. No pointer may be NULL, even if its length is 0.
+ * The script, the sentence buffer and *bytes must not overlap.
+ *     script    is only read; it may have any bytes, zeros too, and any length.
+ *     sentence  is written with DN_OK, and not changed with a refusal; what it held before does not matter.
+ *               The sentence has no terminating zero, but the bytes after it are set to 0, to the
+ *               buffer's end: give the buffer one byte more to have at least one. It may have any length.
+ * No byte outside of them is read or written.
+ *
+ * Text. A sentence is ASCII and one line: in quoted text controls, quotes, backslashes and all characters
+ * above 127 are escaped (docs/FORMAT.md, Sentences). Only the character that DN_TOKEN_ERROR_UNKNOWN_CHARACTER
+ * names stands as it is; it may be a control character, zero too.
+ *
+ * Threads. As with dn_read: each with a sentence buffer and *bytes of its own.
+ *
+ * Stack. Give each thread that calls a stack of 1 MiB. No theorem bounds the stack; the most that was
+ * measured is below 400 KiB (bench/README.md).
+ */
+uint32_t dn_sentence(const uint8_t *script, size_t script_len, uint32_t list, size_t position,
+                     uint8_t *sentence, size_t sentence_len, size_t *bytes);
 
 /* ---- the tree file ---- */
 
@@ -257,6 +312,7 @@ enum dn_token_error {
 /*
  * The number of DN_TAG_REPORTED_ERROR and DN_TAG_FULL_ERROR. Those with "end" are at the end of the
  * script and have the place 0:0. Where "expected" or "got" is not named, that kind is DN_KIND_NONE.
+ * dn_sentence has the words for each.
  */
 enum dn_parse_error {
     DN_PARSE_ERROR_TOP_LEVEL = 1,            /* no item of a module begins so: got */

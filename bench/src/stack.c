@@ -1,4 +1,5 @@
-/* Prints the most of a stack that a call of dn_read takes, for scripts that nest as deep as they may. */
+/* Prints the most of a stack that a call of dn_read and of dn_sentence takes, for scripts that nest as deep as they
+ * may. */
 #include <pthread.h>
 #include <stdio.h>
 #include <string.h>
@@ -50,7 +51,7 @@ static void put(const char *text, size_t count)
     }
 }
 
-static void *call(void *unused)
+static void *call_read(void *unused)
 {
     size_t bytes;
     (void)unused;
@@ -58,8 +59,16 @@ static void *call(void *unused)
     return NULL;
 }
 
+static void *call_sentence(void *unused)
+{
+    size_t bytes;
+    (void)unused;
+    number = dn_sentence((const uint8_t *)script, length, DN_TAG_FULL_ERROR, 0, file, sizeof file, &bytes);
+    return NULL;
+}
+
 /* Calls on a stack of its own, which held one value throughout, and counts what was changed; 0 where that failed. */
-static size_t stack_taken(void)
+static size_t stack_taken(void *(*call)(void *))
 {
     pthread_attr_t attributes;
     pthread_t thread;
@@ -80,7 +89,7 @@ static size_t stack_taken(void)
 
 int main(void)
 {
-    size_t i, taken;
+    size_t i, read, sentence;
     for (i = 0; i < sizeof SHAPES / sizeof SHAPES[0]; i++) {
         const struct shape *s = &SHAPES[i];
         length = 0;
@@ -89,12 +98,13 @@ int main(void)
         put(s->middle, 1);
         put(s->closing, s->count);
         put(s->after, 1);
-        taken = stack_taken();
-        if (taken == 0 || number != DN_OK) {
+        read = stack_taken(call_read);
+        sentence = stack_taken(call_sentence);
+        if (read == 0 || sentence == 0 || number != DN_OK) {
             printf("%s: not measured, number %u\n", s->name, (unsigned)number);
             return 1;
         }
-        printf("%-16s %5zu times %8zu bytes of stack\n", s->name, s->count, taken);
+        printf("%-16s %5zu times %8zu and %8zu bytes of stack\n", s->name, s->count, read, sentence);
     }
     return 0;
 }

@@ -7,7 +7,7 @@ use marked::{operations, rules};
 pub fn answer(script: &[u8]) -> Answer {
     let text = match operations::admitted(script) {
         Ok(text) => text,
-        Err(number) => return Answer { tokenised: Err(number), whole: Err(number) },
+        Err(number) => return Answer::refused(number),
     };
     let answer = marked::answer(text);
     if !confirmed(text, &answer) {
@@ -51,8 +51,10 @@ pub fn read(passed: &Passed) -> Result<Vec<u8>, u8> {
 /// What an operation answers and leaves in its slices.
 pub fn exit(given: &Given) -> Exit {
     match given {
-        Given::Tokenise { script, .. } | Given::Whole { script, .. } => drop(answer(script)),
         Given::Read(passed) => drop(read(passed)),
+        Given::Tokenise { script, .. } | Given::Whole { script, .. } | Given::Sentence { script, .. } => {
+            drop(answer(script))
+        }
     }
     operations::run(given)
 }

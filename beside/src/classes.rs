@@ -1,10 +1,10 @@
 //! The named classes of scripts: NAME, NAME:COUNT or NAME:COUNT:SEED.
 
 use crate::random::Random;
-use crate::{corpus, damage, fixed, grammar};
+use crate::{corpus, damage, fixed, grammar, texts};
 
 const NAMES: &str = "valid damaged soup bytes utf8 boundary limit-length limit-places limit-tokens limit-errors \
-                     limit-entries limit-nesting limit-sizes limit-counts paper constructs tests sequences short";
+                     limit-entries limit-nesting limit-sizes limit-counts paper constructs tests sequences short texts";
 
 /// What `coverage` runs, and any command that is given no class.
 pub const DEFAULT: [&str; 9] = [
@@ -65,6 +65,7 @@ pub fn scripts(class: &Class, each: &mut dyn FnMut(&[u8])) {
         "valid" => valid,
         "damaged" => damage::damaged,
         "soup" => damage::soup,
+        "texts" => texts::script,
         _ => damage::bytes,
     };
     let mut random = Random::new(class.seed);

@@ -3,7 +3,7 @@
 use crate::ask;
 use crate::classes::{self, Class};
 #[cfg(library)]
-use crate::linked;
+use crate::{linked, linked_sentences};
 use crate::show;
 use std::io::{Read, Write};
 use std::process::{Command, Stdio};
@@ -96,8 +96,35 @@ pub fn library(classes: &[Class]) -> bool {
     tally.end()
 }
 
+/// Asks the linked library for sentences of each script.
+#[cfg(library)]
+pub fn sentences(classes: &[Class]) -> bool {
+    let mut tally = Tally::default();
+    let (mut turn, mut errors) = (0, 0);
+    for class in classes {
+        classes::scripts(class, &mut |script| {
+            turn += 1;
+            let answer = ask::answer(script);
+            for question in linked_sentences::questions(&answer, turn) {
+                errors += question.exact as usize;
+                let expected = linked_sentences::expected(&answer, &question);
+                let got = linked_sentences::call(script, &question);
+                let lines = |result| linked_sentences::lines(&question, result);
+                tally.count(script, expected == got, || (lines(&expected), lines(&got)));
+            }
+        });
+    }
+    println!("{turn} scripts, the sentences of {errors} errors");
+    tally.end()
+}
+
 #[cfg(not(library))]
 pub fn library(_: &[Class]) -> bool {
     eprintln!("no library is linked: beside/build SRC LIBRARY");
     false
+}
+
+#[cfg(not(library))]
+pub fn sentences(classes: &[Class]) -> bool {
+    library(classes)
 }

@@ -3,13 +3,14 @@
 use crate::ask;
 use crate::classes::{self, Class};
 use crate::lists::{self, Case};
+use crate::sentence_coverage;
 use crate::show;
 use formats::{Given, FILE_SIZE, KINDS, TOKEN_SLICES};
 use std::collections::BTreeMap;
 
 /// How many scripts or cases have it at least once, by sort and number.
 #[derive(Default)]
-struct Met(BTreeMap<(&'static str, u32), usize>);
+pub struct Met(BTreeMap<(&'static str, u32), usize>);
 
 impl Met {
     fn add(&mut self, found: &[(&'static str, u32)]) {
@@ -22,7 +23,7 @@ impl Met {
     }
 
     /// Prints one sort; whether nothing is missing.
-    fn print(&self, sort: &'static str, wanted: &[u32], name: impl Fn(u32) -> String) -> bool {
+    pub fn print(&self, sort: &'static str, wanted: &[u32], name: impl Fn(u32) -> String) -> bool {
         println!("{sort}:");
         let mut complete = true;
         for number in wanted {
@@ -54,16 +55,18 @@ pub fn lists() -> Result<bool, String> {
     let mut complete = true;
     for (sort, cases) in lists::stored()? {
         let mut met = Met::default();
-        cases.iter().for_each(|case| met.add(&found_in_case(case)));
+        let sentences = sort == "sentences";
+        let found = if sentences { sentence_coverage::found_in_case } else { found_in_case };
+        cases.iter().for_each(|case| met.add(&found(case)));
         println!("the list of {sort}, {} cases", cases.len());
-        complete &= print_list(sort, &met);
+        complete &= if sentences { sentence_coverage::print(&met) } else { print_list(sort, &met) };
     }
     println!("{}", if complete { "nothing is missing" } else { "something is missing" });
     Ok(complete)
 }
 
 const REFUSAL: &str = "refusals of the whole operation (3 and 8 are of slices)";
-const NUMBER: &str = "numbers";
+pub const NUMBER: &str = "numbers";
 const SLICE: &str = "output slices";
 const TOKEN_ERROR: &str = "token errors (62)";
 const REPORTED: &str = "reported errors (60)";
@@ -111,6 +114,7 @@ fn slices((given, _): &Case) -> Vec<(usize, usize)> {
         Given::Tokenise { slices, .. } => slices.iter().copied().zip(TOKEN_SLICES).collect(),
         Given::Read(passed) => vec![(passed.file, FILE_SIZE)],
         Given::Whole { file, .. } => vec![(*file, FILE_SIZE)],
+        Given::Sentence { .. } => Vec::new(),
     }
 }
 
@@ -177,11 +181,13 @@ fn print(met: &Met) -> bool {
     all
 }
 
+/// The kinds that an error can expect; the others are expected only where they were seen before, or never.
+pub const EXPECTED_KINDS: [u32; 10] = [4, 15, 26, 38, 39, 41, 42, 44, 49, 50];
+
 /// What tree files have.
 fn print_files(met: &Met) -> bool {
     let tags: Vec<u32> = show::TAGS.iter().map(|(tag, _)| *tag as u32).filter(|tag| *tag != 0x7F).collect();
-    // the other kinds are expected only where they were seen before, or never
-    let expected = [0, 4, 15, 26, 38, 39, 41, 42, 44, 49, 50];
+    let expected = [&[0], &EXPECTED_KINDS[..]].concat();
     let operators = [numbers(0, 7), numbers(16, 20)].concat();
     let complete = [
         met.print(REPORTED, &numbers(1, 19), plain),
@@ -194,15 +200,15 @@ fn print_files(met: &Met) -> bool {
     complete.iter().all(|one| *one)
 }
 
-fn numbers(from: u32, to: u32) -> Vec<u32> {
+pub fn numbers(from: u32, to: u32) -> Vec<u32> {
     (from..=to).collect()
 }
 
-fn plain(number: u32) -> String {
+pub fn plain(number: u32) -> String {
     number.to_string()
 }
 
-fn kind(number: u32) -> String {
+pub fn kind(number: u32) -> String {
     match number {
         0 => "none".to_owned(),
         number => format!("{number} {}", KINDS[number as usize - 1]),

@@ -54,7 +54,8 @@ pub fn error(description: &str, loc: &SourceLocation) -> Error {
     Error { number, place: place(loc), expected, got }
 }
 
-fn worded(text: &str) -> (u8, u8, u8) {
+/// Number, expected kind and kind met.
+pub fn worded(text: &str) -> (u8, u8, u8) {
     let fixed = match text {
         "expected identifier" => 4,
         "unexpected end-of-file" => 5,

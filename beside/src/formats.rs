@@ -46,6 +46,7 @@ pub enum Given {
     Tokenise { script: Vec<u8>, slices: [usize; 3] },
     Read(Passed),
     Whole { script: Vec<u8>, file: usize },
+    Sentence { script: Vec<u8>, list: u32, position: u64, slice: usize },
 }
 
 /// What an operation answers, and its output slices at exit.
@@ -53,11 +54,11 @@ pub enum Given {
 pub struct Exit {
     /// 0, or the refusal
     pub number: u8,
-    /// Tokenise: tokens, token errors, text bytes; the others: file bytes
+    /// Tokenise: tokens, token errors, text bytes; the others: bytes of the file or sentence
     pub counts: Vec<usize>,
     /// Tokenise: the token slice and the error slice
     pub words: Vec<Vec<u32>>,
-    /// the text slice or the file slice
+    /// the text slice, the file slice or the sentence slice
     pub bytes: Vec<u8>,
     /// Read: what Token text gives for each record of the token slice, and after the last
     pub texts: Vec<Vec<u8>>,
@@ -82,15 +83,36 @@ pub struct Place {
     pub column: u32,
 }
 
-/// Tokenise's answer and the whole operation's; a number is a refusal.
+/// The sentences of a script's three lists, each in the list's order.
+#[derive(Clone, Default, Debug, PartialEq, Eq)]
+pub struct Sentences {
+    pub token_errors: Vec<String>,
+    pub reported: Vec<String>,
+    pub full: Vec<String>,
+}
+
+/// Tokenise's answer and the whole operation's; a number is a refusal. A script that is refused has no sentences.
 #[derive(Clone, Debug, PartialEq, Eq)]
 pub struct Answer {
     pub tokenised: Result<Tokens, u8>,
     pub whole: Result<Vec<u8>, u8>,
+    pub sentences: Sentences,
+}
+
+impl Answer {
+    /// Refused before there is any token.
+    pub fn refused(number: u8) -> Self {
+        Answer { tokenised: Err(number), whole: Err(number), sentences: Sentences::default() }
+    }
 }
 
 /// Stands for a panic of the Rust that no refusal names.
 pub const PANIC: u8 = 255;
+
+/// The lists that have sentences, by the tags of their fields.
+pub const TOKEN_ERRORS: u32 = 0x62;
+pub const REPORTED: u32 = 0x60;
+pub const FULL: u32 = 0x61;
 
 pub const SCRIPT_LIMIT: usize = 16_384;
 pub const FILE_SIZE: usize = 65_536;

@@ -9,14 +9,30 @@ extern "C" {
 }
 
 /// Bytes after the slice that must not change.
-const AFTER: usize = 64;
+pub const AFTER: usize = 64;
 
 #[derive(PartialEq)]
 pub struct Result {
-    number: u32,
-    bytes: usize,
-    /// the file slice and the bytes after it
-    memory: Vec<u8>,
+    pub number: u32,
+    pub bytes: usize,
+    /// the output slice and the bytes after it
+    pub memory: Vec<u8>,
+}
+
+impl Result {
+    pub fn slice(&self) -> &[u8] {
+        &self.memory[..self.memory.len() - AFTER]
+    }
+
+    /// The numbers, and whether the bytes after the slice have changed.
+    pub fn opening(&self) -> [String; 2] {
+        let slice = self.slice().len();
+        let untouched = self.memory[slice..].iter().all(|byte| *byte == FILLER);
+        [
+            format!("number {}, {} bytes, a slice of {slice}", self.number, self.bytes),
+            format!("after the slice: {}", if untouched { "untouched" } else { "changed" }),
+        ]
+    }
 }
 
 /// The exact slice for each script, a shorter and a longer one now and then.
@@ -48,11 +64,8 @@ pub fn expected(script: &[u8], length: usize) -> Result {
 }
 
 pub fn lines(result: &Result) -> Vec<String> {
-    let (slice, after) = result.memory.split_at(result.memory.len() - AFTER);
-    let mut lines = vec![
-        format!("number {}, {} bytes, a slice of {}", result.number, result.bytes, slice.len()),
-        format!("after the slice: {}", if after.iter().all(|b| *b == FILLER) { "untouched" } else { "changed" }),
-    ];
+    let slice = result.slice();
+    let mut lines = result.opening().to_vec();
     if slice.iter().all(|byte| *byte == FILLER) {
         lines.push("the slice is untouched".to_owned());
     } else {

@@ -2,16 +2,17 @@
 
 use crate::classes::{self, Class};
 use crate::random::Random;
-use crate::{altered, ask, corpus, made, show, slices};
+use crate::{altered, ask, corpus, made, sentence_cases, show, slices};
 use formats::{Exit, Given, Passed, Tokens, FILE_SIZE, TOKEN_SLICES};
 use marked::operations;
 use std::io::Write;
 
 /// The lists and where they are stored.
-const STORED: [(&str, &str); 3] = [
+const STORED: [(&str, &str); 4] = [
     ("tokens", "crates/replay_tokens/stdin"),
     ("records", "crates/replay_read/stdin"),
     ("files", "crates/replay_files/stdin"),
+    ("sentences", "crates/replay_sentences/stdin"),
 ];
 
 /// How many bytes each word of a record has.
@@ -56,7 +57,15 @@ pub fn write(sort: &str, classes: &[Class], out: &mut dyn Write) -> Result<(), S
             }
             altered(classes, &mut |from, passed| each(from, Given::Read(passed)));
         }
-        _ => return Err(format!("no list is of the sort {sort}; there are: tokens files records")),
+        "sentences" => {
+            sentence_cases::made(&mut each);
+            let mut turn = 0;
+            scripts(classes, &mut |from, script| {
+                turn += 1;
+                sentence_cases::of_script(&script, turn, &mut |given| each(from, given));
+            });
+        }
+        _ => return Err(format!("no list is of the sort {sort}; there are: tokens files records sentences")),
     }
     written.print();
     Ok(())
@@ -163,6 +172,17 @@ fn bytes(given: &Given, exit: &Exit) -> Vec<u8> {
         Given::Whole { script, file } => {
             [numbers(&[script.len(), *file], 3), refusal, number(written.len(), 3), script.clone(), written].concat()
         }
+        Given::Sentence { script, list, position, slice } => [
+            number(script.len(), 3),
+            list.to_be_bytes().to_vec(),
+            position.to_be_bytes().to_vec(),
+            number(*slice, 3),
+            refusal,
+            number(written.len(), 3),
+            script.clone(),
+            written,
+        ]
+        .concat(),
     }
 }
 
@@ -174,14 +194,15 @@ pub fn read(sort: &str, list: &[u8]) -> Result<Vec<Case>, String> {
         let case = match sort {
             "tokens" => list.tokens_case(),
             "records" => list.records_case(),
-            _ => list.files_case(),
+            "files" => list.files_case(),
+            _ => list.sentences_case(),
         };
         cases.push(case.ok_or_else(|| format!("the list of {sort} ends inside case {}", cases.len()))?);
     }
     Ok(cases)
 }
 
-/// The three stored lists, one after the other.
+/// The stored lists, one after the other.
 pub fn stored() -> Result<Vec<(&'static str, Vec<Case>)>, String> {
     let list = |(sort, path): (&'static str, &str)| {
         let list = std::fs::read(path).map_err(|e| format!("{path} can't be read: {e}"))?;
@@ -250,7 +271,7 @@ impl<'a> List<'a> {
             text: self.take(text)?.to_vec(),
             file,
         };
-        let answer = self.file(number, length)?;
+        let answer = self.written(number, length)?;
         let mut texts = Vec::new();
         for token in passed.tokens.chunks_exact(8) {
             // an empty text may have any start
@@ -270,13 +291,23 @@ impl<'a> List<'a> {
         let number = self.number(1)? as u8;
         let written = self.number(3)?;
         let script = self.take(length)?.to_vec();
-        let exit = operations::whole_exit(file, &self.file(number, written)?);
+        let exit = operations::whole_exit(file, &self.written(number, written)?);
         Some((Given::Whole { script, file }, exit))
     }
 
-    fn file(&mut self, number: u8, length: usize) -> Option<Result<Vec<u8>, u8>> {
-        let file = self.take(length)?.to_vec();
-        Some(if number == 0 { Ok(file) } else { Err(number) })
+    fn sentences_case(&mut self) -> Option<Case> {
+        let [length, list, position, slice] = self.numbers([3, 4, 8, 3])?;
+        let number = self.number(1)? as u8;
+        let written = self.number(3)?;
+        let script = self.take(length)?.to_vec();
+        let exit = operations::sentence_exit(slice, &self.written(number, written)?);
+        Some((Given::Sentence { script, list: list as u32, position: position as u64, slice }, exit))
+    }
+
+    /// A file or a sentence, or the refusal.
+    fn written(&mut self, number: u8, length: usize) -> Option<Result<Vec<u8>, u8>> {
+        let written = self.take(length)?.to_vec();
+        Some(if number == 0 { Ok(written) } else { Err(number) })
     }
 }
 
@@ -284,7 +315,7 @@ impl<'a> List<'a> {
 pub fn print_case(sort: &str, number: usize, list: &[u8]) -> Result<(), String> {
     let cases = read(sort, list)?;
     let (given, exit) = cases.get(number).ok_or_else(|| format!("the list has no case {number}"))?;
-    for line in show::given(given).iter().chain(&show::exit(exit)) {
+    for line in show::given(given).iter().chain(&show::exit(given, exit)) {
         println!("{line}");
     }
     Ok(())

@@ -13,12 +13,17 @@ mod fixed;
 mod grammar;
 #[cfg(library)]
 mod linked;
+#[cfg(library)]
+mod linked_sentences;
 mod lists;
 mod made;
 mod noticed;
 mod random;
+mod sentence_cases;
+mod sentence_coverage;
 mod show;
 mod slices;
+mod texts;
 // the steps are for `mark`
 #[allow(dead_code)]
 mod wrong_steps;
@@ -30,9 +35,10 @@ const USAGE: &str = "usage: beside coverage CLASS..
        beside claims CLASS..
        beside program PROGRAM CLASS..
        beside lib CLASS..
-       beside list tokens|files|records CLASS..
-       beside case tokens|files|records NUMBER < LIST
-       beside wrong
+       beside sentences CLASS..
+       beside list tokens|files|records|sentences CLASS..
+       beside case tokens|files|records|sentences NUMBER < LIST
+       beside wrong PART..
        beside definitions COUNT LONGEST CLASS..
        beside dictionary
        beside show < SCRIPT";
@@ -62,18 +68,19 @@ fn run() -> Result<bool, String> {
         ["claims", ..] => Ok(claims::run(&classes::parse(&words[1..])?)),
         ["program", program, ..] => Ok(compare::program(program, &classes::parse(&words[2..])?)),
         ["lib", ..] => Ok(compare::library(&classes::parse(&words[1..])?)),
+        ["sentences", ..] => Ok(compare::sentences(&classes::parse(&words[1..])?)),
         ["list", sort, ..] => {
             let mut out = io::BufWriter::new(io::stdout().lock());
             lists::write(sort, &classes::parse(&words[2..])?, &mut out)?;
             out.flush().expect("the list can't be written");
             Ok(true)
         }
-        ["wrong"] => noticed::run(),
+        ["wrong", parts @ ..] => noticed::run(parts),
         ["dictionary"] => {
             print!("{}", damage::dictionary());
             Ok(true)
         }
-        ["case", sort @ ("tokens" | "files" | "records"), at] => {
+        ["case", sort @ ("tokens" | "files" | "records" | "sentences"), at] => {
             lists::print_case(sort, number(at)?, &input())?;
             Ok(true)
         }
@@ -96,11 +103,17 @@ fn input() -> Vec<u8> {
     bytes
 }
 
-/// Prints both answers to the script on standard input.
+/// Prints both answers to the script on standard input, and the sentences of its errors.
 fn show_answer() -> bool {
     let answer = ask::answer(&input());
     for line in show::tokenised(&answer.tokenised).iter().chain(&show::whole(&answer.whole)) {
         println!("{line}");
+    }
+    let sentences = answer.sentences;
+    for (list, entries) in [(62, sentences.token_errors), (60, sentences.reported), (61, sentences.full)] {
+        for (position, sentence) in entries.iter().enumerate() {
+            println!("{list} {position} {}", show::script(sentence.as_bytes()));
+        }
     }
     true
 }

@@ -73,11 +73,12 @@ const MARKS: &[Mark] = &[
 const FILES: [&str; 5] = ["source.rs", "fallible.rs", "node.rs", "tokenizer.rs", "parser.rs"];
 
 /// The files beside the five that the crates have, and their names there.
-const BESIDE: [(&str, &str); 6] = [
+const BESIDE: [(&str, &str); 7] = [
     ("decode.rs", "decode.rs"),
     ("encode.rs", "encode.rs"),
     ("marks.rs", "marks.rs"),
     ("operations.rs", "operations.rs"),
+    ("respelt.rs", "respelt.rs"),
     ("rules.rs", "rules.rs"),
     ("oracle.rs", "lib.rs"),
 ];

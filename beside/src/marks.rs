@@ -9,6 +9,7 @@ pub struct Refusal(pub u8);
 
 thread_local! {
     static FULL: RefCell<Vec<Error>> = const { RefCell::new(Vec::new()) };
+    static MESSAGES: RefCell<Vec<String>> = const { RefCell::new(Vec::new()) };
     static OPEN: Cell<u32> = const { Cell::new(0) };
     static QUIET: Cell<bool> = const { Cell::new(false) };
     static WRONG: Cell<Option<usize>> = const { Cell::new(None) };
@@ -34,12 +35,18 @@ const MOST_TESTS: usize = 100_000_000;
 /// Before a reading: no error is made and no call is open.
 pub fn begin() {
     FULL.with(|full| full.borrow_mut().clear());
+    MESSAGES.with(|messages| messages.borrow_mut().clear());
     OPEN.with(|open| open.set(0));
 }
 
 /// The parser's errors in the order made.
 pub fn full_list() -> Vec<Error> {
     FULL.with(|full| full.borrow().clone())
+}
+
+/// Their messages, in the same order.
+pub fn messages() -> Vec<String> {
+    MESSAGES.with(|messages| messages.borrow().clone())
 }
 
 /// Whether a panic is expected now and not to be printed.
@@ -67,6 +74,7 @@ pub fn made(what: &str, description: &str, loc: &SourceLocation) {
         }
         full.borrow_mut().push(error);
     });
+    MESSAGES.with(|messages| messages.borrow_mut().push(description.to_owned()));
 }
 
 /// A character that reaches one of the three class tests.

@@ -4,8 +4,12 @@ use crate::lists::{self, Case};
 use crate::wrong_steps;
 use std::panic::{catch_unwind, set_hook, AssertUnwindSafe};
 
-/// Prints how many cases of each list notice each wrong reader; whether each is noticed.
-pub fn run() -> Result<bool, String> {
+/// Prints how many cases of each list notice each wrong reader, of the parts named or of all; whether each is noticed.
+pub fn run(parts: &[&str]) -> Result<bool, String> {
+    let table = wrong_steps::table();
+    if let Some(part) = parts.iter().find(|part| table.iter().all(|reader| reader.part != **part)) {
+        return Err(format!("no wrong reader is of the part {part}"));
+    }
     let lists = lists::stored()?;
     // a wrong reader may panic
     set_hook(Box::new(|_| ()));
@@ -14,23 +18,26 @@ pub fn run() -> Result<bool, String> {
             return Err(format!("case {at} of the list of {sort} differs with no wrong step"));
         }
     }
-    let sorts: String = lists.iter().map(|(sort, _)| format!("{sort:>9}")).collect();
-    let readers = wrong_steps::table();
-    let (mut part, mut unnoticed, mut least) = ("", 0, usize::MAX);
-    for (number, reader) in readers.iter().enumerate() {
+    let sorts: String = lists.iter().map(|(sort, _)| format!("{sort:>10}")).collect();
+    let (mut part, mut readers, mut unnoticed, mut least) = ("", 0, 0, usize::MAX);
+    for (number, reader) in table.iter().enumerate() {
+        if !parts.is_empty() && !parts.contains(&reader.part) {
+            continue;
+        }
+        readers += 1;
         if reader.part != part {
             part = reader.part;
             println!("{sorts}  {part}");
         }
         let notice = |cases: &Vec<Case>| cases.iter().filter(|case| notices(case, Some(number))).count();
         let counts: Vec<usize> = lists.iter().map(|(_, cases)| notice(cases)).collect();
-        let columns: String = counts.iter().map(|count| format!("{count:>9}")).collect();
+        let columns: String = counts.iter().map(|count| format!("{count:>10}")).collect();
         let all = counts.iter().sum();
         println!("{columns}  {}{}", reader.name, if all == 0 { ": NOT NOTICED" } else { "" });
         unnoticed += (all == 0) as usize;
         least = least.min(all);
     }
-    println!("{} wrong readers, {unnoticed} not noticed; {least} cases or more notice each", readers.len());
+    println!("{readers} wrong readers, {unnoticed} not noticed; {least} cases or more notice each");
     Ok(unnoticed == 0)
 }
 

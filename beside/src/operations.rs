@@ -1,13 +1,20 @@
 //! The operations of docs/FORMAT.md on whole slices: the tests before any work, then the Rust's steps.
 
 use crate::rules;
-use formats::{Exit, Given, Passed, Token, Tokens, FILE_SIZE, FILLER, FILLER_WORD, SCRIPT_LIMIT, TOKEN_SLICES};
+use formats::{
+    Answer, Exit, Given, Passed, Sentences, Token, Tokens, FILE_SIZE, FILLER, FILLER_WORD, FULL, REPORTED, SCRIPT_LIMIT,
+    TOKEN_ERRORS, TOKEN_SLICES,
+};
 
 pub fn run(given: &Given) -> Exit {
     match given {
         Given::Tokenise { script, slices } => tokens_exit(*slices, &tokenise(script, *slices)),
         Given::Read(passed) => read_exit(passed, &read(passed), texts(passed)),
         Given::Whole { script, file } => whole_exit(*file, &whole(script, *file)),
+        Given::Sentence { script, list, position, slice } => {
+            let answer = sentence(&examined(script), *list, *position, *slice);
+            sentence_exit(*slice, &answer)
+        }
     }
 }
 
@@ -26,6 +33,36 @@ fn whole(script: &[u8], file: usize) -> Result<Vec<u8>, u8> {
     let text = admitted(script)?;
     long_enough(&[file], &[FILE_SIZE])?;
     crate::answer(text).whole
+}
+
+fn examined(script: &[u8]) -> Answer {
+    match admitted(script) {
+        Ok(text) => crate::answer(text),
+        Err(number) => Answer::refused(number),
+    }
+}
+
+/// The sentence at a position of a list of a script with some answer; 13 where the slice is shorter than the sentence.
+pub fn sentence(answer: &Answer, list: u32, position: u64, slice: usize) -> Result<Vec<u8>, u8> {
+    if let Err(number) = answer.whole {
+        return Err(number);
+    }
+    let sentence = sentence_at(&answer.sentences, list, position);
+    if slice < sentence.len() {
+        return Err(13);
+    }
+    Ok(sentence.as_bytes().to_vec())
+}
+
+/// Where there is no such list or position, the empty sentence.
+fn sentence_at(sentences: &Sentences, list: u32, position: u64) -> &str {
+    let entries = match list {
+        TOKEN_ERRORS => &sentences.token_errors,
+        REPORTED => &sentences.reported,
+        FULL => &sentences.full,
+        _ => return "",
+    };
+    entries.get(position as usize).map_or("", String::as_str)
 }
 
 /// Token text: a part of the text slice.
@@ -88,7 +125,12 @@ pub fn whole_exit(file: usize, answer: &Result<Vec<u8>, u8>) -> Exit {
     file_exit(file, answer, &[1, 2, 3])
 }
 
-/// `untouched` are the refusals that leave the file slice as it was.
+/// Each refusal leaves the slice as it was.
+pub fn sentence_exit(slice: usize, answer: &Result<Vec<u8>, u8>) -> Exit {
+    file_exit(slice, answer, &[1, 2, 4, 5, 6, 7, 9, 10, 11, 12, 13])
+}
+
+/// `untouched` are the refusals that leave the output slice as it was.
 fn file_exit(length: usize, answer: &Result<Vec<u8>, u8>, untouched: &[u8]) -> Exit {
     let (number, file) = match answer {
         Ok(file) => (0, file.as_slice()),

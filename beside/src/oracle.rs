@@ -10,6 +10,7 @@ pub mod marks;
 pub mod node;
 pub mod operations;
 pub mod parser;
+pub mod respelt;
 pub mod rules;
 pub mod source;
 pub mod tokenizer;
@@ -41,43 +42,71 @@ macro_rules! frontend_error {
     };
 }
 
-use formats::{Answer, Tokens, PANIC};
+use formats::{Answer, Sentences, Tokens, PANIC};
 use std::panic::{catch_unwind, AssertUnwindSafe};
 
 /// Tokenise's answer to a script that is UTF-8 and not too long.
 pub fn tokenised(script: &str) -> Result<Tokens, u8> {
-    tokenise(script).map(|(_, records)| records)
+    tokenise(script).map(|found| found.records)
 }
 
-fn tokenise(script: &str) -> Result<(Vec<tokenizer::Token>, Tokens), u8> {
+/// What the tokenizer gives: tokens, the messages of its errors, and the records of both.
+struct Found {
+    tokens: Vec<tokenizer::Token>,
+    messages: Vec<String>,
+    records: Tokens,
+}
+
+fn tokenise(script: &str) -> Result<Found, u8> {
     let input = source::SourceInputType::buffer();
     let (tokens, errors) = caught(|| tokenizer::tokenize(script, input))?;
     let records = encode::tokens(&tokens, &errors);
-    Ok((tokens, records))
+    let messages = errors.into_iter().map(|e| e.description).collect();
+    Ok(Found { tokens, messages, records })
 }
 
 /// Both answers to such a script.
 pub fn answer(script: &str) -> Answer {
     match tokenise(script) {
-        Err(number) => Answer { tokenised: Err(number), whole: Err(number) },
-        Ok((tokens, records)) => {
-            let whole = if tokens.is_empty() { Err(9) } else { read(tokens, &records) };
-            Answer { tokenised: Ok(records), whole }
+        Err(number) => Answer::refused(number),
+        Ok(found) => parsed(found),
+    }
+}
+
+/// Both answers, from what the tokenizer gave. Its messages are sentences as they are.
+fn parsed(found: Found) -> Answer {
+    let Found { tokens, messages, records } = found;
+    let read = if tokens.is_empty() { Err(9) } else { read(tokens, &records) };
+    let tokenised = Ok(records);
+    match read {
+        Ok((file, lists)) => {
+            let sentences = Sentences { token_errors: messages, ..lists };
+            Answer { tokenised, whole: Ok(file), sentences }
         }
+        Err(number) => Answer { tokenised, whole: Err(number), sentences: Sentences::default() },
     }
 }
 
 /// Read's answer to good records, at least one token.
 pub fn read_records(records: &Tokens) -> Result<Vec<u8>, u8> {
-    read(decode::tokens(records), records)
+    read(decode::tokens(records), records).map(|(file, _)| file)
 }
 
-fn read(tokens: Vec<tokenizer::Token>, records: &Tokens) -> Result<Vec<u8>, u8> {
+/// The file, and the sentences of the parser's two lists.
+fn read(tokens: Vec<tokenizer::Token>, records: &Tokens) -> Result<(Vec<u8>, Sentences), u8> {
     marks::begin();
     let result = caught(|| parser::Parser::new(tokens.into_iter().peekable()).parse_module())?;
     let reported: Vec<_> =
         result.errors().iter().map(|e| encode::error(&e.description, &e.loc)).collect();
-    Ok(encode::file(&result.ignore_errors(), &records.errors, &reported, &marks::full_list()))
+    let messages = result.errors().iter().map(|e| e.description.clone()).collect();
+    let lists = sentences(messages, marks::messages());
+    let file = encode::file(&result.ignore_errors(), &records.errors, &reported, &marks::full_list());
+    Ok((file, lists))
+}
+
+fn sentences(reported: Vec<String>, full: Vec<String>) -> Sentences {
+    let respelt = |messages: Vec<String>| messages.iter().map(|message| respelt::sentence(message)).collect();
+    Sentences { token_errors: Vec::new(), reported: respelt(reported), full: respelt(full) }
 }
 
 /// Runs steps of the Rust: what they give, or the refusal that they met.

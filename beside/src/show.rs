@@ -134,14 +134,29 @@ pub fn given(given: &Given) -> Vec<String> {
         Given::Tokenise { script: bytes, slices } => vec![script(bytes), format!("slices of {slices:?}")],
         Given::Read(records) => passed(records),
         Given::Whole { script: bytes, file } => vec![script(bytes), format!("a file slice of {file}")],
+        Given::Sentence { script: bytes, list, position, slice } => {
+            vec![script(bytes), format!("list {list:02X}, position {position}, a slice of {slice}")]
+        }
     }
 }
 
+/// A slice that begins with a sentence of some bytes.
+pub fn sentence(slice: &[u8], bytes: usize) -> Vec<String> {
+    let (written, rest) = slice.split_at(bytes.min(slice.len()));
+    let rest = match rest.iter().position(|byte| *byte != 0) {
+        None => format!("{} zeros", rest.len()),
+        Some(at) => format!("after it no zero at {at}: {}", hex(&rest[at..][..(rest.len() - at).min(60)])),
+    };
+    vec![format!("sentence {}", script(written)), rest]
+}
+
 /// What an operation answers, a line for each record of its slices.
-pub fn exit(exit: &Exit) -> Vec<String> {
+pub fn exit(given: &Given, exit: &Exit) -> Vec<String> {
     let mut lines = vec![format!("number {}, counts {:?}", exit.number, exit.counts)];
     if exit.bytes.first() == Some(&FILLER) {
         lines.push("the slices are untouched".to_owned());
+    } else if let Given::Sentence { .. } = given {
+        lines.extend(sentence(&exit.bytes, exit.counts[0]));
     } else if let [tokens, errors] = &exit.words[..] {
         let records = Tokens {
             tokens: tokens.chunks_exact(8).take(exit.counts[0]).map(|words| words.try_into().unwrap()).collect(),
