@@ -1,7 +1,7 @@
 -- The lines of a table, as the loops find them, and as a list. Assumes nothing.
 use mathlib.Core.Path.{_≡_, refl, sym, ap, _∙_}
 use mathlib.Core.Bool.{Bool, true, false}
-use mathlib.Core.List.{List, [], _∷_, _++_, append-nil, append-assoc}
+use mathlib.Core.List.{List, [], _∷_, _++_, map, append-nil, append-assoc}
 use Prim.Native.Nat.{ℕ, zero, suc, _+_, _-_, _<_, _≤_}
 use native.Mathlib.Numerals.{add-one, sub-one}
 use native.Mathlib.Omega.{arith}
@@ -140,6 +140,13 @@ line-of-lines (suc n) (b ∷ bs) = one (eqb b 10) (lines bs) (line-of-lines n bs
     one true ls e f = e
     one false [] e f = f
     one false (l ∷ ls) e f = f
+
+-- an entry of a mapped list; past its end f gives nothing
+pub getD-map : {A : Type 0} (f : A → List ℕ) (d : A) → f d ≡ [] → (xs : List A) (i : ℕ)
+    → getD (map f xs) i [] ≡ f (getD xs i d)
+getD-map f d e [] i = sym e
+getD-map f d e (x ∷ xs) zero = refl
+getD-map f d e (x ∷ xs) (suc i) = getD-map f d e xs i
 
 -- the line that both loops find
 pub line-between : {table : List ℕ} {n at end : ℕ} → LineAt table n at → LineEnd table at end

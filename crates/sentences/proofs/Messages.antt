@@ -2,7 +2,7 @@
 use mathlib.Core.Path.{_≡_, refl, sym, ap, _∙_, subst}
 use mathlib.Core.Bool.{Bool, true, false, _&&_}
 use mathlib.Core.List.{List, [], _∷_, map}
-use Prim.Native.Nat.{ℕ, zero, suc, _+_, _*_, _-_, _<_, _≤_}
+use Prim.Native.Nat.{ℕ, suc, _+_, _*_, _-_, _<_, _≤_}
 use native.Mathlib.Omega.{arith}
 use borrow.Author.Tests.{eqb-true, eq-eqb, ne-eqb}
 use lib.Dec.{eqb}
@@ -32,7 +32,7 @@ use Rattle.sentences.specs.Spelling.{Quotes, QuotesOf}
 use Rattle.sentences.specs.Messages.{spoken-byte, spoken, Decodes, Tokens, first-bytes, StandsAt, NamesPart}
 use Rattle.sentences.specs.Messages as M
 use Rattle.sentences.specs.declared.Part as D
-use Rattle.sentences.proofs.Lines.{lines, line-of-lines}
+use Rattle.sentences.proofs.Lines.{lines, line-of-lines, getD-map}
 use Rattle.sentences.proofs.Spelled.{take-next}
 
 -- ---- a byte of a message
@@ -53,12 +53,6 @@ module _ (m : S.Meaning) {b : ℕ} where
       spoken-itself nc = rw (ne-eqb b 69 ne, ne-eqb b 71 ng, ne-eqb b 67 nc)
 
 -- ---- a table of messages
-
-getD-map : {A : Type 0} (f : A → List ℕ) (d : A) → f d ≡ [] → (xs : List A) (i : ℕ) → getD (map f xs) i []
-    ≡ f (getD xs i d)
-getD-map f d e [] i = sym e
-getD-map f d e (x ∷ xs) zero = refl
-getD-map f d e (x ∷ xs) (suc i) = getD-map f d e xs i
 
 -- the lines of the table are the messages
 abbrev pub Says : List ℕ → List (List Part) → Type 0

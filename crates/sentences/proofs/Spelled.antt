@@ -2,8 +2,7 @@
 use mathlib.Core.Path.{_≡_, refl, sym, ap, _∙_}
 use mathlib.Core.Bool.{Bool, true, false}
 use mathlib.Core.List.{List, [], _∷_, _++_, map, append-nil}
-use Prim.Native.String.{String}
-use Prim.Native.Nat.{ℕ, zero, suc, _+_, _-_, _<_, _≤_}
+use Prim.Native.Nat.{ℕ, suc, _+_, _-_, _<_, _≤_}
 use native.Mathlib.Numerals.{add-one}
 use native.Mathlib.Omega.{arith}
 use borrow.Author.Tests.{eq-eqb, ne-eqb}
@@ -23,20 +22,16 @@ use Rattle.source.proofs.Laws.{rest-end}
 use Rattle.sentences.specs.Lines.{line}
 use Rattle.sentences.specs.Said.{Short, Said}
 use Rattle.sentences.specs.Spelling.{Quotes, letter-of, SomeBytes, code-between}
-use Rattle.sentences.proofs.Lines.{lines, line-of-lines}
+use Rattle.sentences.proofs.Lines.{lines, line-of-lines, getD-map}
 use Rattle.sentences.proofs.Saying.{Saying, saying-start, saying-short, saying-more, saying-end, saying-same}
 
 -- ---- names
 
 -- the name of a kind is its line in a table of all names
 pub name-line : (table : List ℕ) → lines table ≡ map ascii kind-names → (k : ℕ) → line k table ≡ kind-name k
-unfolding kind-name
-name-line table e k = line-of-lines k table ∙ ap (λ (x : List (List ℕ)). getD x k []) e ∙ named kind-names k
-  where
-    named : (xs : List String) (i : ℕ) → getD (map ascii xs) i [] ≡ ascii (getD xs i "")
-    named [] i = refl
-    named (x ∷ xs) zero = refl
-    named (x ∷ xs) (suc i) = named xs i
+unfolding kind-name ascii
+name-line table e k =
+    line-of-lines k table ∙ ap (λ (x : List (List ℕ)). getD x k []) e ∙ getD-map ascii "" refl kind-names k
 
 -- ---- escapes
 
