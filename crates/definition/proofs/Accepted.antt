@@ -18,7 +18,7 @@ use Rattle.definition.specs.Act as A
 use Rattle.definition.specs.Act.{Items, St, Res}
 use Rattle.definition.specs.Parser.{parse_module}
 use Rattle.definition.specs.Operations.{Outcome, file, refused, filled, file_bytes, read_tokens, read_tokenised, Written, kept, written, whole}
-use Rattle.definition.proofs.Total.{Moves, module-moves}
+use Rattle.definition.proofs.Total.{Moves, module_moves}
 use Rattle.definition.proofs.Tokens.{Made, TokensOf, script_tokens}
 
 -- the characters, tokens, errors and items of an accepted script, read on a file slice o
@@ -70,7 +70,7 @@ module _ (s o : List ℕ) where
   unfolding read_tokens
   tokenised cs c (Z.tokens [] es) t m h z = absurd (omega (arith, ap (λ (x : Written). x.number) h))
   tokenised cs c (Z.tokens (x ∷ ts) es) t m h z =
-      parsed cs c (x ∷ ts) es t m (parse_module (x ∷ ts)) refl (module-moves (x ∷ ts)) (read_tokens (x ∷ ts) es)
+      parsed cs c (x ∷ ts) es t m (parse_module (x ∷ ts)) refl (module_moves (x ∷ ts)) (read_tokens (x ∷ ts) es)
       refl h z
   tokenised cs c (Z.Tokens.refused n) t m h z =
       absurd (subst (λ (k : ℕ). T (between 4 7 k)) (sym (ap (λ (x : Written). x.number) h) ∙ z) m)

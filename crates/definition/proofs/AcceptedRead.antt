@@ -18,7 +18,7 @@ use Rattle.definition.specs.Act as A
 use Rattle.definition.specs.Act.{Items, St, Res}
 use Rattle.definition.specs.Parser.{parse_module}
 use Rattle.definition.specs.Operations.{Outcome, file, refused, filled, file_bytes, read_tokens, Written, kept, written, Validated, validate, read_validated, read}
-use Rattle.definition.proofs.Total.{Moves, module-moves}
+use Rattle.definition.proofs.Total.{Moves, module_moves}
 use Rattle.definition.proofs.Tokens.{Kinds, texts}
 use Rattle.definition.proofs.Validated.{Fits, fits, Lies, lies, First, first, errors_many, Split, split}
 use Rattle.definition.proofs.Room.{Light, light_reading, file_room}
@@ -123,7 +123,7 @@ module _ (T : List ℕ) (n : ℕ) (E : List ℕ) (m : ℕ) (X o : List ℕ) (z :
       → Is (read_validated o ts es) → AcceptedRead T n E m X o
   unfolding read_tokens
   good [] es d h = other _ h (λ e. omega arith)
-  good (t ∷ ts) es d h = parsed (t ∷ ts) es d (parse_module (t ∷ ts)) refl (module-moves (t ∷ ts)) h
+  good (t ∷ ts) es d h = parsed (t ∷ ts) es d (parse_module (t ∷ ts)) refl (module_moves (t ∷ ts)) h
 
   tested : (r : Option Validated) → validate T n E m X ≡ r
       → Is (elim r as (λ _. Written) [ none ↦ kept 8 o | some h ↦ read_validated o h.tokens h.errors ])

@@ -22,7 +22,7 @@ use Rattle.definition.proofs.Tests.{never_both, All, all_map}
 use Rattle.definition.proofs.Later.{toks}
 use Rattle.definition.proofs.Strip.{Norm, symbol, named, integer, sized, is_named, spelling, norm, strip}
 use Rattle.definition.proofs.Unique.{unique}
-use Rattle.definition.proofs.LeavesStatements.{module-leaves}
+use Rattle.definition.proofs.LeavesStatements.{module_leaves}
 use Rattle.definition.proofs.Fit.{Fit, leaves_fit}
 use Rattle.definition.proofs.Inject.{same_tree, Both}
 use Rattle.definition.proofs.Formed.{Formed}
@@ -196,7 +196,7 @@ module _ (s o : List ℕ) (a : Accepted s o) where
 
   fits : All Fit a.items.recs × (a.items.count < 65536)
   fits =
-      let l : _ = module-leaves a.toks (a.made.good, a.made.tokens) a.items a.last a.parsed in
+      let l : _ = module_leaves a.toks (a.made.good, a.made.tokens) a.items a.last a.parsed in
       (leaves_fit l.0.leaves (omega (arith, recs_length a.items.recs, (light a).0)), omega (arith, l.1))
 
   formed : All Formed (toks (strike (reading s)))

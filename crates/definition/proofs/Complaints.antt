@@ -34,7 +34,7 @@ use Rattle.definition.proofs.Tests.{clash, never_both, both_true, parts_true, be
 use Rattle.definition.proofs.Characters.{spelling}
 use Rattle.definition.proofs.Shown.{Apart, Distinct, same_self}
 use Rattle.definition.proofs.Tokens.{Good, Fault, TokensOf, script_tokens, AtCharacter, Stand, errors_stand, character_there}
-use Rattle.definition.proofs.Total.{Moves, module-moves}
+use Rattle.definition.proofs.Total.{Moves, module_moves}
 use Rattle.definition.proofs.Reported.{same_error, times, same_error_equal, same_error_self, reported_is_made}
 use Rattle.definition.proofs.Examined.{FoundIn, examined, found_made}
 use Rattle.definition.proofs.Recover as R
@@ -364,7 +364,7 @@ parsed_agrees : (o : List ℕ) (cs : List Ch) (t : Z.Tokens) → TokensOf t
     → Agrees o (written o (read_tokenised t)) (parsed cs t)
 unfolding parsed read_tokens
 parsed_agrees o cs (Z.tokens [] es) m = (refl, λ z. omega arith)
-parsed_agrees o cs (Z.tokens (t ∷ ts) es) m = go (parse_module (t ∷ ts)) (module-moves (t ∷ ts))
+parsed_agrees o cs (Z.tokens (t ∷ ts) es) m = go (parse_module (t ∷ ts)) (module_moves (t ∷ ts))
   where
     go : (r : Res Items) → Moves r → Agrees o
         (written o (elim r as (λ _. Outcome) [

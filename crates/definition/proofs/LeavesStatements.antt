@@ -431,10 +431,10 @@ turns (Suffixes e) s d = suffixes_leaves e s d
 turns (Modifiers w) s d = modifiers_leaves w s
 
 -- the records of a whole reading leave the items that the record of the module counts
-pub module-leaves : (ts : List Tok) → Known ts → (i : Items) (s : St) → P.parse_module ts ≡ gives i s
+pub module_leaves : (ts : List Tok) → Known ts → (i : Items) (s : St) → P.parse_module ts ≡ gives i s
     → Rooted i.recs (module_rec i.count) × (i.count ≤ 2048)
 unfolding find rows
-module-leaves ts d i s e =
+module_leaves ts d i s e =
     let q : Listing F.item (P.no_items []) (begin ts) i s =
     subst (After (λ i s'. Listing F.item (P.no_items []) (begin ts) i s')) e
     (module-known G L Known known-tail known-later rules turns ts d) in
@@ -443,6 +443,6 @@ module-leaves ts d i s e =
     (record { row = _; found = refl; root = refl; holds = h; leaves = q.leaves none_left }, n)
 
 -- the bytes of the module's record are its field in a file
-pub module-written : (n : ℕ) → rec_bytes (module_rec n) ≡ field Tag.Module (u16 n)
+pub module_written : (n : ℕ) → rec_bytes (module_rec n) ≡ field Tag.Module (u16 n)
 unfolding rec_bytes nums_bytes
-module-written n = refl
+module_written n = refl

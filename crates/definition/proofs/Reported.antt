@@ -12,7 +12,7 @@ use Rattle.definition.specs.Act.{Items, St, gives}
 use Rattle.definition.specs.Parser.{parse_module}
 use Rattle.definition.proofs.Tests.{both_true, parts_true}
 use Rattle.definition.proofs.Later.{After}
-use Rattle.definition.proofs.Size.{weight, budget, tally, module-size}
+use Rattle.definition.proofs.Size.{weight, budget, tally, module_size}
 
 -- equality of errors, field by field
 abbrev pub same_error : Err → Err → Bool
@@ -45,4 +45,4 @@ pub reported_is_made : (e : Err) (ts : List Tok) (i : Items) (s : St) → parse_
     → times e i.errors ≤ times e s.full
 reported_is_made e ts i s g =
     (subst (After (λ i s'. (weight i.recs ≤ budget ts) × (times e i.errors ≤ times e s'.full))) g
-    (module-size (λ x. pick (same_error e x) 1 0) ts)).1
+    (module_size (λ x. pick (same_error e x) 1 0) ts)).1

@@ -167,7 +167,7 @@ Light i s = (Z.weight i.recs ≤ 49152) × (length i.errors ≤ length s.full) �
 pub light_reading : (ts : List Tok) → length ts ≤ 2048 → texts ts ≤ 16384 → (i : Items) (s : St) → parse_module ts ≡ gives i s
     → Light i s
 light_reading ts n x i s e =
-    let w : Paid i s = subst (After Paid) e (Z.module-size (λ _. 1) ts) in (
+    let w : Paid i s = subst (After Paid) e (Z.module_size (λ _. 1) ts) in (
       omega (arith, w.0, budget_bound ts),
       omega (arith, w.1, tally_one i.errors, tally_one s.full),
       subst (After Few) e (module_few ts),

@@ -595,5 +595,5 @@ module _ (f : Err → ℕ) where
   goal_size n g s = parse-ind G L R M (λ s. r_ok s.tokens) (λ e s. tt) rules turns n g s
 
   -- for a whole reading: the bytes of the records are within the budget, and the reported errors among those made
-  pub module-size : (ts : List Tok) → After (λ i s'. (weight i.recs ≤ budget ts) × (tally i.errors ≤ tally s'.full)) (parse_module ts)
-  module-size ts = weaken (parse_module ts) (λ i s' p. omega arith) (module-ind G L R M (λ s. r_ok s.tokens) (λ e s. tt) rules turns ts)
+  pub module_size : (ts : List Tok) → After (λ i s'. (weight i.recs ≤ budget ts) × (tally i.errors ≤ tally s'.full)) (parse_module ts)
+  module_size ts = weaken (parse_module ts) (λ i s' p. omega arith) (module-ind G L R M (λ s. r_ok s.tokens) (λ e s. tt) rules turns ts)

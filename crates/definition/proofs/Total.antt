@@ -303,12 +303,12 @@ parse_moves (suc n) g s =
     (suc (suc (length t.tokens))) l t (omega (arith, rank_le l)))
     (rule g) any s (plenty (2 + length s.tokens) (rule g) any s s (later_refl s) (omega arith) (λ s' d. tt))
 
-pub module-moves-within : (n : ℕ) (ts : List Tok) → Moves (parse_module_within n ts)
+pub module_moves_within : (n : ℕ) (ts : List Tok) → Moves (parse_module_within n ts)
 unfolding parse_module_within
-module-moves-within n ts =
+module_moves_within n ts =
     loops_moves (λ g s. parse n g s) (λ g s. parse_after n g s) (λ g s. parse_moves n g s)
     (suc (suc (length ts))) (Module (P.no_items [])) (begin ts) (omega arith)
 
-pub module-moves : (ts : List Tok) → Moves (parse_module ts)
+pub module_moves : (ts : List Tok) → Moves (parse_module ts)
 unfolding parse_module
-module-moves ts = module-moves-within 96 ts
+module_moves ts = module_moves_within 96 ts

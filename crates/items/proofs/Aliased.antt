@@ -45,9 +45,9 @@ use Rattle.items.specs.Items.{Modified}
 -- ---- `modifiers`
 
 module _ {w : List ℕ} {n distinct internal at : ℕ} {t : Token} (u : Seen w n at t) where
-  pub modifiers-none : at ≤ n → (t.kind ≡ 20 → ⊥) → (t.kind ≡ 21 → ⊥) → Modified w n distinct internal at (record { words = distinct + internal; next = at })
+  pub modifiers_none : at ≤ n → (t.kind ≡ 20 → ⊥) → (t.kind ≡ 21 → ⊥) → Modified w n distinct internal at (record { words = distinct + internal; next = at })
   unfolding go run P.modifiers_turn
-  modifiers-none h m20 m21 = record {
+  modifiers_none h m20 m21 = record {
     words = record { distinct = distinct; internal = internal };
     sum = refl;
     up = omega arith;
@@ -81,13 +81,13 @@ module _ {w : List ℕ} {n distinct internal at : ℕ} {t : Token} (u : Seen w n
           es;
     }
 
-    pub modifiers-distinct : t.kind ≡ 20 → Modified w n 1 internal t.next m → Modified w n distinct internal at m
+    pub modifiers_distinct : t.kind ≡ 20 → Modified w n 1 internal t.next m → Modified w n distinct internal at m
     unfolding go run P.modifiers_turn
-    modifiers-distinct h M = modifiers_on M (λ x d rd es. rw (run, yes u h, u.tail))
+    modifiers_distinct h M = modifiers_on M (λ x d rd es. rw (run, yes u h, u.tail))
 
-    pub modifiers-internal : (t.kind ≡ 20 → ⊥) → t.kind ≡ 21 → Modified w n distinct 2 t.next m → Modified w n distinct internal at m
+    pub modifiers_internal : (t.kind ≡ 20 → ⊥) → t.kind ≡ 21 → Modified w n distinct 2 t.next m → Modified w n distinct internal at m
     unfolding go run P.modifiers_turn
-    modifiers-internal m20 h M = modifiers_on M (λ x d rd es. rw (run, no u m20, yes u h, u.tail))
+    modifiers_internal m20 h M = modifiers_on M (λ x d rd es. rw (run, no u m20, yes u h, u.tail))
 
 -- ---- a keyword, and what follows it
 
@@ -259,8 +259,8 @@ typed_on p v = P.expect 15 >>? λ _. alias_rule (v.distinct + v.internal) p
 
 module _ {w x : List ℕ} {n : ℕ} {o r f : List ℕ} {s : State} {m : AliasWords} (q : Asked w x n o r f s)
     (M : Modified w n 0 0 s.at m) where
-  pub modified-moved : Moved w n s.pos s.reported s (onto s m.next)
-  modified-moved =
+  pub modified_moved : Moved w n s.pos s.reported s (onto s m.next)
+  modified_moved =
       record {
         at = M.up;
         end = M.end;
@@ -288,10 +288,10 @@ module _ (d : ℕ) {w x : List ℕ} {n : ℕ} {o r f : List ℕ} {s : State} {t 
       ∙ ap (λ (p : Place). go d (P.expect 15 >>? λ _. alias_rule m.words p) S) (u.place x)
 
   -- the modifiers, and what follows them
-  pub modified-reads : {o1 r1 f1 : List ℕ} {y : Answer} → Reads node w x n d (P.expect 15 >>? λ _. alias_rule m.words (unpack_place t.place)) o r f (onto s m.next) o1 r1 f1 y → Reads node w x n d P.parse_type_alias o r f s o1 r1 f1 y
-  modified-reads {y = y} R =
+  pub modified_reads : {o1 r1 f1 : List ℕ} {y : Answer} → Reads node w x n d (P.expect 15 >>? λ _. alias_rule m.words (unpack_place t.place)) o r f (onto s m.next) o1 r1 f1 y → Reads node w x n d P.parse_type_alias o r f s o1 r1 f1 y
+  modified_reads {y = y} R =
       record {
-        moved = moved_trans (modified-moved q M) R.moved;
+        moved = moved_trans (modified_moved q M) R.moved;
         on = passed (ltb s.at m.next) refl;
         is = λ rd. say (modified_step rd) (R.is (M.read x rd));
       }
@@ -366,13 +366,13 @@ module _ (d : ℕ) {w : List ℕ} {n : ℕ} (x f : List ℕ) (s : State) {t : To
 
 module _ {w x : List ℕ} {n d : ℕ} {o r f r1 f1 : List ℕ} {s : State} {t : Token} {a : Answer} (u : Seen w n s.at t) where
   module _ (X : Expects w n (λ role. P.expect_as role 18) r f s r1 f1 a) where
-    pub use-stops : Stopped a → Reads node w x n d P.parse_use o r f s o r1 f1 a
-    use-stops nd = keyword_stops (path_rule (unpack_place t.place)) X (use_step d x f s u) nd
+    pub use_stops : Stopped a → Reads node w x n d P.parse_use o r f s o r1 f1 a
+    use_stops nd = keyword_stops (path_rule (unpack_place t.place)) X (use_step d x f s u) nd
 
-    pub use-on : {o1 r2 f2 : List ℕ} {y : Answer} → a.status ≡ Done
+    pub use_on : {o1 r2 f2 : List ℕ} {y : Answer} → a.status ≡ Done
         → Reads node w x n d (path_rule (unpack_place t.place)) o r1 f1 a.state o1 r2 f2 y
         → Reads node w x n d P.parse_use o r f s o1 r2 f2 y
-    use-on z B = keyword_on (path_rule (unpack_place t.place)) X (use_step d x f s u) z B
+    use_on z B = keyword_on (path_rule (unpack_place t.place)) X (use_step d x f s u) z B
 
   module _ (X : Expects w n (λ role. P.expect_as role 5) r f s r1 f1 a) where
     pub var_stops : Stopped a → Reads node w x n d P.parse_top_level_var_declaration o r f s o r1 f1 a

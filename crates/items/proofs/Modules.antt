@@ -103,9 +103,9 @@ module _ {w x : List ℕ} {n d : ℕ} {o r f : List ℕ} {s : State} {t : Token}
 
 module _ {w x : List ℕ} {n d count : ℕ} {o r f : List ℕ} {s : State} {t : Token}
     (q : Asked w x n o r f s × (count ≤ s.at)) (v : Seen w n s.at t) where
-  pub module-end : t.kind ≡ 0 → LoopOn items_on w x n d count o r f s o r f (record { status = Done; state = s; place = 0; count = count })
+  pub module_end : t.kind ≡ 0 → LoopOn items_on w x n d count o r f s o r f (record { status = Done; state = s; place = 0; count = count })
   unfolding go run P.module_turn
-  module-end z = record {
+  module_end z = record {
     moved = stays q.0.asks;
     never = λ y. let e : ◌≡◌ {A = ℕ} 0 1 = cc in omega arith;
     is = λ rd T E l et ee ec.
@@ -133,17 +133,17 @@ module _ {w x : List ℕ} {n d count : ℕ} {o r f : List ℕ} {s : State} {t : 
     unfolding go run P.module_turn ◌>>=◌
     item_turn rd l = go_loop d (Module l) (st_of w x n f rd s) ∙ rw (run, no v m0)
 
-    pub module-refused : Ended b → LoopOn items_on w x n d count o r f s o1 r1 f1 b
-    module-refused h = loop_refused items_on items_on P.parse_top_level_item item_turn u h
+    pub module_refused : Ended b → LoopOn items_on w x n d count o r f s o1 r1 f1 b
+    module_refused h = loop_refused items_on items_on P.parse_top_level_item item_turn u h
 
-    pub module-next : {k : ℕ} {o3 r3 f3 : List ℕ} {y : Answer} → Alive b → Counted b.status count k → LoopOn items_on w x n d k o1 r1 f1 b.state o3 r3 f3 y → LoopOn items_on w x n d count o r f s o3 r3 f3 y
-    module-next h c l = loop_next items_on P.parse_top_level_item item_turn u h c l
+    pub module_next : {k : ℕ} {o3 r3 f3 : List ℕ} {y : Answer} → Alive b → Counted b.status count k → LoopOn items_on w x n d k o1 r1 f1 b.state o3 r3 f3 y → LoopOn items_on w x n d count o r f s o3 r3 f3 y
+    module_next h c l = loop_next items_on P.parse_top_level_item item_turn u h c l
 
 -- ---- `module`
 
-pub module-reads : {w x : List ℕ} {n d : ℕ} {o r f o1 r1 f1 : List ℕ} {a : Answer} → LoopOn items_on w x n d 0 o r f (record { at = 0; pos = 0; reported = 0; full = 0 }) o1 r1 f1 a → ReadsModule w x n d o1 r1 f1 a
+pub module_reads : {w x : List ℕ} {n d : ℕ} {o r f o1 r1 f1 : List ℕ} {a : Answer} → LoopOn items_on w x n d 0 o r f (record { at = 0; pos = 0; reported = 0; full = 0 }) o1 r1 f1 a → ReadsModule w x n d o1 r1 f1 a
 unfolding errs recs_bytes
-module-reads L =
+module_reads L =
     record {
       room = omega (arith, L.moved.room);
       reported = omega (arith, L.moved.less);

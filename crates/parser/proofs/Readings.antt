@@ -188,8 +188,8 @@ module _ (T : List ℕ) (n : ℕ) (E : List ℕ) (m : ℕ) (X : List ℕ) (g : i
   good = tested T n E m X accepted.value accepted.is
 
   -- what `module` requires, and what `end_file` requires
-  pub module-asked : {o r f : List ℕ} → 65536 ≤ length o → 256 ≤ length r → 256 ≤ length f → Asked T X n o r f (record { at = 0; pos = 0; reported = 0; full = 0 })
-  module-asked lo lr lf =
+  pub module_asked : {o r f : List ℕ} → 65536 ≤ length o → 256 ≤ length r → 256 ≤ length f → Asked T X n o r f (record { at = 0; pos = 0; reported = 0; full = 0 })
+  module_asked lo lr lf =
       record {
         asks = record {
           held = good.held;

@@ -2,7 +2,7 @@ use Rattle.expression_laws.specs.Post.{LoopOn}
 use Rattle.expression_laws.proofs.Turns.{ItemsTurned, at_start, one_turn}
 use Rattle.expression_laws.proofs.Loops.{loop_asked}
 use Rattle.items.specs.Rules.{items_on}
-use Rattle.items.proofs.Modules.{module-end, module-refused, module-next}
+use Rattle.items.proofs.Modules.{module_end, module_refused, module_next}
 use borrow.Author.Rules.{rules}
 use native.Mathlib.Omega.{arith}
 use Prim.Native.Nat.{◌-◌}
@@ -42,7 +42,7 @@ returns : tie.Need-returns invariant-loop decreases-loop
 returns c =
     let at-peek = c.before.before in
     let at-loop = at-peek.before in
-    at-loop.loop.invariant.1.rest (module-end at-loop.loop.invariant.0 at-peek.peek.ensures c.if1.true)
+    at-loop.loop.invariant.1.rest (module_end at-loop.loop.invariant.0 at-peek.peek.ensures c.if1.true)
 
 top-level-item-requires : tie.Need-top-level-item-requires invariant-loop decreases-loop
 top-level-item-requires c κs =
@@ -77,7 +77,7 @@ returns-2 c =
     let at-peek = at-if1.before.before in
     let at-loop = at-peek.before in
     at-loop.loop.invariant.1.rest
-    (module-refused at-loop.loop.invariant.0 at-peek.peek.ensures at-if1.if1.false
+    (module_refused at-loop.loop.invariant.0 at-peek.peek.ensures at-if1.if1.false
     at-top-level-item.top-level-item.ensures c.before.match.keys1)
 
 counted-requires : tie.Need-counted-requires invariant-loop decreases-loop
@@ -120,7 +120,7 @@ loop-again c =
           (omega (arith, at-top-level-item.top-level-item.auto))
           (omega (arith, at-top-level-item.top-level-item.auto))
           at-top-level-item.top-level-item.ensures.moved.at
-          (λ _ _ _ _ g. module-next at-loop.loop.invariant.0 at-peek.peek.ensures at-if1.if1.false
+          (λ _ _ _ _ g. module_next at-loop.loop.invariant.0 at-peek.peek.ensures at-if1.if1.false
           at-top-level-item.top-level-item.ensures c.before.match.keys2 c.counted.ensures g),
     )
 

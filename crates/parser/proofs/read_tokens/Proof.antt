@@ -1,5 +1,5 @@
-use Rattle.items.proofs.Modules.{module-reads}
-use Rattle.parser.proofs.Readings.{module-asked, rest_room, read_refused, read_done}
+use Rattle.items.proofs.Modules.{module_reads}
+use Rattle.parser.proofs.Readings.{module_asked, rest_room, read_refused, read_done}
 use native.Mathlib.Omega.{arith}
 use borrow.Author.Rules.{rules}
 use Rattle.parser.proofs.read_tokens.Statement.{statement}
@@ -14,7 +14,7 @@ slice-aggregate-module-2 c = search rules
 module-requires : tie.Need-module-requires
 module-requires c κs =
     let start = c.before.before.before.before.before.before.before in
-    module-asked _ _ _ _ _ start.requires.1.1 start.requires.0 (omega arith) (omega arith)
+    module_asked _ _ _ _ _ start.requires.1.1 start.requires.0 (omega arith) (omega arith)
 
 enum_told : tie.Need-enum-told
 enum_told c = search rules
@@ -40,7 +40,7 @@ returns c =
     let at-match = at-clear-bytes.before.before.before in
     let at-module = at-match.before.before.before.before.before in
     let start = at-module.before.before.before.before.before.before.before.before in
-    read_refused _ _ _ _ _ _ (module-reads at-module.«module».ensures) start.requires.1.0
+    read_refused _ _ _ _ _ _ (module_reads at-module.«module».ensures) start.requires.1.0
     (omega (arith, at-module.«module».auto)) at-match.match.keys1
     at-clear-bytes.clear-bytes.ensures c.before.number_of.ensures c.refused.ensures
 
@@ -54,7 +54,7 @@ end-file-requires : tie.Need-end-file-requires
 end-file-requires c κs =
     let at-module = c.before.before.before.before.before.before.before.before.before in
     let start = at-module.before.before.before.before.before.before.before.before in
-    rest_room _ _ _ _ _ start.requires.1.1 (module-reads at-module.«module».ensures)
+    rest_room _ _ _ _ _ start.requires.1.1 (module_reads at-module.«module».ensures)
     (omega (arith, start.requires.0, at-module.«module».auto)) (omega (arith, at-module.«module».auto))
     (omega (arith, at-module.«module».auto))
 
@@ -70,7 +70,7 @@ returns-2 c =
     let at-match = at-end-file.before.before.before.before.before in
     let at-module = at-match.before.before.before.before.before in
     let start = at-module.before.before.before.before.before.before.before.before in
-    read_done _ _ _ _ _ _ (module-reads at-module.«module».ensures) start.requires.1.0
+    read_done _ _ _ _ _ _ (module_reads at-module.«module».ensures) start.requires.1.0
     (omega (arith, at-module.«module».auto)) at-match.match.keys2 at-end-file.end-file.ensures
 
 pub read-tokens-spec : {M : Type 1} → statement M

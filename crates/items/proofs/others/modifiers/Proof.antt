@@ -1,6 +1,6 @@
 use Rattle.items.specs.Items.{Modified}
 use Rattle.items.specs.declared.others.AliasWords.{AliasWords}
-use Rattle.items.proofs.Aliased.{modifiers-none, modifiers-distinct, modifiers-internal}
+use Rattle.items.proofs.Aliased.{modifiers_none, modifiers_distinct, modifiers_internal}
 use native.Mathlib.Omega.{arith}
 use Prim.Native.Nat.{◌-◌, ◌≤◌}
 use Rattle.items.proofs.others.modifiers.Statement.{statement}
@@ -35,7 +35,7 @@ loop-again c =
     let at-peek = c.before.before in
     let at-loop = at-peek.before in (
       (at-peek.peek.ensures.end, (omega arith, at-loop.loop.invariant.0.1.1)),
-      λ m g. at-loop.loop.invariant.1 m (modifiers-distinct at-peek.peek.ensures c.if1.true g),
+      λ m g. at-loop.loop.invariant.1 m (modifiers_distinct at-peek.peek.ensures c.if1.true g),
     )
 
 loop-less-2 : tie.Need-loop-smaller-2 invariant-loop decreases-loop
@@ -51,7 +51,7 @@ loop-again-2 c =
     let at-loop = at-peek.before in (
       (at-peek.peek.ensures.end, (at-loop.loop.invariant.0.1.0, omega arith)),
       λ m g. at-loop.loop.invariant.1 m
-          (modifiers-internal at-peek.peek.ensures at-if1.if1.false c.if2.true g),
+          (modifiers_internal at-peek.peek.ensures at-if1.if1.false c.if2.true g),
     )
 
 add-t9 : tie.Need-overflow-add-t9 invariant-loop decreases-loop
@@ -65,7 +65,7 @@ returns c =
     let at-peek = at-if1.before.before in
     let at-loop = at-peek.before in
     at-loop.loop.invariant.1 _
-    (modifiers-none at-peek.peek.ensures at-loop.loop.invariant.0.0 at-if1.if1.false c.if2.false)
+    (modifiers_none at-peek.peek.ensures at-loop.loop.invariant.0.0 at-if1.if1.false c.if2.false)
 
 pub modifiers-spec : {M : Type 1} → statement M
 modifiers-spec =

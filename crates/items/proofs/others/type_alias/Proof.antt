@@ -1,4 +1,4 @@
-use Rattle.items.proofs.Aliased.{keyword_stops, keyword_on, modified-moved, modified-reads}
+use Rattle.items.proofs.Aliased.{keyword_stops, keyword_on, modified_moved, modified_reads}
 use Rattle.steps.proofs.Moves.{asks_moved, asked_moved, moved_trans}
 use mathlib.Core.Path.{refl}
 use native.Mathlib.Omega.{arith}
@@ -20,7 +20,7 @@ expect-requires : tie.Need-expect-requires
 expect-requires c κs =
     let at-modifiers = c.before.before in
     let start = at-modifiers.before.before.before.before.before.before.before in (
-      asks_moved start.requires.asks (modified-moved start.requires at-modifiers.modifiers.ensures) refl
+      asks_moved start.requires.asks (modified_moved start.requires at-modifiers.modifiers.ensures) refl
           refl,
       (omega arith, omega arith),
     )
@@ -44,7 +44,7 @@ returns c =
     let at-modifiers = at-expect.before.before.before in
     let at-peek = at-modifiers.before in
     let start = at-peek.before.before.before.before.before.before in
-    modified-reads _ start.requires at-peek.peek.ensures at-modifiers.modifiers.ensures
+    modified_reads _ start.requires at-peek.peek.ensures at-modifiers.modifiers.ensures
     (keyword_stops _ at-expect.expect.ensures (λ rd. refl) c.match.keys2)
 
 alias-requires : tie.Need-alias-requires
@@ -53,7 +53,7 @@ alias-requires c κs =
     let at-modifiers = at-expect.before.before.before in
     let start = at-modifiers.before.before.before.before.before.before.before in
     asked_moved start.requires
-    (moved_trans (modified-moved start.requires at-modifiers.modifiers.ensures) at-expect.expect.ensures.moved)
+    (moved_trans (modified_moved start.requires at-modifiers.modifiers.ensures) at-expect.expect.ensures.moved)
     refl (omega (arith, at-expect.expect.auto)) (omega (arith, at-expect.expect.auto))
 
 same-length-3 : tie.Need-same-length-3
@@ -82,7 +82,7 @@ returns-2 c =
     let at-modifiers = at-expect.before.before.before in
     let at-peek = at-modifiers.before in
     let start = at-peek.before.before.before.before.before.before in
-    modified-reads _ start.requires at-peek.peek.ensures at-modifiers.modifiers.ensures
+    modified_reads _ start.requires at-peek.peek.ensures at-modifiers.modifiers.ensures
     (keyword_on _ at-expect.expect.ensures (λ rd. refl) at-enum-told.enum_told.given.1 at-alias.alias.ensures)
 
 pub type-alias-spec : {M : Type 1} → statement M

@@ -1,4 +1,4 @@
-use Rattle.items.proofs.Aliased.{use-stops, use-on}
+use Rattle.items.proofs.Aliased.{use_stops, use_on}
 use Rattle.steps.proofs.Moves.{asked_moved}
 use mathlib.Core.Path.{refl}
 use native.Mathlib.Omega.{arith}
@@ -33,7 +33,7 @@ returns : tie.Need-returns
 returns c =
     let at-expect = c.before.before.before.before.before in
     let at-peek = at-expect.before.before.before in
-    λ d. use-stops at-peek.peek.ensures at-expect.expect.ensures c.match.keys2
+    λ d. use_stops at-peek.peek.ensures at-expect.expect.ensures c.match.keys2
 
 path-requires : tie.Need-path-requires
 path-requires c κs =
@@ -66,7 +66,7 @@ returns-2 c =
     let at-enum-told = at_path.before.before.before.before.before in
     let at-expect = at-enum-told.before.before.before.before.before.before in
     let at-peek = at-expect.before.before.before in
-    λ d. use-on at-peek.peek.ensures at-expect.expect.ensures at-enum-told.enum_told.given.1
+    λ d. use_on at-peek.peek.ensures at-expect.expect.ensures at-enum-told.enum_told.given.1
     (at_path.path.ensures d)
 
 pub use-path-spec : {M : Type 1} → statement M

@@ -1,8 +1,8 @@
 use mathlib.Core.Path.{refl, sym, ap, ◌∙◌}
 use Rattle.definition.specs.Sentence.{refused}
 use Rattle.reader.proofs.Complaints.{examine_stopped, examine-none, examine-valid, examine-refused, refusal-above, examine-holds, stopped, accepted}
-use Rattle.parser.proofs.Readings.{module-asked}
-use Rattle.items.proofs.Modules.{module-reads}
+use Rattle.parser.proofs.Readings.{module_asked}
+use Rattle.items.proofs.Modules.{module_reads}
 use borrow.Author.Rules.{rules}
 use native.Mathlib.Omega.{arith}
 use Rattle.reader.proofs.sentence.examine.Statement.{statement}
@@ -61,7 +61,7 @@ module-requires c κs =
     let at-if1 = at-if2.before.before in
     let at-run = at-if1.before.before.before.before.before.before.before.before in
     let start = at-run.before.before.before.before.before.before.before.before.before.before.before in
-    module-asked _ _ _ _ _ (examine-valid _ start.requires.0.0 start.requires.0.1 at-run.run.ensures
+    module_asked _ _ _ _ _ (examine-valid _ start.requires.0.0 start.requires.0.1 at-run.run.ensures
     at-if1.if1.false) start.requires.1 start.requires.2 start.requires.3
 
 enum_told : tie.Need-enum-told
@@ -112,7 +112,7 @@ returns-3 c =
     let at-if1 = at-if2.before.before in
     let at-run = at-if1.before.before.before.before.before.before.before.before in
     let start = at-run.before.before.before.before.before.before.before.before.before.before.before in
-    let reads = module-reads at-module.«module».ensures in
+    let reads = module_reads at-module.«module».ensures in
     let is = at-number-of.number_of.ensures in
     stopped (λ z. refusal-above _ start.requires.0.0 start.requires.0.1 at-run.run.ensures at-if1.if1.false
     at-if2.if2.false reads at-match.match.keys1 (sym is ∙ z))
@@ -158,7 +158,7 @@ returns-4 c =
     let at-if1 = at-if2.before.before in
     let at-run = at-if1.before.before.before.before.before.before.before.before in
     let start = at-run.before.before.before.before.before.before.before.before.before.before.before in
-    let reads = module-reads at-module.«module».ensures in
+    let reads = module_reads at-module.«module».ensures in
     accepted refl (examine-holds _ start.requires.0.0 start.requires.0.1 at-run.run.ensures at-if1.if1.false
     at-if2.if2.false reads at-match.match.keys2
     (omega (arith, start.requires.2, at-module.«module».auto))
