@@ -107,6 +107,8 @@ same_body (bare a) (bare b) e = record { left = refl; right = same_parts a b e }
 same_body (at {p} h a) (at {p = q} k b) e =
     let c = same_place p q _ _ h k e in
     record { left = ap some c.left; right = same_parts a b c.right }
+same_body {ms = ms} {ns = ns} {t = t} {u = u} (bare a) (at {p = q} {ps = ps} k b) e = elim a [ ]
+same_body {ms = ms} {ns = ns} {t = t} {u = u} (at {p = p} {ps = ps} h a) (bare b) e = elim b [ ]
 
 same_rec : (r q : Rec) → Fit r → Fit q → r.tag ≡ q.tag → body r ≡ body q → r ≡ q
 unfolding body

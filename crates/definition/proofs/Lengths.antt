@@ -341,6 +341,8 @@ in_widths : (t : Tok) (n : ℕ) (ts : List Tok) → t ∈ drop n ts → width t 
 in_widths t zero (u ∷ us) here = omega arith
 in_widths t zero (u ∷ us) (there m) = omega (arith, in_widths t zero us m)
 in_widths t (suc n) (u ∷ us) m = omega (arith, width_one u, in_widths t n us m)
+in_widths t zero [] m = elim m [ ]
+in_widths t (suc n) [] m = elim m [ ]
 
 module _ (ts : List Tok) (g : All Good ts) (d : Distinct ts) (w : widths ts ≤ 16384) where
   -- a token with n others before it

@@ -49,6 +49,7 @@ either_true false b f g e = g e
 
 pub passed : (a : Bool) → T a → a ≡ true
 passed true t = refl
+passed false t = elim t [ ]
 
 pub is_kind : (t : Tok) (k : ℕ) → t is k ≡ true → t.kind ≡ k
 is_kind t k e = eqb-true t.kind k e

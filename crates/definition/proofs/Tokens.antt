@@ -457,20 +457,20 @@ script_tokens bs cs h e =
 -- ---- where the token errors stand
 
 -- no two characters share a place, so the one found at a character's place is that character
-chars_in : (k : ℕ) (c : Ch) (cs : List Ch) → Chars k cs → c ∈ cs → k < key c.place
-chars_in k c cs h here = h.0
-chars_in k c cs h (there {y = d} m) = omega (arith, h.0, chars_in (key d.place) c _ h.3 m)
+chars_in : (c : Ch) (k : ℕ) (cs : List Ch) → Chars k cs → c ∈ cs → k < key c.place
+chars_in c k cs h here = h.0
+chars_in c k cs h (there {y = d} m) = omega (arith, h.0, chars_in c (key d.place) _ h.3 m)
 
-character_in : (k : ℕ) (c : Ch) (cs : List Ch) → Chars k cs → c ∈ cs → character_at c.place cs ≡ spelling c
+character_in : (c : Ch) (k : ℕ) (cs : List Ch) → Chars k cs → c ∈ cs → character_at c.place cs ≡ spelling c
 unfolding character_at
-character_in k c cs h here = rw (character_at, same_self c.place)
-character_in k c cs h (there {y = d} {xs = ds} m) =
-    rw (character_at, differ c.place d.place (λ z. omega (arith, chars_in (key d.place) c ds h.3 m)))
-    (character_in (key d.place) c ds h.3 m)
+character_in c k cs h here = rw (character_at, same_self c.place)
+character_in c k cs h (there {y = d} {xs = ds} m) =
+    rw (character_at, differ c.place d.place (λ z. omega (arith, chars_in c (key d.place) ds h.3 m)))
+    (character_in c (key d.place) ds h.3 m)
 
 pub character_there : (bs : List ℕ) (cs : List Ch) → length bs ≤ 16384 → characters bs ≡ some cs → (c : Ch) → c ∈ cs
     → character_at c.place cs ≡ spelling c
-character_there bs cs h e c m = character_in 0 c cs (script bs cs h e).chars m
+character_there bs cs h e c m = character_in c 0 cs (script bs cs h e).chars m
 
 -- a token error stands at a character
 pub record AtCharacter (cs : List Ch) (e : Err) : Type 0 where

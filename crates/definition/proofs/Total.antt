@@ -11,8 +11,9 @@ use Rattle.definition.specs.Kind as K
 use Rattle.definition.specs.Fallible.{Ans, ok, fatal}
 use Rattle.definition.specs.Node.{byte}
 use Rattle.definition.specs.Token.{Tok, next_token, tail, ◌is◌}
-use Rattle.definition.specs.Act.{Node, Goal, Loop, Module, Body, ListOf, Operators, Casts, Suffixes, Modifiers, Listed, Parameters, Arguments, StructFields, ArrayValues, StructValues, Left, Consumed, Act, done, peek, consume, make, if◌then◌else◌, call, loop, panic, St, begin, Res, gives, refused, after, plain, advance, push, run, next, ◌>>=◌, ◌>>?◌}
+use Rattle.definition.specs.Act.{Node, Goal, Loop, Module, Body, ListOf, Operators, Casts, Suffixes, Modifiers, Listed, Parameters, Arguments, StructFields, ArrayValues, StructValues, Left, Consumed, Act, done, peek, consume, make, if◌then◌else◌, call, loop, panic, St, begin, Res, gives, refused, after, plain, advance, push, run, next, or_return, ◌>>=◌, ◌>>?◌}
 use Rattle.definition.specs.Parser as P
+use Rattle.definition.specs.Tag as T
 use Rattle.definition.specs.Parser.{rule, turn, loops, parse, parse_module_within, parse_module}
 use Rattle.definition.proofs.Tests.{never_both}
 use Rattle.definition.proofs.Later.{Later, toks, later_left, later_refl, later_trans, later_advance, later_push, After, weaken}
@@ -185,7 +186,7 @@ alias_enough n s e h = (
       λ _. (
         λ _. omega (arith, there K.KwType tt t.tokens i, later_left l, Gr.tail_le (tail t.tokens)),
         λ _. (
-          λ _ a u l₂ c. elim a
+          λ _ a u l₂ c. elim a as (λ k. Enough n (or_return (λ ty. P.expect K.Semicolon >>? λ x. P.good (P.node ty.item.recs T.TypeAlias (next_token s.tokens).place (byte (w.distinct + w.internal) ∷ []) (next_token (advance (λ x'. plain) t).tokens).text) ty.errors) k) (λ s'. length s'.tokens < length s.tokens) u)
               [ ok ty ↦ (λ _. omega (arith, shorter t i, later_left l, later_left l₂, Gr.tail_le u.tokens), λ _. (λ _. omega (arith, shorter t i, later_left l, later_left l₂, Gr.tail_le u.tokens), λ _. omega (arith, shorter t i, later_left l, later_left l₂, Gr.tail_le u.tokens))) | fatal es ↦ omega (arith, shorter t i, later_left l, later_left l₂) ],
           λ _.
               (λ _. omega (arith, shorter t i, later_left l), λ _. omega (arith, shorter t i, later_left l)),
