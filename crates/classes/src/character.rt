@@ -3,7 +3,7 @@ ghost use Rattle.std.specs.Prelude.{◌≡◌};
 ghost use Rattle.definition.specs.Classes as C;
 
 // What a character begins, by its class.
-#[derive(Drop)]
+#[derive(Clone, Copy)]
 pub enum Class {
     Foreign,
     White,

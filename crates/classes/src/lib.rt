@@ -1,4 +1,6 @@
 // Characters: their classes, the fixed spellings, and which token a character begins.
+#![tactic(auto)]
+
 pub mod character;
 pub mod spelling;
 

@@ -2,6 +2,8 @@
 // then the full list, as LINE:COLUMN: SENTENCE, or `end of script: SENTENCE` where the place is 0:0. A refused script
 // gets one line with its number and what it means. Writes nothing if there are no complaints, or if standard input
 // cannot be read to its end. Reports a failed read or write on standard error: a program has no exit status.
+#![tactic(auto)]
+
 ghost use Rattle.std.specs.Prelude.{true, ◌≡◌, ◌<◌, ◌≤◌, length};
 
 use definition::{limit, refusal, tag};

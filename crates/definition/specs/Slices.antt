@@ -1,18 +1,27 @@
--- Names for slices in contracts: a parameter is a `Slice` in a `requires`, and `Lent`, a slice at entry and at exit,
--- in an `ensures`. Assumes nothing.
+-- Names for slices in contracts. In a `requires` a parameter `&[T]` is a `Slice` and `&mut [T]` a `MutSlice`; in an
+-- `ensures` they are `Lent` and `MutLent`, a slice at entry and at exit. Assumes nothing.
 use Rattle.std.specs.Prelude.{List, ℕ}
-use Rattle.std.specs.Borrow.{Bor}
+use Rattle.std.specs.Borrow.{Bor, MutBor}
 use denote.Triple.Both.{Both}
 
 abbrev pub Slice : Type 0
 Slice = Bor (List ℕ)
 
+abbrev pub MutSlice : Type 0
+MutSlice = MutBor (List ℕ)
+
 abbrev pub Lent : Type 0
 Lent = Both Slice Slice
+
+abbrev pub MutLent : Type 0
+MutLent = Both MutSlice MutSlice
 
 -- the contents at entry and at exit
 abbrev pub at_entry : Lent → List ℕ
 at_entry x = x.entry.now
 
-abbrev pub at_exit : Lent → List ℕ
-at_exit x = x.exit.now
+abbrev pub old : MutLent → List ℕ
+old x = x.entry.now
+
+abbrev pub new : MutLent → List ℕ
+new x = x.exit.now

@@ -1,6 +1,8 @@
 // Reads a script from standard input and writes its tree file to standard output; if refused, 7F 00 01 and the
 // number. Writes nothing if standard input cannot be read to its end. Reports a failed read or write on standard
 // error: a program has no exit status.
+#![tactic(auto)]
+
 use definition::limit;
 use libc::{STDERR_FILENO, STDIN_FILENO, STDOUT_FILENO};
 

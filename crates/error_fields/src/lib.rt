@@ -1,5 +1,7 @@
 // Writes the errors as fields after the tree: token errors (tag 62), reported errors (60) and the full list (61).
 // The body of each has seven bytes: number, line and column in two bytes each, expected kind, kind got.
+#![tactic(auto)]
+
 ghost use Rattle.std.specs.Prelude.{[], ◌∷◌, ◌+◌, ◌*◌, ◌≤◌, length};
 ghost use Rattle.fallible.specs.Lists.{unpack, errs};
 ghost use Rattle.error_fields.specs.Contract.{GoodErrors, Fielded, TokenFields};

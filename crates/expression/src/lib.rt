@@ -1,4 +1,6 @@
 // Expressions, types and the lists in them: the functions of parser.rs that call one another in a cycle.
+#![tactic(auto)]
+
 ghost use Rattle.std.specs.Prelude.{◌≡◌, ◌<◌, ◌≤◌};
 ghost use Rattle.definition.specs.Parser as P;
 ghost use Rattle.leaves.specs.Leaves.{listed_of, level_of};

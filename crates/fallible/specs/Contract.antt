@@ -1,6 +1,6 @@
 -- The records of Tallies, Answers and Orders, stated over the parameters of the functions. Assumes nothing.
 use Rattle.std.specs.Prelude.{◌≡◌, ◌++◌, ℕ, ◌+◌, ◌-◌, take, drop}
-use Rattle.definition.specs.Slices.{Slice, Lent, at_entry, at_exit}
+use Rattle.definition.specs.Slices.{MutSlice, Lent, MutLent, at_entry, old, new}
 use Rattle.fallible.specs.declared.State.{State}
 use Rattle.fallible.specs.declared.Answer.{Answer}
 use Rattle.fallible.specs.declared.Tally.{Tally}
@@ -10,35 +10,35 @@ use Rattle.fallible.specs.Orders as O
 
 -- ---- a tally
 
-abbrev pub Pushed : Tally → Lent → Lent → ℕ → Tally → Type 0
-Pushed t reported full e r = T.Pushed (at_entry reported) (at_entry full) t e (at_exit reported) (at_exit full) r
+abbrev pub Pushed : Tally → MutLent → MutLent → ℕ → Tally → Type 0
+Pushed t reported full e r = T.Pushed (old reported) (old full) t e (new reported) (new full) r
 
-abbrev pub Propagated : Tally → Lent → ℕ → ℕ → Tally → Type 0
-Propagated t reported from end r = T.Propagated (at_entry reported) t from end (at_exit reported) r
+abbrev pub Propagated : Tally → MutLent → ℕ → ℕ → Tally → Type 0
+Propagated t reported from end r = T.Propagated (old reported) t from end (new reported) r
 
 -- the entries from `from` to `end` are moved to `to`, and end at r
-abbrev pub Shifted : Lent → ℕ → ℕ → ℕ → ℕ → Type 0
+abbrev pub Shifted : MutLent → ℕ → ℕ → ℕ → ℕ → Type 0
 Shifted reported to from end r =
-    (r ≡ to + (end - from)) × (take r (at_exit reported) ≡ take to (at_entry reported) ++ drop from (take end (at_entry reported)))
+    (r ≡ to + (end - from)) × (take r (new reported) ≡ take to (old reported) ++ drop from (take end (old reported)))
 
 -- ---- an answer
 
-abbrev pub Raised : Answer → Lent → Lent → State → ℕ → Answer → Type 0
+abbrev pub Raised : Answer → MutLent → MutLent → State → ℕ → Answer → Type 0
 Raised expected reported full st e r =
-    A.Raised expected (at_entry reported) (at_entry full) st e (at_exit reported) (at_exit full) r
+    A.Raised expected (old reported) (old full) st e (new reported) (new full) r
 
 -- for `?`: what was written since the state `from`, and the errors from its count to that of `before`, are dropped
-abbrev pub Cuts : Slice → Answer → State → State → Type 0
+abbrev pub Cuts : MutSlice → Answer → State → State → Type 0
 Cuts reported a from before = A.Cuts reported.now a from.pos from.reported before.reported
 
-abbrev pub Abandoned : Lent → Answer → State → State → Answer → Type 0
+abbrev pub Abandoned : MutLent → Answer → State → State → Answer → Type 0
 Abandoned reported a from before r =
-    A.Abandoned (at_entry reported) a from.pos from.reported before.reported (at_exit reported) r
+    A.Abandoned (old reported) a from.pos from.reported before.reported (new reported) r
 
 -- ---- the order
 
-abbrev pub Copied : Lent → ℕ → Lent → ℕ → ℕ → Type 0
-Copied from at to place len = O.Copied (at_entry from) at (at_entry to) place len (at_exit to)
+abbrev pub Copied : Lent → ℕ → MutLent → ℕ → ℕ → Type 0
+Copied from at to place len = O.Copied (at_entry from) at (old to) place len (new to)
 
-abbrev pub Exchanged : Lent → ℕ → ℕ → ℕ → Type 0
-Exchanged reported j k m = O.Exchanged (at_entry reported) j k m (at_exit reported)
+abbrev pub Exchanged : MutLent → ℕ → ℕ → ℕ → Type 0
+Exchanged reported j k m = O.Exchanged (old reported) j k m (new reported)

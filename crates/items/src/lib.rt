@@ -1,4 +1,6 @@
 // The top-level items of a module, and the module.
+#![tactic(auto)]
+
 mod functions;
 mod others;
 

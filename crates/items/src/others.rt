@@ -15,7 +15,7 @@ use statement::declarations::declaration;
 use steps::{and_expect, expect, peek, write_text_node};
 
 // The modifiers before `type`, 1 for `distinct` plus 2 for `internal`, and the index of the token after them.
-#[derive(Drop)]
+#[derive(Clone, Copy)]
 struct AliasWords {
     words: u8,
     next: usize,

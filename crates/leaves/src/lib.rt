@@ -1,4 +1,6 @@
 // Functions of parser.rs that call none of the four counted ones: parts of lists, levels, literals, sizes, groups.
+#![tactic(auto)]
+
 ghost use Rattle.std.specs.Prelude.{◌≡◌, ℕ, ◌+◌, ◌<◌, ◌≤◌, length, take, drop};
 ghost use Rattle.definition.specs.Parser as P;
 ghost use Rattle.definition.specs.Token.{digit};
@@ -14,7 +16,7 @@ use node::{Numbers, Record, write_record};
 use steps::{Token, expect, peek};
 
 // The kinds of lists that parse_bounded_list_of parses.
-#[derive(Drop)]
+#[derive(Clone, Copy)]
 pub enum Listed {
     Parameters,
     Arguments,
@@ -24,7 +26,7 @@ pub enum Listed {
 }
 
 // The levels of parse_arithmetic_binop, the loosest first.
-#[derive(Drop)]
+#[derive(Clone, Copy)]
 pub enum Level {
     BitwiseOr,
     BitwiseXor,
@@ -131,7 +133,7 @@ fn digit_value(c: u8) -> usize
 }
 
 // The value of an array size; `number` is valid only if `fits` is true.
-#[derive(Drop)]
+#[derive(Clone, Copy)]
 pub struct Size {
     pub fits: bool,
     pub number: usize,

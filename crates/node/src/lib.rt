@@ -1,5 +1,7 @@
 // node.rs: writes the records of the tree to the lent file slice. Each function returns the offset after what it
 // wrote.
+#![tactic(auto)]
+
 ghost use Rattle.std.specs.Prelude.{◌≡◌, [], ◌∷◌, ◌+◌, ◌<◌, ◌≤◌, length};
 ghost use Rattle.definition.specs.Source.{place_at};
 ghost use Rattle.definition.specs.Places.{unpack_place};
@@ -8,7 +10,7 @@ ghost use Rattle.node.specs.Put.{nums_of, width_of, placed, rec_of, size_of, bar
 ghost use Rattle.node.specs.Contract.{Room, part, Grew, Wrote};
 
 // The numbers in a record: none, one byte, two bytes, eight bytes, or one byte and two.
-#[derive(Drop)]
+#[derive(Clone, Copy)]
 pub enum Numbers {
     None,
     Byte(u8),
@@ -18,7 +20,7 @@ pub enum Numbers {
 }
 
 // A record with a place. Its text is a part of a text slice.
-#[derive(Drop)]
+#[derive(Clone, Copy)]
 pub struct Record {
     pub tag: u8,
     pub place: usize,

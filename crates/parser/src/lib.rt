@@ -1,4 +1,6 @@
 // Read: parses token records to a tree file.
+#![tactic(auto)]
+
 ghost use Rattle.std.specs.Prelude.{◌≡◌, ◌<◌, ◌≤◌, length};
 ghost use Rattle.definition.specs.Operations as O;
 ghost use Rattle.parser.specs.Answer.{answer, refusal_of, refusal_number};
@@ -13,7 +15,7 @@ use slices::clear_bytes;
 use validate::valid_records;
 
 // The result: the number of the refusal or 0, and the count of file bytes.
-#[derive(Drop)]
+#[derive(Clone, Copy)]
 pub struct Written {
     pub number: u32,
     pub bytes: usize,

@@ -2,7 +2,7 @@
 use Rattle.std.specs.Prelude.{◌≡◌, true, List, [], ℕ, ◌*◌, ◌≤◌, length}
 use Rattle.std.proofs.Math.Option.{Option, none, some}
 use Rattle.std.proofs.Math.ListN.{get_elem?}
-use Rattle.definition.specs.Slices.{Slice, Lent, at_entry, at_exit}
+use Rattle.definition.specs.Slices.{Slice, MutSlice, Lent, MutLent, at_entry, new}
 use Rattle.definition.specs.Source.{is_some}
 use Rattle.definition.specs.Fallible.{Err}
 use Rattle.definition.specs.Records.{errors_of}
@@ -48,14 +48,14 @@ pub record Examines (s T E X r f : List ℕ) (y : Examined) : Type 0 where
 
 -- ---- over the parameters of the functions
 
-abbrev pub ExamineAsks : Slice → Slice → Slice → Slice → Slice → Slice → Slice → Type 0
+abbrev pub ExamineAsks : Slice → MutSlice → MutSlice → MutSlice → MutSlice → MutSlice → MutSlice → Type 0
 ExamineAsks script tokens errors text file reported full =
     RunAsks 2048 script tokens errors text × (65536 ≤ length file.now) × (256 ≤ length reported.now) ×
     (256 ≤ length full.now)
 
-abbrev pub ExaminesLent : Lent → Lent → Lent → Lent → Lent → Lent → Examined → Type 0
+abbrev pub ExaminesLent : Lent → MutLent → MutLent → MutLent → MutLent → MutLent → Examined → Type 0
 ExaminesLent script tokens errors text reported full y =
-    Examines (at_entry script) (at_exit tokens) (at_exit errors) (at_exit text) (at_exit reported) (at_exit full) y
+    Examines (at_entry script) (new tokens) (new errors) (new text) (new reported) (new full) y
 
 -- the sentence at a position of a list of k packed errors
 abbrev pub list_sentence : List ℕ → List ℕ → ℕ → List ℕ → ℕ → ℕ → List ℕ

@@ -1,4 +1,6 @@
 // The whole operation: reads a script and writes its tree file. Complaints in words: sentence.rt.
+#![tactic(auto)]
+
 pub mod sentence;
 
 ghost use Rattle.std.specs.Prelude.{◌≡◌, ◌≤◌, length};
@@ -24,7 +26,7 @@ fn cleared(number: u32, file: &mut [u8]) -> Written
 }
 
 // A script that was read: the answer, and the state in which the tokenizer ended.
-#[derive(Drop)]
+#[derive(Clone, Copy)]
 pub struct ScriptRead {
     pub written: Written,
     pub state: State,
@@ -105,7 +107,7 @@ pub extern "C" fn dn_read(script: &[u8], file: &mut [u8], bytes: &mut usize) -> 
 }
 
 // The results for two scripts.
-#[derive(Drop)]
+#[derive(Clone, Copy)]
 pub struct TwoAnswers {
     first: Written,
     second: Written,

@@ -18,7 +18,7 @@ use source::valid;
 use tokenizer::run;
 
 // What was found in a script: the number of the refusal or 0, and the counts of tokens and of each list.
-#[derive(Drop)]
+#[derive(Clone, Copy)]
 struct Examined {
     number: u32,
     tokens: usize,

@@ -1,4 +1,6 @@
 // Shared by the programs that read a list of cases from standard input (beside/README.md has the formats).
+#![tactic(auto)]
+
 use libc::{STDIN_FILENO, STDOUT_FILENO};
 
 // ---- numbers, high byte first
@@ -41,7 +43,7 @@ pub fn fill(space: &mut [u8], n: usize) -> bool {
 // ---- counts
 
 // The outcome of a case. A list that ends inside a case differs there.
-#[derive(Drop)]
+#[derive(Clone, Copy)]
 pub enum Found {
     Agrees,
     Differs,
@@ -57,7 +59,7 @@ pub fn compared(agrees: bool) -> Found {
 }
 
 // The counts of cases; `first` is the number, from 0, of the first case that differs.
-#[derive(Drop)]
+#[derive(Clone, Copy)]
 pub struct Counts {
     pub agree: u64,
     pub differ: u64,

@@ -1,6 +1,8 @@
 // Reads a list of scripts with the tree files that the whole operation should give (beside/README.md has its
 // format) from standard input, and writes how many agree and how many differ, and the number of the first that
 // differs.
+#![tactic(auto)]
+
 use libc::STDIN_FILENO;
 use replay_cases::{Counts, Found, long, three, wide};
 
@@ -13,7 +15,7 @@ const SCRIPT: usize = 20000;
 const FILE: usize = 70000;
 
 // The header of a case: the lengths of the script and the file slice, and the expected result without the tree file.
-#[derive(Drop)]
+#[derive(Clone, Copy)]
 struct Opening {
     script_bytes: usize,
     file_bytes: usize,

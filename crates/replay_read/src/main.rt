@@ -1,5 +1,7 @@
 // Reads a list of records with the answers that Read and Token text should give (beside/README.md has its format)
 // from standard input, and writes how many agree and how many differ, and the number of the first that differs.
+#![tactic(auto)]
+
 use libc::STDIN_FILENO;
 use replay_cases::{Counts, Found, eight, four, long, pair, three, wide};
 
@@ -9,7 +11,7 @@ const FILLER: u8 = 165;
 // ---- the header of a case
 
 // The lengths of the slices, the stated counts, and the expected result without the tree file.
-#[derive(Drop)]
+#[derive(Clone, Copy)]
 struct Opening {
     token_words: usize,
     error_words: usize,

@@ -1,5 +1,7 @@
 // Reads a list of scripts with the sentences that the operation should give (beside/README.md has its format) from
 // standard input, and writes how many agree and how many differ, and the number of the first that differs.
+#![tactic(auto)]
+
 use libc::STDIN_FILENO;
 use replay_cases::{Counts, Found, eight, four, long, three, wide};
 
@@ -13,7 +15,7 @@ const SENTENCE: usize = 100000;
 
 // The header of a case: what the operation is passed beside the script, with the lengths of the script and of the
 // slice, and the expected result without the sentence.
-#[derive(Drop)]
+#[derive(Clone, Copy)]
 struct Opening {
     script_bytes: usize,
     list: u32,

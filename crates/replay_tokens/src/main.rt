@@ -1,5 +1,7 @@
 // Reads a list of scripts with the answers that Tokenise should give (beside/README.md has its format) from
 // standard input, and writes how many agree and how many differ, and the number of the first that differs.
+#![tactic(auto)]
+
 use libc::STDIN_FILENO;
 use replay_cases::{Counts, Found, fill, long, pair, three, wide};
 use tokenizer::Tokenized;
@@ -12,7 +14,7 @@ const FILLER_WORD: u32 = 2779096485;
 // ---- the header of a case
 
 // The lengths of the script and of the slices, and the expected result without the records.
-#[derive(Drop)]
+#[derive(Clone, Copy)]
 struct Opening {
     script_bytes: usize,
     token_words: usize,

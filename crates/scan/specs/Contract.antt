@@ -1,7 +1,7 @@
 -- The records of Scan, stated over the parameters of the functions: first what is specific to a function, then its
 -- parameters in order. Assumes nothing.
 use Rattle.std.specs.Prelude.{List, ℕ}
-use Rattle.definition.specs.Slices.{Slice, Lent, at_entry, at_exit}
+use Rattle.definition.specs.Slices.{Slice, MutSlice, Lent, MutLent, at_entry, old, new}
 use Rattle.definition.specs.Source.{Ch}
 use Rattle.definition.specs.Tokenizer.{Span, Quoted}
 use Rattle.source.specs.Place.{rest}
@@ -15,7 +15,7 @@ use Rattle.scan.specs.Scan as S
 abbrev pub Passes : Slice → Cursor → Type 0
 Passes s c = S.Passes s.now c
 
-abbrev pub Asks : Slice → Cursor → Slice → ℕ → Type 0
+abbrev pub Asks : Slice → Cursor → MutSlice → ℕ → Type 0
 Asks s c text n = S.Asks s.now c text.now n
 
 -- ---- ensured
@@ -24,8 +24,8 @@ Asks s c text n = S.Asks s.now c text.now n
 abbrev pub Passed : (List Ch → List Ch) → Lent → Cursor → Cursor → Type 0
 Passed f s c r = S.Passed (at_entry s) c (f (rest (at_entry s) c)) r
 
-abbrev pub Spanned : (List Ch → Span) → Lent → Cursor → Lent → ℕ → Scan → Type 0
-Spanned f s c text n r = S.Spanned (at_entry s) c (at_entry text) n (f (rest (at_entry s) c)) (at_exit text) r
+abbrev pub Spanned : (List Ch → Span) → Lent → Cursor → MutLent → ℕ → Scan → Type 0
+Spanned f s c text n r = S.Spanned (at_entry s) c (old text) n (f (rest (at_entry s) c)) (new text) r
 
-abbrev pub QuotedAs : (List Ch → Quoted) → Lent → Cursor → Lent → ℕ → Body → Type 0
-QuotedAs f s c text n r = S.QuotedAs (at_entry s) c (at_entry text) n (f (rest (at_entry s) c)) (at_exit text) r
+abbrev pub QuotedAs : (List Ch → Quoted) → Lent → Cursor → MutLent → ℕ → Body → Type 0
+QuotedAs f s c text n r = S.QuotedAs (at_entry s) c (old text) n (f (rest (at_entry s) c)) (new text) r

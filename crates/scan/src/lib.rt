@@ -1,4 +1,6 @@
 // Scans white space, comments, words, digits, assembly and strings from a cursor on. Some scans write the text.
+#![tactic(auto)]
+
 ghost use Rattle.std.specs.Prelude.{false, ◌≡◌, ◌+◌};
 ghost use Rattle.definition.specs.Tokenizer as Z;
 ghost use Rattle.source.specs.Place.{Stands, rest};
@@ -80,7 +82,7 @@ pub fn white(s: &[u8], from: Cursor) -> Cursor
 // ---- scans that write
 
 // Where a scan stopped, and the offset after what it wrote.
-#[derive(Drop)]
+#[derive(Clone, Copy)]
 pub struct Scan {
     pub cursor: Cursor,
     pub n: usize,
@@ -155,7 +157,7 @@ pub fn assembly(s: &[u8], from: Cursor, text: &mut [u8], start: usize) -> Scan
 // ---- strings
 
 // Where a string's scan stopped, the offset after its text, the count of unknown escapes, whether a quote closed it.
-#[derive(Drop)]
+#[derive(Clone, Copy)]
 pub struct Body {
     pub cursor: Cursor,
     pub n: usize,

@@ -1,4 +1,6 @@
 // Complaints in words: writes the sentence of an error, composed as the messages of tokenizer.rs and parser.rs are.
+#![tactic(auto)]
+
 mod spelling;
 mod write;
 
@@ -24,7 +26,7 @@ use write::{line_at, line_end, say, say_all};
 // ---- messages
 
 // What a sentence says of an error, but for the text.
-#[derive(Drop)]
+#[derive(Clone, Copy)]
 pub struct Meaning {
     pub number: u32,
     pub expected: u32,
@@ -171,7 +173,7 @@ fn cursor_at(s: &[u8], line: u32, column: u32) -> Cursor
 }
 
 // A part of a slice: its first offset and the one after it.
-#[derive(Drop)]
+#[derive(Clone, Copy)]
 struct Part {
     start: usize,
     end: usize,

@@ -1,4 +1,6 @@
 // Writes to lent slices of bytes and words, and clears the rest of them.
+#![tactic(auto)]
+
 ghost use Rattle.std.specs.Prelude.{[], ◌∷◌, ◌+◌, ◌-◌, ◌<◌, ◌≤◌, length, take, drop};
 ghost use Rattle.slices.specs.Cleared.{Cleared};
 ghost use Rattle.slices.specs.Contract.{Wrote};

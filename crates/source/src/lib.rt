@@ -1,4 +1,6 @@
 // Validates UTF-8 (RFC 3629), and moves a cursor over the characters of a script.
+#![tactic(auto)]
+
 ghost use Rattle.std.specs.Prelude.{◌≡◌, ◌+◌, ◌<◌, ◌≤◌, length};
 ghost use Rattle.definition.specs.Source.{lead, utf8};
 ghost use Rattle.source.specs.Place.{highest_of, need_of, next_need, needed, more, Stands, Stepped, along_line};
@@ -7,7 +9,7 @@ ghost use Rattle.source.specs.Place.{highest_of, need_of, next_need, needed, mor
 
 // What the next byte must be: how many bytes of a character are missing (0 between characters, WRONG if the bytes are
 // not UTF-8), and the bounds of the next one.
-#[derive(Drop)]
+#[derive(Clone, Copy)]
 pub struct Need {
     pub missing: u8,
     pub lo: u8,
@@ -112,7 +114,7 @@ pub fn valid(s: &[u8]) -> bool
 // ---- places
 
 // A place in the script: the offset, line and column of a character.
-#[derive(Drop)]
+#[derive(Clone, Copy)]
 pub struct Cursor {
     pub at: usize,
     pub line: u32,

@@ -1,4 +1,6 @@
 // Statements and bodies: the functions of parser.rs above expressions that call one another in a cycle.
+#![tactic(auto)]
+
 pub mod declarations;
 mod simple;
 

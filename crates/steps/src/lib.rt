@@ -1,4 +1,6 @@
 // Steps of parser.rs on single tokens: the next token, `expect`, `expect_identifier`, a record after an answer.
+#![tactic(auto)]
+
 ghost use Rattle.std.specs.Prelude.{◌+◌, ◌<◌, ◌≤◌};
 ghost use Rattle.definition.specs.Parser as P;
 ghost use Rattle.node.specs.Contract.{Room};
@@ -11,7 +13,7 @@ use fallible::{Answer, State, Status, abandon, entry, raise};
 use node::{Numbers, Record, place_at, wide, write_record};
 
 // A token, decoded from its record, and the index of the next token. At the end all fields but `next` are 0.
-#[derive(Drop)]
+#[derive(Clone, Copy)]
 pub struct Token {
     pub kind: u32,
     pub place: usize,

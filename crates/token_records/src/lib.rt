@@ -1,4 +1,6 @@
 // Token and error records as words in lent slices: writes and validates them; the text of a token.
+#![tactic(auto)]
+
 ghost use Rattle.std.specs.Prelude.{◌≡◌, [], ◌∷◌, ◌+◌, ◌*◌, ◌<◌, ◌≤◌, length, drop, replicate};
 ghost use Rattle.definition.specs.Classes as C;
 ghost use Rattle.definition.specs.Records as R;
@@ -17,7 +19,7 @@ use source::{Cursor, valid};
 // ---- writing
 
 // The tokenizer's state: its cursor, the counts of tokens, errors and text bytes, and the number of its refusal or 0.
-#[derive(Drop)]
+#[derive(Clone, Copy)]
 pub struct State {
     pub cursor: Cursor,
     pub tokens: usize,
@@ -214,7 +216,7 @@ fn part_fits(text: &[u8], start: usize, end: usize) -> bool
 }
 
 // The words of a token record.
-#[derive(Drop)]
+#[derive(Clone, Copy)]
 pub struct Words {
     pub kind: u32,
     pub line: u32,

@@ -1,27 +1,27 @@
 -- The records of Run, stated over the parameters of the functions. Assumes nothing.
 use Rattle.std.specs.Prelude.{ℕ, ◌*◌, ◌<◌, ◌≤◌, length}
-use Rattle.definition.specs.Slices.{Slice, Lent, at_entry, at_exit}
+use Rattle.definition.specs.Slices.{Slice, MutSlice, Lent, MutLent, at_entry, old, new}
 use Rattle.source.specs.Place.{Stands, rest, origin}
 use Rattle.token_records.specs.declared.State.{State}
 use Rattle.turns.specs.Contract.{Ready}
 use Rattle.tokenizer.specs.Run as R
 
 -- what a turn requires: a character at the cursor
-abbrev pub TurnAsks : ℕ → Slice → State → Slice → Slice → Slice → Type 0
+abbrev pub TurnAsks : ℕ → Slice → State → MutSlice → MutSlice → MutSlice → Type 0
 TurnAsks most s st tokens errors text =
     Ready most s st st.cursor tokens text × (st.cursor.at < length s.now) × (1024 ≤ length errors.now)
 
-abbrev pub Taken : ℕ → Lent → State → Lent → Lent → Lent → State → Type 0
+abbrev pub Taken : ℕ → Lent → State → MutLent → MutLent → MutLent → State → Type 0
 Taken most s st tokens errors text r =
     R.Taken most (R.turn_of (rest (at_entry s) st.cursor)) (at_entry s) st
-    (at_entry tokens) (at_entry errors) (at_entry text) r (at_exit tokens) (at_exit errors) (at_exit text)
+    (old tokens) (old errors) (old text) r (new tokens) (new errors) (new text)
 
 -- what the loop requires, at the start of the script
-abbrev pub RunAsks : ℕ → Slice → Slice → Slice → Slice → Type 0
+abbrev pub RunAsks : ℕ → Slice → MutSlice → MutSlice → MutSlice → Type 0
 RunAsks most s tokens errors text =
     Stands s.now origin × (length s.now ≤ 16384)
     × (8 * most ≤ length tokens.now) × (1024 ≤ length errors.now) × (16384 ≤ length text.now)
 
-abbrev pub Ran : ℕ → Lent → Lent → Lent → Lent → State → Type 0
+abbrev pub Ran : ℕ → Lent → MutLent → MutLent → MutLent → State → Type 0
 Ran most s tokens errors text r =
-    R.Ran most (rest (at_entry s) origin) (at_exit tokens) (at_exit errors) (at_exit text) r
+    R.Ran most (rest (at_entry s) origin) (new tokens) (new errors) (new text) r

@@ -1,4 +1,6 @@
 // Tokenise: converts a script to token records, token errors and text, in lent slices.
+#![tactic(auto)]
+
 ghost use Rattle.std.specs.Prelude.{◌≡◌};
 ghost use Rattle.definition.specs.Operations as O;
 ghost use Rattle.tokenizer.specs.Run.{answer, refusal_of};
@@ -92,7 +94,7 @@ pub fn run(most: usize, s: &[u8], tokens: &mut [u32], errors: &mut [u32], text: 
 // ---- the operation
 
 // The result: the number of the refusal or 0, and the counts of tokens, token errors and text bytes.
-#[derive(Drop)]
+#[derive(Clone, Copy)]
 pub struct Tokenized {
     pub number: u32,
     pub tokens: usize,

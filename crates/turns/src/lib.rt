@@ -1,5 +1,7 @@
 // The turns of the tokenizer's loop, one function for each class of first character. Each takes the state before the
 // turn, whose cursor is the token's place, and the cursor `c` after the characters already consumed.
+#![tactic(auto)]
+
 ghost use Rattle.std.specs.Prelude.{false, ◌≡◌, [], ◌∷◌, ◌*◌, ◌-◌, ◌<◌, ◌≤◌, length, replicate};
 ghost use Rattle.definition.specs.Tokenizer as Z;
 ghost use Rattle.source.specs.Place.{placed};

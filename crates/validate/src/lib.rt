@@ -1,4 +1,6 @@
 // Validates the token and error records passed to Read: the counts, the lengths of the slices, and each record.
+#![tactic(auto)]
+
 ghost use Rattle.std.specs.Prelude.{◌≡◌, ◌*◌, ◌≤◌, length};
 ghost use Rattle.definition.specs.Slices.{at_entry};
 ghost use Rattle.definition.specs.Records as R;
@@ -13,7 +15,7 @@ use token_records::{PLACES, Words, between, has_text, valid_alone, words_at};
 // ---- tokens
 
 // The place of the token before, and the end of the last text before.
-#[derive(Drop)]
+#[derive(Clone, Copy)]
 struct Previous {
     line: u32,
     column: u32,

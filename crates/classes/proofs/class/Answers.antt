@@ -1,0 +1,46 @@
+use mathlib.Core.Path.{◌≡◌, sym, ◌∙◌}
+use Rattle.definition.specs.Tokenizer as Z
+use borrow.Author.Tests.{eq-eqb, ne_eqb}
+use Rattle.classes.proofs.Choices.{yes, no, is, not, some_kind, no_kind, alone, class_is, no_symbol, letter_begins, white_begins}
+use borrow.Author.Rules.{rules}
+use Rattle.classes.proofs.class.Goals as goal
+
+past-symbols : (c : tie.Else6) → {r : Z.Class}
+    → r ≡ alone c.before.before.before.before.before.before.before.before.before.before.before.args.c
+    → r
+    ≡ Z.class c.before.before.before.before.before.before.before.before.before.before.before.args.c
+    c.before.before.before.before.before.before.before.before.before.before.before.args.d
+past-symbols c e = search no_symbol
+
+pub returns-then-is_letter : goal.returns-then-is_letter
+returns-then-is_letter c = letter_begins _ (sym c.is_letter.ensures ∙ c.if-is_letter.true) _
+
+pub returns-then-is_white : goal.returns-then-is_white
+returns-then-is_white c = white_begins _ _ (sym c.is_white.ensures ∙ c.if-is_white.true)
+
+pub returns-then-is_foreign : goal.returns-then-is_foreign
+returns-then-is_foreign c = rw class_is (search yes)
+
+pub returns-then-c-d : goal.returns-then-c-d
+returns-then-c-d c = rw class_is (search (no, is))
+
+pub returns-then-pair-gt0 : goal.returns-then-pair-gt0
+returns-then-pair-gt0 c = rw class_is (search (no, is, not, some_kind))
+
+pub returns-then-symbol-gt0 : goal.returns-then-symbol-gt0
+returns-then-symbol-gt0 c = rw class_is (search (no, is, not, some_kind, no_kind) depth 7)
+
+pub returns-then-c-eq34 : goal.returns-then-c-eq34
+returns-then-c-eq34 c = past-symbols c.before (search (is, eq-eqb))
+
+pub returns-then-c-eq45 : goal.returns-then-c-eq45
+returns-then-c-eq45 c = past-symbols c.before.before (search (is, not, eq-eqb, ne_eqb))
+
+pub returns-then-c-eq48 : goal.returns-then-c-eq48
+returns-then-c-eq48 c = past-symbols c.before.before.before (search (is, not, eq-eqb, ne_eqb))
+
+pub returns-then-is_digit : goal.returns-then-is_digit
+returns-then-is_digit c = past-symbols c.before.before.before.before.before (search (yes, not, ne_eqb))
+
+pub returns : goal.returns
+returns c = past-symbols c.before.before.before.before.before (search (no, not, ne_eqb))

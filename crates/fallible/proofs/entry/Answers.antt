@@ -1,0 +1,7 @@
+use Rattle.fallible.proofs.Entries.{entry_is}
+use borrow.Author.Rules.{rules}
+use Rattle.fallible.proofs.entry.Goals as goal
+
+pub returns : goal.returns
+returns c =
+    entry_is _ _ _ _ c.requires.0 c.requires.1.0 c.requires.1.1.0 c.requires.1.1.1

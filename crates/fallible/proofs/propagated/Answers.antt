@@ -1,0 +1,10 @@
+use mathlib.Core.Path.{ap}
+use borrow.Author.Rules.{rules}
+use Rattle.fallible.proofs.propagated.Goals as goal
+
+pub returns : goal.returns
+returns c =
+    record {
+      is = ap (λ k. record { reported = k; full = c.args.t.full }) c.shift.ensures.0;
+      reported = c.shift.ensures.1;
+    }

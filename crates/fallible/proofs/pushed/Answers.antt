@@ -1,0 +1,7 @@
+use mathlib.Core.Path.{refl}
+use borrow.Author.Rules.{rules}
+use Rattle.fallible.proofs.pushed.Goals as goal
+
+pub returns : goal.returns
+returns c =
+    record { is = refl; reported = c.push.ensures; full = c.push-2.ensures }

@@ -1,0 +1,6 @@
+use Rattle.slices.proofs.Writing.{wrote_one}
+use borrow.Author.Rules.{rules}
+use Rattle.slices.proofs.put8.Goals as goal
+
+pub returns : goal.returns
+returns c = wrote_one c.requires
