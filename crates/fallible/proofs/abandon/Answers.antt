@@ -4,7 +4,7 @@ use Rattle.fallible.proofs.abandon.Goals as goal
 
 pub returns-in_default : goal.returns-in_default
 returns-in_default c =
-    same c.requires c.in_default.MATCHkeys2
+    same c.requires c.in_default.not-Fatal
 
 pub returns : goal.returns
 returns c =
