@@ -49,7 +49,7 @@ none_made h n s l z =
     }
 
 -- `abandon`: an answer that is not fatal stays the same
-pub same : {r : List ℕ} {a : Answer} {i j k : ℕ} → Cuts r a i j k → OneOf (0 ∷ 2 ∷ []) (tag_of the_type a.status) → Abandoned r a i j k r a
+pub same : {r : List ℕ} {a : Answer} {i j k : ℕ} → Cuts r a i j k → (a.status ≡ Fatal → ⊥) → Abandoned r a i j k r a
 same {r} {a} {i} {j} {k} c h =
     record {
       at = refl;
@@ -61,9 +61,9 @@ same {r} {a} {i} {j} {k} c h =
       is = go a.status h;
     }
   where
-    go : (x : Status) → OneOf (0 ∷ 2 ∷ []) (tag_of the_type x) → AbandonedOf x r a i j k r a
+    go : (x : Status) → (x ≡ Fatal → ⊥) → AbandonedOf x r a i j k r a
     go Done h = (refl, refl)
-    go Fatal h = absurd (⊎_elim (λ z. omega arith) (λ z. omega arith) h)
+    go Fatal h = absurd (h refl)
     go (Refused m) h = (refl, refl)
 
 -- `abandon`: a fatal answer is cut

@@ -1,0 +1,7 @@
+use Rattle.error_fields.proofs.Bytes.{fielded_one}
+use borrow.Author.Rules.{rules}
+use Rattle.error_fields.proofs.error_field.Goals as goal
+
+pub returns : goal.returns
+returns c =
+    fielded_one _ c.write_bare.ensures

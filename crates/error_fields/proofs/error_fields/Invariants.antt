@@ -1,0 +1,13 @@
+use mathlib.Core.Path.{refl}
+use Prim.Native.Nat.{◌-◌}
+use Rattle.fallible.specs.Lists.{errs}
+use Rattle.error_fields.proofs.Fielding.{Fielding, fields_none, fields_more, fields_done, errs_next}
+use borrow.Author.Rules.{rules}
+use native.Mathlib.Omega.{arith}
+use Rattle.error_fields.proofs.error_fields.Given as goal
+
+abbrev pub invariant-loop-i : goal.invariant-loop-i
+invariant-loop-i l = Fielding (λ n. errs l.list n) l.initial.file l.pos l.tag l.count l.file l.i l.p
+
+abbrev pub decreases-loop-i : goal.decreases-loop-i
+decreases-loop-i l = l.count - l.i
