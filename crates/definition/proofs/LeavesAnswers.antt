@@ -25,16 +25,16 @@ use Rattle.definition.proofs.Leaves.{Leaves}
 abbrev pub Known : List Tok → Type 0
 Known ts = All Good ts × (length ts ≤ 2048)
 
-pub known-tail : (ts : List Tok) → Known ts → Known (tail ts)
-known-tail [] h = h
-known-tail (t ∷ ts) h = (h.0.1, omega arith)
+pub known_tail : (ts : List Tok) → Known ts → Known (tail ts)
+known_tail [] h = h
+known_tail (t ∷ ts) h = (h.0.1, omega arith)
 
-drop-good : (xs ys : List Tok) → All Good (xs ++ ys) → All Good ys
-drop-good [] ys h = h
-drop-good (x ∷ xs) ys h = drop-good xs ys h.1
+drop_good : (xs ys : List Tok) → All Good (xs ++ ys) → All Good ys
+drop_good [] ys h = h
+drop_good (x ∷ xs) ys h = drop_good xs ys h.1
 
-pub known-later : (s s' : St) → Later s s' → Known s.tokens → Known s'.tokens
-known-later s s' l h = (drop-good (toks l.eaten) s'.tokens (rw l.tokens at h.0), omega (arith, later_left l))
+pub known_later : (s s' : St) → Later s s' → Known s.tokens → Known s'.tokens
+known_later s s' l h = (drop_good (toks l.eaten) s'.tokens (rw l.tokens at h.0), omega (arith, later_left l))
 
 -- a token that is not the end is good
 pub good : (ts : List Tok) → Known ts → next_token ts is K.End ≡ false → Good (next_token ts)
@@ -80,12 +80,12 @@ kind_of Expression = F.expression
 kind_of Unary = F.expression
 kind_of Type' = F.type
 
-abbrev pub kind-in : Listed → ℕ
-kind-in Parameters = F.named_type
-kind-in Arguments = F.expression
-kind-in StructFields = F.named_type
-kind-in ArrayValues = F.expression
-kind-in StructValues = F.compound_field
+abbrev pub kind_in : Listed → ℕ
+kind_in Parameters = F.named_type
+kind_in Arguments = F.expression
+kind_in StructFields = F.named_type
+kind_in ArrayValues = F.expression
+kind_in StructValues = F.compound_field
 
 -- the invariants for `wp`
 abbrev pub G : Goal → St → Ans Node → St → Type 0
@@ -94,7 +94,7 @@ G g s a s' = If (Whole (kind_of g) s) a s'
 abbrev pub L : (l : Loop) → St → Left l → St → Type 0
 L (Module i) s a s' = Listing F.item i s a s'
 L (Body i) s a s' = Listing F.statement i s a s'
-L (ListOf k i) s a s' = Listing (kind-in k) i s a s'
+L (ListOf k i) s a s' = Listing (kind_in k) i s a s'
 L (Operators l e) s a s' = If (Onward e) a s'
 L (Casts e) s a s' = If (Onward e) a s'
 L (Suffixes e) s a s' = If (Onward e) a s'

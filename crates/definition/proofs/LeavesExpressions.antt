@@ -25,7 +25,7 @@ use Rattle.definition.proofs.Ind.{wp_mono, follow}
 use Rattle.definition.proofs.Grows.{there, tail_le}
 use Rattle.definition.proofs.Tokens.{Placed, Good}
 use Rattle.definition.proofs.Leaves.{Leaves, none_left, also, made, leaf, one_more, nothing, with_text, with_byte, with_base, with_count, with_eight, bare, at}
-use Rattle.definition.proofs.LeavesAnswers.{Known, known-tail, good_of, Item, Whole, Onward, Listing, If, kind-in, G, L, R, M, awp, reads, expects, identifier, calls, uses}
+use Rattle.definition.proofs.LeavesAnswers.{Known, known_tail, good_of, Item, Whole, Onward, Listing, If, kind_in, G, L, R, M, awp, reads, expects, identifier, calls, uses}
 
 -- ---- expressions
 
@@ -98,7 +98,7 @@ suffixes_leaves e s d = (
   λ i _ _. let h = good_of K.Dot tt s.tokens d i in (
     λ _. tt,
     λ _. (
-      λ j. let h₂ = good_of K.Identifier tt (tail s.tokens) (known-tail s.tokens d) j in (
+      λ j. let h₂ = good_of K.Identifier tt (tail s.tokens) (known_tail s.tokens d) j in (
         λ x u l p. record {
           leaves = λ f. p.leaves (made _ refl refl (at h.placed (with_text h₂.formed.utf8)) f);
           place = λ _. p.place h.placed;
@@ -166,7 +166,7 @@ pub record Opened (k : ℕ) (s : St) (a : Items) (s' : St) : Type 0 where
   pub leaves : Leaves a.recs (replicate a.count k)
   pub count : a.count + length s'.tokens ≤ length (tail s.tokens)
 
-pub list_leaves : (k : Listed) (s : St) → awp (P.parse_list k) (Opened (kind-in k) s) s
+pub list_leaves : (k : Listed) (s : St) → awp (P.parse_list k) (Opened (kind_in k) s) s
 unfolding P.parse_list ◌>>=◌
 list_leaves k s = λ d. (
   λ i a t l p. record { leaves = p.leaves none_left; count = omega (arith, p.count) },
@@ -215,14 +215,14 @@ struct_field_leaves s =
       less = omega (arith, p.less);
     })))
 
-item_leaves : (k : Listed) (s : St) → awp (P.item k) (If (Item (kind-in k) s)) s
+item_leaves : (k : Listed) (s : St) → awp (P.item k) (If (Item (kind_in k) s)) s
 item_leaves Parameters s = named_type_leaves s
 item_leaves Arguments s = (λ x t l p. record { leaves = p.leaves; less = p.less }, λ es t l p. tt)
 item_leaves StructFields s = named_type_leaves s
 item_leaves ArrayValues s = (λ x t l p. record { leaves = p.leaves; less = p.less }, λ es t l p. tt)
 item_leaves StructValues s = struct_field_leaves s
 
-after_item_leaves : (k : Listed) (i : Items) (s : St) → awp (P.after_item k i) (Listing (kind-in k) i s) s
+after_item_leaves : (k : Listed) (i : Items) (s : St) → awp (P.after_item k i) (Listing (kind_in k) i s) s
 unfolding P.after_item
 after_item_leaves k i s = (
   λ e d a t l p. record { leaves = p.leaves; count = omega (arith, p.count, tail_le s.tokens) },
@@ -235,27 +235,27 @@ after_item_leaves k i s = (
   ),
 )
 
-pub list_turn_leaves : (k : Listed) (i : Items) (s : St) → awp (P.list_turn k i) (Listing (kind-in k) i s) s
+pub list_turn_leaves : (k : Listed) (i : Items) (s : St) → awp (P.list_turn k i) (Listing (kind_in k) i s) s
 unfolding P.list_turn
 list_turn_leaves k i s = (
   λ e m. record { leaves = λ f. f; count = omega arith },
   λ _. (
     λ c d. record { leaves = λ f. f; count = omega (arith, tail_le s.tokens) },
-    λ c. follow G L R M _ _ (If (Item (kind-in k) s)) _ _ (item_leaves k s) go,
+    λ c. follow G L R M _ _ (If (Item (kind_in k) s)) _ _ (item_leaves k s) go,
   ),
 )
   where
-    go : (a : Ans Node) (t : St) → Later s t → If (Item (kind-in k) s) a t
-        → awp (P.after_item k (P.integrate i a)) (Listing (kind-in k) i s) t
+    go : (a : Ans Node) (t : St) → Later s t → If (Item (kind_in k) s) a t
+        → awp (P.after_item k (P.integrate i a)) (Listing (kind_in k) i s) t
     go (ok x) t l p =
-        wp_mono G L R M (Listing (kind-in k) (P.integrate i (ok x)) t) (Listing (kind-in k) i s)
+        wp_mono G L R M (Listing (kind_in k) (P.integrate i (ok x)) t) (Listing (kind_in k) i s)
         (P.after_item k (P.integrate i (ok x))) t
         (λ a u q. record {
-          leaves = λ f. q.leaves (one_more i.count (kind-in k) f p.leaves);
+          leaves = λ f. q.leaves (one_more i.count (kind_in k) f p.leaves);
           count = omega (arith, q.count, p.less);
         }) (after_item_leaves k (P.integrate i (ok x)) t)
     go (fatal es) t l p =
-        wp_mono G L R M (Listing (kind-in k) (P.integrate i (fatal es)) t) (Listing (kind-in k) i s)
+        wp_mono G L R M (Listing (kind_in k) (P.integrate i (fatal es)) t) (Listing (kind_in k) i s)
         (P.after_item k (P.integrate i (fatal es))) t
         (λ a u q. record {
           leaves = q.leaves;

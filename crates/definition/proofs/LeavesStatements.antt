@@ -22,7 +22,7 @@ use Rattle.definition.proofs.Grows.{there, tail_le}
 use Rattle.definition.proofs.Tokens.{Placed, Good}
 use Rattle.definition.proofs.Throughout.{module-known}
 use Rattle.definition.proofs.Leaves.{Leaves, Rooted, none_left, also, made, leaf, one_more, all_three, nothing, with_text, with_byte, with_count, bare, at}
-use Rattle.definition.proofs.LeavesAnswers.{Known, known-tail, known-later, good, good_of, Item, Whole, Listing, If, G, L, R, M, awp, reads, expects, identifier, calls, uses}
+use Rattle.definition.proofs.LeavesAnswers.{Known, known_tail, known_later, good, good_of, Item, Whole, Listing, If, G, L, R, M, awp, reads, expects, identifier, calls, uses}
 use Rattle.definition.proofs.LeavesExpressions.{suffixes_leaves, Opened, list_leaves, Typed, typed_identifier_leaves, list_turn_leaves, unary_leaves, casts_leaves, operators_leaves, expression_leaves, type_leaves}
 
 -- ---- declarations
@@ -56,7 +56,7 @@ compound_leaves s d = expects plain K.Hash tt _ _ _ (λ h b. (
     t = advance (λ _. plain) s
 
     e : Known t.tokens
-    e = known-tail s.tokens d
+    e = known_tail s.tokens d
 
 -- a declaration: its type, and its initial value
 record Declared (s : St) (x : Fallible P.Typed) (s' : St) : Type 0 where
@@ -74,7 +74,7 @@ var_like_leaves s d = uses (Typed s) P.parse_typed_identifier _ _ _ (typed_ident
   }),
   λ _. (
     λ i _. uses (Item F.compound (advance (λ _. plain) t)) P.parse_compound _ _ _
-        (compound_leaves (advance (λ _. plain) t) (known-tail t.tokens (known-later s t l d)))
+        (compound_leaves (advance (λ _. plain) t) (known_tail t.tokens (known_later s t l d)))
         (λ c u l₂ q. record {
           leaves = also p.leaves (made _ refl refl (bare nothing) q.leaves);
           name = p.name;
@@ -181,7 +181,7 @@ after_expression_leaves p h e s t f b d = (
   })),
   λ _. (
     λ i _. uses (Item F.compound (advance (λ _. plain) t)) P.parse_compound _ _ _
-        (compound_leaves (advance (λ _. plain) t) (known-tail t.tokens d))
+        (compound_leaves (advance (λ _. plain) t) (known_tail t.tokens d))
         (λ v u l q. expects plain K.Semicolon tt _ _ _ (λ _ b₂. record {
           leaves = made _ refl refl (at h nothing) (also f q.leaves);
           place = h;
@@ -201,7 +201,7 @@ expression_statement_leaves : (p : Place) → Placed 1 p → (s : St) → Known 
 unfolding P.expression_statement find rows ◌>>=◌
 expression_statement_leaves p h s d = (
   λ e t l q. (
-    λ _. after_expression_leaves p h e.item s t q.leaves q.less (known-later s t l d),
+    λ _. after_expression_leaves p h e.item s t q.leaves q.less (known_later s t l d),
     λ _. record {
       leaves = made _ refl refl (at h nothing) q.leaves;
       place = h;
@@ -221,7 +221,7 @@ statement_leaves s d = (
         (declaration_leaves Tag.VariableDeclaration F.statement
         (λ rs p x h u f. made _ refl refl (at h (with_text u)) f)
         (next_token s.tokens).place (good_of K.KwVar tt s.tokens d i).placed (advance (λ _. plain) s)
-        (known-tail s.tokens d)),
+        (known_tail s.tokens d)),
     λ _. (
       λ i. let h = good_of K.LBrace tt s.tokens d i in
           let b = there K.LBrace tt s.tokens i in
@@ -328,7 +328,7 @@ function_definition_leaves : (s : St) → Known s.tokens → Placed 1 (next_toke
 unfolding P.parse_function_definition
 function_definition_leaves s d h = (
   λ i _. more F.item s (P.function (next_token s.tokens).place 1)
-      (function_leaves (next_token s.tokens).place h 1 (advance (λ _. plain) s) (known-tail s.tokens d)),
+      (function_leaves (next_token s.tokens).place h 1 (advance (λ _. plain) s) (known_tail s.tokens d)),
   λ _. function_leaves (next_token s.tokens).place h 0 s d,
 )
 
@@ -377,7 +377,7 @@ top_level_item_leaves s d z = (
         λ _. expects plain K.KwVar tt _ _ _ (λ t b. more F.item s
             (P.declaration Tag.TopLevelVariable (next_token s.tokens).place)
             (declaration_leaves Tag.TopLevelVariable F.item (λ rs p x h u f. made _ refl refl (at h (with_text u)) f)
-            (next_token s.tokens).place h.placed (advance (λ _. plain) s) (known-tail s.tokens d))),
+            (next_token s.tokens).place h.placed (advance (λ _. plain) s) (known_tail s.tokens d))),
         λ _. (
           λ i _. record {
             leaves = leaf _ refl refl refl (at h.placed (with_text h.formed.utf8));
@@ -437,7 +437,7 @@ unfolding find rows
 module_leaves ts d i s e =
     let q : Listing F.item (P.no_items []) (begin ts) i s =
     subst (After (λ i s'. Listing F.item (P.no_items []) (begin ts) i s')) e
-    (module-known G L Known known-tail known-later rules turns ts d) in
+    (module-known G L Known known_tail known_later rules turns ts d) in
     let n : i.count ≤ 2048 = omega (arith, q.count, d.1) in
     let h = bare (with_count n nothing) in
     (record { row = _; found = refl; root = refl; holds = h; leaves = q.leaves none_left }, n)

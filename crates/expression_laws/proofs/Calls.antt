@@ -32,7 +32,7 @@ use Rattle.steps.specs.Tokens.{rest, budget, Seen}
 use Rattle.steps.specs.Shows.{st_of, Asked, Moved, View, Good, Bad, ShowsOf, Shows, Reads, Goes, GoesOn, node, items, token, Expects, Follows, Expected, NodeWritten}
 use Rattle.steps.proofs.Tokens.{present_before, yes, no, fore, adv}
 use Rattle.steps.proofs.Moves.{asks_moved, fore_moved, moved_trans}
-use Rattle.steps.proofs.Answers.{Stopped, say, good_of, stops, follows, wrapped, writes-node, tree-join, errs-join}
+use Rattle.steps.proofs.Answers.{Stopped, say, good_of, stops, follows, wrapped, writes_node, tree_join, errs_join}
 use Rattle.steps.proofs.Constructs.{down}
 use Rattle.steps.proofs.Following.{expecting, expects_after}
 use Rattle.leaves.specs.Leaves.{Prefix, ClosingOf, Closing, ClosedOf, Closed}
@@ -68,7 +68,7 @@ module _ {A : Type 0} {K : View A} {w x : List ℕ} {n d : ℕ} {o r f o1 r1 f1 
         on = omega (arith, F.at, u.on, u.present, B.moved.at);
         is =
             λ rd. say (step rd ∙ go_bind d m (or_return (wrapped K [] [] v.tag p ns text)) _)
-            (writes-node d p ns text F made (B.is (rd' rd)));
+            (writes_node d p ns text F made (B.is (rd' rd)));
       }
 
 -- ---- prefixes
@@ -120,8 +120,8 @@ module _ {A : Type 0} {K : View A} {w x : List ℕ} {n : ℕ} {o r f : List ℕ}
             errors = g.errors;
             read = g.read;
             is = g.is;
-            tree = tree-join T rs (K.recs g.item) t g.tree;
-            reported = errs-join E es g.errors e g.reported;
+            tree = tree_join T rs (K.recs g.item) t g.tree;
+            reported = errs_join E es g.errors e g.reported;
             holds = g.holds;
           }
       one Fatal z g = absurd (never z)
@@ -162,7 +162,7 @@ module _ {w x : List ℕ} {n d i j : ℕ} {o r f : List ℕ} {a : Answer} {t : T
           ∙ rw (run, yes u h) (dropping d (P.parse_list Arguments) _
           (wrapped items g.item.recs g.errors 0x24 (λ _. g.item.place) (λ i. two i.count ∷ []) [])
           (λ i. rw append-nil) (st_of w x n f g.read a.state)))
-          (writes-node d (λ _. g.item.place) (λ i. two i.count ∷ []) [] F (λ i e. rw (e, g.holds))
+          (writes_node d (λ _. g.item.place) (λ i. two i.count ∷ []) [] F (λ i e. rw (e, g.holds))
           (rebased B.never g.item.recs g.errors g.tree g.reported
           (drops d B.never (errs_length r a.state.reported (omega arith)) B.moved.reported (B.is g.read))));
     }
@@ -297,7 +297,7 @@ module _ {w x : List ℕ} {n d : ℕ} {o r f : List ℕ} {s : State} {t : Token}
               (st_of w x n f1 g.read a.state)
               ∙ expect_seam d plain 42 (sized (next_token (rest w x n s.at)))
               (go d P.parse_type (st_of w x n f1 g.read a.state)))
-              (writes-node d (λ _. (next_token (rest w x n s.at)).place) (λ _. []) [] F (λ i _. rw u.place)
+              (writes_node d (λ _. (next_token (rest w x n s.at)).place) (λ _. []) [] F (λ i _. rw u.place)
               (expects_after (sizeof_asks z B lr lf) C plain d (length-take-le s.pos o (omega arith))
               (errs_length r s.reported (omega arith)) v));
         }
@@ -325,7 +325,7 @@ module _ {w x : List ℕ} {n : ℕ} {o r f r1 f1 : List ℕ} {a y : Answer} (d :
 
       more : (es : List Err) → errs r1 v.b.state.reported ≡ errs r a.state.reported ++ es
           → errs r1 v.b.state.reported ≡ E ++ (g.errors ++ es)
-      more es e = errs-join E g.errors es g.reported e
+      more es e = errs_join E g.errors es g.reported e
 
       tree : take v.b.state.pos o ≡ T ++ recs_bytes g.item.recs
       tree = ap (λ (l : ℕ). take l o) v.expects.pos ∙ g.tree
@@ -375,7 +375,7 @@ module _ {w x : List ℕ} {n : ℕ} {o r f r1 f1 : List ℕ} {a y : Answer} (d :
 
       more : (es : List Err) → errs r1 v.b.state.reported ≡ errs r a.state.reported ++ es
           → errs r1 v.b.state.reported ≡ E ++ (g.errors ++ es)
-      more es e = errs-join E g.errors es g.reported e
+      more es e = errs_join E g.errors es g.reported e
 
       tree : take v.b.state.pos o ≡ T
       tree = ap (λ (l : ℕ). take l o) v.expects.pos ∙ g.tree

@@ -24,7 +24,7 @@ use Rattle.steps.specs.Tokens.{budget, Seen}
 use Rattle.steps.specs.Shows.{st_of, Asked, Moved, View, Good, Shows, Reads, Goes, GoesOn, node, NodeWritten}
 use Rattle.steps.proofs.Tokens.{fore}
 use Rattle.steps.proofs.Moves.{asked_moved, moved_trans}
-use Rattle.steps.proofs.Answers.{Stopped, say, good_of, is-good, stops, follows, abandons, wrapped, writes-node}
+use Rattle.steps.proofs.Answers.{Stopped, say, good_of, is_good, stops, follows, abandons, wrapped, writes_node}
 use Rattle.steps.proofs.Constructs.{seam, then_goes}
 
 -- a function, and the one that continues its answer
@@ -72,7 +72,7 @@ module _ {w x : List ℕ} {n i j : ℕ} {o r f : List ℕ} {a : Answer} (q : Goe
     moved = stays_on;
     is =
         λ T E p li lj h. let g = good_of z h in
-        say (follows d k g.is ∙ step _ _) (is-good z (record {
+        say (follows d k g.is ∙ step _ _) (is_good z (record {
           item = g.item;
           errors = g.errors;
           read = g.read;
@@ -122,7 +122,7 @@ module _ {A : Type 0} {K : View A} {w x : List ℕ} {n d i j : ℕ} {o r f o1 r1
       (go d (m >>? both (record { item = g.item; errors = g.errors })) (st_of w x n f rd (fore a.state t)))
   joined {T} {E} li lj g rd =
       say (go_bind d m (or_return (both (record { item = g.item; errors = g.errors }))) _)
-      (writes-node d (λ _. p) (λ _. ns) [] F (λ _ _. made)
+      (writes_node d (λ _. p) (λ _. ns) [] F (λ _ _. made)
       (abandons {T = T} {E = E} g.tree g.reported li lj (errs_length r a.state.reported (omega arith)) C
       (omega (arith, q.pos, B.moved.pos)) (omega (arith, q.reported, B.moved.reported)) (B.is rd)))
 

@@ -27,7 +27,7 @@ use Rattle.steps.specs.Tokens.{rest, Seen}
 use Rattle.steps.specs.Shows.{st_of, Asks, Asked, ShowsOf, Shows, node, token, items, Reads, Expects}
 use Rattle.steps.proofs.Tokens.{yes, no, fore, adv}
 use Rattle.steps.proofs.Moves.{asks_moved, asked_moved}
-use Rattle.steps.proofs.Answers.{Stopped, say, errs-join}
+use Rattle.steps.proofs.Answers.{Stopped, say, errs_join}
 use Rattle.leaves.specs.declared.Listed.{Listed}
 use Rattle.leaves.specs.declared.Listed.TheVariants as I
 use Rattle.leaves.specs.Leaves.{listed_of, Counted, with_errors, Next, CommasOf, Commas}
@@ -196,7 +196,7 @@ module _ {w x : List ℕ} {n count : ℕ} (k : A.Listed) {o r f : List ℕ} {s :
               say (j.is ∙ ap (answered d) i.is ∙ sym (go_bind d (listed_on k (with_errors j.list i.errors)) as_answer _))
               (h.is i.read T E (with_errors j.list i.errors)
               (ap (λ (p : ℕ). take p o1) g.pos ∙ j.tree)
-              (errs-join E j.list.errors i.errors j.reported i.reported) (j.counts ∙ sym cm.is));
+              (errs_join E j.list.errors i.errors j.reported i.reported) (j.counts ∙ sym cm.is));
         }
 
 -- ---- what their calls require

@@ -25,7 +25,7 @@ use Rattle.steps.specs.Tokens.{Seen}
 use Rattle.steps.specs.Shows.{st_of, Asked, View, ShowsOf, Shows, Reads, node, items}
 use Rattle.steps.proofs.Tokens.{fore}
 use Rattle.steps.proofs.Moves.{fore_moved, making_moved, asked_moved}
-use Rattle.steps.proofs.Answers.{say, tree-join, errs-join}
+use Rattle.steps.proofs.Answers.{say, tree_join, errs_join}
 use Rattle.leaves.specs.Leaves.{count_of, Counted}
 use Rattle.leaves.proofs.Errors.{made_so, makes, makes_none}
 use Rattle.leaves.proofs.Atoms.{Ended, Alive}
@@ -105,7 +105,7 @@ module _ {w x : List ℕ} {n d count : ℕ} (on : Items → Act Items) {o r f : 
             read = rd;
             is = made ∙ ap (answered d) (makes q.0.asks g d (done (P.with_error l (unpack e))) rd x h);
             tree = et;
-            reported = errs-join E l.errors (unpack e ∷ []) ee (g.reported h);
+            reported = errs_join E l.errors (unpack e ∷ []) ee (g.reported h);
             holds = ec;
           };
         })
@@ -157,8 +157,8 @@ module _ {w x : List ℕ} {n d : ℕ} {o r f o1 r1 f1 : List ℕ} {s : State} {b
             list = P.integrate l (ok (record { item = i.item; errors = i.errors }));
             read = i.read;
             is = item_first rd l ∙ rw i.is;
-            tree = tree-join T l.recs i.item.recs et i.tree;
-            reported = errs-join E l.errors i.errors ee i.reported;
+            tree = tree_join T l.recs i.item.recs et i.tree;
+            reported = errs_join E l.errors i.errors ee i.reported;
             counts = rw z (omega (arith, ec));
           }
       one Fatal z h i =
@@ -167,7 +167,7 @@ module _ {w x : List ℕ} {n d : ℕ} {o r f o1 r1 f1 : List ℕ} {s : State} {b
             read = i.read;
             is = item_first rd l ∙ rw i.is;
             tree = i.tree ∙ et;
-            reported = errs-join E l.errors i.errors ee i.reported;
+            reported = errs_join E l.errors i.errors ee i.reported;
             counts = rw z ec;
           }
       one (Refused m) z h i = absurd (⊎_elim (λ z. omega arith) (λ z. omega arith) h)

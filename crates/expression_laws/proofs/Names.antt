@@ -33,7 +33,7 @@ use Rattle.steps.specs.Shows.{st_of, Asks, Asked, Moved, View, Good, ShowsOf, Sh
 use Rattle.steps.proofs.Tokens.{yes, no, fore, adv}
 use Rattle.steps.proofs.Moves.{spent, refused_moved, asks_fore, asks_moved, fore_moved, making_moved, moved_trans, asked_moved, abandoned_moved}
 use Rattle.steps.proofs.OneToken.{making_pos}
-use Rattle.steps.proofs.Answers.{Stopped, say, good_of, not_done, done-le, stops, follows, abandons, wrote, wrapped, raise-same}
+use Rattle.steps.proofs.Answers.{Stopped, say, good_of, not_done, done_le, stops, follows, abandons, wrote, wrapped, raise_same}
 use Rattle.leaves.proofs.Errors.{made_so, makes, makes_none, raise_reads}
 use Rattle.expression_laws.specs.Post.{name_of, NameRoom, BareNamedOf, BareNamed, ReadsTyped, TypedOn}
 use Rattle.expression_laws.proofs.Types.{moved_onward, past, paid, record_reads, shown_from}
@@ -194,7 +194,7 @@ module _ {w x : List ℕ} {n d j : ℕ} {o r f r1 f1 r2 : List ℕ} {s : State} 
         let da : done_of a.status ≡ 1 = rw z in
         record {
           moved = m;
-          spare = omega (arith, e.pays, e.pos, u.moved.room, k.high, done-le y.status);
+          spare = omega (arith, e.pays, e.pos, u.moved.room, k.high, done_le y.status);
           is =
               λ rd name E es le h. say
               (go_bind d (P.expect 49) (or_return (colon_on name es)) _ ∙ follows d (colon_on name es) (g rd).is
@@ -244,7 +244,7 @@ module _ {w x : List ℕ} {n : ℕ} {o r f : List ℕ} {s : State} {t : Token} (
   identifier_name {d} {a = a} z u = record {
     moved = moved_trans (fore_moved q.asks v) u.moved;
     on = omega (arith, v.present, v.on, u.moved.at);
-    spare = omega (arith, text_length q.parts v, v.pays, u.spare, done-le a.status);
+    spare = omega (arith, text_length q.parts v, v.pays, u.spare, done_le a.status);
     is =
         λ rd. renamed (rw (eq-eqb _ _ (v.kind x ∙ z))) (say (rw (run, yes v z)
         (ap (λ (S : St). go d (P.typed (next_token (rest w x n s.at)).text []) S) (adv s v (λ _. plain) f rd _)))
@@ -259,7 +259,7 @@ module _ {w x : List ℕ} {n : ℕ} {o r f : List ℕ} {s : State} {t : Token} (
     identifier_end {d} {a = a} z i g =
         let u : Reads (typed (name_of (next_token (rest w x n s.at)))) w x n d P.parse_typed_identifier o r f s o _ _ a =
         raise_reads q.asks v plain g d
-        (λ rd. rw (run, no v m1, yes v z) (raise-same d (sym i) (adv s v (λ _. plain) f rd _))) in
+        (λ rd. rw (run, no v m1, yes v z) (raise_same d (sym i) (adv s v (λ _. plain) f rd _))) in
         record {
           moved = u.moved;
           on = u.on;
@@ -302,7 +302,7 @@ module _ {w x : List ℕ} {n : ℕ} {o r f : List ℕ} {s : State} {t : Token} (
           record {
             moved = m;
             on = omega (arith, v.present, v.on, k.moved.at);
-            spare = omega (arith, text_length q.parts v, v.pays, k.spare, done-le a.status);
+            spare = omega (arith, text_length q.parts v, v.pays, k.spare, done_le a.status);
             is =
                 λ rd. renamed {u' = ascii "<?>"} (rw (ne_eqb _ _ (λ y. m1 (sym (v.kind x) ∙ y))))
                 (say (unnamed d rd ∙ makes (asks_fore q.asks v) g d _ _ x h.0)

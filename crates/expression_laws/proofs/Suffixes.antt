@@ -28,7 +28,7 @@ use Rattle.steps.specs.Tokens.{rest, budget, Seen}
 use Rattle.steps.specs.Shows.{st_of, Asks, Moved, Shows, Reads, Goes, GoesOn, node, Follows, Expected, NodeWritten}
 use Rattle.steps.proofs.Tokens.{yes, no, fore, adv}
 use Rattle.steps.proofs.Moves.{asks_fore, fore_moved, refused_moved, making_moved, moved_trans, asks_moved}
-use Rattle.steps.proofs.Answers.{say, good_of, is-good, follows, abandons, wrapped, writes-node, errs-join}
+use Rattle.steps.proofs.Answers.{say, good_of, is_good, follows, abandons, wrapped, writes_node, errs_join}
 use Rattle.steps.proofs.Constructs.{seam}
 use Rattle.steps.proofs.Following.{expecting, expects_after}
 use Rattle.leaves.proofs.Errors.{made_so, makes, makes_none}
@@ -77,8 +77,8 @@ module _ {w x : List ℕ} {n d i j : ℕ} {o r f o2 o3 r3 f3 : List ℕ} {a y y'
     is = λ T E h li lj u.
         let g = good_of z u in
         say (follows d suffixes_on g.is ∙ step (record { item = g.item; errors = g.errors }) g.read)
-        (G.is T E _ li lj (writes-node {K = node} {rs = []} {es = []} {q = gives (ok (record { item = g.item; errors = g.errors })) (st_of w x n f (rd' g.read) on)} d (λ _. p) (λ _. []) text F (λ _ _. made)
-        (is-good {K = node} z (record {
+        (G.is T E _ li lj (writes_node {K = node} {rs = []} {es = []} {q = gives (ok (record { item = g.item; errors = g.errors })) (st_of w x n f (rd' g.read) on)} d (λ _. p) (λ _. []) text F (λ _ _. made)
+        (is_good {K = node} z (record {
           item = g.item;
           errors = g.errors;
           read = rd' g.read;
@@ -241,7 +241,7 @@ module _ {w x : List ℕ} {n d i j : ℕ} {o r f : List ℕ} {a : Answer} {t : T
                   is = makes q2 g d (P.good h2.item (h2.errors ++ (unpack e ∷ [])))
                       (past_two w x n a.state.at t.next h2.read) x l;
                   tree = h2.tree;
-                  reported = errs-join E h2.errors (unpack e ∷ []) h2.reported (g.reported l);
+                  reported = errs_join E h2.errors (unpack e ∷ []) h2.reported (g.reported l);
                   holds = h2.holds;
                 };
               })
@@ -317,7 +317,7 @@ module _ {w x : List ℕ} {n d i j : ℕ} {o r f : List ℕ} {a : Answer} {t : T
           (λ x. P.binary 0x25 [] pl e x) (λ x. refl)
           (after q1 (λ z S. go d (or_return (expecting plain 44) z) S)))
           (G.is T E _ li lj
-          (writes-node d (λ _. pl) (λ _. []) [] F (λ _ _. rw u.place)
+          (writes_node d (λ _. pl) (λ _. []) [] F (λ _ _. rw u.place)
           (expects_after (index_asks B C lr lf) X plain d li lj
           (abandons {T = T} {E = E} g.tree g.reported li lj (errs_length r a.state.reported (omega arith)) C
           (omega (arith, q.pos, B.moved.pos)) (omega (arith, q.reported, B.moved.reported))

@@ -33,7 +33,7 @@ use Rattle.steps.specs.Tokens.{rest, budget, present, Held, Seen}
 use Rattle.steps.specs.Shows.{st_of, Asked, Moved, View, Good, ShowsOf, Shows, node, items, Reads, Expects, NodeWritten, texted, untexted}
 use Rattle.steps.proofs.Tokens.{rest_cons, rest_nil, budget_cons, budget_nil, yes, no, fore, adv}
 use Rattle.steps.proofs.Moves.{fore_moved, asked_seen, asked_moved}
-use Rattle.steps.proofs.Answers.{Stopped, say, good_of, stops, follows, errs-take, wrapped, writes-node, raise-same}
+use Rattle.steps.proofs.Answers.{Stopped, say, good_of, stops, follows, errs_take, wrapped, writes_node, raise_same}
 use Rattle.steps.proofs.Constructs.{deep, down, seam}
 use Rattle.leaves.specs.declared.Size.{Size}
 use Rattle.leaves.specs.Leaves.{there, unfit, Valued}
@@ -143,7 +143,7 @@ module _ {A : Type 0} {K : View A} {w x : List ℕ} {n d : ℕ} {m : Act (Ans No
       record {
         moved = node_written_moved mv paid F;
         on = omega (arith, F.at);
-        is = λ rd. say (step rd) (writes-node d (λ _. p) ns text F e (h rd));
+        is = λ rd. say (step rd) (writes_node d (λ _. p) ns text F e (h rd));
       }
 
 -- ---- the answer of a list
@@ -179,7 +179,7 @@ drops {A} {K} {T} {E} {w} {x} {n} {j} {o} {r} {f} {a} {q} d nf le hj v = record 
           read = g.read;
           is = rw g.is;
           tree = g.tree;
-          reported = errs-take r j a.state.reported hj ∙ ap (λ (l : List Err). take j l) g.reported
+          reported = errs_take r j a.state.reported hj ∙ ap (λ (l : List Err). take j l) g.reported
               ∙ take_at E g.errors j le ∙ sym (append-nil E);
           holds = g.holds;
         }
@@ -277,7 +277,7 @@ module _ {w x : List ℕ} {n d : ℕ} {o r f : List ℕ} {s : State} (q : Asked 
             type-end z i g =
                 down Type' nz (raise_reads q.asks v plain g (d - 1)
                 (λ rd. rw (run, no v m1, no v m24, no v m43, no v m16, yes v z)
-                (raise-same (d - 1) (sym i) (adv s v (λ _. plain) f rd _))))
+                (raise_same (d - 1) (sym i) (adv s v (λ _. plain) f rd _))))
 
             pub type-other : (t.kind ≡ 0 → ⊥) → unpack e ≡ error_at 11 t.place 0 t.kind
                 → Raised (raised n (fore s t)) r f (fore s t) e r' f' y
@@ -286,7 +286,7 @@ module _ {w x : List ℕ} {n d : ℕ} {o r f : List ℕ} {s : State} (q : Asked 
             type-other z i g =
                 down Type' nz (raise_reads q.asks v plain g (d - 1)
                 (λ rd. rw (run, no v m1, no v m24, no v m43, no v m16, no v z)
-                (raise-same (d - 1) (rw (v.place, v.kind) (sym i)) (adv s v (λ _. plain) f rd _))))
+                (raise_same (d - 1) (rw (v.place, v.kind) (sym i)) (adv s v (λ _. plain) f rd _))))
 
 -- ---- `array`, after `[`; with the place of the type
 
@@ -302,7 +302,7 @@ module _ {w x : List ℕ} {n : ℕ} (place : ℕ) {o r f : List ℕ} {s : State}
   unfolding go run P.parse_array_type
   array_no_integer {d} m i g =
       raise_reads q.0.asks v size g d
-      (λ rd. rw (run, no v m) (raise-same d (sym i) (adv s v (λ _. size) f rd _)))
+      (λ rd. rw (run, no v m) (raise_same d (sym i) (adv s v (λ _. size) f rd _)))
 
   module _ {u : Size} (z : t.kind ≡ 2) (k : Valued (take t.len (drop t.start x)) t.base u) where
     -- the size, as the definition has it
@@ -315,7 +315,7 @@ module _ {w x : List ℕ} {n : ℕ} (place : ℕ) {o r f : List ℕ} {s : State}
     unfolding go run P.parse_array_type
     array_no_size {d} m i g =
         raise_reads q.0.asks v size g d
-        (λ rd. rw (run, yes v z, fit ∙ m) (raise-same d (sym i) (adv s v (λ _. size) f rd _)))
+        (λ rd. rw (run, yes v z, fit ∙ m) (raise_same d (sym i) (adv s v (λ _. size) f rd _)))
 
     module _ {r1 f1 : List ℕ} {a : Answer} (fits : not u.fits ≡ false)
         (e : Expects w n (λ role. P.expect_as role 44) r f (fore s t) r1 f1 a) where

@@ -32,7 +32,7 @@ use Rattle.steps.specs.Tokens.{rest, budget, present, Seen}
 use Rattle.steps.specs.Shows.{st_of, Asked, Moved, Good, Reads, node, token, Expects, Expected, Follows, NodeWritten}
 use Rattle.steps.proofs.Tokens.{present_within, yes, no, fore, adv}
 use Rattle.steps.proofs.Moves.{refused_moved, asks_moved, fore_moved, moved_trans}
-use Rattle.steps.proofs.Answers.{Stopped, say, good_of, stops, follows, wrapped, raise-same}
+use Rattle.steps.proofs.Answers.{Stopped, say, good_of, stops, follows, wrapped, raise_same}
 use Rattle.steps.proofs.Following.{expecting, expects_after}
 use Rattle.leaves.proofs.Errors.{raise_reads}
 use Rattle.expression_laws.proofs.Types.{moved_onward, shown_from, record_reads, past}
@@ -136,7 +136,7 @@ module _ (d k number : ℕ) (m : Tok → Act (Ans Node)) {w x : List ℕ} {n : �
   unfolding go run
   by_other m0 mk i g =
       raise_reads q.asks u plain g d
-      (λ rd. rw (run, no u m0, no u mk) (raise-same d (rw u.place (sym i)) (adv s u (λ _. plain) f rd _)))
+      (λ rd. rw (run, no u m0, no u mk) (raise_same d (rw u.place (sym i)) (adv s u (λ _. plain) f rd _)))
 
   by_there : 0 < k → t.kind ≡ k → (rd : List Consumed)
       → go d (by k number m) (st_of w x n f rd s)

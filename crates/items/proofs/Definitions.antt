@@ -30,7 +30,7 @@ use Rattle.steps.specs.declared.Token.{Token}
 use Rattle.steps.specs.Tokens.{rest, budget, Seen}
 use Rattle.steps.specs.Shows.{st_of, Asked, Moved, Good, Shows, Reads, done_of, node, token, items, Expects, Follows, Expected, NodeWritten}
 use Rattle.steps.proofs.Tokens.{yes, no, fore, adv}
-use Rattle.steps.proofs.Answers.{Stopped, say, good_of, is-good, stops, follows, wrapped, writes-node}
+use Rattle.steps.proofs.Answers.{Stopped, say, good_of, is_good, stops, follows, wrapped, writes_node}
 use Rattle.steps.proofs.Following.{expects_after}
 use Rattle.expression_laws.specs.Post.{as_answer}
 use Rattle.expression_laws.proofs.Names.{text_length}
@@ -90,7 +90,7 @@ module _ {w x : List ℕ} {n name i j : ℕ} {o r f : List ℕ} {a : Answer} (q 
           is = λ T E p li lj v.
               say (outside_seam d (unpack_place place) (next_token (rest w x n name)) p
               ∙ expect_seam d plain 50 (outside (unpack_place place) (next_token (rest w x n name))) p)
-              (writes-node d (λ _. unpack_place place) (λ i. byte 1 ∷ two i.count ∷ [])
+              (writes_node d (λ _. unpack_place place) (λ i. byte 1 ∷ two i.count ∷ [])
               (next_token (rest w x n name)).text F (λ k h. rw (h, expected_count X, u.text))
               (expects_after external_follows X plain d li lj v));
         }
@@ -212,7 +212,7 @@ module _ {w x : List ℕ} {n d name i j place : ℕ} {o r f : List ℕ} {a : Ans
           (gives (ok (reported (record { item = g.item; errors = g.errors })
           (record { item = s.item; errors = s.errors }))) (st_of w x n f1 s.read b.state))
       turned-body =
-          is-good h (record {
+          is_good h (record {
             item = s.item;
             errors = s.errors ++ g.errors;
             read = s.read;
@@ -234,9 +234,9 @@ module _ {w x : List ℕ} {n d name i j place : ℕ} {o r f : List ℕ} {a : Ans
           ∙ follows d (bodied p nm e) s.is
           ∙ records_seam d p nm e (record { item = s.item; errors = s.errors })
           (st_of w x n f1 s.read b.state))
-          (writes-node d (λ _. p) (λ _. byte 0 ∷ two g.item.count ∷ []) nm.text G
+          (writes_node d (λ _. p) (λ _. byte 0 ∷ two g.item.count ∷ []) nm.text G
           (λ k _. rw (g.holds, u.text))
-          (writes-node d (λ _. p) (λ k. two k.count ∷ []) [] F (λ k e. rw e) turned-body))
+          (writes_node d (λ _. p) (λ k. two k.count ∷ []) [] F (λ k e. rw e) turned-body))
 
     pub whole_reads : FunctionOn w x n d 0 (unpack_place place) name i j o r f a o3 r2 f1 y
     whole_reads = record {

@@ -22,7 +22,7 @@ use Rattle.steps.specs.Tokens.{rest, Seen}
 use Rattle.steps.specs.Shows.{st_of, Asked, Reads, node, NodeWritten, texted}
 use Rattle.steps.proofs.Tokens.{yes, no, fore, adv}
 use Rattle.steps.proofs.Moves.{stays}
-use Rattle.steps.proofs.Answers.{say, raise-same}
+use Rattle.steps.proofs.Answers.{say, raise_same}
 use Rattle.leaves.specs.Leaves.{there, Counted}
 use Rattle.leaves.proofs.Errors.{raise_reads}
 use Rattle.leaves.proofs.Atoms.{leaf_reads, Ended, Alive}
@@ -97,7 +97,7 @@ module _ {w x : List ℕ} {n d : ℕ} {o r f : List ℕ} {s : State} {t : Token}
           item-other m54 i g =
               raise_reads q.asks u plain g d
               (λ rd. rw (run, either u 4 19 mf, any u 15 20 21 ma, no u m18, no u m5, no u m54)
-              (raise-same d (rw (u.place, u.kind) (sym i)) (adv s u (λ _. plain) f rd _)))
+              (raise_same d (rw (u.place, u.kind) (sym i)) (adv s u (λ _. plain) f rd _)))
 
 -- ---- the loop of `module`
 

@@ -20,7 +20,7 @@ use Rattle.fallible.proofs.Exchanges.{exchange_errs}
 use Rattle.steps.specs.Tokens.{budget, present}
 use Rattle.steps.proofs.Tokens.{budget_nil, present_before}
 use Rattle.steps.specs.Shows.{done_of, ExpectedOf, Expected}
-use Rattle.steps.proofs.Answers.{errs-take}
+use Rattle.steps.proofs.Answers.{errs_take}
 use Rattle.expression_laws.specs.Post.{as_answer}
 
 -- an act that gives items, continued with the items and their errors
@@ -62,8 +62,8 @@ pub turned : {r r' : List ℕ} {j k m : ℕ} (E es fs : List Err) → Exchanged 
     → length (E ++ es) ≡ k → errs r m ≡ E ++ (es ++ fs) → errs r' m ≡ E ++ (fs ++ es)
 turned {r} {r'} {j} {k} {m} E es fs x jk km lj lk e =
     exchange_errs x jk km E es fs
-    (errs-take r j m (omega arith) ∙ ap (λ (l : List Err). take j l) e ∙ take_at E (es ++ fs) j lj)
-    (errs-take r k m km ∙ ap (λ (l : List Err). take k l) (e ∙ sym (append_assoc E es fs)) ∙ take_at (E ++ es) fs k lk)
+    (errs_take r j m (omega arith) ∙ ap (λ (l : List Err). take j l) e ∙ take_at E (es ++ fs) j lj)
+    (errs_take r k m km ∙ ap (λ (l : List Err). take k l) (e ∙ sym (append_assoc E es fs)) ∙ take_at (E ++ es) fs k lk)
     (e ∙ sym (append_assoc E es fs))
 
 -- if the budget from i on is at least 16, a token is there

@@ -26,7 +26,7 @@ use Rattle.steps.specs.declared.Token.{Token}
 use Rattle.steps.specs.Tokens.{budget, Seen}
 use Rattle.steps.specs.Shows.{st_of, Asked, Moved, Good, Shows, Reads, node, items, NodeWritten}
 use Rattle.steps.proofs.Tokens.{yes, no, fore, adv}
-use Rattle.steps.proofs.Answers.{Stopped, say, good_of, is-good, stops, follows, abandons, writes-node}
+use Rattle.steps.proofs.Answers.{Stopped, say, good_of, is_good, stops, follows, abandons, writes_node}
 use Rattle.expression_laws.specs.Post.{as_answer, ReadsList}
 use Rattle.expression_laws.proofs.Types.{past}
 use Rattle.statement.specs.Post.{up}
@@ -78,7 +78,7 @@ module _ {w x : List ℕ} {n d : ℕ} {o r f : List ℕ} {s : State} {t : Token}
             };
         is = λ rd.
             say (rw (run, no u m))
-            (writes-node {K = node} {rs = []} {es = []} {q = gives (ok none) (st_of w x n f rd s)} d (λ _. unpack_place place) (λ _. []) [] F (λ i _. refl)
+            (writes_node {K = node} {rs = []} {es = []} {q = gives (ok none) (st_of w x n f rd s)} d (λ _. unpack_place place) (λ _. []) [] F (λ i _. refl)
             (record {
               told = record {
                 item = none.item;
@@ -209,7 +209,7 @@ module _ {w x : List ℕ} {n d : ℕ} {p : Place} {o r f o1 r1 f1 : List ℕ} {s
                 let g = good_of z (B.is rd) in
                 let v = good_of y (typed-after rd g) in
                 say (typed-step rd g ∙ follows d (signing (record { item = g.item; errors = g.errors })) v.is)
-                (is-good y
+                (is_good y
                 (record {
                   item = record { count = g.item.count; recs = g.item.recs ++ v.item.recs; errors = v.errors ++ g.errors };
                   errors = v.errors ++ g.errors;

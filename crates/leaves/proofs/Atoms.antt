@@ -29,7 +29,7 @@ use Rattle.steps.specs.Tokens.{rest, budget, Seen}
 use Rattle.steps.specs.Shows.{st_of, Asks, node, token, Reads, Expects, NodeWritten, texted, untexted}
 use Rattle.steps.proofs.Tokens.{yes, no, fore, adv}
 use Rattle.steps.proofs.Moves.{stays}
-use Rattle.steps.proofs.Answers.{say, writes-node, raise-same}
+use Rattle.steps.proofs.Answers.{say, writes_node, raise_same}
 use Rattle.leaves.specs.Leaves.{there, identifier, Literal, ClosingOf, ClosedOf, Closed}
 use Rattle.leaves.proofs.Errors.{raise_reads}
 
@@ -67,7 +67,7 @@ module _ {w x : List ℕ} {n : ℕ} {o o' r f : List ℕ} {s : State} {t : Token
         λ rd. say (g rd
         ∙ ap (λ (S : St). go d (P.good (P.node [] z.tag (next_token (rest w x n s.at)).place ns text) []) S)
         (adv s v (λ _. plain) f rd _))
-        (writes-node {K = token (next_token (rest w x n s.at))} {rs = []} {es = []} {q = gives (ok (record { item = next_token (rest w x n s.at); errors = [] })) (st_of w x n f (rd ++ now_read (λ _. plain) (rest w x n s.at)) (fore s t))} d (λ _. (next_token (rest w x n s.at)).place) (λ _. ns) text u (λ _ _. e)
+        (writes_node {K = token (next_token (rest w x n s.at))} {rs = []} {es = []} {q = gives (ok (record { item = next_token (rest w x n s.at); errors = [] })) (st_of w x n f (rd ++ now_read (λ _. plain) (rest w x n s.at)) (fore s t))} d (λ _. (next_token (rest w x n s.at)).place) (λ _. ns) text u (λ _ _. e)
         (record {
           told = record {
             item = next_token (rest w x n s.at);
@@ -135,14 +135,14 @@ module _ {w x : List ℕ} {n : ℕ} {o r f : List ℕ} {s : State} {t : Token} (
             end_reads z i d =
                 raise_reads q.asked.asks v plain g d (λ rd. rw
                 (run, no v m2, no v m1, no v m3, no v m12, no v m13, no v (λ b. q.bare (v.kind x ∙ b)), yes v z)
-                (raise-same d (sym i) (adv s v (λ _. plain) f rd _)))
+                (raise_same d (sym i) (adv s v (λ _. plain) f rd _)))
 
             pub other_reads : (t.kind ≡ 0 → ⊥) → unpack e ≡ error_at 7 t.place 0 t.kind → Atom w x n o r f s o r' f' y
             unfolding go run P.parse_atom
             other_reads z i d =
                 raise_reads q.asked.asks v plain g d (λ rd. rw
                 (run, no v m2, no v m1, no v m3, no v m12, no v m13, no v (λ b. q.bare (v.kind x ∙ b)), no v z)
-                (raise-same d (rw (v.place, v.kind) (sym i)) (adv s v (λ _. plain) f rd _)))
+                (raise_same d (rw (v.place, v.kind) (sym i)) (adv s v (λ _. plain) f rd _)))
 
 -- ---- `close`
 

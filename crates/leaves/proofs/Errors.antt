@@ -24,7 +24,7 @@ use Rattle.steps.specs.Tokens.{rest, Seen}
 use Rattle.steps.specs.Shows.{st_of, Asks, View, Reads}
 use Rattle.steps.proofs.Tokens.{fore}
 use Rattle.steps.proofs.Moves.{asks_fore, fore_moved, making_moved, moved_trans}
-use Rattle.steps.proofs.Answers.{say, raise-shows}
+use Rattle.steps.proofs.Answers.{say, raise_shows}
 
 -- what holds of both possible answers holds of the answer made
 pub made_so : {a : Answer} (h : Status) (n : ℕ) (s : State) (C : Answer → Type 0) → a ≡ making h n s
@@ -65,5 +65,5 @@ module _ {A : Type 0} {K : View A} {w x : List ℕ} {n : ℕ} {o r f r' f' : Lis
   raise_reads h = record {
     moved = rw g.is (moved_trans (fore_moved q v) (making_moved (asks_fore q v) Fatal));
     on = let up : t.next ≤ a.state.at = rw g.is (making_moved (asks_fore q v) Fatal).at in omega (arith, v.present, v.on);
-    is = λ rd. say (h rd) (raise-shows K (asks_fore q v) g d (rd ++ now_read (λ _. role) (rest w x n s.at)) o);
+    is = λ rd. say (h rd) (raise_shows K (asks_fore q v) g d (rd ++ now_read (λ _. role) (rest w x n s.at)) o);
   }

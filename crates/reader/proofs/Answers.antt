@@ -22,9 +22,9 @@ module _ (s o : List ℕ) {o' : List ℕ} {r : Written} (e : answer r o' ≡ who
   file_is = ap (λ (w : O.Written). take w.bytes w.file) (sym e)
 
   -- the file fits into 65,536 bytes
-  pub answer-room : r.number ≡ 0 → r.bytes ≤ 65536
-  answer-room z = omega (arith, ap (λ (w : O.Written). w.bytes) e, room s o (number_is ∙ z))
+  pub answer_room : r.number ≡ 0 → r.bytes ≤ 65536
+  answer_room z = omega (arith, ap (λ (w : O.Written). w.bytes) e, room s o (number_is ∙ z))
 
   -- its tree has at most two records more than the script has tokens
-  pub answer-records : r.number ≡ 0 → tree_records (take r.bytes o') ≤ 2 + length (tokens_of_script s)
-  answer-records z = omega (arith, ap tree_records file_is, script_records s o (number_is ∙ z))
+  pub answer_records : r.number ≡ 0 → tree_records (take r.bytes o') ≤ 2 + length (tokens_of_script s)
+  answer_records z = omega (arith, ap tree_records file_is, script_records s o (number_is ∙ z))

@@ -28,7 +28,7 @@ use Rattle.steps.specs.Tokens.{budget, Seen}
 use Rattle.steps.specs.Shows.{st_of, Asked, Moved, View, Shows, Reads, node, Expected, Follows, done_of, NodeWrittenOf, NodeWritten}
 use Rattle.steps.proofs.Tokens.{yes, no, fore, adv}
 use Rattle.steps.proofs.Moves.{fore_moved, moved_trans, asks_moved, abandoned_moved}
-use Rattle.steps.proofs.Answers.{Stopped, say, good_of, is-good, follows, abandons, wrapped, writes-node}
+use Rattle.steps.proofs.Answers.{Stopped, say, good_of, is_good, follows, abandons, wrapped, writes_node}
 use Rattle.steps.proofs.Constructs.{then_stops}
 use Rattle.steps.proofs.Following.{expects_after}
 use Rattle.expression_laws.proofs.Types.{past}
@@ -78,7 +78,7 @@ module _ {w x : List ℕ} {n d : ℕ} {o r f : List ℕ} {s : State} {t : Token}
               let lj : length (errs r s.reported) ≡ s.reported = errs_length r s.reported (omega (arith, q.asks)) in
               say (step e rd ∙ go_bind d m (or_return (λ z. P.expect 50 >>? λ _. v z)) _
               ∙ expect_seam d plain 50 v (go d m (st_of w x n f (past w x n s.at rd) (fore s t))))
-              (writes-node d (λ _. unpack_place place) (λ _. []) [] F (λ _ _. refl)
+              (writes_node d (λ _. unpack_place place) (λ _. []) [] F (λ _ _. refl)
               (expects_after (record { asks = asks_moved q.asks (moved_trans (fore_moved q.asks u) M) lr lf; pos = C.low; reported = C.first }) X plain d li lj
               (abandons {T = T} {E = errs r s.reported} tree (sym (append-nil (errs r s.reported))) li lj
               lj C (omega (arith, B.moved.pos, hi)) B.moved.reported (B.is (past w x n s.at rd)))));
@@ -163,7 +163,7 @@ module _ {w x : List ℕ} {n d : ℕ} {o r f : List ℕ} {t : Token} {i place : 
         is = λ rd T e li tree.
             let v : Fallible Node → Act (Ans Node) = wrapped any_node [] [] 0x41 (λ _. unpack_place place) (λ _. []) [] in
             let A : Shows any_node T (errs r a.state.reported) [] [] w x n o r f a (gives (ok (record { item = e; errors = [] })) (st_of w x n f rd a.state)) =
-            is-good z (record {
+            is_good z (record {
               item = e;
               errors = [];
               read = rd;
@@ -174,7 +174,7 @@ module _ {w x : List ℕ} {n d : ℕ} {o r f : List ℕ} {t : Token} {i place : 
             }) in
             say (rw (run, no u m26, no u m52) (expect_seam d plain 50 v
             (gives (ok (record { item = e; errors = [] })) (st_of w x n f rd a.state))))
-            (writes-node d (λ _. unpack_place place) (λ _. []) [] F (λ _ _. refl)
+            (writes_node d (λ _. unpack_place place) (λ _. []) [] F (λ _ _. refl)
             (expects_after (record { asks = q.asks; pos = hi; reported = omega arith }) X plain d li
             (errs_length r a.state.reported (omega (arith, q.asks))) A));
       }
@@ -238,7 +238,7 @@ module _ {w x : List ℕ} {n d : ℕ} {o r f o1 r1 f1 : List ℕ} {s : State} {a
                 rw (run, m) in
                 say (go_bind d P.parse_expression (or_return (on (unpack_place place))) (st_of w x n f rd s)
                 ∙ follows d (on (unpack_place place)) g.is ∙ step ∙ sym (follows d k g.is))
-                (writes-node d (λ _. unpack_place place) (λ _. []) [] F (λ _ _. refl) (B.is rd));
+                (writes_node d (λ _. unpack_place place) (λ _. []) [] F (λ _ _. refl) (B.is rd));
           }
 
       pub statement-after : {o2 r2 f2 : List ℕ} {y : Answer} → (s.reported < a.state.reported → ⊥)

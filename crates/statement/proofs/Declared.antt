@@ -30,7 +30,7 @@ use Rattle.steps.specs.Tokens.{rest, budget, Parts, Seen}
 use Rattle.steps.specs.Shows.{st_of, Asks, Asked, Moved, ShowsOf, Shows, Reads, node, items, typed, Expects, Expected, done_of, NodeWrittenOf, NodeWritten}
 use Rattle.steps.proofs.Tokens.{present_kind, yes, no}
 use Rattle.steps.proofs.Moves.{making_moved, asks_moved}
-use Rattle.steps.proofs.Answers.{Stopped, say, good_of, stops, follows, wrapped, writes-node, wrote, raise-shows, not_done, done-le, raise-same}
+use Rattle.steps.proofs.Answers.{Stopped, say, good_of, stops, follows, wrapped, writes_node, wrote, raise_shows, not_done, done_le, raise_same}
 use Rattle.steps.proofs.Following.{expects_after}
 use Rattle.expression_laws.specs.Post.{name_of, ReadsList, NameRoom}
 use Rattle.expression_laws.proofs.Types.{through}
@@ -70,7 +70,7 @@ module _ {w x : List ℕ} {n d : ℕ} {o r f o1 r1 f1 o2 : List ℕ} {s : State}
             say (through d (P.parse_list k) _
             (wrapped items [] [] tag (λ _. unpack_place place) (λ i. two i.count ∷ []) []) (λ i. refl)
             (st_of w x n f rd s))
-            (writes-node d (λ _. unpack_place place) (λ i. two i.count ∷ []) [] F (λ i e. rw e) (B.is rd));
+            (writes_node d (λ _. unpack_place place) (λ i. two i.count ∷ []) [] F (λ i e. rw e) (B.is rd));
       }
 
 -- ---- `compound`
@@ -159,11 +159,11 @@ module _ {w x : List ℕ} {n d : ℕ} {o r f r1 f1 : List ℕ} {s : State} {a : 
             → go d hashed (st_of w x n f1 rd a.state)
             ≡ go d (P.raise (unpack e)) (st_of w x n f1 rd a.state))
             → Reads node w x n d P.parse_compound o r f s o r2 f2 y
-        failed step = compound_on (P.raise (unpack e)) step (rw g.is (making_moved q Fatal)) (λ rd. raise-shows node q g d rd o)
+        failed step = compound_on (P.raise (unpack e)) step (rw g.is (making_moved q Fatal)) (λ rd. raise_shows node q g d rd o)
 
         pub compound-end : t.kind ≡ 0 → unpack e ≡ error_at 18 0 0 0 → Reads node w x n d P.parse_compound o r f s o r2 f2 y
         unfolding go run
-        compound-end z i = failed (λ rd. rw (run, yes u z) (raise-same d {S = st_of w x n f1 rd a.state} (sym i) refl))
+        compound-end z i = failed (λ rd. rw (run, yes u z) (raise_same d {S = st_of w x n f1 rd a.state} (sym i) refl))
 
         pub compound-other : (t.kind ≡ 0 → ⊥) → (t.kind ≡ 43 → ⊥) → (t.kind ≡ 39 → ⊥)
             → unpack e ≡ error_at 19 t.place 0 t.kind
@@ -171,7 +171,7 @@ module _ {w x : List ℕ} {n d : ℕ} {o r f r1 f1 : List ℕ} {s : State} {a : 
         unfolding go run
         compound-other m0 m43 m39 i =
             failed (λ rd. rw (run, no u m0, no u m43, no u m39)
-            (raise-same d {S = st_of w x n f1 rd a.state} (rw (u.place, u.kind) (sym i)) refl))
+            (raise_same d {S = st_of w x n f1 rd a.state} (rw (u.place, u.kind) (sym i)) refl))
 
 -- ---- `named`
 
@@ -275,7 +275,7 @@ declaration_room {b = b} q D X l =
       held = q.asks.held;
       parts = q.parts;
       within = q.asks.at;
-      room = omega (arith, q.room, D.spare, X.high, X.pays, done-le b.status);
+      room = omega (arith, q.room, D.spare, X.high, X.pays, done_le b.status);
     }
 
 module _ {w x : List ℕ} {n d : ℕ} {o r f o1 r1 f1 r2 f2 o2 : List ℕ} {s : State} {a b y : Answer} {tag place : ℕ} (q : Asked w x n o r f s) (D : ReadsDeclared w x n d o r f s o1 r1 f1 a) (lr : length r1 ≡ length r) (lf : length f1 ≡ length f)

@@ -24,7 +24,7 @@ use Rattle.steps.specs.declared.Token.{Token}
 use Rattle.steps.specs.Tokens.{budget, Seen}
 use Rattle.steps.specs.Shows.{st_of, Asked, ShowsOf, Shows, Reads, GoesOn, node, typed, done_of}
 use Rattle.steps.proofs.Tokens.{yes, no, fore, adv}
-use Rattle.steps.proofs.Answers.{Stopped, say, good_of, is-good, stops, follows, abandons, wrote, not_done, done-le}
+use Rattle.steps.proofs.Answers.{Stopped, say, good_of, is_good, stops, follows, abandons, wrote, not_done, done_le}
 use Rattle.expression_laws.specs.Post.{ReadsTyped}
 use Rattle.expression_laws.proofs.Types.{past}
 use Rattle.statement.specs.Rules.{value_on}
@@ -134,7 +134,7 @@ module _ {w x : List ℕ} {n d i j : ℕ} {o r f : List ℕ} {a : Answer} (q : G
       given k step le =
           let e : budget w n y.state.at ≡ budget w n b.state.at = ap (λ (k : ℕ). budget w n k) (G.at ∙ C.at) in
           let one : done_of a.status ≡ 1 = rw z in
-          let three : done_of c.status ≤ 1 = done-le c.status in
+          let three : done_of c.status ≤ 1 = done_le c.status in
           record {
             moved =
                 record {
@@ -167,7 +167,7 @@ module _ {w x : List ℕ} {n d i j : ℕ} {o r f : List ℕ} {a : Answer} (q : G
     value_assigned {y = y} h B C G =
         given B C G (omega (arith, h)) (λ X rd. rw (run, yes u h) (ap
         (λ (S : St). go d (P.parse_expression >>? λ e. P.declared X (P.bare e.item.recs 0x34 []) e.errors)
-        S) (adv a.state u (λ _. plain) f rd _))) (done-le y.status)
+        S) (adv a.state u (λ _. plain) f rd _))) (done_le y.status)
 
     pub value_compound : {o1 r1 f1 r2 o2 : List ℕ} {b c y : Answer} → t.kind ≡ 52
         → Reads node w x n d P.parse_compound o r f (fore a.state t) o1 r1 f1 b
@@ -177,7 +177,7 @@ module _ {w x : List ℕ} {n d i j : ℕ} {o r f : List ℕ} {a : Answer} (q : G
     value_compound {y = y} h B C G =
         given B C G (omega (arith, h)) (λ X rd. rw (run, no {k = 26} u (λ e. omega (arith, h)), yes u h) (ap
         (λ (S : St). go d (P.parse_compound >>? λ e. P.declared X (P.bare e.item.recs 0x35 []) e.errors) S)
-        (adv a.state u (λ _. plain) f rd _))) (done-le y.status)
+        (adv a.state u (λ _. plain) f rd _))) (done_le y.status)
 
     pub value_none : {o2 : List ℕ} {y : Answer} → (t.kind ≡ 26 → ⊥) → (t.kind ≡ 52 → ⊥) → Bared o a 0x33 o2 y
         → ValueOn w x n d i j o r f a o2 r f y
@@ -197,7 +197,7 @@ module _ {w x : List ℕ} {n d i j : ℕ} {o r f : List ℕ} {a : Answer} (q : G
                 full = omega (arith, G.full);
                 few = omega (arith, G.full, q.asked.asks.few);
               };
-          there = omega (arith, one, done-le y.status);
+          there = omega (arith, one, done_le y.status);
           is = λ name T E p li lj v.
               let g = good_of z v in
               let X : Fallible P.Typed = record { item = g.item; errors = g.errors } in
@@ -206,7 +206,7 @@ module _ {w x : List ℕ} {n d i j : ℕ} {o r f : List ℕ} {a : Answer} (q : G
                 errors = [];
               } in
               let shown : Shows node T E X.item.type X.errors w x n o r f a (gives (ok none) (st_of w x n f g.read a.state)) =
-              is-good z (record {
+              is_good z (record {
                 item = none.item;
                 errors = [];
                 read = g.read;
@@ -228,7 +228,7 @@ module _ {w x : List ℕ} {n d : ℕ} {o r f o1 r1 f1 o2 r2 f2 : List ℕ} {s : 
   pub declared_reads : ReadsDeclared w x n d o r f s o2 r2 f2 y
   unfolding P.parse_var_like_declaration
   declared_reads =
-      let le : done_of a.status ≤ 1 = done-le a.status in
+      let le : done_of a.status ≤ 1 = done_le a.status in
       record {
         moved =
             record {

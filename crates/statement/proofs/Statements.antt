@@ -31,7 +31,7 @@ use Rattle.steps.specs.Tokens.{rest, budget, present, Seen}
 use Rattle.steps.specs.Shows.{st_of, Asked, Moved, ShowsOf, Shows, Reads, node, items, token, Expects, Expected, NodeWritten, texted, untexted}
 use Rattle.steps.proofs.Tokens.{present_kind, yes, no, fore, adv}
 use Rattle.steps.proofs.Moves.{making_moved, fore_moved, moved_trans, asks_moved, asked_seen, asked_moved}
-use Rattle.steps.proofs.Answers.{Stopped, say, good_of, stops, follows, abandons, wrapped, writes-node, raise-shows, raise-same}
+use Rattle.steps.proofs.Answers.{Stopped, say, good_of, stops, follows, abandons, wrapped, writes_node, raise_shows, raise_same}
 use Rattle.steps.proofs.Constructs.{then_stops}
 use Rattle.steps.proofs.Following.{expects_after}
 use Rattle.leaves.specs.Leaves.{there}
@@ -312,7 +312,7 @@ module _ {w x : List ℕ} {n d : ℕ} {o r f : List ℕ} {s : State} {t : Token}
             (adv s u (λ _. plain) f rd _)
             ∙ clean d 50 k (P.good (P.node [] 0x48 (here w x n s) [] []) []) (λ _. refl) _
             ∙ go_bind d (P.expect 50) (or_return k) _)
-            (writes-node d (λ _. here w x n s) (λ _. []) [] F (λ i _. rw u.place)
+            (writes_node d (λ _. here w x n s) (λ _. []) [] F (λ i _. rw u.place)
             (X.is x plain d (past w x n s.at rd) o));
       }
 
@@ -344,7 +344,7 @@ module _ {w x : List ℕ} {n d : ℕ} {o r f : List ℕ} {s : State} {t : Token}
           on = ended_on M u z;
           is = λ rd. say
               (rw (run, no u m6, no u m5, no u m39, no u m7, no u m8, no u m9, no u m10, no u m54, yes u z)
-              (raise-same d {S = st_of w x n f rd s} (sym i) refl)) (raise-shows node q.asks g d rd o);
+              (raise_same d {S = st_of w x n f rd s} (sym i) refl)) (raise_shows node q.asks g d rd o);
         }
 
     pub other_reads : {o1 r1 f1 : List ℕ} {y : Answer} → (t.kind ≡ 0 → ⊥)
@@ -388,7 +388,7 @@ module _ {w x : List ℕ} {n d : ℕ} {o r f : List ℕ} {s : State} {t : Token}
             ∙ rw (run, yes v h)
             (ap (λ (S : St). go d (P.good (P.node [] 0x45 (here w x n s) (byte 0 ∷ []) []) []) S)
             (adv (fore s t) v (λ _. plain) f (past w x n s.at rd) _)))
-            (writes-node {K = token (next_token (rest w x n s.at))} {rs = []} {es = []} {q = gives (ok (record { item = next_token (rest w x n s.at); errors = [] })) (st_of w x n f (past w x n t.next (past w x n s.at rd)) (fore (fore s t) t2))} d (λ _. here w x n s) (λ _. byte 0 ∷ []) [] F (λ i _. rw u.place)
+            (writes_node {K = token (next_token (rest w x n s.at))} {rs = []} {es = []} {q = gives (ok (record { item = next_token (rest w x n s.at); errors = [] })) (st_of w x n f (past w x n t.next (past w x n s.at rd)) (fore (fore s t) t2))} d (λ _. here w x n s) (λ _. byte 0 ∷ []) [] F (λ i _. rw u.place)
             (record {
               told = record {
                 item = next_token (rest w x n s.at);
@@ -431,7 +431,7 @@ module _ {w x : List ℕ} {n d : ℕ} {o r f : List ℕ} {s : State} {t : Token}
             ∙ rw (run, no v h) (go_bind d P.parse_expression (or_return (λ e. P.expect 50 >>? λ _. k e)) _)
             ∙ expect_seam d plain 50 k
             (go d P.parse_expression (st_of w x n f (past w x n s.at rd) (fore s t))))
-            (writes-node d (λ _. here w x n s) (λ _. byte 1 ∷ []) [] F (λ i _. rw u.place)
+            (writes_node d (λ _. here w x n s) (λ _. byte 1 ∷ []) [] F (λ i _. rw u.place)
             (expects_after (record {
               asks = asks_moved q.asked.asks (moved_trans (fore_moved q.asked.asks u) B.moved) lr lf;
               pos = B.moved.pos;
@@ -466,7 +466,7 @@ module _ {w x : List ℕ} {n d : ℕ} {o r f : List ℕ} {s : State} {t : Token}
             ∙ through d P.parse_body _
             (wrapped items [] [] 0x40 (λ _. here w x n s) (λ i. two i.count ∷ []) []) (λ i. refl)
             (st_of w x n f rd s))
-            (writes-node d (λ _. here w x n s) (λ i. two i.count ∷ []) [] F (λ i e. rw (e, u.place)) (B.is rd));
+            (writes_node d (λ _. here w x n s) (λ i. two i.count ∷ []) [] F (λ i e. rw (e, u.place)) (B.is rd));
       }
 
   -- ---- `if`
@@ -521,7 +521,7 @@ module _ {w x : List ℕ} {n d : ℕ} {o r f : List ℕ} {s : State} {t : Token}
                 rw (run, no v h) in
                 say
                 (if_guarded rd ∙ follows d (else_on (here w x n s)) g.is ∙ step ∙ sym (follows d k g.is))
-                (writes-node d (λ _. here w x n s) (λ _. byte 2 ∷ []) [] F (λ i _. rw u.place)
+                (writes_node d (λ _. here w x n s) (λ _. byte 2 ∷ []) [] F (λ i _. rw u.place)
                 (B.is (past w x n s.at rd)));
           }
 
@@ -553,7 +553,7 @@ module _ {w x : List ℕ} {n d : ℕ} {o r f : List ℕ} {s : State} {t : Token}
                 rw (run, yes v h)
                 (ap (λ (S : St). go d (P.parse_statement >>? k) S) (adv a.state v (λ _. plain) f1 g.read _)) in
                 say (if_guarded rd ∙ follows d (else_on (here w x n s)) g.is ∙ step ∙ go_bind d P.parse_statement (or_return k) _)
-                (writes-node d (λ _. here w x n s) (λ _. byte 3 ∷ []) [] F (λ i _. rw u.place)
+                (writes_node d (λ _. here w x n s) (λ _. byte 3 ∷ []) [] F (λ i _. rw u.place)
                 (abandons {T = take s.pos o} {E = errs r s.reported} g.tree g.reported
                 (length-take-le s.pos o (omega (arith, q.asked.room)))
                 (errs_length r s.reported (omega (arith, q.asked.asks)))

@@ -50,18 +50,18 @@ module _ {A : Type 0} {K : View A} {T : List ℕ} {E : List Err} {rs : List Rec}
   pub good_of : a.status ≡ Done → Shows K T E rs es w x n o r f a q → Good K T E rs es w x n o r f a q
   good_of z v = subst (λ (h : Status). ShowsOf h K T E rs es w x n o r f a q) z v.told
 
-  pub is-good : a.status ≡ Done → Good K T E rs es w x n o r f a q → Shows K T E rs es w x n o r f a q
-  is-good z g = record { told = subst (λ (h : Status). ShowsOf h K T E rs es w x n o r f a q) (sym z) g }
+  pub is_good : a.status ≡ Done → Good K T E rs es w x n o r f a q → Shows K T E rs es w x n o r f a q
+  is_good z g = record { told = subst (λ (h : Status). ShowsOf h K T E rs es w x n o r f a q) (sym z) g }
 
 pub not_done : (h : Status) → OneOf (1 ∷ 2 ∷ []) (tag_of the_type h) → done_of h ≡ 0
 not_done Done nd = absurd (⊎_elim (λ z. omega arith) (λ z. omega arith) nd)
 not_done Fatal nd = refl
 not_done (Refused u) nd = refl
 
-pub done-le : (h : Status) → done_of h ≤ 1
-done-le Done = omega arith
-done-le Fatal = omega arith
-done-le (Refused u) = omega arith
+pub done_le : (h : Status) → done_of h ≤ 1
+done_le Done = omega arith
+done_le Fatal = omega arith
+done_le (Refused u) = omega arith
 
 -- a fatal or refused answer is also the answer of what follows under `?`
 pub stops : {A B : Type 0} {K : View A} {L : View B} {T : List ℕ} {E : List Err} {rs rs' : List Rec} {es es' : List Err}
@@ -85,16 +85,16 @@ follows d k e = rw e
 
 -- ---- an error is made
 
-pub raise-same : {A : Type 0} (d : ℕ) {X Y : Err} {S S' : St} → X ≡ Y → S ≡ S' → go d (P.raise {A = A} X) S ≡ go d (P.raise {A = A} Y) S'
-raise-same d p q = rw (p, q)
+pub raise_same : {A : Type 0} (d : ℕ) {X Y : Err} {S S' : St} → X ≡ Y → S ≡ S' → go d (P.raise {A = A} X) S ≡ go d (P.raise {A = A} Y) S'
+raise_same d p q = rw (p, q)
 
 module _ {A : Type 0} (K : View A) {w x : List ℕ} {n : ℕ} {r f r' f' : List ℕ} {s : State} {e : ℕ} {a : Answer}
     (q : Asks w n r f s) (v : Raised (raised n s) r f s e r' f' a) (d : ℕ) (rd : List Consumed) (o : List ℕ) where
   -- `raise` represents the definition's `raise`
-  pub raise-shows : Shows K (take s.pos o) (errs r s.reported) [] [] w x n o r' f' a
+  pub raise_shows : Shows K (take s.pos o) (errs r s.reported) [] [] w x n o r' f' a
       (go d (P.raise {A = A} (unpack e)) (st_of w x n f rd s))
   unfolding go run
-  raise-shows = rw v.is (record { told = one (ltb s.full 255) refl })
+  raise_shows = rw v.is (record { told = one (ltb s.full 255) refl })
     where
       few : length (errs f s.full) ≡ s.full
       few = errs_length f s.full (omega arith)
@@ -118,14 +118,14 @@ module _ {A : Type 0} (K : View A) {w x : List ℕ} {n : ℕ} {r f r' f' : List 
 
 -- ---- records and errors after others
 
-pub tree-join : {T' l : List ℕ} (T : List ℕ) (rs ys : List Rec) → T' ≡ T ++ recs_bytes rs → l ≡ T' ++ recs_bytes ys
+pub tree_join : {T' l : List ℕ} (T : List ℕ) (rs ys : List Rec) → T' ≡ T ++ recs_bytes rs → l ≡ T' ++ recs_bytes ys
     → l ≡ T ++ recs_bytes (rs ++ ys)
-tree-join T rs ys e h =
+tree_join T rs ys e h =
     h ∙ ap (λ (z : List ℕ). z ++ recs_bytes ys) e ∙ append_assoc T (recs_bytes rs) (recs_bytes ys)
     ∙ ap (λ (z : List ℕ). T ++ z) (sym (recs_append rs ys))
 
-pub errs-join : {E' l : List Err} (E es ys : List Err) → E' ≡ E ++ es → l ≡ E' ++ ys → l ≡ E ++ (es ++ ys)
-errs-join E es ys e h = h ∙ ap (λ (z : List Err). z ++ ys) e ∙ append_assoc E es ys
+pub errs_join : {E' l : List Err} (E es ys : List Err) → E' ≡ E ++ es → l ≡ E' ++ ys → l ≡ E ++ (es ++ ys)
+errs_join E es ys e h = h ∙ ap (λ (z : List Err). z ++ ys) e ∙ append_assoc E es ys
 
 -- one more record is written
 pub wrote : {o o' : List ℕ} {p q k : ℕ} {z y : Rec} (T : List ℕ) (rs : List Rec) → Wrote o p z k o' q
@@ -139,32 +139,32 @@ wrote {z = z} {y = y} T rs v e i =
 
 -- ---- what `?` drops
 
-map-take : (j : ℕ) (l : List ℕ) → map (λ e. unpack e) (take j l) ≡ take j (map (λ e. unpack e) l)
-map-take zero l = refl
-map-take (suc j) [] = refl
-map-take (suc j) (z ∷ l) = ap (λ (y : List Err). unpack z ∷ y) (map-take j l)
+map_take : (j : ℕ) (l : List ℕ) → map (λ e. unpack e) (take j l) ≡ take j (map (λ e. unpack e) l)
+map_take zero l = refl
+map_take (suc j) [] = refl
+map_take (suc j) (z ∷ l) = ap (λ (y : List Err). unpack z ∷ y) (map_take j l)
 
-map-drop : (j : ℕ) (l : List ℕ) → map (λ e. unpack e) (drop j l) ≡ drop j (map (λ e. unpack e) l)
-map-drop zero l = refl
-map-drop (suc j) [] = refl
-map-drop (suc j) (z ∷ l) = map-drop j l
+map_drop : (j : ℕ) (l : List ℕ) → map (λ e. unpack e) (drop j l) ≡ drop j (map (λ e. unpack e) l)
+map_drop zero l = refl
+map_drop (suc j) [] = refl
+map_drop (suc j) (z ∷ l) = map_drop j l
 
 -- the first j of the first k errors
-pub errs-take : (l : List ℕ) (j k : ℕ) → j ≤ k → errs l j ≡ take j (errs l k)
+pub errs_take : (l : List ℕ) (j k : ℕ) → j ≤ k → errs l j ≡ take j (errs l k)
 unfolding errs
-errs-take l j k h = ap (λ (z : List ℕ). map (λ e. unpack e) z) (sym (take-take j k l h)) ∙ map-take j (take k l)
+errs_take l j k h = ap (λ (z : List ℕ). map (λ e. unpack e) z) (sym (take-take j k l h)) ∙ map_take j (take k l)
 
-cut-errs : {r r' : List ℕ} {a a' : Answer} {i j k : ℕ} (E es bs : List Err) → Cut r a i j k r' a' → length E ≡ j
+cut_errs : {r r' : List ℕ} {a a' : Answer} {i j k : ℕ} (E es bs : List Err) → Cut r a i j k r' a' → length E ≡ j
     → length (E ++ es) ≡ k → j ≤ a.state.reported → errs r a.state.reported ≡ (E ++ es) ++ bs
     → errs r' a'.state.reported ≡ E ++ bs
 unfolding errs
-cut-errs {r} {r'} {a} {a'} {i} {j} {k} E es bs c le lk h e =
+cut_errs {r} {r'} {a} {a'} {i} {j} {k} E es bs c le lk h e =
     ap (λ (z : List ℕ). map (λ e. unpack e) z) c.is ∙ map-append (λ e. unpack e) (take j r) (drop k (take a.state.reported r))
     ∙ ap (λ (z : List Err). z ++ map (λ e. unpack e) (drop k (take a.state.reported r)))
-    (errs-take r j a.state.reported h ∙ ap (λ (z : List Err). take j z) (e ∙ append_assoc E es bs)
+    (errs_take r j a.state.reported h ∙ ap (λ (z : List Err). take j z) (e ∙ append_assoc E es bs)
     ∙ take_at E (es ++ bs) j le)
     ∙ ap (λ (z : List Err). E ++ z)
-    (map-drop k (take a.state.reported r) ∙ ap (λ (z : List Err). drop k z) e ∙ drop_at (E ++ es) bs k lk)
+    (map_drop k (take a.state.reported r) ∙ ap (λ (z : List Err). drop k z) e ∙ drop_at (E ++ es) bs k lk)
 
 -- The answer b of a call in a construct that so far has the records rs after T and the errors es after E.
 module _ {A : Type 0} {K : View A} {T T' : List ℕ} {E E' : List Err} {rs : List Rec} {es : List Err} {w x : List ℕ} {n : ℕ} {o r r' f : List ℕ} {b c : Answer} {i j k : ℕ} {q : Res (Ans A)}
@@ -181,8 +181,8 @@ module _ {A : Type 0} {K : View A} {T T' : List ℕ} {E E' : List Err} {rs : Lis
             errors = g.errors;
             read = g.read;
             is = g.is;
-            tree = tree-join T rs (K.recs g.item) tree g.tree;
-            reported = errs-join E es g.errors reps g.reported;
+            tree = tree_join T rs (K.recs g.item) tree g.tree;
+            reported = errs_join E es g.errors reps g.reported;
             holds = g.holds;
           })
       one Fatal z m g =
@@ -192,7 +192,7 @@ module _ {A : Type 0} {K : View A} {T T' : List ℕ} {E E' : List Err} {rs : Lis
             is = g.is ∙ ap (λ (s : St). gives (fatal g.errors) s) (sym (rw (v.at, v.full)));
             tree = ap (λ (z : ℕ). take z o) m.pos ∙ sym (take-take i b.state.pos o hi)
                 ∙ ap (λ (z : List ℕ). take i z) (g.tree ∙ tree) ∙ take_at T (recs_bytes rs) i li;
-            reported = cut-errs E es g.errors m lj (ap length (sym reps) ∙ lk) hj
+            reported = cut_errs E es g.errors m lj (ap length (sym reps) ∙ lk) hj
                 (g.reported ∙ ap (λ (z : List Err). z ++ g.errors) reps);
           })
       one (Refused u) z m g = rw (m.0, z) g
@@ -212,12 +212,12 @@ module _ {A : Type 0} {K : View A} {T : List ℕ} {E : List Err} {rs : List Rec}
     {n : ℕ} {o o' r f : List ℕ} {a y : Answer} {v : Record} {q : Res (Ans A)} (d : ℕ) (p : A → Place)
     (ns : A → List Num) (text : List ℕ) (u : NodeWritten x o a v o' y) where
   -- writing a record after an answer represents wrapping its item
-  pub writes-node : ((i : A) → K.fine a.place a.count i
+  pub writes_node : ((i : A) → K.fine a.place a.count i
       → rec_of x v ≡ record { tag = v.tag; place = some (p i); numbers = ns i; text = text })
       → Shows K T E rs es w x n o r f a q
       → Shows node T E [] [] w x n o' r f y (after q (λ z S. go d (or_return (wrapped K rs es v.tag p ns text) z) S))
   unfolding go run place_of
-  writes-node e h = record { told = one a.status refl u.is h.told }
+  writes_node e h = record { told = one a.status refl u.is h.told }
     where
       one : (k : Status) → a.status ≡ k → NodeWrittenOf k x o a v o' y → ShowsOf k K T E rs es w x n o r f a q
           → ShowsOf y.status node T E [] [] w x n o' r f y

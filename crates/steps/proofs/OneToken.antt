@@ -30,7 +30,7 @@ use Rattle.steps.specs.Tokens.{rest, budget, Seen}
 use Rattle.steps.specs.Shows.{st_of, Asks, Moved, done_of, token, Expects, Follows, ExpectedOf, Expected, NodeWrittenOf, NodeWritten}
 use Rattle.steps.proofs.Tokens.{yes, no, fore, adv}
 use Rattle.steps.proofs.Moves.{asks_fore, fore_moved, making_moved, moved_trans, abandoned_moved}
-use Rattle.steps.proofs.Answers.{Stopped, say, not_done, raise-same, raise-shows}
+use Rattle.steps.proofs.Answers.{Stopped, say, not_done, raise_same, raise_shows}
 
 -- ---- the answer of a raised error
 
@@ -100,7 +100,7 @@ module _ {w : List ℕ} {n : ℕ} {r f : List ℕ} {s : State} {t : Token} (q : 
         kept = λ z. absurd (omega (arith, nd, ap done_of z));
         is =
             λ x role d rd o. say (h x role d rd)
-            (raise-shows (token (next_token (rest w x n s.at))) (asks_fore q v) g d
+            (raise_shows (token (next_token (rest w x n s.at))) (asks_fore q v) g d
             (rd ++ now_read (λ _. of role) (rest w x n s.at)) o);
       }
 
@@ -115,14 +115,14 @@ module _ {w : List ℕ} {n : ℕ} {r f : List ℕ} {s : State} {t : Token} (q : 
   module _ {k e : ℕ} {r' f' : List ℕ} {a : Answer} (m : t.kind ≡ k → ⊥) (g : Raised (raised n (fore s t)) r f (fore s t) e r' f' a) where
     pub expect_end : t.kind ≡ 0 → unpack e ≡ error_at 3 0 k 0 → Expects w n (λ role. P.expect_as role k) r f s r' f' a
     unfolding go run
-    expect_end z i = missing (λ role. role) g (λ x role d rd. rw (run, no v m, yes v z) (raise-same d (sym i) (adv s v (λ _. role) f rd _)))
+    expect_end z i = missing (λ role. role) g (λ x role d rd. rw (run, no v m, yes v z) (raise_same d (sym i) (adv s v (λ _. role) f rd _)))
 
     pub expect_other : (t.kind ≡ 0 → ⊥) → unpack e ≡ error_at 2 t.place k t.kind
         → Expects w n (λ role. P.expect_as role k) r f s r' f' a
     unfolding go run
     expect_other z i =
         missing (λ role. role) g (λ x role d rd. rw (run, no v m, no v z)
-        (raise-same d (rw (v.place, v.kind) (sym i)) (adv s v (λ _. role) f rd _)))
+        (raise_same d (rw (v.place, v.kind) (sym i)) (adv s v (λ _. role) f rd _)))
 
   -- ---- `expect_identifier`
 
@@ -137,14 +137,14 @@ module _ {w : List ℕ} {n : ℕ} {r f : List ℕ} {s : State} {t : Token} (q : 
     unfolding go run
     identifier_end z i =
         missing (λ role. plain) g
-        (λ x role d rd. rw (run, no v m, yes v z) (raise-same d (sym i) (adv s v (λ _. plain) f rd _)))
+        (λ x role d rd. rw (run, no v m, yes v z) (raise_same d (sym i) (adv s v (λ _. plain) f rd _)))
 
     pub identifier_other : (t.kind ≡ 0 → ⊥) → unpack e ≡ error_at 4 t.place 0 0
         → Expects w n (λ role. P.expect_identifier) r f s r' f' a
     unfolding go run
     identifier_other z i =
         missing (λ role. plain) g
-        (λ x role d rd. rw (run, no v m, no v z) (raise-same d (rw v.place (sym i)) (adv s v (λ _. plain) f rd _)))
+        (λ x role d rd. rw (run, no v m, no v z) (raise_same d (rw v.place (sym i)) (adv s v (λ _. plain) f rd _)))
 
 -- ---- `expect` after an answer
 
