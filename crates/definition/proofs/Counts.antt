@@ -17,7 +17,7 @@ use Rattle.definition.specs.Parser as P
 use Rattle.definition.specs.Parser.{rule, turn, statement_rule, expression_rule, unary_rule, type_rule, list_turn, body_turn, module_turn, operators_turn, casts_turn, suffixes_turn, modifiers_turn, Typed, parse_module}
 use Rattle.definition.proofs.Tests.{clash, is_kind, not_end}
 use Rattle.definition.proofs.Later.{Later, next_state, later_left, After, weaken}
-use Rattle.definition.proofs.Ind.{EachAns, mapping_positive, comparisons_positive, wp, wp_mono, follow, try, via, wp_find, wp_bitwise_or, wp_cascade, module-ind}
+use Rattle.definition.proofs.Ind.{EachAns, mapping_positive, comparisons_positive, wp, wp_mono, follow, try, via, wp_find, wp_bitwise_or, wp_cascade, module_ind}
 
 -- 1 if a token is left, else 0
 pub one : List Tok → ℕ
@@ -593,7 +593,7 @@ Few ts i s = (length i.recs ≤ 1 + length ts) × (i.count ≤ length ts)
 module_count : (ts : List Tok) → After (Few ts) (parse_module ts)
 module_count ts =
     weaken (parse_module ts) (λ i s p. omega (arith, pay_bound ts))
-    (module-ind G L R M (λ s. paid s.tokens) (λ e s. tt) rules turns ts)
+    (module_ind G L R M (λ s. paid s.tokens) (λ e s. tt) rules turns ts)
 
 module _ (ts : List Tok) (i : Items) (s : St) (g : parse_module ts ≡ gives i s) where
   few : Few ts i s

@@ -274,26 +274,26 @@ module _ (G : Goal → St → Ans Node → St → Type 0) (L : (l : Loop) → St
 
     module _ (rules : (g : Goal) (s : St) → wp (rule g) (G g s) s) (turns : (l : Loop) (s : St) → wp (turn l) (L l s) s) where
       -- the induction: if each rule and turn meets its precondition, G holds after every call and L after every loop
-      pub loops-ind : (c : Goal → St → Res (Ans Node)) → ((g : Goal) (s : St) → After (λ a s'. Later s s' × G g s a s') (c g s))
+      pub loops_ind : (c : Goal → St → Res (Ans Node)) → ((g : Goal) (s : St) → After (λ a s'. Later s s' × G g s a s') (c g s))
           → (n : ℕ) (l : Loop) (s : St) → After (λ a s'. Later s s' × L l s a s') (loops c n l s)
       unfolding loops
-      loops-ind c c-ok zero l s = tt
-      loops-ind c c-ok (suc n) l s =
-          sound c (λ m t. loops c n m t) c-ok (λ m t. loops-ind c c-ok n m t) (L l s) (turn l) s s
+      loops_ind c c-ok zero l s = tt
+      loops_ind c c-ok (suc n) l s =
+          sound c (λ m t. loops c n m t) c-ok (λ m t. loops_ind c c-ok n m t) (L l s) (turn l) s s
           (later_refl s) (turns l s)
 
-      pub parse-ind : (n : ℕ) (g : Goal) (s : St) → After (λ a s'. Later s s' × G g s a s') (parse n g s)
+      pub parse_ind : (n : ℕ) (g : Goal) (s : St) → After (λ a s'. Later s s' × G g s a s') (parse n g s)
       unfolding parse
-      parse-ind zero g s = tt
-      parse-ind (suc n) g s =
+      parse_ind zero g s = tt
+      parse_ind (suc n) g s =
           sound (λ h t. parse n h t) (λ l t. loops (λ h u. parse n h u) (suc (suc (length t.tokens))) l t)
-          (λ h t. parse-ind n h t)
-          (λ l t. loops-ind (λ h u. parse n h u) (λ h u. parse-ind n h u) (suc (suc (length t.tokens))) l t)
+          (λ h t. parse_ind n h t)
+          (λ l t. loops_ind (λ h u. parse n h u) (λ h u. parse_ind n h u) (suc (suc (length t.tokens))) l t)
           (G g s) (rule g) s s (later_refl s) (rules g s)
 
-      pub module-ind : (ts : List Tok)
+      pub module_ind : (ts : List Tok)
           → After (λ i s'. Later (begin ts) s' × L (Module (no_items [])) (begin ts) i s') (parse_module ts)
       unfolding parse_module
-      module-ind ts =
-          loops-ind (λ g s. parse 96 g s) (λ g s. parse-ind 96 g s) (suc (suc (length ts)))
+      module_ind ts =
+          loops_ind (λ g s. parse 96 g s) (λ g s. parse_ind 96 g s) (suc (suc (length ts)))
           (Module (no_items [])) (begin ts)

@@ -20,7 +20,7 @@ use Rattle.definition.proofs.Later.{Later, later_left, After}
 use Rattle.definition.proofs.Ind.{wp_mono, follow}
 use Rattle.definition.proofs.Grows.{there, tail_le}
 use Rattle.definition.proofs.Tokens.{Placed, Good}
-use Rattle.definition.proofs.Throughout.{module-known}
+use Rattle.definition.proofs.Throughout.{module_known}
 use Rattle.definition.proofs.Leaves.{Leaves, Rooted, none_left, also, made, leaf, one_more, all_three, nothing, with_text, with_byte, with_count, bare, at}
 use Rattle.definition.proofs.LeavesAnswers.{Known, known_tail, known_later, good, good_of, Item, Whole, Listing, If, G, L, R, M, awp, reads, expects, identifier, calls, uses}
 use Rattle.definition.proofs.LeavesExpressions.{suffixes_leaves, Opened, list_leaves, Typed, typed_identifier_leaves, list_turn_leaves, unary_leaves, casts_leaves, operators_leaves, expression_leaves, type_leaves}
@@ -437,7 +437,7 @@ unfolding find rows
 module_leaves ts d i s e =
     let q : Listing F.item (P.no_items []) (begin ts) i s =
     subst (After (λ i s'. Listing F.item (P.no_items []) (begin ts) i s')) e
-    (module-known G L Known known_tail known_later rules turns ts d) in
+    (module_known G L Known known_tail known_later rules turns ts d) in
     let n : i.count ≤ 2048 = omega (arith, q.count, d.1) in
     let h = bare (with_count n nothing) in
     (record { row = _; found = refl; root = refl; holds = h; leaves = q.leaves none_left }, n)

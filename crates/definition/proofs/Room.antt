@@ -17,7 +17,7 @@ use Rattle.definition.specs.Parser as P
 use Rattle.definition.specs.Parser.{rule, turn, loops, parse, parse_module}
 use Rattle.definition.specs.Operations.{whole, file_bytes}
 use Rattle.definition.proofs.Later.{Later, toks, After}
-use Rattle.definition.proofs.Ind.{join, limit, wp, wp_always, wp_bind, module-ind}
+use Rattle.definition.proofs.Ind.{join, limit, wp, wp_always, wp_bind, module_ind}
 use Rattle.definition.proofs.Tests.{is_kind}
 use Rattle.definition.proofs.Size as Z
 use Rattle.definition.proofs.Tokens.{Kinds, texts}
@@ -69,7 +69,7 @@ at_end (t ∷ ts) k e = absurd (omega (arith, is_kind t K.End e, k.0))
 pub all_read : (ts : List Tok) → Kinds ts → (i : Items) (s : St) → parse_module ts ≡ gives i s → toks s.read ≡ ts
 all_read ts k i s e =
     go (subst (After (λ i s'. Later (begin ts) s' × (next_token s'.tokens is K.End ≡ true))) e
-    (module-ind G L R M (λ s. tt) (λ e s. tt) (λ g s. wp_always G L R M (G g s) (rule g) s (λ a s'. tt)) turns ts))
+    (module_ind G L R M (λ s. tt) (λ e s. tt) (λ g s. wp_always G L R M (G g s) (rule g) s (λ a s'. tt)) turns ts))
   where
     go : Later (begin ts) s × (next_token s.tokens is K.End ≡ true) → toks s.read ≡ ts
     go h =

@@ -19,7 +19,7 @@ use Rattle.definition.specs.Parser as P
 use Rattle.definition.specs.Parser.{rule, turn, statement_rule, expression_rule, unary_rule, type_rule, list_turn, body_turn, module_turn, operators_turn, casts_turn, suffixes_turn, modifiers_turn, Typed, parse, parse_module}
 use Rattle.definition.proofs.Tests.{is_kind, not_end}
 use Rattle.definition.proofs.Later.{Later, next_state, After, weaken}
-use Rattle.definition.proofs.Ind.{EachAns, mapping_positive, comparisons_positive, wp, wp_mono, follow, try, via, wp_find, wp_bitwise_or, wp_cascade, parse-ind, module-ind}
+use Rattle.definition.proofs.Ind.{EachAns, mapping_positive, comparisons_positive, wp, wp_mono, follow, try, via, wp_find, wp_bitwise_or, wp_cascade, parse_ind, module_ind}
 
 abbrev pub place_size : Option Place → ℕ
 place_size none = 0
@@ -592,8 +592,8 @@ module _ (f : Err → ℕ) where
 
   -- for a call
   pub goal_size : (n : ℕ) (g : Goal) (s : St) → After (λ a s'. Later s s' × G g s a s') (parse n g s)
-  goal_size n g s = parse-ind G L R M (λ s. r_ok s.tokens) (λ e s. tt) rules turns n g s
+  goal_size n g s = parse_ind G L R M (λ s. r_ok s.tokens) (λ e s. tt) rules turns n g s
 
   -- for a whole reading: the bytes of the records are within the budget, and the reported errors among those made
   pub module_size : (ts : List Tok) → After (λ i s'. (weight i.recs ≤ budget ts) × (tally i.errors ≤ tally s'.full)) (parse_module ts)
-  module_size ts = weaken (parse_module ts) (λ i s' p. omega arith) (module-ind G L R M (λ s. r_ok s.tokens) (λ e s. tt) rules turns ts)
+  module_size ts = weaken (parse_module ts) (λ i s' p. omega arith) (module_ind G L R M (λ s. r_ok s.tokens) (λ e s. tt) rules turns ts)

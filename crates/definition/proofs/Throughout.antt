@@ -5,7 +5,7 @@ use Rattle.definition.specs.Token.{Tok, next_token, tail}
 use Rattle.definition.specs.Act.{Node, Goal, Loop, Module, Left, Act, done, peek, consume, make, if◌then◌else◌, call, loop, panic, St, begin, advance, push}
 use Rattle.definition.specs.Parser.{rule, turn, parse_module, no_items}
 use Rattle.definition.proofs.Later.{Later, After, weaken}
-use Rattle.definition.proofs.Ind.{wp, each, to_each, module-ind}
+use Rattle.definition.proofs.Ind.{wp, each, to_each, module_ind}
 
 -- I: an invariant of the tokens left
 module _ (G : Goal → St → Ans Node → St → Type 0) (L : (l : Loop) → St → Left l → St → Type 0) (I : List Tok → Type 0)
@@ -47,10 +47,10 @@ module _ (G : Goal → St → Ans Node → St → Type 0) (L : (l : Loop) → St
     module _ (rules : (g : Goal) (s : St) → I s.tokens → wp G L Known Any (rule g) (G g s) s)
         (turns : (l : Loop) (s : St) → I s.tokens → wp G L Known Any (turn l) (L l s) s) where
       -- what holds after a whole reading, if the invariant I holds of its tokens
-      pub module-known : (ts : List Tok) → I ts
+      pub module_known : (ts : List Tok) → I ts
           → After (λ i s'. L (Module (no_items [])) (begin ts) i s') (parse_module ts)
-      module-known ts i =
+      module_known ts i =
           weaken (parse_module ts) (λ a s' p. p.1 i)
-          (module-ind G' L' None Any (λ s. tt) (λ e s. tt)
+          (module_ind G' L' None Any (λ s. tt) (λ e s. tt)
           (λ g s. carry (I s.tokens) (G g s) (rule g) s (λ x. x) (rules g s))
           (λ l s. carry (I s.tokens) (L l s) (turn l) s (λ x. x) (turns l s)) ts)

@@ -17,7 +17,7 @@ use Rattle.definition.specs.Tag as T
 use Rattle.definition.specs.Parser.{rule, turn, loops, parse, parse_module_within, parse_module}
 use Rattle.definition.proofs.Tests.{never_both}
 use Rattle.definition.proofs.Later.{Later, toks, later_left, later_refl, later_trans, later_advance, later_push, After, weaken}
-use Rattle.definition.proofs.Ind.{Positive, mapping_positive, parse-ind}
+use Rattle.definition.proofs.Ind.{Positive, mapping_positive, parse_ind}
 use Rattle.definition.proofs.Clean.{loops_later, parse_later}
 use Rattle.definition.proofs.Grows.{there}
 use Rattle.definition.proofs.Grows as Gr
@@ -271,7 +271,7 @@ turn_enough n (Modifiers w) s h = (
 
 -- after a call the state is later, and a token was read if there was one
 pub parse_after : (n : ℕ) (g : Goal) (s : St) → After (λ a s'. Later s s' × Called s s') (parse n g s)
-parse_after n g s = parse-ind Gr.G Gr.L Gr.R Gr.M (λ s. tt) (λ e s. tt) Gr.rules Gr.turns n g s
+parse_after n g s = parse_ind Gr.G Gr.L Gr.R Gr.M (λ s. tt) (λ e s. tt) Gr.rules Gr.turns n g s
 
 loops_moves : (c : Goal → St → Res (Ans Node)) → ((g : Goal) (s : St) → After (λ a s'. Later s s' × Called s s') (c g s))
     → ((g : Goal) (s : St) → Moves (c g s))

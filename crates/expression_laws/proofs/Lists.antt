@@ -109,7 +109,7 @@ module _ {w x : List ℕ} {n wanted : ℕ} (k : A.Listed) {o r f r1 f1 : List �
     is = λ rd. say (listing k d _) (one rd a.status h (opens d rd).told);
   }
     where
-      one : (rd : List Consumed) (g : Status) → OneOf (0 ∷ 1 ∷ []) (tag_of the_type g)
+      one : (rd : List Consumed) (g : Status) → ((m : ℕ) → g ≡ Refused m → ⊥)
           → ShowsOf g (token (next_token (rest w x n s.at))) (take s.pos o) (errs r s.reported) [] [] w x n o
           r1 f1 a (go d (P.expect (P.opener k)) (st_of w x n f rd s))
           → Shows items (take s.pos o) (errs r s.reported) [] [] w x n o2 r2 f2 y
@@ -122,7 +122,7 @@ module _ {w x : List ℕ} {n wanted : ℕ} (k : A.Listed) {o r f r1 f1 : List �
       one rd Fatal h i =
           rw i.is (u.is i.read (take s.pos o) (errs r s.reported) (P.no_items i.errors)
           (i.tree ∙ sym (append-nil (take s.pos o))) i.reported refl)
-      one rd (Refused m) h i = absurd (⊎_elim (λ z. omega arith) (λ z. omega arith) h)
+      one rd (Refused m) h i = absurd (h m refl)
 
 -- ---- its loop: one law for each way in which a turn ends
 
@@ -156,12 +156,12 @@ module _ {w x : List ℕ} {n count : ℕ} (k : A.Listed) {o r f : List ℕ} {s :
       unfolding go run P.list_turn
       item_turn rd l = go_loop d (ListOf k l) (st_of w x n f rd s) ∙ rw (run, no v m0, no v (λ z. mc (z ∙ sym c)))
 
-      pub rest-item : Ended b → LoopOn (listed_on k) w x n d count o r f s o1 r1 f1 b
-      rest-item h = loop_refused (listed_on k) (P.after_item k) (P.item k) item_turn u h
+      pub rest_item : Ended b → LoopOn (listed_on k) w x n d count o r f s o1 r1 f1 b
+      rest_item h = loop_refused (listed_on k) (P.after_item k) (P.item k) item_turn u h
 
       module _ (alive : Alive b) {r2 f2 : List ℕ} {a : Answer} (g : Commas w n r1 f1 b.state close r2 f2 a) where
-        pub rest-comma : Stopped a → LoopOn (listed_on k) w x n d count o r f s o1 r2 f2 a
-        rest-comma nd = record {
+        pub rest_comma : Stopped a → LoopOn (listed_on k) w x n d count o r f s o1 r2 f2 a
+        rest_comma nd = record {
           moved = moved_onward u.moved g.moved;
           never =
               λ z. subst
@@ -175,17 +175,17 @@ module _ {w x : List ℕ} {n count : ℕ} (k : A.Listed) {o r f : List ℕ} {s :
         }
           where
             one : (T : List ℕ) (E : List Err) (rd : List Consumed) (l : Items) (h : Status)
-                → OneOf (1 ∷ 2 ∷ []) (tag_of the_type h)
+                → (h ≡ Done → ⊥)
                 → CommasOf h w x n k r1 f1 b.state r2 f2 a.state d rd l
                 → ShowsOf h items T E [] [] w x n o1 r2 f2 a (answered d (go d (P.after_item k l) (st_of w x n f1 rd b.state)))
-            one T E rd l Done nd i = absurd (⊎_elim (λ z. omega arith) (λ z. omega arith) nd)
+            one T E rd l Done nd i = absurd (nd refl)
             one T E rd l Fatal nd i = absurd i
             one T E rd l (Refused m) nd i = rw i
 
-        pub rest-next : {m : ℕ} {o3 r3 f3 : List ℕ} {y : Answer} → a.status ≡ Done → Counted b.status count m
+        pub rest_next : {m : ℕ} {o3 r3 f3 : List ℕ} {y : Answer} → a.status ≡ Done → Counted b.status count m
             → LoopOn (listed_on k) w x n d m o1 r2 f2 a.state o3 r3 f3 y
             → LoopOn (listed_on k) w x n d count o r f s o3 r3 f3 y
-        rest-next {m} z cm h = record {
+        rest_next {m} z cm h = record {
           moved = moved_onward (moved_onward u.moved g.moved) h.moved;
           never = h.never;
           is = λ rd T E l et ee ec.

@@ -39,8 +39,8 @@ answered d q = after q (λ i S. go d (as_answer i) S)
 -- ---- refusals
 
 -- a refused answer is not fatal
-pub not_fatal : (h : Status) → tag_of the_type h ≡ 2 → h ≡ Fatal → ⊥
-not_fatal h e z = let y : tag_of the_type h ≡ 1 = rw z in omega arith
+pub not_fatal : (h : Status) → (m : ℕ) × (h ≡ Refused m) → h ≡ Fatal → ⊥
+not_fatal h e z = let y : Fatal ≡ Refused e.0 = sym z ∙ e.1 in cc
 
 -- a refusal is also the answer of what follows
 pub refusal : {A : Type 0} {K : View A} {T : List ℕ} {E : List Err} {w x : List ℕ} {n : ℕ} {o r f o' r' f' : List ℕ}
@@ -49,9 +49,9 @@ pub refusal : {A : Type 0} {K : View A} {T : List ℕ} {E : List Err} {w x : Lis
     → Shows {A = A} K T E [] [] w x n o r f a q → Shows items T' E' [] [] w x n o' r' f' a q'
 refusal {A} {K} {T} {E} {w} {x} {n} {o} {r} {f} {o'} {r'} {f'} {T'} {E'} {a} {q} {q'} e h v = record { told = one a.status e v.told }
   where
-    one : (k : Status) → tag_of the_type k ≡ 2 → ShowsOf k K T E [] [] w x n o r f a q → ShowsOf k items T' E' [] [] w x n o' r' f' a q'
-    one Done e g = absurd (omega arith)
-    one Fatal e g = absurd (omega arith)
+    one : (k : Status) → (m : ℕ) × (k ≡ Refused m) → ShowsOf k K T E [] [] w x n o r f a q → ShowsOf k items T' E' [] [] w x n o' r' f' a q'
+    one Done e g = absurd (let y : Done ≡ Refused e.0 = e.1 in cc)
+    one Fatal e g = absurd (let y : Fatal ≡ Refused e.0 = e.1 in cc)
     one (Refused m) e g = h m g
 
 -- ---- a turn that ends the loop `on`
@@ -148,7 +148,7 @@ module _ {w x : List ℕ} {n d : ℕ} {o r f o1 r1 f1 : List ℕ} {s : State} {b
       → Joined w x n d next T E o1 r1 f1 b count (go d (on l >>= as_answer) (st_of w x n f rd s))
   joined {count} alive rd T E l et ee ec = one b.status refl alive (u.is rd).told
     where
-      one : (h : Status) → b.status ≡ h → OneOf (0 ∷ 1 ∷ []) (tag_of the_type h)
+      one : (h : Status) → b.status ≡ h → ((m : ℕ) → h ≡ Refused m → ⊥)
           → ShowsOf h node (take s.pos o) (errs r s.reported) [] [] w x n o1 r1 f1 b
           (go d m (st_of w x n f rd s))
           → Joined w x n d next T E o1 r1 f1 b count (go d (on l >>= as_answer) (st_of w x n f rd s))
@@ -170,7 +170,7 @@ module _ {w x : List ℕ} {n d : ℕ} {o r f o1 r1 f1 : List ℕ} {s : State} {b
             reported = errs_join E l.errors i.errors ee i.reported;
             counts = rw z ec;
           }
-      one (Refused m) z h i = absurd (⊎_elim (λ z. omega arith) (λ z. omega arith) h)
+      one (Refused m) z h i = absurd (h m refl)
 
 -- a loop that continues with itself
 module _ {w x : List ℕ} {n d : ℕ} {o r f o1 r1 f1 : List ℕ} {s : State} {b : Answer} (on : Items → Act Items) (m : Act (Ans Node)) (step : (rd : List Consumed) (l : Items) → go d (on l) (st_of w x n f rd s) ≡ go d (m >>= λ a. on (P.integrate l a)) (st_of w x n f rd s))

@@ -54,8 +54,8 @@ module _ {w x : List ℕ} {n : ℕ} {o : List ℕ} {a : Answer} {tag at : ℕ} (
   pub bare_stops : Stopped a → BareNamed w x n o a tag at o a
   bare_stops nd = record { at = refl; reported = refl; full = refl; low = omega arith; high = omega arith; is = one a.status nd }
     where
-      one : (h : Status) → OneOf (1 ∷ 2 ∷ []) (tag_of the_type h) → BareNamedOf h w x n o a tag at o a
-      one Done nd = absurd (⊎_elim (λ z. omega arith) (λ z. omega arith) nd)
+      one : (h : Status) → (h ≡ Done → ⊥) → BareNamedOf h w x n o a tag at o a
+      one Done nd = absurd (nd refl)
       one Fatal nd = (refl, refl)
       one (Refused m) nd = (refl, refl)
 
@@ -222,7 +222,7 @@ module _ (n : ℕ) {e : ℕ} {r f r' f' : List ℕ} {s : State} {b : Answer} (g 
   pub note_none : Stopped b → (255 ≤ s.full) × (b ≡ refused_at n s 12)
   note_none nd =
       made_so Done n s (λ y. Stopped y → (255 ≤ s.full) × (y ≡ refused_at n s 12)) g.is
-      (λ l y. absurd (⊎_elim (λ z. omega arith) (λ z. omega arith) y)) (λ l _. (l, refl)) nd
+      (λ l y. absurd (y refl)) (λ l _. (l, refl)) nd
 
 -- ---- `typed_name`
 
@@ -283,8 +283,8 @@ module _ {w x : List ℕ} {n : ℕ} {o r f : List ℕ} {s : State} {t : Token} (
       unfolding go run P.parse_typed_identifier
       unnamed d rd = rw (run, no v m1, no v m0) (error_same d (rw v.place (sym i)) (adv s v (λ _. plain) f rd _))
 
-      pub identifier-refused : {d : ℕ} → Stopped b → ReadsTyped w x n d o r f s o r1 f1 b
-      identifier-refused {d} nd =
+      pub identifier_refused : {d : ℕ} → Stopped b → ReadsTyped w x n d o r f s o r1 f1 b
+      identifier_refused {d} nd =
           let h = note_none n g nd in
           rw h.1 (record {
             moved = moved_trans (fore_moved q.asks v) (refused_moved (asks_fore q.asks v) 12);
@@ -293,9 +293,9 @@ module _ {w x : List ℕ} {n : ℕ} {o r f : List ℕ} {s : State} {t : Token} (
             is = λ rd. record { told = unnamed d rd ∙ makes_none (asks_fore q.asks v) g d _ _ x h.0 };
           })
 
-      pub identifier-noted : {d : ℕ} {o2 r2 f2 : List ℕ} {a : Answer} → b.status ≡ Done
+      pub identifier_noted : {d : ℕ} {o2 r2 f2 : List ℕ} {a : Answer} → b.status ≡ Done
           → TypedOn w x n d s.reported o r1 f1 b.state o2 r2 f2 a → ReadsTyped w x n d o r f s o2 r2 f2 a
-      identifier-noted {d} {o2} {r2} {f2} {a} z u =
+      identifier_noted {d} {o2} {r2} {f2} {a} z u =
           let h = note_there n g z in
           let k : TypedOn w x n d s.reported o r1 f1 (one_more (fore s t)) o2 r2 f2 a = rw h.1 at u in
           let m : Moved w n s.pos s.reported s a.state = omega (arith, v, k.moved) in
@@ -422,9 +422,9 @@ relined : {A : Type 0} {K : View A} {T : List ℕ} {E : List Err} {w x : List �
     → Shows K T E [] [] w x n o r f (record { status = a.status; state = a.state; place = l; count = m }) q
 relined {A} {K} {T} {E} {w} {x} {n} {l} {m} {o} {r} {f} {a} {q} nd v = record { told = one a.status nd v.told }
   where
-    one : (h : Status) → OneOf (1 ∷ 2 ∷ []) (tag_of the_type h) → ShowsOf h K T E [] [] w x n o r f a q
+    one : (h : Status) → (h ≡ Done → ⊥) → ShowsOf h K T E [] [] w x n o r f a q
         → ShowsOf h K T E [] [] w x n o r f (record { status = a.status; state = a.state; place = l; count = m }) q
-    one Done nd g = absurd (⊎_elim (λ z. omega arith) (λ z. omega arith) nd)
+    one Done nd g = absurd (nd refl)
     one Fatal nd g = record { errors = g.errors; read = g.read; is = g.is; tree = g.tree; reported = g.reported }
     one (Refused u) nd g = g
 
@@ -505,7 +505,7 @@ module _ {w x : List ℕ} {n : ℕ} {o r f r1 f1 : List ℕ} {s : State} {t : To
       pub field_room : length o3 ≡ length o → Room o3 x c.state.pos (16 + t.len) t.start t.len
       field_room l = record { room = omega (arith, field-paid, q.room); part = v.part q.parts }
 
-      pub field-done : {o4 : List ℕ} {y : Answer}
+      pub field_done : {o4 : List ℕ} {y : Answer}
           → NodeWritten x o3 c (record {
             tag = 50;
             place = b.place;
@@ -515,7 +515,7 @@ module _ {w x : List ℕ} {n : ℕ} {o r f r1 f1 : List ℕ} {s : State} {t : To
           }) o4 y
           → Reads node w x n d P.parse_compound_struct_field o r f s o4 r3 f3 y
       unfolding P.parse_compound_struct_field
-      field-done F =
+      field_done F =
           let m = expected_there u z in
           let g : (rd : List Consumed) → Good (token (next_token (rest w x n s.at))) (take s.pos o) (errs r s.reported) [] [] w x n o r1 f1 a (go d P.expect_identifier (st_of w x n f rd s)) =
           λ rd. good_of m.there (e.is x plain d rd o) in

@@ -217,11 +217,11 @@ module _ {w x : List ℕ} {n d : ℕ} {o r f : List ℕ} {s : State} (q : Asked 
       abbrev star-on : Fallible Node → Act (Ans Node)
       star-on e = wrapped node [] [] 18 (λ _. (next_token (rest w x n s.at)).place) (λ _. []) [] e
 
-      pub type-star : {o1 r1 f1 o2 : List ℕ} {b y : Answer} → t.kind ≡ 24
+      pub type_star : {o1 r1 f1 o2 : List ℕ} {b y : Answer} → t.kind ≡ 24
           → Reads node w x n (d - 1) P.parse_type o r f (fore s t) o1 r1 f1 b
           → NodeWritten x o1 b (untexted t.place 18 None) o2 y → Reads node w x n d P.parse_type o r f s o2 r1 f1 y
       unfolding go run P.type_rule
-      type-star z u F = down Type' nz
+      type_star z u F = down Type' nz
           (record_reads (next_token (rest w x n s.at)).place (λ _. []) [] F (moved_onward (fore_moved q.asks v) u.moved) (omega (arith, v.present, v.on, u.moved.at)) (omega arith) (λ _ _. rw v.place)
           (λ rd. go (d - 1) P.parse_type (st_of w x n f (past w x n s.at rd) (fore s t)))
           (λ rd. rw (run, no v m1, yes v z)
@@ -230,12 +230,12 @@ module _ {w x : List ℕ} {n d : ℕ} {o r f : List ℕ} {s : State} (q : Asked 
           (λ rd. u.is (past w x n s.at rd)))
 
       module _ (m24 : t.kind ≡ 24 → ⊥) where
-        pub type-array : {o1 r1 f1 : List ℕ} {b : Answer} → t.kind ≡ 43
+        pub type_array : {o1 r1 f1 : List ℕ} {b : Answer} → t.kind ≡ 43
             → Reads node w x n (d - 1) (P.parse_array_type (unpack_place t.place)) o r f (fore s t) o1
             r1 f1 b
             → Reads node w x n d P.parse_type o r f s o1 r1 f1 b
         unfolding go run P.type_rule
-        type-array z u = down Type' nz (record {
+        type_array z u = down Type' nz (record {
           moved = moved_onward (fore_moved q.asks v) u.moved;
           on = omega (arith, v.present, v.on, u.moved.at);
           is =
@@ -249,12 +249,12 @@ module _ {w x : List ℕ} {n d : ℕ} {o r f : List ℕ} {s : State} (q : Asked 
           abbrev struct-on : Fallible Items → Act (Ans Node)
           struct-on e = wrapped items [] [] 20 (λ _. (next_token (rest w x n s.at)).place) (λ i. two i.count ∷ []) [] e
 
-          pub type-struct : {o1 r1 f1 o2 : List ℕ} {a b y : Answer} → t.kind ≡ 16
+          pub type_struct : {o1 r1 f1 o2 : List ℕ} {a b y : Answer} → t.kind ≡ 16
               → ReadsList w x n (d - 1) StructFields o r f (fore s t) o1 r1 f1 a → b ≡ silent a s.reported
               → NodeWritten x o1 b (untexted t.place 20 (Two a.count)) o2 y
               → Reads node w x n d P.parse_type o r f s o2 r1 f1 y
           unfolding go run P.type_rule
-          type-struct {o1} {r1} {f1} {o2} {a} {b} {y} z u e F =
+          type_struct {o1} {r1} {f1} {o2} {a} {b} {y} z u e F =
               let G : NodeWritten x o1 (silent a s.reported) (untexted t.place 20 (Two a.count)) o2 y = rw e at F in
               let mv = moved_onward (fore_moved q.asks v) u.moved in
               down Type' nz
@@ -270,20 +270,20 @@ module _ {w x : List ℕ} {n d : ℕ} {o r f : List ℕ} {s : State} (q : Asked 
               (u.is (past w x n s.at rd))))
 
           module _ {e : ℕ} {r' f' : List ℕ} {y : Answer} (m16 : t.kind ≡ 16 → ⊥) where
-            pub type-end : t.kind ≡ 0 → unpack e ≡ error_at 12 0 0 0
+            pub type_end : t.kind ≡ 0 → unpack e ≡ error_at 12 0 0 0
                 → Raised (raised n (fore s t)) r f (fore s t) e r' f' y
                 → Reads node w x n d P.parse_type o r f s o r' f' y
             unfolding go run P.type_rule
-            type-end z i g =
+            type_end z i g =
                 down Type' nz (raise_reads q.asks v plain g (d - 1)
                 (λ rd. rw (run, no v m1, no v m24, no v m43, no v m16, yes v z)
                 (raise_same (d - 1) (sym i) (adv s v (λ _. plain) f rd _))))
 
-            pub type-other : (t.kind ≡ 0 → ⊥) → unpack e ≡ error_at 11 t.place 0 t.kind
+            pub type_other : (t.kind ≡ 0 → ⊥) → unpack e ≡ error_at 11 t.place 0 t.kind
                 → Raised (raised n (fore s t)) r f (fore s t) e r' f' y
                 → Reads node w x n d P.parse_type o r f s o r' f' y
             unfolding go run P.type_rule
-            type-other z i g =
+            type_other z i g =
                 down Type' nz (raise_reads q.asks v plain g (d - 1)
                 (λ rd. rw (run, no v m1, no v m24, no v m43, no v m16, no v z)
                 (raise_same (d - 1) (rw (v.place, v.kind) (sym i)) (adv s v (λ _. plain) f rd _))))
@@ -339,8 +339,8 @@ module _ {w x : List ℕ} {n : ℕ} (place : ℕ) {o r f : List ℕ} {s : State}
           ∙ go_bind d (P.expect 44) (or_return bracket-on)
           (st_of w x n f (past_as size w x n s.at rd) (fore s t))
 
-      pub array-open : {d : ℕ} → Stopped a → Reads node w x n d (P.parse_array_type (unpack_place place)) o r f s o r1 f1 a
-      array-open {d} nd =
+      pub array_open : {d : ℕ} → Stopped a → Reads node w x n d (P.parse_array_type (unpack_place place)) o r f s o r1 f1 a
+      array_open {d} nd =
           record {
             moved = moved_onward (fore_moved q.0.asks v) e.moved;
             on = omega (arith, v.present, v.on, e.moved.at);
@@ -348,13 +348,13 @@ module _ {w x : List ℕ} {n : ℕ} (place : ℕ) {o r f : List ℕ} {s : State}
                 (stops d bracket-on _ nd (e.is x plain d (past_as size w x n s.at rd) o));
           }
 
-      pub array-done : {d : ℕ} {o2 r2 f2 o3 : List ℕ} {b y : Answer} → a.status ≡ Done
+      pub array_done : {d : ℕ} {o2 r2 f2 o3 : List ℕ} {b y : Answer} → a.status ≡ Done
           → Reads node w x n d P.parse_type o r1 f1 a.state o2 r2 f2 b
           → NodeWritten x o2 b
           (record { tag = 19; place = place; numbers = Eight u.number; start = 0; len = 0 })
           o3 y
           → Reads node w x n d (P.parse_array_type (unpack_place place)) o r f s o3 r2 f2 y
-      array-done {d} {o2} {r2} {f2} {o3} {b} {y} za c F =
+      array_done {d} {o2} {r2} {f2} {o3} {b} {y} za c F =
           let g : (rd : List Consumed) → Good _ _ _ [] [] w x n o r1 f1 a (go d (P.expect 44) (st_of w x n f (past_as size w x n s.at rd) (fore s t))) =
           λ rd. good_of za (e.is x plain d (past_as size w x n s.at rd) o) in
           record_reads {K = node} (unpack_place place)
@@ -395,10 +395,10 @@ module _ {w x : List ℕ} {n : ℕ} {o r f : List ℕ} {s : State} (q : Asked w 
     size_asked z = (v.part q.parts, (v.based z, omega (arith, v.bases)))
 
     module _ {k : ℕ} {r1 f1 : List ℕ} {a : Answer} (e : Expects w n (λ role. P.expect_as role k) r f (fore s t) r1 f1 a) where
-      pub bracket-asked : length r1 ≡ length r → length f1 ≡ length f → Asked w x n o r1 f1 a.state
-      bracket-asked l g = asked_moved (asked_seen q v) e.moved refl l g
+      pub bracket_asked : length r1 ≡ length r → length f1 ≡ length f → Asked w x n o r1 f1 a.state
+      bracket_asked l g = asked_moved (asked_seen q v) e.moved refl l g
 
-      pub array-room : {d : ℕ} {m : Act (Ans Node)} {o2 r2 f2 : List ℕ} {b : Answer}
+      pub array_room : {d : ℕ} {m : Act (Ans Node)} {o2 r2 f2 : List ℕ} {b : Answer}
           → Reads node w x n d m o r1 f1 a.state o2 r2 f2 b → length o2 ≡ length o
           → Room o2 x b.state.pos (16 + 0) 0 0
-      array-room u l = room_moved (moved_onward (fore_moved q.asks v) (moved_onward e.moved u.moved)) l
+      array_room u l = room_moved (moved_onward (fore_moved q.asks v) (moved_onward e.moved u.moved)) l

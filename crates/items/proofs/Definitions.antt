@@ -370,9 +370,9 @@ module _ {w x : List ℕ} {n d : ℕ} {o r f r1 f1 : List ℕ} {s : State} {a : 
           let k = real w n a.state.at (omega (arith, Y.pays, db)) in
           omega (arith, G.moved.room, X.pays, da, paid a.state.at b.state.at q.asks.held Y.on x, k, X.pos, Y.pos)
 
-      pub function-asked : length o3 ≡ length o → length r3 ≡ length r → length f3 ≡ length f
+      pub function_asked : length o3 ≡ length o → length r3 ≡ length r → length f3 ≡ length f
           → FunctionAsked w x n o3 r3 f3 a.state.at c s.pos s.reported
-      function-asked lo lr lf = record {
+      function_asked lo lr lf = record {
         asked = record {
           asks =
               record {
@@ -392,10 +392,10 @@ module _ {w x : List ℕ} {n d : ℕ} {o r f r1 f1 : List ℕ} {s : State} {a : 
         reported = omega (arith, G.moved.reported, (X.kept z).0, (Y.kept y).0);
       }
 
-      pub function-reads : {o4 r4 f4 : List ℕ} {v : Answer} {k external : ℕ} → external ≡ k
+      pub function_reads : {o4 r4 f4 : List ℕ} {v : Answer} {k external : ℕ} → external ≡ k
           → FunctionOn w x n d k p a.state.at s.pos s.reported o3 r3 f3 c o4 r4 f4 v
           → Reads node w x n d (P.function p external) o r f s o4 r4 f4 v
-      function-reads {o4} {r4} {f4} {v} {k} {external} same B =
+      function_reads {o4} {r4} {f4} {v} {k} {external} same B =
           let W = subst (λ (m : ℕ). FunctionOn w x n d m p a.state.at s.pos s.reported o3 r3 f3 c o4 r4 f4 v) (sym same) B in
           record {
             moved =

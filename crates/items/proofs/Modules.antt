@@ -58,10 +58,10 @@ module _ {w x : List ℕ} {n d : ℕ} {o r f : List ℕ} {s : State} {t : Token}
     item_alias h B = record { moved = B.moved; on = B.on; is = λ rd. say (rw (run, either u 4 19 mf, any u 15 20 21 h)) (B.is rd) }
 
     module _ (ma : ((eqb t.kind 15 || eqb t.kind 20) || eqb t.kind 21) ≡ false) where
-      pub item-use : {o1 r1 f1 : List ℕ} {y : Answer} → t.kind ≡ 18 → Reads node w x n d P.parse_use o r f s o1 r1 f1 y
+      pub item_use : {o1 r1 f1 : List ℕ} {y : Answer} → t.kind ≡ 18 → Reads node w x n d P.parse_use o r f s o1 r1 f1 y
           → Reads node w x n d P.parse_top_level_item o r f s o1 r1 f1 y
       unfolding go run P.parse_top_level_item
-      item-use h B =
+      item_use h B =
           record {
             moved = B.moved;
             on = B.on;
@@ -69,11 +69,11 @@ module _ {w x : List ℕ} {n d : ℕ} {o r f : List ℕ} {s : State} {t : Token}
           }
 
       module _ (m18 : t.kind ≡ 18 → ⊥) where
-        pub item-variable : {o1 r1 f1 : List ℕ} {y : Answer} → t.kind ≡ 5
+        pub item_variable : {o1 r1 f1 : List ℕ} {y : Answer} → t.kind ≡ 5
             → Reads node w x n d P.parse_top_level_var_declaration o r f s o1 r1 f1 y
             → Reads node w x n d P.parse_top_level_item o r f s o1 r1 f1 y
         unfolding go run P.parse_top_level_item
-        item-variable h B =
+        item_variable h B =
             record {
               moved = B.moved;
               on = B.on;
@@ -81,20 +81,20 @@ module _ {w x : List ℕ} {n d : ℕ} {o r f : List ℕ} {s : State} {t : Token}
             }
 
         module _ (m5 : t.kind ≡ 5 → ⊥) (q : Asked w x n o r f s) where
-          pub item-assembly : {o1 : List ℕ} {y : Answer} → t.kind ≡ 54 → NodeWritten x o (there s t) (texted t.place 0x54 None t.start t.len) o1 y
+          pub item_assembly : {o1 : List ℕ} {y : Answer} → t.kind ≡ 54 → NodeWritten x o (there s t) (texted t.place 0x54 None t.start t.len) o1 y
               → Reads node w x n d P.parse_top_level_item o r f s o1 r f y
           unfolding go run P.parse_top_level_item
-          item-assembly h F =
+          item_assembly h F =
               leaf_reads q.asks u [] (next_token (rest w x n s.at)).text F (omega (arith, h))
               (rw (u.place, u.text)) d
               (λ rd. rw (run, either u 4 19 mf, any u 15 20 21 ma, no u m18, no u m5, yes u h))
 
-          pub item-other : {e : ℕ} {r1 f1 : List ℕ} {y : Answer} → (t.kind ≡ 54 → ⊥)
+          pub item_other : {e : ℕ} {r1 f1 : List ℕ} {y : Answer} → (t.kind ≡ 54 → ⊥)
               → unpack e ≡ error_at 1 t.place 0 t.kind
               → Raised (raised n (fore s t)) r f (fore s t) e r1 f1 y
               → Reads node w x n d P.parse_top_level_item o r f s o r1 f1 y
           unfolding go run P.parse_top_level_item
-          item-other m54 i g =
+          item_other m54 i g =
               raise_reads q.asks u plain g d
               (λ rd. rw (run, either u 4 19 mf, any u 15 20 21 ma, no u m18, no u m5, no u m54)
               (raise_same d (rw (u.place, u.kind) (sym i)) (adv s u (λ _. plain) f rd _)))

@@ -153,10 +153,10 @@ module _ {w x : List ℕ} {n d : ℕ} {p : Place} {o r f o1 r1 f1 : List ℕ} {s
           }
 
       -- what `exchange` requires
-      pub signature-order : c.status ≡ Done → length r3 ≡ length r
+      pub signature_order : c.status ≡ Done → length r3 ≡ length r
           → (s.reported ≤ a.state.reported) × ((a.state.reported ≤ c.state.reported)
           × ((c.state.reported ≤ 256) × (c.state.reported ≤ length r3)))
-      signature-order y l =
+      signature_order y l =
           let e : c.state.reported ≡ b.state.reported = ap (λ (z : Answer). z.state.reported) (still C y) in (
             B.moved.reported,
             (
@@ -187,8 +187,8 @@ module _ {w x : List ℕ} {n d : ℕ} {p : Place} {o r f o1 r1 f1 : List ℕ} {s
             (st_of w x n f1 g.read a.state)
 
       -- a fatal or refused type is returned
-      pub signature-untyped : a.status ≡ Done → Stopped c → ReadsSignature w x n d p o r f s o2 r3 f2 c
-      signature-untyped z nd = record {
+      pub signature_untyped : a.status ≡ Done → Stopped c → ReadsSignature w x n d p o r f s o2 r3 f2 c
+      signature_untyped z nd = record {
         moved = signature-moved;
         is =
             λ rd. let g = good_of z (B.is rd) in
@@ -196,12 +196,12 @@ module _ {w x : List ℕ} {n d : ℕ} {p : Place} {o r f o1 r1 f1 : List ℕ} {s
             (stops d (signing (record { item = g.item; errors = g.errors })) _ nd (typed-after rd g));
       }
 
-      pub signature-reads : {r4 : List ℕ} → a.status ≡ Done → c.status ≡ Done
+      pub signature_reads : {r4 : List ℕ} → a.status ≡ Done → c.status ≡ Done
           → Exchanged r3 s.reported a.state.reported c.state.reported r4
           → ReadsSignature w x n d p o r f s o2 r4 f2
           (record { status = c.status; state = c.state; place = 0; count = a.count })
       unfolding go run
-      signature-reads z y X =
+      signature_reads z y X =
           let e : c.state.reported ≡ b.state.reported = ap (λ (z : Answer). z.state.reported) (still C y) in
           record {
             moved = signature-moved;

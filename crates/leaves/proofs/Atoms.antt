@@ -1,5 +1,5 @@
 -- A node of one token; one law for each return of `literal`; the end of a group. Assumes nothing.
-use mathlib.Core.Path.{◌≡◌, refl, sym, ap, ◌∙◌}
+use mathlib.Core.Path.{subst, ◌≡◌, refl, sym, ap, ◌∙◌}
 use mathlib.Core.Option.{some}
 use mathlib.Core.List.{List, [], ◌∷◌, ◌++◌, append-nil}
 use mathlib.Core.Logic.{⊎_elim}
@@ -105,26 +105,26 @@ module _ {w x : List ℕ} {n : ℕ} {o r f : List ℕ} {s : State} {t : Token} (
         (rw (v.place, v.text)) d (λ rd. rw (run, no v m2, yes v z))
 
     module _ (m1 : t.kind ≡ 1 → ⊥) where
-      pub string-reads : {o' : List ℕ} {y : Answer} → t.kind ≡ 3 → NodeWritten x o (there s t) (texted t.place 35 None t.start t.len) o' y
+      pub string_reads : {o' : List ℕ} {y : Answer} → t.kind ≡ 3 → NodeWritten x o (there s t) (texted t.place 35 None t.start t.len) o' y
           → Atom w x n o r f s o' r f y
       unfolding go run P.parse_atom
-      string-reads z u d =
+      string_reads z u d =
           leaf_reads q.asked.asks v [] (next_token (rest w x n s.at)).text u (omega arith)
           (rw (v.place, v.text)) d (λ rd. rw (run, no v m2, no v m1, yes v z))
 
       module _ (m3 : t.kind ≡ 3 → ⊥) where
-        pub true-reads : {o' : List ℕ} {y : Answer} → t.kind ≡ 12 → NodeWritten x o (there s t) (untexted t.place 34 (Byte 1)) o' y
+        pub true_reads : {o' : List ℕ} {y : Answer} → t.kind ≡ 12 → NodeWritten x o (there s t) (untexted t.place 34 (Byte 1)) o' y
             → Atom w x n o r f s o' r f y
         unfolding go run P.parse_atom
-        true-reads z u d =
+        true_reads z u d =
             leaf_reads q.asked.asks v (byte 1 ∷ []) [] u (omega arith) (rw v.place) d
             (λ rd. rw (run, no v m2, no v m1, no v m3, yes v z))
 
         module _ (m12 : t.kind ≡ 12 → ⊥) where
-          pub false-reads : {o' : List ℕ} {y : Answer} → t.kind ≡ 13 → NodeWritten x o (there s t) (untexted t.place 34 (Byte 0)) o' y
+          pub false_reads : {o' : List ℕ} {y : Answer} → t.kind ≡ 13 → NodeWritten x o (there s t) (untexted t.place 34 (Byte 0)) o' y
               → Atom w x n o r f s o' r f y
           unfolding go run P.parse_atom
-          false-reads z u d =
+          false_reads z u d =
               leaf_reads q.asked.asks v (byte 0 ∷ []) [] u (omega arith) (rw v.place) d
               (λ rd. rw (run, no v m2, no v m1, no v m3, no v m12, yes v z))
 
@@ -148,20 +148,18 @@ module _ {w x : List ℕ} {n : ℕ} {o r f : List ℕ} {s : State} {t : Token} (
 
 -- the answer is refused, or it is not
 abbrev pub Ended : Answer → Type 0
-Ended a = tag_of the_type a.status ≡ 2
+Ended a = (m : ℕ) × (a.status ≡ Refused m)
 
 abbrev pub Alive : Answer → Type 0
-Alive a = OneOf (0 ∷ 1 ∷ []) (tag_of the_type a.status)
+Alive a = (m : ℕ) → a.status ≡ Refused m → ⊥
 
-pub if_ended : (C : Status → Type 0) (h : Status) → tag_of the_type h ≡ 2 → ((m : ℕ) → C (Refused m)) → C h
-if_ended C Done e p = absurd (omega arith)
-if_ended C Fatal e p = absurd (omega arith)
-if_ended C (Refused m) e p = p m
+pub if_ended : (C : Status → Type 0) (h : Status) → (m : ℕ) × (h ≡ Refused m) → ((m : ℕ) → C (Refused m)) → C h
+if_ended C h e p = subst C (sym e.1) (p e.0)
 
-pub if_alive : (C : Status → Type 0) (h : Status) → OneOf (0 ∷ 1 ∷ []) (tag_of the_type h) → C Done → C Fatal → C h
+pub if_alive : (C : Status → Type 0) (h : Status) → ((m : ℕ) → h ≡ Refused m → ⊥) → C Done → C Fatal → C h
 if_alive C Done e p q = p
 if_alive C Fatal e p q = q
-if_alive C (Refused m) e p q = absurd (⊎_elim (λ z. omega arith) (λ z. omega arith) e)
+if_alive C (Refused m) e p q = absurd (e m refl)
 
 module _ {w : List ℕ} {n : ℕ} {r f : List ℕ} {a : Answer} (q : Asks w n r f a.state) where
   pub close_ended : Ended a → Closed w n r f a r f a

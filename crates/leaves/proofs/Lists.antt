@@ -57,9 +57,9 @@ module _ {w : List ℕ} {n : ℕ} {r f : List ℕ} {s : State} {close : ℕ} {t 
     comma_close z = goes (λ x k rd. rd) (stays q) refl refl (λ x k ck d rd i. rw (run, no v m, yes v (z ∙ sym ck)))
 
     module _ (mc : t.kind ≡ close → ⊥) where
-      pub comma-end : t.kind ≡ 0 → Commas w n r f s close r f (record { status = Done; state = s; place = 0; count = 0 })
+      pub comma_end : t.kind ≡ 0 → Commas w n r f s close r f (record { status = Done; state = s; place = 0; count = 0 })
       unfolding go run P.after_item
-      comma-end z = goes (λ x k rd. rd) (stays q) refl refl (λ x k ck d rd i. rw (run, no v m, no v (λ y. mc (y ∙ ck)), yes v z))
+      comma_end z = goes (λ x k rd. rd) (stays q) refl refl (λ x k ck d rd i. rw (run, no v m, no v (λ y. mc (y ∙ ck)), yes v z))
 
       module _ {e : ℕ} {r' f' : List ℕ} {a : Answer} (z : t.kind ≡ 0 → ⊥)
           (u : unpack e ≡ error_at 15 t.place 0 t.kind)
@@ -74,8 +74,8 @@ module _ {w : List ℕ} {n : ℕ} {r f : List ℕ} {s : State} {close : ℕ} {t 
             rw (run, no v m, no v (λ y. mc (y ∙ ck)), no v z)
             (make_same d k i (rw (v.place, v.kind) (sym u)) (adv s v (λ _. plain) f rd _))
 
-        pub comma-other : Commas w n r f s close r' f' a
-        comma-other = record {
+        pub comma_other : Commas w n r f s close r' f' a
+        comma_other = record {
           moved = rw g.is (moved_trans (fore_moved q v) (making_moved (asks_fore q v) Done));
           pos = made_so Done n (fore s t) (λ y. y.state.pos ≡ s.pos) g.is (λ l. refl) (λ l. refl);
           is = λ x k ck d rd i. made_so Done n (fore s t) (λ y. CommasOf y.status w x n k r f s r' f' y.state d rd i) g.is

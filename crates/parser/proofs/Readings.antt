@@ -119,9 +119,9 @@ module _ {w x : List ℕ} {n : ℕ} {o r f : List ℕ} {a : Answer} (B : ReadsMo
   pub refused_of : Ended a → parse_module (rest w x n 0) ≡ refused (refusal_number a.status)
   refused_of e = one a.status refl e
     where
-      one : (h : Status) → a.status ≡ h → tag_of the_type h ≡ 2 → parse_module (rest w x n 0) ≡ refused (refusal_number h)
-      one Done z e = absurd (omega arith)
-      one Fatal z e = absurd (omega arith)
+      one : (h : Status) → a.status ≡ h → (m : ℕ) × (h ≡ Refused m) → parse_module (rest w x n 0) ≡ refused (refusal_number h)
+      one Done z e = absurd (let y : Done ≡ Refused e.0 = e.1 in cc)
+      one Fatal z e = absurd (let y : Fatal ≡ Refused e.0 = e.1 in cc)
       one (Refused k) z e = refused_with k z
 
   pub done_of_module : Alive a → a.status ≡ Done
@@ -132,7 +132,7 @@ module _ {w x : List ℕ} {n : ℕ} {o r f : List ℕ} {a : Answer} (B : ReadsMo
       one Fatal e l = absurd (B.never e)
       one (Refused k) e l =
           absurd (if_alive (λ (h : Status). h ≡ Refused k → ⊥) a.status l
-          (λ z. let y : ◌≡◌ {A = ℕ} 0 1 = cc in omega arith) (λ z. let y : ◌≡◌ {A = ℕ} 0 1 = cc in omega arith)
+          (λ z. cc) (λ z. cc)
           e)
 
 -- ---- the definition's answer for at least one token
@@ -283,11 +283,11 @@ module _ (T : List ℕ) (n : ℕ) (E : List ℕ) (m : ℕ) (X o : List ℕ) wher
     read_accepted e = read_long ∙ ap (λ (x : Option O.Validated). tested_by false x o) e
 
     module _ (g : is_some (O.validate T n E m X) ≡ true) where
-      pub read-good : {r : Written} {o' : List ℕ} → ReadValidated T n E m X o o' r → answer r o' ≡ O.read T n E m X o
-      read-good R = let t = there (O.validate T n E m X) g in R t.value t.is ∙ sym (read_accepted t.is)
+      pub read_good : {r : Written} {o' : List ℕ} → ReadValidated T n E m X o o' r → answer r o' ≡ O.read T n E m X o
+      read_good R = let t = there (O.validate T n E m X) g in R t.value t.is ∙ sym (read_accepted t.is)
 
       pub read_none : {r : Written} → n ≡ 0 → r ≡ refusal_of 9 → answer r o ≡ O.read T n E m X o
       read_none z e =
-          read-good (λ v y. let k : v.tokens ≡ [] = sym (tested T n E m X v y).tokens ∙ rest_nil T X n 0
+          read_good (λ v y. let k : v.tokens ≡ [] = sym (tested T n E m X v y).tokens ∙ rest_nil T X n 0
           (omega (arith, z)) in
           rw (e, k))

@@ -110,21 +110,21 @@ module _ (s o : List ℕ) (q : Stands s origin × (length s ≤ 16384) × (65536
       d : Done 2048 (rest s origin) T E X f
       d = ran_done g n
 
-      pub whole-validated : is_some (validate T f.tokens E f.errors X) ≡ true
-      whole-validated = ap is_some (validated_back s q.0 q.1 d)
+      pub whole_validated : is_some (validate T f.tokens E f.errors X) ≡ true
+      whole_validated = ap is_some (validated_back s q.0 q.1 d)
 
-      pub whole-none : f.tokens ≡ 0 → written o (O.refused 9) ≡ whole s o
+      pub whole_none : f.tokens ≡ 0 → written o (O.refused 9) ≡ whole s o
       unfolding read_tokens
-      whole-none k = go d.ts (omega (arith, d.holds.tokens)) (runs d.is)
+      whole_none k = go d.ts (omega (arith, d.holds.tokens)) (runs d.is)
         where
           go : (ts : List Tok) → length ts ≡ 0 → written o (read_tokens ts d.es) ≡ whole s o → written o (O.refused 9) ≡ whole s o
           go [] m e = e
           go (t ∷ ts) m e = absurd (omega arith)
 
-      pub whole-read : {o' : List ℕ} {w : Written} → (f.tokens ≡ 0 → ⊥) → ReadValidated T f.tokens E f.errors X o o' w
+      pub whole_read : {o' : List ℕ} {w : Written} → (f.tokens ≡ 0 → ⊥) → ReadValidated T f.tokens E f.errors X o o' w
           → answer w o' ≡ whole s o
       unfolding read_tokens
-      whole-read {o'} {w} k r = go d.ts (λ m. k (d.holds.tokens ∙ m)) (r _ (validated_back s q.0 q.1 d)) (runs d.is)
+      whole_read {o'} {w} k r = go d.ts (λ m. k (d.holds.tokens ∙ m)) (r _ (validated_back s q.0 q.1 d)) (runs d.is)
         where
           go : (ts : List Tok) → (length ts ≡ 0 → ⊥) → answer w o' ≡ O.read_validated o ts d.es
               → written o (read_tokens ts d.es) ≡ whole s o → answer w o' ≡ whole s o

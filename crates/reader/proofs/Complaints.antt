@@ -137,17 +137,17 @@ module _ (s : List ℕ) (z : Stands s origin) (h : length s ≤ 16384) where
       records : Tested T f.tokens E f.errors X v
       records = tested T f.tokens E f.errors X v valid
 
-      pub examine-valid : is_some (O.validate T f.tokens E f.errors X) ≡ true
-      examine-valid = ap is_some valid
+      pub examine_valid : is_some (O.validate T f.tokens E f.errors X) ≡ true
+      examine_valid = ap is_some valid
 
       tokenized : S.examine s ≡ S.parsed (P.rest s origin) (Z.tokens (rest T X f.tokens 0) d.es)
       tokenized =
           examine_by ∙ ap (S.parsed (P.rest s origin)) (within_limit (P.rest s origin) ∙ d.is
           ∙ ap (λ (ts : List Tok). Z.tokens ts d.es) (sym records.tokens))
 
-      pub examine-none : f.tokens ≡ 0 → S.examine s ≡ S.refused 9
+      pub examine_none : f.tokens ≡ 0 → S.examine s ≡ S.refused 9
       unfolding S.parsed
-      examine-none k = go (rest T X f.tokens 0) (ap length records.tokens ∙ sym d.holds.tokens
+      examine_none k = go (rest T X f.tokens 0) (ap length records.tokens ∙ sym d.holds.tokens
           ∙ k) tokenized
         where
           go : (ts : List Tok) → length ts ≡ 0 → S.examine s ≡ S.parsed (P.rest s origin) (Z.tokens ts d.es)
@@ -164,12 +164,12 @@ module _ (s : List ℕ) (z : Stands s origin) (h : length s ≤ 16384) where
             (λ m. k (d.holds.tokens ∙ sym (ap length records.tokens) ∙ m)) e
 
         module _ {o r l : List ℕ} {a : Answer} (B : ReadsModule T X f.tokens 96 o r l a) where
-          pub examine-refused : Ended a → S.examine s ≡ S.refused (refusal_number a.status)
-          examine-refused x = reading (A.refused (refusal_number a.status)) (refused_of B x)
+          pub examine_refused : Ended a → S.examine s ≡ S.refused (refusal_number a.status)
+          examine_refused x = reading (A.refused (refusal_number a.status)) (refused_of B x)
 
           -- a refusal of the parser is not 0
-          pub refusal-above : Ended a → refusal_number a.status ≡ 0 → ⊥
-          refusal-above x e =
+          pub refusal_above : Ended a → refusal_number a.status ≡ 0 → ⊥
+          refusal_above x e =
               parse_refuses (rest T X f.tokens 0) 0
               (λ m. k (d.holds.tokens ∙ sym (ap length records.tokens) ∙ m))
               (refused_of B x ∙ ap (λ (n : ℕ). A.refused n) e) (omega arith)
@@ -194,8 +194,8 @@ module _ (s : List ℕ) (z : Stands s origin) (h : length s ≤ 16384) where
                 ∙ same_found (P.rest s origin) (rest T X f.tokens 0) (ap or_none (sym records.errors))
                 (sym outcome.reported) outcome.full
 
-            pub examine-holds : 256 ≤ length r → 256 ≤ length l → Holds s T E X r l counts
-            examine-holds lr ll =
+            pub examine_holds : 256 ≤ length r → 256 ≤ length l → Holds s T E X r l counts
+            examine_holds lr ll =
                 record {
                   is = examine-found;
                   script = record { stands = z; short = h };

@@ -46,11 +46,11 @@ module _ (m : S.Meaning) {b : ℕ} where
     spoken_got e = rw (ne_eqb b 69 ne, eq-eqb b 71 e)
 
     module _ (ng : b ≡ 71 → ⊥) where
-      pub spoken-character : b ≡ 67 → m.text ≡ spoken_byte m b
-      spoken-character e = rw (ne_eqb b 69 ne, ne_eqb b 71 ng, eq-eqb b 67 e)
+      pub spoken_character : b ≡ 67 → m.text ≡ spoken_byte m b
+      spoken_character e = rw (ne_eqb b 69 ne, ne_eqb b 71 ng, eq-eqb b 67 e)
 
-      pub spoken-itself : (b ≡ 67 → ⊥) → b ∷ [] ≡ spoken_byte m b
-      spoken-itself nc = rw (ne_eqb b 69 ne, ne_eqb b 71 ng, ne_eqb b 67 nc)
+      pub spoken_itself : (b ≡ 67 → ⊥) → b ∷ [] ≡ spoken_byte m b
+      spoken_itself nc = rw (ne_eqb b 69 ne, ne_eqb b 71 ng, ne_eqb b 67 nc)
 
 -- ---- a table of messages
 

@@ -198,8 +198,8 @@ module _ {s o : List ℕ} {n : ℕ} {o' : List ℕ} {m : ℕ} {c : Cursor} (q : 
         (ap (λ (k : ℕ). code_of (get_or s c.at 0) (take k (drop (c.at + 1) s))) (sym z) ∙ sym e))
 
     module _ {k : ℕ} (e : k ≡ code_between s c.at d.at) where
-      pub quoting-short : Short (escaped_all (rest s origin)) n → Short (escaped k) m
-      quoting-short h = saying_short (escaped k) (escaped_all (rest s d)) (character_left e) h
+      pub quoting_short : Short (escaped_all (rest s origin)) n → Short (escaped k) m
+      quoting_short h = saying_short (escaped k) (escaped_all (rest s d)) (character_left e) h
 
       pub quoting_more : {o'' : List ℕ} {l : ℕ} → Said (escaped k) o' m o'' l → Quoting s o n o'' l d
       quoting_more w = record {

@@ -121,12 +121,12 @@ module _ {w x : List ℕ} {n d : ℕ} {o r f : List ℕ} {s : State} {t : Token}
       assigned-moved : Moved w n i s.reported s b.state
       assigned-moved = moved_trans (fore_moved q.asks u) (abandoned_moved B.moved C)
 
-      pub assigned-asks : length r2 ≡ length r → length f1 ≡ length f → Follows w n r2 f1 b i s.reported
-      assigned-asks lr lf = record { asks = asks_moved q.asks assigned-moved lr lf; pos = C.low; reported = C.first }
+      pub assigned_asks : length r2 ≡ length r → length f1 ≡ length f → Follows w n r2 f1 b i s.reported
+      assigned_asks lr lf = record { asks = asks_moved q.asks assigned-moved lr lf; pos = C.low; reported = C.first }
 
-      pub assigned-room : {r3 f2 : List ℕ} {c : Answer} → Expected w n 50 i s.reported r2 f1 b r3 f2 c
+      pub assigned_room : {r3 f2 : List ℕ} {c : Answer} → Expected w n 50 i s.reported r2 f1 b r3 f2 c
           → length o1 ≡ length o → Room o1 x c.state.pos (16 + 0) 0 0
-      assigned-room X l = record { room = omega (arith, q.room, assigned-moved.room, X.high); part = omega arith }
+      assigned_room X l = record { room = omega (arith, q.room, assigned-moved.room, X.high); part = omega arith }
 
 -- a record is written only after a good answer
 node_written_high : {x o o' : List ℕ} {b y : Answer} {tag place : ℕ} → NodeWritten x o b (placed tag place) o' y
@@ -210,11 +210,11 @@ module _ {w x : List ℕ} {n d : ℕ} {o r f o1 r1 f1 : List ℕ} {s : State} {a
 
     module _ (z : a.status ≡ Done) (lo : length o1 ≡ length o) (lr : length r1 ≡ length r) where
       -- the expression has errors: the statement ends with it; else `after_expression` continues
-      pub statement-errors : {o2 : List ℕ} {y : Answer} → s.reported < a.state.reported
+      pub statement_errors : {o2 : List ℕ} {y : Answer} → s.reported < a.state.reported
           → NodeWritten x o1 a (placed 0x41 place) o2 y
           → Reads node w x n d (P.expression_statement (unpack_place place)) o r f s o2 r1 f1 y
       unfolding go run P.expression_statement
-      statement-errors {o2} {y} h F =
+      statement_errors {o2} {y} h F =
           let e : budget w n y.state.at ≡ budget w n a.state.at = ap (λ (k : ℕ). budget w n k) F.at in
           let k : Fallible Node → Act (Ans Node) = wrapped node [] [] 0x41 (λ _. unpack_place place) (λ _. []) [] in
           record {
@@ -241,11 +241,11 @@ module _ {w x : List ℕ} {n d : ℕ} {o r f o1 r1 f1 : List ℕ} {s : State} {a
                 (writes_node d (λ _. unpack_place place) (λ _. []) [] F (λ _ _. refl) (B.is rd));
           }
 
-      pub statement-after : {o2 r2 f2 : List ℕ} {y : Answer} → (s.reported < a.state.reported → ⊥)
+      pub statement_after : {o2 r2 f2 : List ℕ} {y : Answer} → (s.reported < a.state.reported → ⊥)
           → ReadsAfter w x n d (P.after_expression (unpack_place place)) s.pos o1 r1 f1 a.state o2 r2 f2 y
           → Reads node w x n d (P.expression_statement (unpack_place place)) o r f s o2 r2 f2 y
       unfolding go run P.expression_statement
-      statement-after {o2} {r2} {f2} {y} h G = record {
+      statement_after {o2} {r2} {f2} {y} h G = record {
         moved =
             record {
               at = omega (arith, G.moved, B.moved);

@@ -144,10 +144,10 @@ module _ {w x : List ℕ} {n count : ℕ} {o r f : List ℕ} {s : State} {t : To
       unfolding go run P.body_turn ◌>>=◌
       statement-turn rd l = go_loop d (Body l) (st_of w x n f rd s) ∙ rw (run, no v m40, no v m0)
 
-      pub rest-refused : Ended b → LoopOn statements_on w x n d count o r f s o1 r1 f1 b
-      rest-refused h = loop_refused statements_on statements_on P.parse_statement statement-turn u h
+      pub rest_refused : Ended b → LoopOn statements_on w x n d count o r f s o1 r1 f1 b
+      rest_refused h = loop_refused statements_on statements_on P.parse_statement statement-turn u h
 
-      pub rest-next : {k : ℕ} {o3 r3 f3 : List ℕ} {y : Answer} → Alive b → Counted b.status count k
+      pub rest_next : {k : ℕ} {o3 r3 f3 : List ℕ} {y : Answer} → Alive b → Counted b.status count k
           → LoopOn statements_on w x n d k o1 r1 f1 b.state o3 r3 f3 y
           → LoopOn statements_on w x n d count o r f s o3 r3 f3 y
-      rest-next h c l = loop_next statements_on P.parse_statement statement-turn u h c l
+      rest_next h c l = loop_next statements_on P.parse_statement statement-turn u h c l

@@ -131,23 +131,23 @@ module _ {w x : List ℕ} {n d : ℕ} {o r f r1 f1 : List ℕ} {s : State} {a : 
         }
 
     module _ {t : Token} (u : Seen w n a.state.at t) where
-      pub compound-array : {o1 r2 f2 : List ℕ} {y : Answer} → t.kind ≡ 43
+      pub compound_array : {o1 r2 f2 : List ℕ} {y : Answer} → t.kind ≡ 43
           → Reads node w x n d (values_rule A.ArrayValues 0x30 (unpack_place t.place)) o r1 f1
           a.state o1 r2 f2 y
           → Reads node w x n d P.parse_compound o r f s o1 r2 f2 y
       unfolding go run
-      compound-array h B =
+      compound_array h B =
           compound_on (values_rule A.ArrayValues 0x30 (unpack_place t.place))
           (λ rd. rw (run, no {k = 0} u (λ e. omega (arith, h)), yes u h)
           (ap (λ (p : Place). go d (values_rule A.ArrayValues 0x30 p) (st_of w x n f1 rd a.state)) (u.place x)))
           B.moved B.is
 
-      pub compound-struct : {o1 r2 f2 : List ℕ} {y : Answer} → t.kind ≡ 39
+      pub compound_struct : {o1 r2 f2 : List ℕ} {y : Answer} → t.kind ≡ 39
           → Reads node w x n d (values_rule A.StructValues 0x31 (unpack_place t.place)) o r1 f1
           a.state o1 r2 f2 y
           → Reads node w x n d P.parse_compound o r f s o1 r2 f2 y
       unfolding go run
-      compound-struct h B =
+      compound_struct h B =
           compound_on (values_rule A.StructValues 0x31 (unpack_place t.place))
           (λ rd. rw (run, no {k = 0} u (λ e. omega (arith, h)), no {k = 43} u (λ e. omega (arith, h)), yes u h)
           (ap (λ (p : Place). go d (values_rule A.StructValues 0x31 p) (st_of w x n f1 rd a.state)) (u.place x)))
@@ -161,15 +161,15 @@ module _ {w x : List ℕ} {n d : ℕ} {o r f r1 f1 : List ℕ} {s : State} {a : 
             → Reads node w x n d P.parse_compound o r f s o r2 f2 y
         failed step = compound_on (P.raise (unpack e)) step (rw g.is (making_moved q Fatal)) (λ rd. raise_shows node q g d rd o)
 
-        pub compound-end : t.kind ≡ 0 → unpack e ≡ error_at 18 0 0 0 → Reads node w x n d P.parse_compound o r f s o r2 f2 y
+        pub compound_end : t.kind ≡ 0 → unpack e ≡ error_at 18 0 0 0 → Reads node w x n d P.parse_compound o r f s o r2 f2 y
         unfolding go run
-        compound-end z i = failed (λ rd. rw (run, yes u z) (raise_same d {S = st_of w x n f1 rd a.state} (sym i) refl))
+        compound_end z i = failed (λ rd. rw (run, yes u z) (raise_same d {S = st_of w x n f1 rd a.state} (sym i) refl))
 
-        pub compound-other : (t.kind ≡ 0 → ⊥) → (t.kind ≡ 43 → ⊥) → (t.kind ≡ 39 → ⊥)
+        pub compound_other : (t.kind ≡ 0 → ⊥) → (t.kind ≡ 43 → ⊥) → (t.kind ≡ 39 → ⊥)
             → unpack e ≡ error_at 19 t.place 0 t.kind
             → Reads node w x n d P.parse_compound o r f s o r2 f2 y
         unfolding go run
-        compound-other m0 m43 m39 i =
+        compound_other m0 m43 m39 i =
             failed (λ rd. rw (run, no u m0, no u m43, no u m39)
             (raise_same d {S = st_of w x n f1 rd a.state} (rw (u.place, u.kind) (sym i)) refl))
 

@@ -496,10 +496,10 @@ module _ {w x : List ℕ} {n d : ℕ} {o r f : List ℕ} {s : State} {t : Token}
 
     module _ {t2 : Token} (z : a.status ≡ Done) (v : Seen w n a.state.at t2) where
       -- without `else`, and with it
-      pub if-two : {o2 : List ℕ} {y : Answer} → (t2.kind ≡ 11 → ⊥) → NodeWritten x o1 a (untexted t.place 0x49 (Byte 2)) o2 y
+      pub if_two : {o2 : List ℕ} {y : Answer} → (t2.kind ≡ 11 → ⊥) → NodeWritten x o1 a (untexted t.place 0x49 (Byte 2)) o2 y
           → Reads node w x n d P.statement_rule o r f s o2 r1 f1 y
       unfolding go run
-      if-two {o2} {y} h F =
+      if_two {o2} {y} h F =
           let e : budget w n y.state.at ≡ budget w n a.state.at = ap (λ (k : ℕ). budget w n k) F.at in
           let k : Fallible Node → Act (Ans Node) = wrapped node [] [] 0x49 (λ _. here w x n s) (λ _. byte 2 ∷ []) [] in
           record {
@@ -525,12 +525,12 @@ module _ {w x : List ℕ} {n d : ℕ} {o r f : List ℕ} {s : State} {t : Token}
                 (B.is (past w x n s.at rd)));
           }
 
-      pub if-three : {o2 r2 f2 r3 o3 : List ℕ} {b c y : Answer} → t2.kind ≡ 11
+      pub if_three : {o2 r2 f2 r3 o3 : List ℕ} {b c y : Answer} → t2.kind ≡ 11
           → Reads node w x n d P.parse_statement o1 r1 f1 (fore a.state t2) o2 r2 f2 b → length r1 ≡ length r
           → Abandoned r2 b s.pos s.reported a.state.reported r3 c
           → NodeWritten x o2 c (untexted t.place 0x49 (Byte 3)) o3 y → Reads node w x n d P.statement_rule o r f s o3 r3 f2 y
       unfolding go run
-      if-three {b = b} {c = c} {y = y} h D lr C F =
+      if_three {b = b} {c = c} {y = y} h D lr C F =
           let e : budget w n y.state.at ≡ budget w n b.state.at = ap (λ (k : ℕ). budget w n k) (F.at ∙ C.at) in
           record {
             moved =

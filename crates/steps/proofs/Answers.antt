@@ -36,7 +36,7 @@ use Rattle.steps.specs.Shows.{st_of, Asks, View, Good, ShowsOf, Shows, done_of, 
 
 -- an answer that is fatal or refused
 abbrev pub Stopped : Answer → Type 0
-Stopped a = OneOf (1 ∷ 2 ∷ []) (tag_of the_type a.status)
+Stopped a = a.status ≡ Done → ⊥
 
 -- ---- what an answer represents
 
@@ -53,8 +53,8 @@ module _ {A : Type 0} {K : View A} {T : List ℕ} {E : List Err} {rs : List Rec}
   pub is_good : a.status ≡ Done → Good K T E rs es w x n o r f a q → Shows K T E rs es w x n o r f a q
   is_good z g = record { told = subst (λ (h : Status). ShowsOf h K T E rs es w x n o r f a q) (sym z) g }
 
-pub not_done : (h : Status) → OneOf (1 ∷ 2 ∷ []) (tag_of the_type h) → done_of h ≡ 0
-not_done Done nd = absurd (⊎_elim (λ z. omega arith) (λ z. omega arith) nd)
+pub not_done : (h : Status) → (h ≡ Done → ⊥) → done_of h ≡ 0
+not_done Done nd = absurd (nd refl)
 not_done Fatal nd = refl
 not_done (Refused u) nd = refl
 
@@ -72,9 +72,9 @@ unfolding go run
 stops {K = K} {L = L} {T = T} {E = E} {rs = rs} {rs' = rs'} {es = es} {es' = es'} {w = w} {x = x} {n = n} {o = o} {r = r} {f = f} {a = a} d k q nd v =
     record { told = one a.status nd v.told }
   where
-    one : (h : Status) → OneOf (1 ∷ 2 ∷ []) (tag_of the_type h) → ShowsOf h K T E rs es w x n o r f a q
+    one : (h : Status) → (h ≡ Done → ⊥) → ShowsOf h K T E rs es w x n o r f a q
         → ShowsOf h L T E rs' es' w x n o r f a (after q (λ z S. go d (or_return k z) S))
-    one Done nd i = absurd (⊎_elim (λ z. omega arith) (λ z. omega arith) nd)
+    one Done nd i = absurd (nd refl)
     one Fatal nd i = record { errors = i.errors; read = i.read; is = rw i.is; tree = i.tree; reported = i.reported }
     one (Refused u) nd i = rw i
 

@@ -168,8 +168,8 @@ module _ {w : List ℕ} {n k i j : ℕ} {r f : List ℕ} {a : Answer} (q : Follo
     is = one a.status nd;
   }
     where
-      one : (h : Status) → OneOf (1 ∷ 2 ∷ []) (tag_of the_type h) → ExpectedOf h w n k i j r f a r f a
-      one Done nd = absurd (⊎_elim (λ z. omega arith) (λ z. omega arith) nd)
+      one : (h : Status) → (h ≡ Done → ⊥) → ExpectedOf h w n k i j r f a r f a
+      one Done nd = absurd (nd refl)
       one Fatal nd = (refl, (refl, refl))
       one (Refused m) nd = (refl, (refl, refl))
 
@@ -202,8 +202,8 @@ module _ {x o : List ℕ} {a : Answer} {v : Record} where
   pub write_node_stop : Stopped a → NodeWritten x o a v o a
   write_node_stop nd = record { at = refl; reported = refl; full = refl; low = omega arith; high = omega arith; is = one a.status nd }
     where
-      one : (h : Status) → OneOf (1 ∷ 2 ∷ []) (tag_of the_type h) → NodeWrittenOf h x o a v o a
-      one Done nd = absurd (⊎_elim (λ z. omega arith) (λ z. omega arith) nd)
+      one : (h : Status) → (h ≡ Done → ⊥) → NodeWrittenOf h x o a v o a
+      one Done nd = absurd (nd refl)
       one Fatal nd = (refl, refl)
       one (Refused m) nd = (refl, refl)
 

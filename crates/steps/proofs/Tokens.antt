@@ -68,7 +68,7 @@ pub present_kind : {w : List ℕ} {n : ℕ} (at : ℕ) → Held w n → (x : Lis
 unfolding present
 present_kind {w} {n} at q x =
     elim (dec_le n at)
-    [ yes g ↦ rw (rest_nil w x n at g) (omega arith) | no g ↦ let h : at < n = omega (arith, g) in rw (rest_cons w x n at h) (omega (arith, (q.each at h).real)) ]
+    [ Prim.yes g ↦ rw (rest_nil w x n at g) (omega arith) | Prim.no g ↦ let h : at < n = omega (arith, g) in rw (rest_cons w x n at h) (omega (arith, (q.each at h).real)) ]
 
 pub present_within : (n i : ℕ) → i ≤ n → i + present n i ≤ n
 unfolding present

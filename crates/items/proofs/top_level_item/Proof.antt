@@ -1,4 +1,4 @@
-use Rattle.items.proofs.Modules.{item_function, item_alias, item-use, item-variable, item-assembly, item-other}
+use Rattle.items.proofs.Modules.{item_function, item_alias, item_use, item_variable, item_assembly, item_other}
 use Rattle.expression_laws.proofs.Types.{raise_asked}
 use Rattle.steps.proofs.Moves.{asked_seen, room_token}
 use native.Mathlib.Omega.{arith}
@@ -94,7 +94,7 @@ returns-3 c =
     let at-if2 = at-if3.before.before in
     let at-if1 = at-if2.before.before.before.before in
     let at-peek = at-if1.before.before.before in
-    item-use at-peek.peek.ensures at-if1.if1.false at-if2.if2.false at-if3.if3.true
+    item_use at-peek.peek.ensures at-if1.if1.false at-if2.if2.false at-if3.if3.true
     (at-use-path.use-path.ensures _)
 
 top-level-var-declaration-requires : tie.Need-top-level-var-declaration-requires
@@ -125,7 +125,7 @@ returns-4 c =
     let at-if2 = at-if3.before.before in
     let at-if1 = at-if2.before.before.before.before in
     let at-peek = at-if1.before.before.before in
-    item-variable at-peek.peek.ensures at-if1.if1.false at-if2.if2.false at-if3.if3.false
+    item_variable at-peek.peek.ensures at-if1.if1.false at-if2.if2.false at-if3.if3.false
     at-if4.if4.true at-top-level-var-declaration.top-level-var-declaration.ensures
 
 leaf-requires : tie.Need-leaf-requires
@@ -149,7 +149,7 @@ returns-5 c =
     let at-if1 = at-if2.before.before.before.before in
     let at-peek = at-if1.before.before.before in
     let start = at-peek.before.before.before.before.before.before in
-    item-assembly at-peek.peek.ensures at-if1.if1.false at-if2.if2.false at-if3.if3.false
+    item_assembly at-peek.peek.ensures at-if1.if1.false at-if2.if2.false at-if3.if3.false
     at-if4.if4.false start.requires at-if5.if5.true at_leaf.leaf.ensures
 
 entry-requires : tie.Need-entry-requires
@@ -184,7 +184,7 @@ returns-6 c =
     let at-if1 = at-if2.before.before.before.before in
     let at-peek = at-if1.before.before.before in
     let start = at-peek.before.before.before.before.before.before in
-    item-other at-peek.peek.ensures at-if1.if1.false at-if2.if2.false at-if3.if3.false
+    item_other at-peek.peek.ensures at-if1.if1.false at-if2.if2.false at-if3.if3.false
     at-if4.if4.false start.requires at-if5.if5.false at_entry_lem.entry.ensures
     at-raise.raise.ensures
 

@@ -1,4 +1,4 @@
-use Rattle.parser.proofs.Readings.{read_short, read_bad, read-good, read_none}
+use Rattle.parser.proofs.Readings.{read_short, read_bad, read_good, read_none}
 use borrow.Author.Tests.{not-true, not-false}
 use mathlib.Core.Path.{sym, ◌∙◌}
 use native.Mathlib.Omega.{arith}
@@ -60,7 +60,7 @@ returns-4 c =
     let at-if2 = at-read-tokens.before.before.before in
     let at-valid-records = at-if2.before in
     let at-if1 = at-valid-records.before in
-    read-good _ _ _ _ _ _ (omega (arith, at-if1.if1.false))
+    read_good _ _ _ _ _ _ (omega (arith, at-if1.if1.false))
     (sym at-valid-records.valid-records.ensures ∙ not-false _ at-if2.if2.false)
     at-read-tokens.read_tokens.ensures
 

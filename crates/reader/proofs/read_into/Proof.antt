@@ -1,4 +1,4 @@
-use Rattle.reader.proofs.Cases.{whole_stopped, whole-none, whole-validated, whole-read}
+use Rattle.reader.proofs.Cases.{whole_stopped, whole_none, whole_validated, whole_read}
 use mathlib.Core.Path.{◌∙◌}
 use native.Mathlib.Omega.{arith}
 use borrow.Author.Rules.{rules}
@@ -61,7 +61,7 @@ returns-2 c =
     let start = at-run.before.before.before.before.before.before.before.before.before in (
       at-run.run.ensures,
       at-cleared2.cleared2.ensures
-          ∙ whole-none _ _ (start.requires.0.0, start.requires.0.1, start.requires.1) at-run.run.ensures
+          ∙ whole_none _ _ (start.requires.0.0, start.requires.0.1, start.requires.1) at-run.run.ensures
           at-if1.if1.false at-if2.if2.true,
     )
 
@@ -74,7 +74,7 @@ read-tokens-requires c κs =
       start.requires.1,
       (
         omega (arith, at-if2.if2.false),
-        whole-validated _ start.args.file.now (start.requires.0.0, start.requires.0.1, start.requires.1)
+        whole_validated _ start.args.file.now (start.requires.0.0, start.requires.0.1, start.requires.1)
             at-run.run.ensures at-if1.if1.false,
       ),
     )
@@ -99,7 +99,7 @@ returns-3 c =
     let at-run = at-if1.before.before.before.before.before.before.before.before in
     let start = at-run.before.before.before.before.before.before.before.before.before in (
       at-run.run.ensures,
-      whole-read _ _ (start.requires.0.0, start.requires.0.1, start.requires.1) at-run.run.ensures
+      whole_read _ _ (start.requires.0.0, start.requires.0.1, start.requires.1) at-run.run.ensures
           at-if1.if1.false at-if2.if2.false at-read-tokens.read_tokens.ensures,
     )
 

@@ -1,6 +1,6 @@
 use Rattle.sentences.proofs.Saying.{said_same, short_same}
 use Rattle.sentences.specs.Messages.{meaning_of}
-use Rattle.sentences.proofs.Messages.{spoken_expected, spoken_got, spoken-character, spoken-itself}
+use Rattle.sentences.proofs.Messages.{spoken_expected, spoken_got, spoken_character, spoken_itself}
 use borrow.Author.Rules.{rules}
 use Rattle.sentences.proofs.say_part.Statement.{statement}
 use Rattle.sentences.proofs.say_part.Tie as tie
@@ -48,7 +48,7 @@ say-all-requires c κs =
     let at-if1 = at-if2.before in
     let start = at-if1.before.before.before in
     let meaning = meaning_of start.args.m start.args.text.now in
-    short_same start.requires.1 (spoken-character meaning at-if1.if1.false at-if2.if2.false
+    short_same start.requires.1 (spoken_character meaning at-if1.if1.false at-if2.if2.false
     at-if3.if3.true)
 
 same-length-3 : tie.Need-same-length-3
@@ -61,7 +61,7 @@ returns-3 c =
     let at-if1 = at-if2.before in
     let start = at-if1.before.before.before in
     let meaning = meaning_of start.args.m start.args.text.now in
-    said_same c.before.before.say-all.ensures (spoken-character meaning at-if1.if1.false
+    said_same c.before.before.say-all.ensures (spoken_character meaning at-if1.if1.false
     at-if2.if2.false at-if3.if3.true)
 
 say-requires : tie.Need-say-requires
@@ -71,7 +71,7 @@ say-requires c κs =
     let at-if1 = at-if2.before in
     let start = at-if1.before.before.before in
     let meaning = meaning_of start.args.m start.args.text.now in
-    short_same start.requires.1 (spoken-itself meaning at-if1.if1.false at-if2.if2.false at-if3.if3.false)
+    short_same start.requires.1 (spoken_itself meaning at-if1.if1.false at-if2.if2.false at-if3.if3.false)
 
 same-length-4 : tie.Need-same-length-4
 same-length-4 c = search rules
@@ -83,7 +83,7 @@ returns-4 c =
     let at-if1 = at-if2.before in
     let start = at-if1.before.before.before in
     let meaning = meaning_of start.args.m start.args.text.now in
-    said_same c.before.before.say.ensures (spoken-itself meaning at-if1.if1.false at-if2.if2.false
+    said_same c.before.before.say.ensures (spoken_itself meaning at-if1.if1.false at-if2.if2.false
     at-if3.if3.false)
 
 pub say-part-spec : {M : Type 1} → statement M

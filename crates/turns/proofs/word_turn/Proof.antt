@@ -1,6 +1,6 @@
 use Rattle.turns.proofs.Turned.{ready_on, ready_wrote}
 use native.Mathlib.Omega.{arith}
-use Rattle.turns.proofs.Words.{word_foreign_law, word_asm_law, word-identifier-law, word-keyword-law}
+use Rattle.turns.proofs.Words.{word_foreign_law, word_asm_law, word_identifier_law, word_keyword_law}
 use borrow.Author.Rules.{rules}
 use Rattle.turns.proofs.word_turn.Statement.{statement}
 use Rattle.turns.proofs.word_turn.Tie as tie
@@ -136,7 +136,7 @@ returns-3 c =
     let at-word = at-look.before.before.before.before in
     let at-put8 = at-word.before.before.before.before in
     let start = at-put8.before.before.before.before.before.before.before in
-    word-identifier-law _ start.requires.0 at-put8.put8.ensures at-word.word.ensures
+    word_identifier_law _ start.requires.0 at-put8.put8.ensures at-word.word.ensures
     at-look.look.ensures at-is-foreign.is_foreign.ensures at-if1.if1.false
     at_same.same.ensures at-if2.if2.false
     at-keyword.keyword.ensures at-if3.if3.true at-with-text.with_text.ensures
@@ -165,7 +165,7 @@ returns-4 c =
     let at-word = at-look.before.before.before.before in
     let at-put8 = at-word.before.before.before.before in
     let start = at-put8.before.before.before.before.before.before.before in
-    word-keyword-law _ start.requires.0 at-put8.put8.ensures at-word.word.ensures
+    word_keyword_law _ start.requires.0 at-put8.put8.ensures at-word.word.ensures
     at-look.look.ensures at-is-foreign.is_foreign.ensures at-if1.if1.false
     at_same.same.ensures at-if2.if2.false
     at-keyword.keyword.ensures at-if3.if3.false at_plain.plain.ensures

@@ -1,6 +1,6 @@
 -- The needs of `array`.
 use Rattle.steps.proofs.Moves.{asked_seen, asks_fore}
-use Rattle.expression_laws.proofs.Types.{array_no_integer, array_no_size, array-open, array-done, raise_asked, size_asked, bracket-asked, array-room}
+use Rattle.expression_laws.proofs.Types.{array_no_integer, array_no_size, array_open, array_done, raise_asked, size_asked, bracket_asked, array_room}
 use borrow.Author.Rules.{rules}
 use native.Mathlib.Omega.{arith}
 use Prim.Native.Nat.{ℕ}
@@ -137,7 +137,7 @@ module _ (t : ℕ) where
       let at-if1 = at-array-size.before in
       let at-peek = at-if1.before.before in
       let start = at-peek.before.before.before.before.before.before in
-      array-open start.args.place start.requires.1
+      array_open start.args.place start.requires.1
       at-peek.peek.ensures at-if1.if1.false at-array-size.array_size.ensures at-if2.if2.false
       at-expect.expect.ensures c.match.keys2
 
@@ -147,7 +147,7 @@ module _ (t : ℕ) where
       let at-peek = at-expect.before.before.before.before.before.before.before.before in
       let start = at-peek.before.before.before.before.before.before in (
         omega (arith, start.requires.0, at-peek.peek.ensures, at-expect.expect.ensures.moved),
-        bracket-asked start.requires.1.0 at-peek.peek.ensures at-expect.expect.ensures
+        bracket_asked start.requires.1.0 at-peek.peek.ensures at-expect.expect.ensures
             (omega (arith, at-expect.expect.auto)) (omega (arith, at-expect.expect.auto)),
       )
 
@@ -157,7 +157,7 @@ module _ (t : ℕ) where
       let at-expect = at-ty.before.before.before.before.before.before.before.before.before.before.before in
       let at-peek = at-expect.before.before.before.before.before.before.before.before in
       let start = at-peek.before.before.before.before.before.before in
-      array-room start.requires.1.0 at-peek.peek.ensures at-expect.expect.ensures
+      array_room start.requires.1.0 at-peek.peek.ensures at-expect.expect.ensures
       at-ty.ty.ensures (omega (arith, at-ty.ty.auto))
 
   pub same-length-7 : lts.Need-same-length-7 given (array_at t) array.Post
@@ -190,7 +190,7 @@ module _ (t : ℕ) where
       let at-if1 = at-array-size.before in
       let at-peek = at-if1.before.before in
       let start = at-peek.before.before.before.before.before.before in
-      array-done start.args.place start.requires.1
+      array_done start.args.place start.requires.1
       at-peek.peek.ensures at-if1.if1.false at-array-size.array_size.ensures at-if2.if2.false
       at-expect.expect.ensures at-enum-told.enum_told.given.1 at-ty.ty.ensures
       at-write-node.write-node.ensures

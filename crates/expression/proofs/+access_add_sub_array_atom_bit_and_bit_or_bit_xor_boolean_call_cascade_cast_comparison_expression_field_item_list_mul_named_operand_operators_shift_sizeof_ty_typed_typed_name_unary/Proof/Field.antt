@@ -1,5 +1,5 @@
 -- The needs of `field`.
-use Rattle.expression_laws.proofs.Names.{field_follows, field_asked, field_stops, field_room, field-done}
+use Rattle.expression_laws.proofs.Names.{field_follows, field_asked, field_stops, field_room, field_done}
 use borrow.Author.Rules.{rules}
 use native.Mathlib.Omega.{arith}
 use Prim.Native.Nat.{ℕ}
@@ -152,6 +152,6 @@ module _ (t : ℕ) where
       let at-expect-identifier = at-and-expect.before.before.before.before.before.before.before in
       let at-peek = at-expect-identifier.before.before.before in
       let start = at-peek.before.before.before.before.before.before in
-      field-done start.requires.1 at-peek.peek.ensures at-expect-identifier.expect_identifier.ensures
+      field_done start.requires.1 at-peek.peek.ensures at-expect-identifier.expect_identifier.ensures
       at-and-expect.and-expect.ensures at-enum-told.enum_told.given.1
       at-expression.expression.ensures at-write-text-node.write-text-node.ensures

@@ -5,7 +5,7 @@ use Rattle.expression_laws.specs.Post.{LoopOn, listed_on}
 use Rattle.steps.proofs.Moves.{asked_moved}
 use Rattle.expression_laws.proofs.Types.{raise_asked}
 use Rattle.expression_laws.proofs.Turns.{ItemsTurned, at_start, one_turn}
-use Rattle.expression_laws.proofs.Lists.{list_refused, list_on, rest_end, rest_closed, rest-item, rest-comma, rest-next, comma_asks, rest_asked}
+use Rattle.expression_laws.proofs.Lists.{list_refused, list_on, rest_end, rest_closed, rest_item, rest_comma, rest_next, comma_asks, rest_asked}
 use borrow.Author.Rules.{rules}
 use native.Mathlib.Omega.{arith}
 use Prim.Native.Nat.{ℕ, ◌-◌}
@@ -227,7 +227,7 @@ module _ (t : ℕ) where
       list_on _ start.requires.1 at-opener.opener.ensures at-expect.expect.ensures
       at-match.match.keys2
       (at-loop.loop.invariant.1.rest
-      (rest-item _ at-loop.loop.invariant.0 at-peek.peek.ensures at-if1.if1.false
+      (rest_item _ at-loop.loop.invariant.0 at-peek.peek.ensures at-if1.if1.false
       at-closer.closer.ensures at-if2.if2.false at_item.item.ensures c.before.match2.keys1))
 
   pub comma-requires : lts.Need-comma-requires given (list_at t) list.Post Inv-loop μ-loop
@@ -294,7 +294,7 @@ module _ (t : ℕ) where
       list_on _ start.requires.1 at-opener.opener.ensures at-expect.expect.ensures
       at-match.match.keys2
       (at-loop.loop.invariant.1.rest
-      (rest-comma _ at-loop.loop.invariant.0 at-peek.peek.ensures at-if1.if1.false
+      (rest_comma _ at-loop.loop.invariant.0 at-peek.peek.ensures at-if1.if1.false
       at-closer.closer.ensures at-if2.if2.false at_item.item.ensures at-match2.match2.keys2
       at-comma.comma.ensures c.match3.keys2))
 
@@ -344,7 +344,7 @@ module _ (t : ℕ) where
             (omega (arith, at-comma.comma.auto, at_item.item.auto))
             (omega (arith, at-comma.comma.auto, at_item.item.auto))
             (omega (arith, at_item.item.ensures.moved, at-comma.comma.ensures.moved))
-            (λ _ _ _ _ g. rest-next _ at-loop.loop.invariant.0 at-peek.peek.ensures at-if1.if1.false
+            (λ _ _ _ _ g. rest_next _ at-loop.loop.invariant.0 at-peek.peek.ensures at-if1.if1.false
             at-closer.closer.ensures at-if2.if2.false at_item.item.ensures at-match2.match2.keys2
             at-comma.comma.ensures at-enum-told3.enum-told3.given.1 c.before.counted.ensures g),
       )

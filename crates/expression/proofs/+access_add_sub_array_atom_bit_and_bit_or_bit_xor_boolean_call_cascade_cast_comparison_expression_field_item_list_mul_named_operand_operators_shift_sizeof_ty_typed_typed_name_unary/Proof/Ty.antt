@@ -1,6 +1,6 @@
 -- The needs of `ty`.
 use Rattle.steps.proofs.Moves.{asked_seen, room_token}
-use Rattle.expression_laws.proofs.Types.{type_deep, type_name, type-star, type-array, type-struct, type-end, type-other, star_room, struct_room, raise_asked, array_asked}
+use Rattle.expression_laws.proofs.Types.{type_deep, type_name, type_star, type_array, type_struct, type_end, type_other, star_room, struct_room, raise_asked, array_asked}
 use borrow.Author.Rules.{rules}
 use native.Mathlib.Omega.{arith}
 use Prim.Native.Nat.{ℕ}
@@ -123,7 +123,7 @@ module _ (t : ℕ) where
       let at-peek = at-if2.before.before in
       let at-if1 = at-peek.before in
       let start = at-if1.before.before.before.before.before.before in
-      type-star start.requires.1 at-if1.if1.false at-peek.peek.ensures at-if2.if2.false
+      type_star start.requires.1 at-if1.if1.false at-peek.peek.ensures at-if2.if2.false
       at-if3.if3.true at-ty.ty.ensures at-write-node.write-node.ensures
 
   pub sub_array : lts.Need-overflow-sub-array given (ty_at t) ty.Post
@@ -162,7 +162,7 @@ module _ (t : ℕ) where
       let at-peek = at-if2.before.before in
       let at-if1 = at-peek.before in
       let start = at-if1.before.before.before.before.before.before in
-      type-array start.requires.1 at-if1.if1.false at-peek.peek.ensures at-if2.if2.false
+      type_array start.requires.1 at-if1.if1.false at-peek.peek.ensures at-if2.if2.false
       at-if3.if3.false at-if4.if4.true at-array.array.ensures
 
   pub sub-list : lts.Need-overflow-sub-list given (ty_at t) ty.Post
@@ -218,7 +218,7 @@ module _ (t : ℕ) where
       let at-peek = at-if2.before.before in
       let at-if1 = at-peek.before in
       let start = at-if1.before.before.before.before.before.before in
-      type-struct start.requires.1 at-if1.if1.false at-peek.peek.ensures at-if2.if2.false
+      type_struct start.requires.1 at-if1.if1.false at-peek.peek.ensures at-if2.if2.false
       at-if3.if3.false at-if4.if4.false at-if5.if5.true at-list.list.ensures
       at-silence.silence.ensures at-write-node2.write-node2.ensures
 
@@ -253,7 +253,7 @@ module _ (t : ℕ) where
       let at-peek = at-if2.before.before in
       let at-if1 = at-peek.before in
       let start = at-if1.before.before.before.before.before.before in
-      type-end start.requires.1 at-if1.if1.false at-peek.peek.ensures at-if2.if2.false
+      type_end start.requires.1 at-if1.if1.false at-peek.peek.ensures at-if2.if2.false
       at-if3.if3.false at-if4.if4.false at-if5.if5.false at-if6.if6.true
       at_entry_lem.entry.ensures at-raise.raise.ensures
 
@@ -290,6 +290,6 @@ module _ (t : ℕ) where
       let at-peek = at-if2.before.before in
       let at-if1 = at-peek.before in
       let start = at-if1.before.before.before.before.before.before in
-      type-other start.requires.1 at-if1.if1.false at-peek.peek.ensures at-if2.if2.false
+      type_other start.requires.1 at-if1.if1.false at-peek.peek.ensures at-if2.if2.false
       at-if3.if3.false at-if4.if4.false at-if5.if5.false at-if6.if6.false
       at-entry2.entry2.ensures at-raise2.raise2.ensures

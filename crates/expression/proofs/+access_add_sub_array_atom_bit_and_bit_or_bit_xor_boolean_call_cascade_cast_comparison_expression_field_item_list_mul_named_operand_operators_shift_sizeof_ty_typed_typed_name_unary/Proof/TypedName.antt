@@ -1,7 +1,7 @@
 -- The needs of `typed_name`.
 use Rattle.steps.proofs.Moves.{asked_seen}
 use Rattle.expression_laws.proofs.Types.{raise_asked}
-use Rattle.expression_laws.proofs.Names.{identifier_name, identifier_end, identifier-refused, identifier-noted, noted_moved, noted_asked}
+use Rattle.expression_laws.proofs.Names.{identifier_name, identifier_end, identifier_refused, identifier_noted, noted_moved, noted_asked}
 use borrow.Author.Rules.{rules}
 use native.Mathlib.Omega.{arith}
 use mathlib.Core.Path.{refl}
@@ -129,7 +129,7 @@ module _ (t : ℕ) where
       let at-if1 = at-if2.before.before in
       let at-peek = at-if1.before.before in
       let start = at-peek.before.before.before.before.before.before in
-      identifier-refused start.requires.1 at-peek.peek.ensures at-if1.if1.false at-if2.if2.false
+      identifier_refused start.requires.1 at-peek.peek.ensures at-if1.if1.false at-if2.if2.false
       at-entry2.entry2.ensures at-note.note.ensures c.match.keys2
 
   pub typed-requires-2 : lts.Need-typed-requires-2 given (typed-name-at t) typed-name.Post
@@ -175,6 +175,6 @@ module _ (t : ℕ) where
       let at-if1 = at-if2.before.before in
       let at-peek = at-if1.before.before in
       let start = at-peek.before.before.before.before.before.before in
-      identifier-noted start.requires.1 at-peek.peek.ensures at-if1.if1.false at-if2.if2.false
+      identifier_noted start.requires.1 at-peek.peek.ensures at-if1.if1.false at-if2.if2.false
       at-entry2.entry2.ensures at-note.note.ensures at-enum-told.enum_told.given.1
       at-typed2.typed2.ensures

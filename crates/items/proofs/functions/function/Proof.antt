@@ -1,5 +1,5 @@
 use Rattle.items.specs.Items.{flag}
-use Rattle.items.proofs.Definitions.{function_stops, function_unnamed, function-asked, function-reads}
+use Rattle.items.proofs.Definitions.{function_stops, function_unnamed, function_asked, function_reads}
 use Rattle.steps.proofs.Moves.{asks_moved, asked_moved, moved_trans}
 use mathlib.Core.Path.{refl, ap}
 use native.Mathlib.Omega.{arith}
@@ -78,7 +78,7 @@ external-function-requires c κs =
     let at-enum-told = at-expect-identifier.before.before.before.before in
     let at-expect = at-enum-told.before.before.before.before.before.before in
     let start = at-expect.before.before.before.before.before.before.before.before in
-    function-asked at-expect.expect.ensures at-enum-told.enum_told.given.1
+    function_asked at-expect.expect.ensures at-enum-told.enum_told.given.1
     at-expect-identifier.expect_identifier.ensures start.requires at-enum-told2.enum-told2.given.1
     at-signature.signature.ensures (omega (arith, at-signature.signature.auto))
     (omega (arith, at-expect.expect.auto, at-expect-identifier.expect_identifier.auto, at-signature.signature.auto))
@@ -136,7 +136,7 @@ returns-3 c =
     let at-enum-told = at-expect-identifier.before.before.before.before in
     let at-expect = at-enum-told.before.before.before.before.before.before in
     let start = at-expect.before.before.before.before.before.before.before.before in
-    function-reads at-expect.expect.ensures at-enum-told.enum_told.given.1
+    function_reads at-expect.expect.ensures at-enum-told.enum_told.given.1
     at-expect-identifier.expect_identifier.ensures start.requires at-enum-told2.enum-told2.given.1
     at-signature.signature.ensures (ap flag at-if1.if1.true)
     (at-external-function.external-function.ensures _)
@@ -149,7 +149,7 @@ whole-function-requires c κs =
     let at-enum-told = at-expect-identifier.before.before.before.before in
     let at-expect = at-enum-told.before.before.before.before.before.before in
     let start = at-expect.before.before.before.before.before.before.before.before in
-    function-asked at-expect.expect.ensures at-enum-told.enum_told.given.1
+    function_asked at-expect.expect.ensures at-enum-told.enum_told.given.1
     at-expect-identifier.expect_identifier.ensures start.requires at-enum-told2.enum-told2.given.1
     at-signature.signature.ensures (omega (arith, at-signature.signature.auto))
     (omega (arith, at-expect.expect.auto, at-expect-identifier.expect_identifier.auto, at-signature.signature.auto))
@@ -207,7 +207,7 @@ returns-4 c =
     let at-enum-told = at-expect-identifier.before.before.before.before in
     let at-expect = at-enum-told.before.before.before.before.before.before in
     let start = at-expect.before.before.before.before.before.before.before.before in
-    function-reads at-expect.expect.ensures at-enum-told.enum_told.given.1
+    function_reads at-expect.expect.ensures at-enum-told.enum_told.given.1
     at-expect-identifier.expect_identifier.ensures start.requires at-enum-told2.enum-told2.given.1
     at-signature.signature.ensures (ap flag at-if1.if1.false)
     at-whole-function.whole-function.ensures

@@ -1,4 +1,4 @@
-use Rattle.items.proofs.Signatures.{signature_stops, signature_cuts, signature-untyped, signature-order, signature-reads}
+use Rattle.items.proofs.Signatures.{signature_stops, signature_cuts, signature_untyped, signature_order, signature_reads}
 use Rattle.steps.proofs.Moves.{asked_moved}
 use native.Mathlib.Omega.{arith}
 use borrow.Author.Rules.{rules}
@@ -80,7 +80,7 @@ returns-2 c =
     let at-enum-told = at-return-type.before.before.before.before.before in
     let at-list = at-enum-told.before.before.before.before.before.before.before.before in
     let start = at-list.before.before.before.before.before.before.before.before.before in
-    signature-untyped start.requires at-list.list.ensures (omega (arith, at-list.list.auto))
+    signature_untyped start.requires at-list.list.ensures (omega (arith, at-list.list.auto))
     at-return-type.return-type.ensures at-abandon.abandon.ensures
     at-enum-told.enum_told.given.1 c.match2.keys2
 
@@ -91,7 +91,7 @@ exchange-requires c κs =
     let at-return-type = at-abandon.before.before.before.before.before.before.before.before in
     let at-list = at-return-type.before.before.before.before.before.before.before.before.before.before.before.before.before in
     let start = at-list.before.before.before.before.before.before.before.before.before in
-    signature-order start.requires at-list.list.ensures (omega (arith, at-list.list.auto))
+    signature_order start.requires at-list.list.ensures (omega (arith, at-list.list.auto))
     at-return-type.return-type.ensures at-abandon.abandon.ensures
     at-enum-told2.enum-told2.given.1
     (omega (arith, at-abandon.abandon.auto, at-return-type.return-type.auto, at-list.list.auto))
@@ -147,7 +147,7 @@ returns-3 c =
     let at-enum-told = at-return-type.before.before.before.before.before in
     let at-list = at-enum-told.before.before.before.before.before.before.before.before in
     let start = at-list.before.before.before.before.before.before.before.before.before in
-    signature-reads start.requires at-list.list.ensures (omega (arith, at-list.list.auto))
+    signature_reads start.requires at-list.list.ensures (omega (arith, at-list.list.auto))
     at-return-type.return-type.ensures at-abandon.abandon.ensures
     at-enum-told.enum_told.given.1 at-enum-told2.enum-told2.given.1
     at-exchange.exchange.ensures

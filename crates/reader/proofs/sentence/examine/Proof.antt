@@ -1,6 +1,6 @@
 use mathlib.Core.Path.{refl, sym, ap, ◌∙◌}
 use Rattle.definition.specs.Sentence.{refused}
-use Rattle.reader.proofs.Complaints.{examine_stopped, examine-none, examine-valid, examine-refused, refusal-above, examine-holds, stopped, accepted}
+use Rattle.reader.proofs.Complaints.{examine_stopped, examine_none, examine_valid, examine_refused, refusal_above, examine_holds, stopped, accepted}
 use Rattle.parser.proofs.Readings.{module_asked}
 use Rattle.items.proofs.Modules.{module_reads}
 use borrow.Author.Rules.{rules}
@@ -52,7 +52,7 @@ returns-2 c =
     let at-run = at-if1.before.before.before.before.before.before.before.before in
     let start = at-run.before.before.before.before.before.before.before.before.before.before.before in
     stopped (λ z. omega (arith, z)) c.refused2.ensures
-    (examine-none _ start.requires.0.0 start.requires.0.1 at-run.run.ensures at-if1.if1.false
+    (examine_none _ start.requires.0.0 start.requires.0.1 at-run.run.ensures at-if1.if1.false
     at-if2.if2.true)
 
 module-requires : tie.Need-module-requires
@@ -61,7 +61,7 @@ module-requires c κs =
     let at-if1 = at-if2.before.before in
     let at-run = at-if1.before.before.before.before.before.before.before.before in
     let start = at-run.before.before.before.before.before.before.before.before.before.before.before in
-    module_asked _ _ _ _ _ (examine-valid _ start.requires.0.0 start.requires.0.1 at-run.run.ensures
+    module_asked _ _ _ _ _ (examine_valid _ start.requires.0.0 start.requires.0.1 at-run.run.ensures
     at-if1.if1.false) start.requires.1 start.requires.2 start.requires.3
 
 enum_told : tie.Need-enum-told
@@ -114,10 +114,10 @@ returns-3 c =
     let start = at-run.before.before.before.before.before.before.before.before.before.before.before in
     let reads = module_reads at-module.«module».ensures in
     let is = at-number-of.number_of.ensures in
-    stopped (λ z. refusal-above _ start.requires.0.0 start.requires.0.1 at-run.run.ensures at-if1.if1.false
+    stopped (λ z. refusal_above _ start.requires.0.0 start.requires.0.1 at-run.run.ensures at-if1.if1.false
     at-if2.if2.false reads at-match.match.keys1 (sym is ∙ z))
     c.refused3.ensures
-    (examine-refused _ start.requires.0.0 start.requires.0.1 at-run.run.ensures at-if1.if1.false
+    (examine_refused _ start.requires.0.0 start.requires.0.1 at-run.run.ensures at-if1.if1.false
     at-if2.if2.false reads at-match.match.keys1 ∙ ap refused (sym is))
 
 same-length-13 : tie.Need-same-length-13
@@ -159,7 +159,7 @@ returns-4 c =
     let at-run = at-if1.before.before.before.before.before.before.before.before in
     let start = at-run.before.before.before.before.before.before.before.before.before.before.before in
     let reads = module_reads at-module.«module».ensures in
-    accepted refl (examine-holds _ start.requires.0.0 start.requires.0.1 at-run.run.ensures at-if1.if1.false
+    accepted refl (examine_holds _ start.requires.0.0 start.requires.0.1 at-run.run.ensures at-if1.if1.false
     at-if2.if2.false reads at-match.match.keys2
     (omega (arith, start.requires.2, at-module.«module».auto))
     (omega (arith, start.requires.3, at-module.«module».auto)))

@@ -1,4 +1,4 @@
-use Rattle.sentences.proofs.Spelled.{Quoting, quoting_start, quoting_end, quoting_bytes, quoting-short, quoting_more}
+use Rattle.sentences.proofs.Spelled.{Quoting, quoting_start, quoting_end, quoting_bytes, quoting_short, quoting_more}
 use Prim.Native.Nat.{◌-◌}
 use lib.ListN.{length}
 use borrow.Author.Rules.{rules}
@@ -39,7 +39,7 @@ say-escaped-requires c κs =
     let at-step = c.before.before in
     let at-loop = at-step.before.before in
     let start = at-loop.before.before.before in
-    quoting-short at-loop.loop.invariant at-step.step.ensures c.code.ensures start.requires.1
+    quoting_short at-loop.loop.invariant at-step.step.ensures c.code.ensures start.requires.1
 
 loop-less : tie.Need-loop-smaller invariant-loop decreases-loop
 loop-less c = search rules

@@ -4,7 +4,7 @@ use Rattle.expression_laws.proofs.Turns.{ItemsTurned, at_start, one_turn}
 use Rattle.expression_laws.specs.Post.{LoopOn}
 use Rattle.expression_laws.proofs.Loops.{loop_asked}
 use Rattle.statement.specs.Post.{statements_on}
-use Rattle.statement.proofs.Bodies.{rest_closed, rest_end, rest-refused, rest-next}
+use Rattle.statement.proofs.Bodies.{rest_closed, rest_end, rest_refused, rest_next}
 use borrow.Author.Rules.{rules}
 use native.Mathlib.Omega.{arith}
 use Prim.Native.Nat.{ℕ, ◌-◌}
@@ -140,7 +140,7 @@ module _ (t : ℕ) where
       let at-peek = at-if1.before.before in
       let at-loop = at-peek.before in
       at-loop.loop.invariant.1.rest
-      (rest-refused at-loop.loop.invariant.0 at-peek.peek.ensures at-if1.if1.false at-if2.if2.false
+      (rest_refused at-loop.loop.invariant.0 at-peek.peek.ensures at-if1.if1.false at-if2.if2.false
       at-statement.statement.ensures c.before.match.keys1)
 
   pub counted-requires : lts.Need-counted-requires given (body-rest-at t) body-rest.Post Inv-loop μ-loop
@@ -182,7 +182,7 @@ module _ (t : ℕ) where
         one_turn at-loop.loop.invariant.1 (omega (arith, at-statement.statement.auto))
             (omega (arith, at-statement.statement.auto)) (omega (arith, at-statement.statement.auto))
             at-statement.statement.ensures.moved.at
-            (λ _ _ _ _ g. rest-next at-loop.loop.invariant.0 at-peek.peek.ensures at-if1.if1.false
+            (λ _ _ _ _ g. rest_next at-loop.loop.invariant.0 at-peek.peek.ensures at-if1.if1.false
             at-if2.if2.false at-statement.statement.ensures c.before.match.keys2
             c.counted.ensures g),
       )

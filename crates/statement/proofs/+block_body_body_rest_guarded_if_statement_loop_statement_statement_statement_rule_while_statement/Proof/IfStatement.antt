@@ -2,7 +2,7 @@
 use mathlib.Core.Path.{refl}
 use Rattle.steps.proofs.Moves.{asked_seen, fore_moved, moved_trans}
 use Rattle.expression_laws.proofs.Joins.{room_at}
-use Rattle.statement.proofs.Statements.{starts_kind, if_stops, if-two, if-three, later_cuts, later_asked, later_room}
+use Rattle.statement.proofs.Statements.{starts_kind, if_stops, if_two, if_three, later_cuts, later_asked, later_room}
 use borrow.Author.Rules.{rules}
 use native.Mathlib.Omega.{arith}
 use Prim.Native.Nat.{ℕ}
@@ -116,7 +116,7 @@ module _ (t : ℕ) where
       let at-guarded = at-enum-told.before.before.before.before.before.before.before.before in
       let at-peek = at-guarded.before.before.before.before in
       let start = at-peek.before.before.before.before.before.before in
-      if-two at-peek.peek.ensures start.requires.1 at-guarded.guarded.ensures
+      if_two at-peek.peek.ensures start.requires.1 at-guarded.guarded.ensures
       at-enum-told.enum_told.given.1 at-peek2.peek2.ensures at-if1.if1.true
       at-write-node.write-node.ensures
 
@@ -216,7 +216,7 @@ module _ (t : ℕ) where
       let at-guarded = at-enum-told.before.before.before.before.before.before.before.before in
       let at-peek = at-guarded.before.before.before.before in
       let start = at-peek.before.before.before.before.before.before in
-      if-three at-peek.peek.ensures start.requires.1 at-guarded.guarded.ensures
+      if_three at-peek.peek.ensures start.requires.1 at-guarded.guarded.ensures
       at-enum-told.enum_told.given.1 at-peek2.peek2.ensures at-if1.if1.false
       at-statement.statement.ensures (omega (arith, at-guarded.guarded.auto))
       at-abandon.abandon.ensures at-write-node2.write-node2.ensures

@@ -1,4 +1,4 @@
-use Rattle.statement.proofs.Declared.{compound_stops, compound-array, compound-struct, compound-end, compound-other}
+use Rattle.statement.proofs.Declared.{compound_stops, compound_array, compound_struct, compound_end, compound_other}
 use Rattle.steps.proofs.Moves.{asked_moved, asks_moved}
 use mathlib.Core.Path.{refl, ◌∙◌}
 use native.Mathlib.Omega.{arith}
@@ -65,7 +65,7 @@ returns-2 c =
     let at-enum-told = at-peek.before.before in
     let at-expect = at-enum-told.before.before.before.before.before.before in
     let start = at-expect.before.before.before.before.before.before.before.before in
-    compound-end at-expect.expect.ensures at-enum-told.enum_told.given.1 at-peek.peek.ensures
+    compound_end at-expect.expect.ensures at-enum-told.enum_told.given.1 at-peek.peek.ensures
     (asks_moved start.requires.asks at-expect.expect.ensures.moved (omega (arith, at-expect.expect.auto))
     (omega (arith, at-expect.expect.auto)))
     at-raise.raise.ensures at-if1.if1.true at_entry_lem.entry.ensures
@@ -107,7 +107,7 @@ returns-3 c =
     let at-peek = at-if2.before.before.before.before in
     let at-enum-told = at-peek.before.before in
     let at-expect = at-enum-told.before.before.before.before.before.before in
-    compound-array at-expect.expect.ensures at-enum-told.enum_told.given.1 at-peek.peek.ensures
+    compound_array at-expect.expect.ensures at-enum-told.enum_told.given.1 at-peek.peek.ensures
     at-if2.if2.true at-values.values.ensures
 
 values-requires-2 : tie.Need-values-requires-2
@@ -147,7 +147,7 @@ returns-4 c =
     let at-peek = at-if3.before.before.before.before.before.before in
     let at-enum-told = at-peek.before.before in
     let at-expect = at-enum-told.before.before.before.before.before.before in
-    compound-struct at-expect.expect.ensures at-enum-told.enum_told.given.1
+    compound_struct at-expect.expect.ensures at-enum-told.enum_told.given.1
     at-peek.peek.ensures at-if3.if3.true at-values2.values2.ensures
 
 entry-requires-2 : tie.Need-entry-requires-2
@@ -184,7 +184,7 @@ returns-5 c =
     let at-enum-told = at-peek.before.before in
     let at-expect = at-enum-told.before.before.before.before.before.before in
     let start = at-expect.before.before.before.before.before.before.before.before in
-    compound-other at-expect.expect.ensures at-enum-told.enum_told.given.1 at-peek.peek.ensures
+    compound_other at-expect.expect.ensures at-enum-told.enum_told.given.1 at-peek.peek.ensures
     (asks_moved start.requires.asks at-expect.expect.ensures.moved (omega (arith, at-expect.expect.auto))
     (omega (arith, at-expect.expect.auto)))
     at-raise2.raise2.ensures at-if1.if1.false at-if2.if2.false at-if3.if3.false

@@ -1,5 +1,5 @@
 use Rattle.statement.proofs.Statements.{starts_kind}
-use Rattle.statement.proofs.Assigned.{assignment_after, assigned_cuts, assigned-asks, assigned-room}
+use Rattle.statement.proofs.Assigned.{assignment_after, assigned_cuts, assigned_asks, assigned_room}
 use Rattle.steps.proofs.Moves.{asked_seen}
 use native.Mathlib.Omega.{arith}
 use Rattle.statement.proofs.simple.assignment.Statement.{statement}
@@ -30,7 +30,7 @@ and-expect-requires c κs =
     let at-expression = at-abandon.before.before.before.before.before.before.before.before in
     let at-peek = at-expression.before.before.before.before in
     let start = at-peek.before.before.before.before.before.before in (
-      rw start.requires.1.1 (assigned-asks start.requires.0.asked start.requires.1.0 at-peek.peek.ensures
+      rw start.requires.1.1 (assigned_asks start.requires.0.asked start.requires.1.0 at-peek.peek.ensures
           at-expression.expression.ensures (rw start.requires.1.1 at at-abandon.abandon.ensures)
           (omega (arith, at-abandon.abandon.auto, at-expression.expression.auto))
           (omega (arith, at-expression.expression.auto))),
@@ -44,7 +44,7 @@ write-node-requires c κs =
     let at-expression = at-abandon.before.before.before.before.before.before.before.before in
     let at-peek = at-expression.before.before.before.before in
     let start = at-peek.before.before.before.before.before.before in
-    assigned-room start.requires.0.asked start.requires.1.0 at-peek.peek.ensures
+    assigned_room start.requires.0.asked start.requires.1.0 at-peek.peek.ensures
     at-expression.expression.ensures (rw start.requires.1.1 at at-abandon.abandon.ensures)
     (rw start.requires.1.1 at at-and-expect.and-expect.ensures)
     (omega (arith, at-expression.expression.auto))

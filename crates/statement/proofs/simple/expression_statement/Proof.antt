@@ -1,4 +1,4 @@
-use Rattle.statement.proofs.Assigned.{statement_stops, statement-errors, statement-after}
+use Rattle.statement.proofs.Assigned.{statement_stops, statement_errors, statement_after}
 use Rattle.steps.proofs.Moves.{asked_moved}
 use Rattle.expression_laws.proofs.Joins.{room_at}
 use native.Mathlib.Omega.{arith}
@@ -67,7 +67,7 @@ returns-2 c =
     let at-enum-told = at-if1.before.before.before.before in
     let at-expression = at-enum-told.before.before.before.before.before.before.before.before in
     let start = at-expression.before.before.before.before.before.before.before.before.before in
-    statement-errors start.requires at-expression.expression.ensures _
+    statement_errors start.requires at-expression.expression.ensures _
     at-enum-told.enum_told.given.1 (omega (arith, at-expression.expression.auto))
     (omega (arith, at-expression.expression.auto)) at-if1.if1.true at-write-node.write-node.ensures
 
@@ -110,7 +110,7 @@ returns-3 c =
     let at-enum-told = at-if1.before.before.before.before in
     let at-expression = at-enum-told.before.before.before.before.before.before.before.before in
     let start = at-expression.before.before.before.before.before.before.before.before.before in
-    statement-after start.requires at-expression.expression.ensures _
+    statement_after start.requires at-expression.expression.ensures _
     at-enum-told.enum_told.given.1 (omega (arith, at-expression.expression.auto))
     (omega (arith, at-expression.expression.auto)) (λ e. omega (arith, e, at-if1.if1.false))
     at-after-expression.after_expression.ensures
