@@ -19,7 +19,7 @@ use node::{Numbers, write_bare};
 use steps::{and_expect, expect, expect_identifier, peek, write_node, write_text_node};
 
 // parse_expression, one of the four functions whose open calls are counted: refuses where `nesting` is 0.
-#[cycle(access_add_sub_array_atom_bit_and_bit_or_bit_xor_boolean_call_cascade_cast_comparison_expression_field_item_list_mul_named_operand_operators_shift_sizeof_ty_typed_typed_name_unary)]
+#[cycle(expression)]
 pub fn expression(
     tokens: &[u32],
     text: &[u8],
@@ -40,7 +40,7 @@ pub fn expression(
 }
 
 // parse_boolean_combinator: comparison [`&&` comparison]
-#[cycle(access_add_sub_array_atom_bit_and_bit_or_bit_xor_boolean_call_cascade_cast_comparison_expression_field_item_list_mul_named_operand_operators_shift_sizeof_ty_typed_typed_name_unary)]
+#[cycle(expression)]
 fn boolean(
     tokens: &[u32],
     text: &[u8],
@@ -71,7 +71,7 @@ fn boolean(
 }
 
 // parse_comparison: bit_or [(`==` | `<` | `<=` | `>` | `>=`) bit_or]
-#[cycle(access_add_sub_array_atom_bit_and_bit_or_bit_xor_boolean_call_cascade_cast_comparison_expression_field_item_list_mul_named_operand_operators_shift_sizeof_ty_typed_typed_name_unary)]
+#[cycle(expression)]
 fn comparison(
     tokens: &[u32],
     text: &[u8],
@@ -105,7 +105,7 @@ fn comparison(
 
 // parse_bitwise_or: bit_xor {`|` bit_xor}. The six levels share their first operand, so it is parsed once; if an
 // operator of a level follows, the loop of each level continues the answer of the level below, the tightest first.
-#[cycle(access_add_sub_array_atom_bit_and_bit_or_bit_xor_boolean_call_cascade_cast_comparison_expression_field_item_list_mul_named_operand_operators_shift_sizeof_ty_typed_typed_name_unary)]
+#[cycle(expression)]
 fn bit_or(
     tokens: &[u32],
     text: &[u8],
@@ -139,7 +139,7 @@ fn bit_or(
 }
 
 // parse_bitwise_xor: bit_and {`^` bit_and}
-#[cycle(access_add_sub_array_atom_bit_and_bit_or_bit_xor_boolean_call_cascade_cast_comparison_expression_field_item_list_mul_named_operand_operators_shift_sizeof_ty_typed_typed_name_unary)]
+#[cycle(expression)]
 fn bit_xor(
     tokens: &[u32],
     text: &[u8],
@@ -159,7 +159,7 @@ fn bit_xor(
 }
 
 // parse_bitwise_and: shift {`&` shift}
-#[cycle(access_add_sub_array_atom_bit_and_bit_or_bit_xor_boolean_call_cascade_cast_comparison_expression_field_item_list_mul_named_operand_operators_shift_sizeof_ty_typed_typed_name_unary)]
+#[cycle(expression)]
 fn bit_and(
     tokens: &[u32],
     text: &[u8],
@@ -179,7 +179,7 @@ fn bit_and(
 }
 
 // parse_bit_shift: add_sub {(`<<` | `>>`) add_sub}
-#[cycle(access_add_sub_array_atom_bit_and_bit_or_bit_xor_boolean_call_cascade_cast_comparison_expression_field_item_list_mul_named_operand_operators_shift_sizeof_ty_typed_typed_name_unary)]
+#[cycle(expression)]
 fn shift(
     tokens: &[u32],
     text: &[u8],
@@ -199,7 +199,7 @@ fn shift(
 }
 
 // parse_add_sub: mul {(`+` | `-`) mul}
-#[cycle(access_add_sub_array_atom_bit_and_bit_or_bit_xor_boolean_call_cascade_cast_comparison_expression_field_item_list_mul_named_operand_operators_shift_sizeof_ty_typed_typed_name_unary)]
+#[cycle(expression)]
 fn add_sub(
     tokens: &[u32],
     text: &[u8],
@@ -229,7 +229,7 @@ fn add_sub(
 }
 
 // parse_mul: cast {`*` cast}
-#[cycle(access_add_sub_array_atom_bit_and_bit_or_bit_xor_boolean_call_cascade_cast_comparison_expression_field_item_list_mul_named_operand_operators_shift_sizeof_ty_typed_typed_name_unary)]
+#[cycle(expression)]
 fn mul(
     tokens: &[u32],
     text: &[u8],
@@ -259,7 +259,7 @@ fn mul(
 }
 
 // Parses an operand of a level: the next tighter level, or a cast.
-#[cycle(access_add_sub_array_atom_bit_and_bit_or_bit_xor_boolean_call_cascade_cast_comparison_expression_field_item_list_mul_named_operand_operators_shift_sizeof_ty_typed_typed_name_unary)]
+#[cycle(expression)]
 fn cascade(
     tokens: &[u32],
     text: &[u8],
@@ -285,7 +285,7 @@ fn cascade(
 }
 
 // The loop of parse_arithmetic_binop: {operator operand}, continuing the answer `first`.
-#[cycle(access_add_sub_array_atom_bit_and_bit_or_bit_xor_boolean_call_cascade_cast_comparison_expression_field_item_list_mul_named_operand_operators_shift_sizeof_ty_typed_typed_name_unary)]
+#[cycle(expression)]
 fn operators(
     tokens: &[u32],
     text: &[u8],
@@ -322,7 +322,7 @@ fn operators(
 }
 
 // parse_cast: unary {`as` type}
-#[cycle(access_add_sub_array_atom_bit_and_bit_or_bit_xor_boolean_call_cascade_cast_comparison_expression_field_item_list_mul_named_operand_operators_shift_sizeof_ty_typed_typed_name_unary)]
+#[cycle(expression)]
 fn cast(
     tokens: &[u32],
     text: &[u8],
@@ -355,7 +355,7 @@ fn cast(
 }
 
 // unary, with a short cut: a name with no suffix and no call, the most common operand, is written at once.
-#[cycle(access_add_sub_array_atom_bit_and_bit_or_bit_xor_boolean_call_cascade_cast_comparison_expression_field_item_list_mul_named_operand_operators_shift_sizeof_ty_typed_typed_name_unary)]
+#[cycle(expression)]
 fn operand(
     tokens: &[u32],
     text: &[u8],
@@ -378,7 +378,7 @@ fn operand(
 }
 
 // parse_unary: (`&` | `*` | `~` | `!`) unary | call. Open calls are counted.
-#[cycle(access_add_sub_array_atom_bit_and_bit_or_bit_xor_boolean_call_cascade_cast_comparison_expression_field_item_list_mul_named_operand_operators_shift_sizeof_ty_typed_typed_name_unary)]
+#[cycle(expression)]
 fn unary(
     tokens: &[u32],
     text: &[u8],
@@ -406,7 +406,7 @@ fn unary(
 }
 
 // parse_call: sizeof [arguments]. Errors in the arguments are not reported.
-#[cycle(access_add_sub_array_atom_bit_and_bit_or_bit_xor_boolean_call_cascade_cast_comparison_expression_field_item_list_mul_named_operand_operators_shift_sizeof_ty_typed_typed_name_unary)]
+#[cycle(expression)]
 fn call(
     tokens: &[u32],
     text: &[u8],
@@ -446,7 +446,7 @@ fn call(
 }
 
 // parse_sizeof: `sizeof` `(` type `)` | field_access_or_index
-#[cycle(access_add_sub_array_atom_bit_and_bit_or_bit_xor_boolean_call_cascade_cast_comparison_expression_field_item_list_mul_named_operand_operators_shift_sizeof_ty_typed_typed_name_unary)]
+#[cycle(expression)]
 fn sizeof(
     tokens: &[u32],
     text: &[u8],
@@ -477,7 +477,7 @@ fn sizeof(
 }
 
 // parse_field_access_or_index: atom {`.` name | `.*` | `[` expression `]`}
-#[cycle(access_add_sub_array_atom_bit_and_bit_or_bit_xor_boolean_call_cascade_cast_comparison_expression_field_item_list_mul_named_operand_operators_shift_sizeof_ty_typed_typed_name_unary)]
+#[cycle(expression)]
 fn access(
     tokens: &[u32],
     text: &[u8],
@@ -564,7 +564,7 @@ fn access(
 }
 
 // parse_atom: literal | `(` expression `)`
-#[cycle(access_add_sub_array_atom_bit_and_bit_or_bit_xor_boolean_call_cascade_cast_comparison_expression_field_item_list_mul_named_operand_operators_shift_sizeof_ty_typed_typed_name_unary)]
+#[cycle(expression)]
 fn atom(
     tokens: &[u32],
     text: &[u8],
@@ -629,7 +629,7 @@ fn bare_name(
 // ---- types
 
 // parse_type: name | `*` type | `[` array | `struct` fields. Open calls are counted.
-#[cycle(access_add_sub_array_atom_bit_and_bit_or_bit_xor_boolean_call_cascade_cast_comparison_expression_field_item_list_mul_named_operand_operators_shift_sizeof_ty_typed_typed_name_unary)]
+#[cycle(expression)]
 pub fn ty(
     tokens: &[u32],
     text: &[u8],
@@ -698,7 +698,7 @@ pub fn ty(
 }
 
 // Parses what follows the `[` of an array type: size `]` type. Errors in the size are at `place`.
-#[cycle(access_add_sub_array_atom_bit_and_bit_or_bit_xor_boolean_call_cascade_cast_comparison_expression_field_item_list_mul_named_operand_operators_shift_sizeof_ty_typed_typed_name_unary)]
+#[cycle(expression)]
 fn array(
     tokens: &[u32],
     text: &[u8],
@@ -737,7 +737,7 @@ fn array(
 
 // Parses what follows the name of a typed identifier: `:` type,
 // in a construct that began in the state `from`.
-#[cycle(access_add_sub_array_atom_bit_and_bit_or_bit_xor_boolean_call_cascade_cast_comparison_expression_field_item_list_mul_named_operand_operators_shift_sizeof_ty_typed_typed_name_unary)]
+#[cycle(expression)]
 fn typed(
     tokens: &[u32],
     text: &[u8],
@@ -764,7 +764,7 @@ fn typed(
 }
 
 // parse_typed_identifier: name `:` type. The caller takes the name from the first token.
-#[cycle(access_add_sub_array_atom_bit_and_bit_or_bit_xor_boolean_call_cascade_cast_comparison_expression_field_item_list_mul_named_operand_operators_shift_sizeof_ty_typed_typed_name_unary)]
+#[cycle(expression)]
 pub fn typed_name(
     tokens: &[u32],
     text: &[u8],
@@ -800,7 +800,7 @@ pub fn typed_name(
 // ---- lists
 
 // A parameter, or a field of a struct type: typed_name and its record.
-#[cycle(access_add_sub_array_atom_bit_and_bit_or_bit_xor_boolean_call_cascade_cast_comparison_expression_field_item_list_mul_named_operand_operators_shift_sizeof_ty_typed_typed_name_unary)]
+#[cycle(expression)]
 fn named(
     tokens: &[u32],
     text: &[u8],
@@ -819,7 +819,7 @@ fn named(
 }
 
 // parse_compound_struct_field: name `=` expression
-#[cycle(access_add_sub_array_atom_bit_and_bit_or_bit_xor_boolean_call_cascade_cast_comparison_expression_field_item_list_mul_named_operand_operators_shift_sizeof_ty_typed_typed_name_unary)]
+#[cycle(expression)]
 fn field(
     tokens: &[u32],
     text: &[u8],
@@ -855,7 +855,7 @@ fn field(
 }
 
 // Parses one item of a list.
-#[cycle(access_add_sub_array_atom_bit_and_bit_or_bit_xor_boolean_call_cascade_cast_comparison_expression_field_item_list_mul_named_operand_operators_shift_sizeof_ty_typed_typed_name_unary)]
+#[cycle(expression)]
 fn item(
     tokens: &[u32],
     text: &[u8],
@@ -880,7 +880,7 @@ fn item(
 }
 
 // parse_bounded_list_of: opener {item [`,`]} closer. Never fatal; `count` of the answer is that of the items.
-#[cycle(access_add_sub_array_atom_bit_and_bit_or_bit_xor_boolean_call_cascade_cast_comparison_expression_field_item_list_mul_named_operand_operators_shift_sizeof_ty_typed_typed_name_unary)]
+#[cycle(expression)]
 pub fn list(
     tokens: &[u32],
     text: &[u8],

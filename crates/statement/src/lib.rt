@@ -23,7 +23,7 @@ use steps::{expect, peek, write_node};
 // ---- bodies
 
 // parse_body: `{` {statement} `}`. Never fatal; `count` of the answer is that of the statements.
-#[cycle(block_body_body_rest_guarded_if_statement_loop_statement_statement_statement_rule_while_statement)]
+#[cycle(statement)]
 pub fn body(
     tokens: &[u32],
     text: &[u8],
@@ -53,7 +53,7 @@ pub fn body(
 }
 
 // The loop of parse_body, after `{`: {statement} `}`
-#[cycle(block_body_body_rest_guarded_if_statement_loop_statement_statement_statement_rule_while_statement)]
+#[cycle(statement)]
 fn body_rest(
     tokens: &[u32],
     text: &[u8],
@@ -105,7 +105,7 @@ fn body_rest(
 // ---- statements
 
 // A block: a body as a statement.
-#[cycle(block_body_body_rest_guarded_if_statement_loop_statement_statement_statement_rule_while_statement)]
+#[cycle(statement)]
 fn block(
     tokens: &[u32],
     text: &[u8],
@@ -125,7 +125,7 @@ fn block(
 }
 
 // `loop` statement
-#[cycle(block_body_body_rest_guarded_if_statement_loop_statement_statement_statement_rule_while_statement)]
+#[cycle(statement)]
 fn loop_statement(
     tokens: &[u32],
     text: &[u8],
@@ -146,7 +146,7 @@ fn loop_statement(
 }
 
 // A condition and the statement it guards: expression statement
-#[cycle(block_body_body_rest_guarded_if_statement_loop_statement_statement_statement_rule_while_statement)]
+#[cycle(statement)]
 fn guarded(
     tokens: &[u32],
     text: &[u8],
@@ -171,7 +171,7 @@ fn guarded(
 }
 
 // `while` guarded
-#[cycle(block_body_body_rest_guarded_if_statement_loop_statement_statement_statement_rule_while_statement)]
+#[cycle(statement)]
 fn while_statement(
     tokens: &[u32],
     text: &[u8],
@@ -192,7 +192,7 @@ fn while_statement(
 }
 
 // `if` guarded [`else` statement]
-#[cycle(block_body_body_rest_guarded_if_statement_loop_statement_statement_statement_rule_while_statement)]
+#[cycle(statement)]
 fn if_statement(
     tokens: &[u32],
     text: &[u8],
@@ -225,7 +225,7 @@ fn if_statement(
 }
 
 // parse_statement without its nesting count: chooses the statement by its first token.
-#[cycle(block_body_body_rest_guarded_if_statement_loop_statement_statement_statement_rule_while_statement)]
+#[cycle(statement)]
 fn statement_rule(
     tokens: &[u32],
     text: &[u8],
@@ -272,7 +272,7 @@ fn statement_rule(
 }
 
 // parse_statement, one of the four functions whose open calls are counted: refuses where `nesting` is 0.
-#[cycle(block_body_body_rest_guarded_if_statement_loop_statement_statement_statement_rule_while_statement)]
+#[cycle(statement)]
 pub fn statement(
     tokens: &[u32],
     text: &[u8],

@@ -1,0 +1,130 @@
+use mathlib.Core.Path.{refl, sym, ◌∙◌}
+use Rattle.steps.proofs.Moves.{asked_seen, room_token, asks_fore, asks_moved, fore_moved, moved_trans, asked_moved}
+use Rattle.expression_laws.specs.Post.{suffixes_on, operators_on, casts_on, LoopOn, listed_on}
+use Rattle.expression_laws.proofs.Joins.{then_asked, goes_on, goes_stops, join_cuts, turn_on, join_room, joined_on, room_at}
+use Rattle.expression_laws.proofs.Turns.{GoesTurned, at_start, one_turn, ItemsTurned}
+use Rattle.expression_laws.proofs.Suffixes.{suffix_none, suffix_star, star_moved, dot_end, dot_name, dot_moved, dot_other, index_asks, index_moved, suffix_index}
+use borrow.Author.Rules.{rules}
+use native.Mathlib.Omega.{arith}
+use Prim.Native.Nat.{ℕ, ◌-◌, ◌+◌, ◌*◌}
+use Rattle.definition.specs.Act.{AddSub, BitAnd, BitXor, Expression, Mul, Shift, Unary}
+use Rattle.expression_laws.proofs.Types.{array_no_integer, array_no_size, array_open, array_done, raise_asked, size_asked, bracket_asked, array_room, type_deep, type_name, type_star, type_array, type_struct, type_end, type_other, star_room, struct_room, array_asked}
+use Rattle.expression_laws.proofs.Calls.{atom_group, call_on, call_none, call_done, call_later, call_room, sizeof_other, sizeof_stop, sizeof_asks, sizeof_done, unary_none, unary_prefix}
+use Rattle.leaves.proofs.Choices.{no_operator}
+use Rattle.expression_laws.proofs.Levels.{operators_none, Levelled, levels_start, levels_more, levels_end, levels_pass, and_on, and_none, and_found, casts_none, casts_more, compare_on, compare_none, compare_found, operators_more}
+use borrow.Author.Tests.{not-true}
+use Rattle.steps.proofs.Constructs.{then_stops, deep, down}
+use Rattle.expression_laws.proofs.Names.{field_follows, field_asked, field_stops, field_room, field_done, named_reads, named_room, typed_colon, typed_type, colon_cuts, type_asked, type_cuts, identifier_name, identifier_end, identifier_refused, identifier_noted, noted_moved, noted_asked}
+use Rattle.expression_laws.proofs.Lists.{item_parameter, item_argument, item_field, item_value, item_named_value, list_refused, list_on, rest_end, rest_closed, rest_item, rest_comma, rest_next, comma_asks, rest_asked}
+use Rattle.leaves.specs.Leaves.{listed_of, level_of}
+use Rattle.expression_laws.proofs.Operands.{name_operand}
+use Rattle.definition.specs.Parser as P
+use Rattle.expression.proofs.+expression.Given as goal
+
+abbrev pub decreases-access : goal.decreases-access
+decreases-access l = 32 * (l.n - l.st.at) + 7
+
+abbrev pub decreases-add_sub : goal.decreases-add_sub
+decreases-add_sub l = 32 * (l.n - l.st.at) + 14
+
+abbrev pub decreases-array : goal.decreases-array
+decreases-array l = 32 * (l.n - l.st.at) + 2
+
+abbrev pub decreases-atom : goal.decreases-atom
+decreases-atom l = 32 * (l.n - l.st.at) + 6
+
+abbrev pub decreases-shift : goal.decreases-shift
+decreases-shift l = 32 * (l.n - l.st.at) + 15
+
+abbrev pub decreases-bit_and : goal.decreases-bit_and
+decreases-bit_and l = 32 * (l.n - l.st.at) + 16
+
+abbrev pub decreases-bit_or : goal.decreases-bit_or
+decreases-bit_or l = 32 * (l.n - l.st.at) + 18
+
+abbrev pub decreases-bit_xor : goal.decreases-bit_xor
+decreases-bit_xor l = 32 * (l.n - l.st.at) + 17
+
+abbrev pub decreases-boolean : goal.decreases-boolean
+decreases-boolean l = 32 * (l.n - l.st.at) + 20
+
+abbrev pub decreases-call : goal.decreases-call
+decreases-call l = 32 * (l.n - l.st.at) + 9
+
+abbrev pub decreases-cascade : goal.decreases-cascade
+decreases-cascade l = 32 * (l.n - l.st.at) + 18
+
+abbrev pub decreases-cast : goal.decreases-cast
+decreases-cast l = 32 * (l.n - l.st.at) + 12
+
+abbrev pub decreases-comparison : goal.decreases-comparison
+decreases-comparison l = 32 * (l.n - l.st.at) + 19
+
+abbrev pub decreases-expression : goal.decreases-expression
+decreases-expression l = 32 * (l.n - l.st.at) + 21
+
+abbrev pub decreases-item : goal.decreases-item
+decreases-item l = 32 * (l.n - l.st.at) + 23
+
+abbrev pub decreases-list : goal.decreases-list
+decreases-list l = 32 * (l.n - l.st.at) + 25
+
+abbrev pub decreases-mul : goal.decreases-mul
+decreases-mul l = 32 * (l.n - l.st.at) + 13
+
+abbrev pub decreases-named : goal.decreases-named
+decreases-named l = 32 * (l.n - l.st.at) + 4
+
+abbrev pub decreases-operand : goal.decreases-operand
+decreases-operand l = 32 * (l.n - l.st.at) + 11
+
+abbrev pub decreases-operators : goal.decreases-operators
+decreases-operators l = 32 * (l.n - l.first.state.at) + 6
+
+abbrev pub decreases-sizeof : goal.decreases-sizeof
+decreases-sizeof l = 32 * (l.n - l.st.at) + 8
+
+abbrev pub decreases-field : goal.decreases-field
+decreases-field l = 32 * (l.n - l.st.at) + 22
+
+abbrev pub decreases-ty : goal.decreases-ty
+decreases-ty l = 32 * (l.n - l.st.at) + 1
+
+abbrev pub decreases-typed : goal.decreases-typed
+decreases-typed l = 32 * (l.n - l.st.at) + 2
+
+abbrev pub decreases-typed_name : goal.decreases-typed_name
+decreases-typed_name l = 32 * (l.n - l.st.at) + 3
+
+abbrev pub decreases-unary : goal.decreases-unary
+decreases-unary l = 32 * (l.n - l.st.at) + 10
+
+abbrev pub invariant-access-loop-a : goal.invariant-access-loop-a
+invariant-access-loop-a l = GoesTurned suffixes_on l.tokens l.text l.n l.nesting l.st.pos l.st.reported l.initial.file l.initial.reported l.initial.full l.initial.a l.file l.reported l.full l.a
+
+abbrev pub decreases-access-loop-a : goal.decreases-access-loop-a
+decreases-access-loop-a l = l.n - l.a.state.at
+
+abbrev pub invariant-bit_or-loop-k : goal.invariant-bit_or-loop-k
+invariant-bit_or-loop-k l = Levelled l.tokens l.text l.n l.nesting l.st l.initial.file l.initial.reported l.initial.full l.initial.a l.file l.reported l.full l.a l.k
+
+abbrev pub decreases-bit_or-loop-k : goal.decreases-bit_or-loop-k
+decreases-bit_or-loop-k l = 6 - l.k
+
+abbrev pub invariant-cast-loop-a : goal.invariant-cast-loop-a
+invariant-cast-loop-a l = GoesTurned casts_on l.tokens l.text l.n l.nesting l.st.pos l.st.reported l.initial.file l.initial.reported l.initial.full l.initial.a l.file l.reported l.full l.a
+
+abbrev pub decreases-cast-loop-a : goal.decreases-cast-loop-a
+decreases-cast-loop-a l = l.n - l.a.state.at
+
+abbrev pub invariant-list-loop-what : goal.invariant-list-loop-what
+invariant-list-loop-what l = ItemsTurned (LoopOn (listed_on (listed_of l.what)) l.tokens l.text l.n l.nesting) l.tokens l.text l.n l.initial.count l.initial.file l.initial.reported l.initial.full l.initial.s l.count l.file l.reported l.full l.s
+
+abbrev pub decreases-list-loop-what : goal.decreases-list-loop-what
+decreases-list-loop-what l = l.n - l.s.at
+
+abbrev pub invariant-operators-loop-a : goal.invariant-operators-loop-a
+invariant-operators-loop-a l = GoesTurned (operators_on (level_of l.level)) l.tokens l.text l.n l.nesting l.from.pos l.from.reported l.initial.file l.initial.reported l.initial.full l.initial.a l.file l.reported l.full l.a
+
+abbrev pub decreases-operators-loop-a : goal.decreases-operators-loop-a
+decreases-operators-loop-a l = l.n - l.a.state.at
