@@ -1,0 +1,74 @@
+use Rattle.statement.proofs.Statements.{starts_kind}
+use Rattle.statement.proofs.Assigned.{assignment_after, assigned_cuts, assigned_asks, assigned_room}
+use Rattle.steps.proofs.Moves.{asked_seen}
+use native.Mathlib.Omega.{arith}
+use Rattle.statement.proofs.simple.assignment.Goals as goal
+
+pub peek-t-requires : goal.peek-t-requires
+peek-t-requires c =
+    (c.requires.0.asked.asks.held, c.requires.0.asked.asks.at)
+
+pub expression-a-requires : goal.expression-a-requires
+expression-a-requires c =
+    asked_seen c.requires.0.asked c.peek-t.ensures
+
+pub abandon-b-requires : goal.abandon-b-requires
+abandon-b-requires c =
+    rw c.requires.1.1 (assigned_cuts c.requires.0.asked c.requires.1.0 c.peek-t.ensures
+    c.expression-a.ensures (omega (arith, c.expression-a.auto)))
+
+pub and_expect-c-requires : goal.and_expect-c-requires
+and_expect-c-requires c =
+    (
+      rw c.requires.1.1 (assigned_asks c.requires.0.asked c.requires.1.0 c.peek-t.ensures
+          c.expression-a.ensures (rw c.requires.1.1 at c.abandon-b.ensures)
+          (omega (arith, c.abandon-b.auto, c.expression-a.auto))
+          (omega (arith, c.expression-a.auto))),
+      (omega arith, omega arith),
+    )
+
+pub write_node-requires : goal.write_node-requires
+write_node-requires c =
+    assigned_room c.requires.0.asked c.requires.1.0 c.peek-t.ensures
+    c.expression-a.ensures (rw c.requires.1.1 at c.abandon-b.ensures)
+    (rw c.requires.1.1 at c.and_expect-c.ensures)
+    (omega (arith, c.expression-a.auto))
+
+pub shape_of-file : goal.shape_of-file
+shape_of-file c =
+    omega (
+      arith,
+      c.write_node.auto,
+      c.and_expect-c.auto,
+      c.abandon-b.auto,
+      c.expression-a.auto,
+    )
+
+pub shape_of-reported : goal.shape_of-reported
+shape_of-reported c =
+    omega (
+      arith,
+      c.write_node.auto,
+      c.and_expect-c.auto,
+      c.abandon-b.auto,
+      c.expression-a.auto,
+    )
+
+pub shape_of-full : goal.shape_of-full
+shape_of-full c =
+    omega (
+      arith,
+      c.write_node.auto,
+      c.and_expect-c.auto,
+      c.abandon-b.auto,
+      c.expression-a.auto,
+    )
+
+pub returns : goal.returns
+returns c =
+    assignment_after c.requires.0.asked c.requires.1.0 c.peek-t.ensures
+    (starts_kind c.requires.0 c.peek-t.ensures) c.expression-a.ensures
+    (rw c.requires.1.1 at c.abandon-b.ensures)
+    (omega (arith, c.abandon-b.auto, c.expression-a.auto))
+    (omega (arith, c.expression-a.auto)) (rw c.requires.1.1 at c.and_expect-c.ensures)
+    c.write_node.ensures

@@ -1,0 +1,85 @@
+use Rattle.statement.proofs.Statements.{return_none, return_value}
+use Rattle.steps.proofs.Moves.{asked_seen, asks_moved, fore_moved, moved_trans}
+use Rattle.expression_laws.proofs.Joins.{room_at}
+use native.Mathlib.Omega.{arith}
+use Rattle.statement.proofs.simple.return_statement.Goals as goal
+
+pub peek-t-requires : goal.peek-t-requires
+peek-t-requires c =
+    (c.requires.asked.asks.held, c.requires.asked.asks.at)
+
+pub peek-u-requires : goal.peek-u-requires
+peek-u-requires c =
+    (c.requires.asked.asks.held, c.peek-t.ensures.end)
+
+pub write_node-requires : goal.write_node-requires
+write_node-requires c =
+    record { room = omega (arith, c.requires.asked.room); part = omega arith }
+
+pub shape_of-file-then-u-eq-SEMICOLON : goal.shape_of-file-then-u-eq-SEMICOLON
+shape_of-file-then-u-eq-SEMICOLON c =
+    omega (arith, c.write_node.auto)
+
+pub returns-then-u-eq-SEMICOLON : goal.returns-then-u-eq-SEMICOLON
+returns-then-u-eq-SEMICOLON c =
+    return_none c.peek-t.ensures c.requires c.peek-u.ensures c.if-u-eq-SEMICOLON.true
+    c.write_node.ensures
+
+pub expression-a-requires : goal.expression-a-requires
+expression-a-requires c =
+    asked_seen c.requires.asked c.peek-t.ensures
+
+pub and_expect-b-requires : goal.and_expect-b-requires
+and_expect-b-requires c =
+    (
+      record {
+        asks = asks_moved c.requires.asked.asks
+            (moved_trans (fore_moved c.requires.asked.asks c.peek-t.ensures)
+            c.expression-a.ensures.moved) (omega (arith, c.expression-a.auto))
+            (omega (arith, c.expression-a.auto));
+        pos = c.expression-a.ensures.moved.pos;
+        reported = c.expression-a.ensures.moved.reported;
+      },
+      (omega arith, omega arith),
+    )
+
+pub write_node-requires-2 : goal.write_node-requires-2
+write_node-requires-2 c =
+    room_at c.requires.asked
+    (moved_trans (moved_trans (fore_moved c.requires.asked.asks c.peek-t.ensures)
+    c.expression-a.ensures.moved) c.and_expect-b.ensures.moved)
+    (omega (arith, c.expression-a.auto))
+
+pub shape_of-file : goal.shape_of-file
+shape_of-file c =
+    omega (
+      arith,
+      c.write_node-2.auto,
+      c.and_expect-b.auto,
+      c.expression-a.auto,
+    )
+
+pub shape_of-reported : goal.shape_of-reported
+shape_of-reported c =
+    omega (
+      arith,
+      c.write_node-2.auto,
+      c.and_expect-b.auto,
+      c.expression-a.auto,
+    )
+
+pub shape_of-full : goal.shape_of-full
+shape_of-full c =
+    omega (
+      arith,
+      c.write_node-2.auto,
+      c.and_expect-b.auto,
+      c.expression-a.auto,
+    )
+
+pub returns : goal.returns
+returns c =
+    return_value c.peek-t.ensures c.requires c.peek-u.ensures c.if-u-eq-SEMICOLON.false
+    c.expression-a.ensures (omega (arith, c.expression-a.auto))
+    (omega (arith, c.expression-a.auto)) c.and_expect-b.ensures
+    c.write_node-2.ensures
