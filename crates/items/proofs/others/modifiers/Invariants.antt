@@ -1,0 +1,12 @@
+use Rattle.items.specs.Items.{Modified}
+use Rattle.items.specs.declared.others.AliasWords.{AliasWords}
+use Rattle.items.proofs.Aliased.{modifiers_none, modifiers_distinct, modifiers_internal}
+use native.Mathlib.Omega.{arith}
+use Prim.Native.Nat.{◌-◌, ◌≤◌}
+use Rattle.items.proofs.others.modifiers.Given as goal
+
+abbrev pub invariant-loop-distinct : goal.invariant-loop-distinct
+invariant-loop-distinct l = ((l.at ≤ l.n) × ((l.distinct ≤ 1) × (l.internal ≤ 2))) × ((m : AliasWords) → Modified l.tokens l.n l.distinct l.internal l.at m → Modified l.tokens l.n 0 0 l.from m)
+
+abbrev pub decreases-loop-distinct : goal.decreases-loop-distinct
+decreases-loop-distinct l = l.n - l.at
