@@ -234,20 +234,20 @@ module _ {most : ℕ} {s : List ℕ} {st : State} {c : Cursor} {T X X₁ X₂ : 
       turn-kind : turn_at p first (rest s c) ≡ word_kind p (spelled first (rest s c)) y
       turn-kind = turn_body false f ∙ ap (word_kind p (spelled first (rest s c))) (sym g)
 
-      pub word-identifier-law : {E T' : List ℕ} {r : State} → y ≡ 0
+      pub word_identifier_law : {E T' : List ℕ} {r : State} → y ≡ 0
           → TokenPushed most T (at_text st w.cursor w.n)
           (K.Identifier ∷ p.line ∷ p.column ∷ st.text ∷ (w.n - st.text) ∷ 0 ∷ 0 ∷ 0 ∷ []) T' r
           → Turned most (turn_at p first (rest s c)) s st c T E X r T' E X₂
-      word-identifier-law z x =
+      word_identifier_law z x =
           end_token a.few (on_text a.few sp.passed written sp.room)
           (turn-kind ∙ ap (word_kind p (spelled first (rest s c))) z)
           (with_words (tok K.Identifier p (first ∷ (letters (rest s c)).text) 0) refl refl
           (omega (arith, written.count)) x)
 
-      pub word-keyword-law : {E T' : List ℕ} {r : State} → (y ≡ 0 → ⊥)
+      pub word_keyword_law : {E T' : List ℕ} {r : State} → (y ≡ 0 → ⊥)
           → TokenPushed most T (at_cursor st w.cursor) (y ∷ p.line ∷ p.column ∷ 0 ∷ 0 ∷ 0 ∷ 0 ∷ 0 ∷ []) T' r
           → Turned most (turn_at p first (rest s c)) s st c T E X r T' E X₂
-      word-keyword-law z x =
+      word_keyword_law z x =
           turned_back within written
           (end_plain a.few a.asks.room sp.passed (turn-kind ∙ word_keyword _ _ _ z)
           (rw g (plain_textless _ (keyword_plain (taken st w X₂)))) x)
