@@ -1,11 +1,11 @@
 -- The laws of the validation of a token record, and of `token_text`. Assumes nothing.
 use mathlib.Core.Path.{◌≡◌, refl, sym, ap, ◌∙◌}
-use mathlib.Core.Bool.{Bool, true, false, not, ◌&&◌, ◌||◌, and-true, and_assoc, or_assoc}
+use mathlib.Core.Bool.{Bool, true, false, ◌&&◌, ◌||◌, and-true, and_assoc, or_assoc}
 use mathlib.Core.List.{List, [], ◌∷◌}
 use Prim.Native.Nat.{ℕ, suc, ◌+◌, ◌-◌, ◌*◌, ◌/◌, ◌<◌, ◌≤◌}
 use native.Mathlib.Numerals.{add-one}
 use native.Mathlib.Omega.{arith}
-use borrow.Author.Tests.{not-true, not-false, leb-true, lt-ltb, le-leb, lt-leb, eq-eqb, ne_eqb}
+use borrow.Author.Tests.{leb-true, lt-ltb, le-leb, lt-leb, eq-eqb, ne_eqb}
 use lib.Dec.{eqb, leb}
 use lib.ListN.{length, get_or, take, drop, length-drop, drop_of_length-le}
 use lib.Seq.{drop-cons}
@@ -65,13 +65,6 @@ dashed_some [] h = absurd (h refl)
 dashed_some (c ∷ p) h = refl
 
 -- ---- a record
-
--- a test that the code negates
-pub fails : {f : Bool} (g : Bool) → f ≡ g → not f ≡ true → g ≡ false
-fails {f} g e h = sym e ∙ not-true f h
-
-pub holds : {f : Bool} (g : Bool) → f ≡ g → not f ≡ false → g ≡ true
-holds {f} g e h = sym e ∙ not-false f h
 
 textless : (k : ℕ) → has_text k ≡ false → eqb k K.Integer ≡ false
 textless k e = go (eqb k K.Identifier) (eqb k K.Integer) (eqb k K.String || eqb k K.InlineAssemblyFragment) (simp or_assoc at e)
@@ -144,18 +137,18 @@ module _ (ws text : List ℕ) (i : ℕ) where
         text_is ∙ ap (λ (b : Bool). pick (b && there) (part text (words_at ws i)) []) (le-leb (8 * i + 8) (length ws) (omega arith))
         ∙ ap (λ (b : Bool). pick b (part text (words_at ws i)) []) r ∙ ap (λ (x : TokenWords). pick t (part text x) []) (sym e)
 
-    pub text_none : not (h && g) ≡ true → [] ≡ text_of ws text i
-    text_none q = sym (there_is false (not-true _ q))
+    pub text_none : (h && g) ≡ false → [] ≡ text_of ws text i
+    text_none q = sym (there_is false q)
 
-    pub text_some : not (h && g) ≡ false → take (w.start + w.size - w.start) (drop w.start text) ≡ text_of ws text i
-    text_some q = let z : w.start + w.size - w.start ≡ w.size = omega arith in rw z (sym (there_is true (not-false _ q)))
+    pub text_some : (h && g) ≡ true → take (w.start + w.size - w.start) (drop w.start text) ≡ text_of ws text i
+    text_some q = let z : w.start + w.size - w.start ≡ w.size = omega arith in rw z (sym (there_is true q))
 
 -- the text of a valid record is within the slice
 pub text_inside : (text : List ℕ) (w : TokenWords) {h g : Bool} → h ≡ has_text w.kind → g ≡ valid_alone text w
-    → not (h && g) ≡ false → w.start + w.size ≤ length text
+    → (h && g) ≡ true → w.start + w.size ≤ length text
 text_inside text w {h} {g} e f n =
-    let a = sym e ∙ left_true h g (not-false _ n) in
-    let b = sym (good_is text w) ∙ sym f ∙ right_true h g (not-false _ n) in
+    let a = sym e ∙ left_true h g n in
+    let b = sym (good_is text w) ∙ sym f ∙ right_true h g n in
     let d = left_true
     (fields text w && pick (has_text w.kind) (part_fits text w.start (w.start + w.size))
     (eqb w.start 0 && eqb w.size 0)) _ b in

@@ -1,12 +1,12 @@
 -- The laws of `tokenize`, one for each return. Assumes nothing.
 use mathlib.Core.Path.{◌≡◌, refl, sym, ap, ◌∙◌}
 use mathlib.Core.Logic.{inl, inr}
-use mathlib.Core.Bool.{Bool, true, false, not, ◌&&◌}
+use mathlib.Core.Bool.{Bool, true, false, ◌&&◌}
 use mathlib.Core.List.{List, []}
 use mathlib.Core.Option.{Option, none, some}
 use Prim.Native.Nat.{ℕ, ◌*◌, ◌<◌, ◌≤◌}
 use native.Mathlib.Omega.{arith}
-use borrow.Author.Tests.{lt-ltb, le-ltb, leb-true, not-true, not-false}
+use borrow.Author.Tests.{lt-ltb, le-ltb, leb-true}
 use lib.Dec.{leb}
 use lib.ListN.{length}
 use Rattle.definition.specs.Source.{Ch, characters, is_some, utf8}
@@ -32,9 +32,8 @@ pub record Wide (T E X : List ℕ) : Type 0 where
   pub errors : 1024 ≤ length E
   pub text : 16384 ≤ length X
 
-pub wide_all : (T E X : List ℕ) → not (wide_enough T E X) ≡ false → Wide T E X
-wide_all T E X n =
-    let e = not-false (wide_enough T E X) n in
+pub wide_all : (T E X : List ℕ) → wide_enough T E X ≡ true → Wide T E X
+wide_all T E X e =
     let f = left_true (leb 16384 (length T) && leb 1024 (length E)) (leb 16384 (length X)) e in
     record {
       tokens = leb-true _ _ (left_true (leb 16384 (length T)) (leb 1024 (length E)) f);
@@ -53,8 +52,8 @@ no_characters s e = go (characters s) e
     go (some cs) f = absurd (let z : ◌≡◌ {A = ℕ} 0 1 = cc in omega arith)
 
 -- the cursor at the start of a UTF-8 script
-pub at_start : (s : List ℕ) {v : Bool} → v ≡ utf8 s → not v ≡ false → Stands s origin
-at_start s {v} e n = stands_start s origin (sym e ∙ not-false v n) refl refl refl
+pub at_start : (s : List ℕ) {v : Bool} → v ≡ utf8 s → v ≡ true → Stands s origin
+at_start s e n = stands_start s origin (sym e ∙ n) refl refl refl
 
 pub the_characters : (s : List ℕ) → Stands s origin → characters s ≡ some (rest s origin)
 unfolding characters
@@ -65,11 +64,11 @@ module _ (s T E X : List ℕ) {r : Tokenized} where
   unfolding tokenise
   too_long h e = rw (e, lt-ltb 16384 (length s) h, tokenise)
 
-  pub not_text : {v : Bool} → length s ≤ 16384 → v ≡ utf8 s → not v ≡ true → r ≡ refusal_of 2 → answer r T E X ≡ tokenise s T E X
+  pub not_text : {v : Bool} → length s ≤ 16384 → v ≡ utf8 s → v ≡ false → r ≡ refusal_of 2 → answer r T E X ≡ tokenise s T E X
   unfolding tokenise
-  not_text {v} h e n f = rw (f, le-ltb 16384 (length s) h, no_characters s (sym e ∙ not-true v n), tokenise)
+  not_text h e n f = rw (f, le-ltb 16384 (length s) h, no_characters s (sym e ∙ n), tokenise)
 
-of_characters : (s T E X : List ℕ) {v : Bool} → length s ≤ 16384 → v ≡ utf8 s → not v ≡ false → (t : Bool)
+of_characters : (s T E X : List ℕ) {v : Bool} → length s ≤ 16384 → v ≡ utf8 s → v ≡ true → (t : Bool)
     → wide_enough T E X ≡ t
     → tokenise s T E X
     ≡ elim t as (λ _. Tokenised)
@@ -77,9 +76,9 @@ of_characters : (s T E X : List ℕ) {v : Bool} → length s ≤ 16384 → v ≡
 unfolding tokenise
 of_characters s T E X h e n t w = rw (le-ltb 16384 (length s) h, the_characters s (at_start s e n), w, tokenise)
 
-pub too_narrow : (s T E X : List ℕ) {r : Tokenized} {v : Bool} → length s ≤ 16384 → v ≡ utf8 s → not v ≡ false
-    → not (wide_enough T E X) ≡ true → r ≡ refusal_of 3 → answer r T E X ≡ tokenise s T E X
-too_narrow s T E X h e n w f = rw f (sym (of_characters s T E X h e n false (not-true _ w)))
+pub too_narrow : (s T E X : List ℕ) {r : Tokenized} {v : Bool} → length s ≤ 16384 → v ≡ utf8 s → v ≡ true
+    → wide_enough T E X ≡ false → r ≡ refusal_of 3 → answer r T E X ≡ tokenise s T E X
+too_narrow s T E X h e n w f = rw f (sym (of_characters s T E X h e n false w))
 
 -- ---- after the loop
 
@@ -97,10 +96,10 @@ answer_eq : {a a' b b' c c' : ℕ} {x x' y y' w w' : List ℕ} → a ≡ a' → 
     (record { number = 0; tokens = a'; errors = b'; bytes = c'; toks = x'; errs = y'; text = w' })
 answer_eq p q r t u v = rw (p, q, r, t, u, v)
 
-module _ (s T E X : List ℕ) {v : Bool} (h : length s ≤ 16384) (e : v ≡ utf8 s) (n : not v ≡ false)
-    (w : not (wide_enough T E X) ≡ false) where
+module _ (s T E X : List ℕ) {v : Bool} (h : length s ≤ 16384) (e : v ≡ utf8 s) (n : v ≡ true)
+    (w : wide_enough T E X ≡ true) where
   ran : tokenise s T E X ≡ tokenised T E X (Z.tokenize_within 2048 (rest s origin))
-  ran = of_characters s T E X h e n true (not-false _ w) ∙ ap (tokenised T E X) (within_limit _)
+  ran = of_characters s T E X h e n true w ∙ ap (tokenised T E X) (within_limit _)
 
   module _ {T₁ E₁ X₁ T₂ E₂ X₂ : List ℕ} {f : State} (g : Ran 2048 (rest s origin) T₁ E₁ X₁ f)
       (lt : length T₁ ≡ length T) (le : length E₁ ≡ length E) (lx : length X₁ ≡ length X) where

@@ -231,8 +231,8 @@ module _ {most : ℕ} {s : List ℕ} {st : State} {c : Cursor} {T X X₁ X₂ : 
         sp.passed g)
 
     module _ {y : ℕ} (f : v ≡ false) (g : y ≡ Z.keyword (taken st w X₂)) where
-      turn-kind : turn_at p first (rest s c) ≡ word_kind p (spelled first (rest s c)) y
-      turn-kind = turn_body false f ∙ ap (word_kind p (spelled first (rest s c))) (sym g)
+      turn_kind : turn_at p first (rest s c) ≡ word_kind p (spelled first (rest s c)) y
+      turn_kind = turn_body false f ∙ ap (word_kind p (spelled first (rest s c))) (sym g)
 
       pub word_identifier_law : {E T' : List ℕ} {r : State} → y ≡ 0
           → TokenPushed most T (at_text st w.cursor w.n)
@@ -240,7 +240,7 @@ module _ {most : ℕ} {s : List ℕ} {st : State} {c : Cursor} {T X X₁ X₂ : 
           → Turned most (turn_at p first (rest s c)) s st c T E X r T' E X₂
       word_identifier_law z x =
           end_token a.few (on_text a.few sp.passed written sp.room)
-          (turn-kind ∙ ap (word_kind p (spelled first (rest s c))) z)
+          (turn_kind ∙ ap (word_kind p (spelled first (rest s c))) z)
           (with_words (tok K.Identifier p (first ∷ (letters (rest s c)).text) 0) refl refl
           (omega (arith, written.count)) x)
 
@@ -249,5 +249,5 @@ module _ {most : ℕ} {s : List ℕ} {st : State} {c : Cursor} {T X X₁ X₂ : 
           → Turned most (turn_at p first (rest s c)) s st c T E X r T' E X₂
       word_keyword_law z x =
           turned_back within written
-          (end_plain a.few a.asks.room sp.passed (turn-kind ∙ word_keyword _ _ _ z)
+          (end_plain a.few a.asks.room sp.passed (turn_kind ∙ word_keyword _ _ _ z)
           (rw g (plain_textless _ (keyword_plain (taken st w X₂)))) x)
