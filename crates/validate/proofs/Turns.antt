@@ -29,12 +29,12 @@ some_chosen false o = refl
 
 module _ (p : Place) (e : ℕ) (w : TokenWords) {a : Bool} (q : a ≡ comes_after p w.line w.column) where
   -- it is not after the one before; else its text decides
-  pub early : not a ≡ true → false ≡ valid_after p e w
-  early n = let z = sym q ∙ not-true a n in rw z
+  pub early : a ≡ false → false ≡ valid_after p e w
+  early n = let z = sym q ∙ n in rw z
 
-  module _ {h : Bool} (n : not a ≡ false) (t : h ≡ has_text w.kind) where
+  module _ {h : Bool} (n : a ≡ true) (t : h ≡ has_text w.kind) where
     pub comes_later : (b : Bool) → h ≡ b → pick b (leb e w.start) true ≡ valid_after p e w
-    comes_later b y = let z = sym q ∙ not-false a n in let k = sym t ∙ y in rw (z, k)
+    comes_later b y = let z = sym q ∙ n in let k = sym t ∙ y in rw (z, k)
 
 -- ---- token records
 

@@ -1,0 +1,12 @@
+use Prim.Native.Nat.{◌-◌}
+use lib.ListN.{length}
+use Rattle.definition.specs.Source.{place_at}
+use Rattle.sentences.proofs.Messages.{Walking, walking_start, walking_end, walking_found, walking_more}
+use borrow.Author.Rules.{rules}
+use Rattle.sentences.proofs.cursor_at.Given as goal
+
+abbrev pub invariant-loop-c : goal.invariant-loop-c
+invariant-loop-c l = Walking l.s (place_at l.line l.column) l.c
+
+abbrev pub decreases-loop-c : goal.decreases-loop-c
+decreases-loop-c l = length l.s - l.c.at

@@ -1,0 +1,12 @@
+use Rattle.sentences.proofs.Spelled.{Quoting, quoting_start, quoting_end, quoting_bytes, quoting_short, quoting_more}
+use Prim.Native.Nat.{◌-◌}
+use lib.ListN.{length}
+use borrow.Author.Rules.{rules}
+use native.Mathlib.Omega.{arith}
+use Rattle.sentences.proofs.spelling.say_characters.Given as goal
+
+abbrev pub invariant-loop-c : goal.invariant-loop-c
+invariant-loop-c l = Quoting l.text l.initial.out l.at l.out l.n l.c
+
+abbrev pub decreases-loop-c : goal.decreases-loop-c
+decreases-loop-c l = length l.text - l.c.at

@@ -1,0 +1,10 @@
+use Prim.Native.Nat.{◌-◌}
+use Rattle.validate.proofs.Turns.{Tokens, tokens_start, token_more, token_bad, tokens_end}
+use borrow.Author.Rules.{rules}
+use Rattle.validate.proofs.valid_tokens.Given as goal
+
+abbrev pub invariant-loop-i : goal.invariant-loop-i
+invariant-loop-i l = Tokens l.tokens l.text l.count l.f l.i
+
+abbrev pub decreases-loop-i : goal.decreases-loop-i
+decreases-loop-i l = l.count - l.i
