@@ -7,13 +7,10 @@ use borrow.Author.Rules.{rules}
 use native.Mathlib.Omega.{arith}
 use Rattle.reader.proofs.sentence.examine.Goals as goal
 
-module-requires c κs =
-    let at-if2 = c.before.before.before.before.before in
-    let at-if1 = at-if2.before.before in
-    let at-run = at-if1.before.before.before.before.before.before.before.before in
-    let start = at-run.before.before.before.before.before.before.before.before.before.before.before in
-    module_asked _ _ _ _ _ (examine_valid _ start.requires.0.0 start.requires.0.1 at-run.run.ensures
-    at-if1.if1.false) start.requires.1 start.requires.2 start.requires.3
+pub module-a-requires : goal.module-a-requires
+module-a-requires c =
+    module_asked _ _ _ _ _ (examine_valid _ c.requires.0.0 c.requires.0.1 c.run-found.ensures
+    c.if-found-ne0.false) c.requires.1 c.requires.2 c.requires.3
 
 pub run-found-requires : goal.run-found-requires
 run-found-requires c =
@@ -44,7 +41,7 @@ shape_of-text-in-Refused c =
 
 pub returns-in-Refused : goal.returns-in-Refused
 returns-in-Refused c =
-    let reads = module_reads at-module.«module».ensures in
+    let reads = module_reads c.module-a.ensures in
     let is = c.number_of.ensures in
     stopped (λ z. refusal_above _ c.requires.0.0 c.requires.0.1 c.run-found.ensures c.if-found-ne0.false
     c.if-found-eq0.false reads (_, c.in-Refused.is) (sym is ∙ z))
@@ -66,8 +63,8 @@ shape_of-text c =
 
 pub returns : goal.returns
 returns c =
-    let reads = module_reads at-module.«module».ensures in
+    let reads = module_reads c.module-a.ensures in
     accepted refl (examine_holds _ c.requires.0.0 c.requires.0.1 c.run-found.ensures c.if-found-ne0.false
     c.if-found-eq0.false reads c.in_default.not-Refused
-    (omega (arith, c.requires.2, at-module.«module».auto))
-    (omega (arith, c.requires.3, at-module.«module».auto)))
+    (omega (arith, c.requires.2, c.module-a.auto))
+    (omega (arith, c.requires.3, c.module-a.auto)))
