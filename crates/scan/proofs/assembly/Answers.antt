@@ -1,5 +1,4 @@
 use borrow.Author.Rules.{rules}
-use native.Mathlib.Omega.{arith}
 use Rattle.scan.proofs.Laws.{spanning_start, spanning_more, spanning_out, spanning_past, asm_go, asm_stop, asm_none, char_copied, copied_room}
 use Rattle.scan.proofs.assembly.Goals as goal
 
@@ -8,9 +7,6 @@ loop-c-init c = search (spanning_start, rules)
 
 pub returns-then-s-at : goal.returns-then-s-at
 returns-then-s-at c = spanning_out c.loop-c.invariant c.if-s-at.true asm_none
-
-pub step-d-requires : goal.step-d-requires
-step-d-requires c = (c.loop-c.invariant.asks.stands, omega arith, omega arith)
 
 pub returns-then-b-eq125 : goal.returns-then-b-eq125
 returns-then-b-eq125 c = spanning_past c.loop-c.invariant c.step-d.ensures (asm_stop _ _ c.if-b-eq125.true)

@@ -1,8 +1,7 @@
 use borrow.Author.Rules.{rules}
 use native.Mathlib.Omega.{arith}
-use mathlib.Core.Path.{sym, ap, ◌∙◌}
+use mathlib.Core.Path.{sym, ◌∙◌}
 use Rattle.definition.proofs.Formed.{digit_bounds}
-use Rattle.source.specs.declared.Cursor.{Cursor}
 use Rattle.scan.proofs.Laws.{spanning_start, spanning_along, spanning_out, spanning_stop, digits_go, digits_stop, digits_none}
 use Rattle.scan.proofs.digits.Goals as goal
 
@@ -11,9 +10,6 @@ loop-c-init c = search (spanning_start, rules)
 
 pub returns-then-s-at : goal.returns-then-s-at
 returns-then-s-at c = spanning_out c.loop-c.invariant c.if-s-at.true (digits_none _)
-
-pub loop-c-smaller : goal.loop-c-smaller
-loop-c-smaller c = omega (arith, ap (λ (y : Cursor). y.at) c.along-c.ensures)
 
 pub loop-c-preserved : goal.loop-c-preserved
 loop-c-preserved c =

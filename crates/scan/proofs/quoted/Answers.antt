@@ -1,5 +1,4 @@
 use borrow.Author.Rules.{rules}
-use native.Mathlib.Omega.{arith}
 use Rattle.scan.proofs.Laws.{quoting_start, quoting_plain, quoting_known, quoting_unknown, quoting_close, quoting_out, quoting_slash_out, char_copied, copied_room}
 use Rattle.scan.proofs.quoted.Goals as goal
 
@@ -9,9 +8,6 @@ loop-c-init c = search (quoting_start, rules)
 pub returns-then-s-at : goal.returns-then-s-at
 returns-then-s-at c = search (quoting_out, rules)
 
-pub step-d-requires : goal.step-d-requires
-step-d-requires c = (c.loop-c.invariant.asks.stands, omega arith, omega arith)
-
 pub returns-then-b-eq34 : goal.returns-then-b-eq34
 returns-then-b-eq34 c = search (quoting_close, rules)
 
@@ -20,9 +16,6 @@ loop-c-preserved-then-b-ne92 c = search (quoting_plain, char_copied, copied_room
 
 pub returns-then-s-e : goal.returns-then-s-e
 returns-then-s-e c = search (quoting_slash_out, rules)
-
-pub step-c-requires : goal.step-c-requires
-step-c-requires c = (c.step-d.ensures.stands, omega arith, omega arith)
 
 pub loop-c-preserved-then-k-eq0 : goal.loop-c-preserved-then-k-eq0
 loop-c-preserved-then-k-eq0 c = search (quoting_unknown, rules)

@@ -1,5 +1,4 @@
 use borrow.Author.Rules.{rules}
-use native.Mathlib.Omega.{arith}
 use mathlib.Core.Path.{sym, ◌∙◌}
 use Rattle.scan.proofs.Laws.{told, passing_start, passing_more, passing_out, passing_stop, blanks_go, blanks_stop, blanks_none}
 use Rattle.scan.proofs.white.Goals as goal
@@ -9,9 +8,6 @@ loop-c-init c = search (passing_start, rules)
 
 pub returns-then-s-at : goal.returns-then-s-at
 returns-then-s-at c = passing_out c.loop-c.invariant c.if-s-at.true blanks_none
-
-pub step-c-requires : goal.step-c-requires
-step-c-requires c = (c.loop-c.invariant.stands, omega arith, omega arith)
 
 pub loop-c-preserved : goal.loop-c-preserved
 loop-c-preserved c = search (passing_more, blanks_go, told, rules)

@@ -12,8 +12,5 @@ loop-i-init c = search (pushing, rules)
 pub loop-i-preserved : goal.loop-i-preserved
 loop-i-preserved c = pushing_more c.loop-i.invariant c.loop-i-test.true c.put_four.ensures
 
-pub shape_of-errors : goal.shape_of-errors
-shape_of-errors c = c.loop-i.invariant.wrote.size
-
 pub returns : goal.returns
 returns c = search (pushing_end, rules)

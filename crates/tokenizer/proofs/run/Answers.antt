@@ -6,20 +6,8 @@ use Rattle.tokenizer.proofs.run.Goals as goal
 pub loop-st-init : goal.loop-st-init
 loop-st-init c = search (loop_start, rules)
 
-pub shape_of-tokens-then-s-at : goal.shape_of-tokens-then-s-at
-shape_of-tokens-then-s-at c = c.loop-st.invariant.size_tokens
-
-pub shape_of-errors-then-s-at : goal.shape_of-errors-then-s-at
-shape_of-errors-then-s-at c = c.loop-st.invariant.size_errors
-
-pub shape_of-text-then-s-at : goal.shape_of-text-then-s-at
-shape_of-text-then-s-at c = c.loop-st.invariant.size_text
-
 pub returns-then-s-at : goal.returns-then-s-at
 returns-then-s-at c = search loop_end
-
-pub turn-st-requires : goal.turn-st-requires
-turn-st-requires c = (c.loop-st.invariant.ready, omega arith, omega arith)
 
 pub returns-then-st-ne0 : goal.returns-then-st-ne0
 returns-then-st-ne0 c = search (loop_stop, rules)

@@ -5,4 +5,4 @@ pub returns-then-n-start : goal.returns-then-n-start
 returns-then-n-start c = search zero_alone
 
 pub returns : goal.returns
-returns c = search (zero_digits)
+returns c = search zero_digits

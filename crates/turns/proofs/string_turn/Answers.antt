@@ -4,27 +4,13 @@ use Rattle.turns.proofs.string_turn.Goals as goal
 
 pub returns-then-e-ne0 : goal.returns-then-e-ne0
 returns-then-e-ne0 c =
-    string_full_law _ c.requires.0 c.quoted-q.ensures c.with_errors-e.ensures
-    c.if-e-ne0.true
+    string_full_law _ c.requires.0 c.quoted-q.ensures c.with_errors-e.ensures c.if-e-ne0.true
 
 pub with_text-requires : goal.with_text-requires
-with_text-requires c = (
-  escapes_few _ c.requires.0 c.quoted-q.ensures c.with_errors-e.ensures
-      c.if-e-ne0.false,
-  omega (arith, c.requires.0.wide),
-  omega (
-    arith,
-    (escapes_went _ c.requires.0 c.quoted-q.ensures c.with_errors-e.ensures
-        c.if-e-ne0.false).text,
-    c.quoted-q.ensures.wrote.count,
-  ),
-  omega (
-    arith,
-    c.quoted-q.ensures.room,
-    c.quoted-q.ensures.passed.stands.inside,
-    c.requires.0.asks.small,
-  ),
-)
+with_text-requires c =
+    let w = escapes_went _ c.requires.0 c.quoted-q.ensures c.with_errors-e.ensures c.if-e-ne0.false in
+    let f = escapes_few _ c.requires.0 c.quoted-q.ensures c.with_errors-e.ensures c.if-e-ne0.false in
+    (f, omega arith, omega arith, omega arith)
 
 pub returns-then-q : goal.returns-then-q
 returns-then-q c =
@@ -32,12 +18,9 @@ returns-then-q c =
     c.if-e-ne0.false c.if-q.true c.with_text.ensures
 
 pub with_errors-requires : goal.with_errors-requires
-with_errors-requires c = (
-  omega (arith, c.requires.1, c.with_errors-e.auto.errors),
-  (escapes_few _ c.requires.0 c.quoted-q.ensures c.with_errors-e.ensures
-      c.if-e-ne0.false).errors,
-  omega arith,
-)
+with_errors-requires c =
+    let f = escapes_few _ c.requires.0 c.quoted-q.ensures c.with_errors-e.ensures c.if-e-ne0.false in
+    (omega arith, f.errors, omega arith)
 
 pub returns : goal.returns
 returns c =

@@ -21,40 +21,12 @@ returns-then-same c =
     c.same.ensures c.if-same.true
     c.asm_turn.ensures
 
-pub slice_bounds-keyword-end : goal.slice_bounds-keyword-end
-slice_bounds-keyword-end c =
-    omega (
-      arith,
-      c.word-w.ensures.room,
-      c.word-w.ensures.passed.stands.inside,
-      c.word-w.ensures.wrote.size,
-      c.put8-n.ensures.size,
-      c.requires.0.asks.small,
-      c.requires.0.asks.wide,
-    )
-
-pub with_text-requires : goal.with_text-requires
-with_text-requires c = (
-  c.requires.0.few,
-  omega (arith, c.requires.0.wide),
-  omega (arith, c.put8-n.ensures.count, c.word-w.ensures.wrote.count),
-  omega (
-    arith,
-    c.word-w.ensures.room,
-    c.word-w.ensures.passed.stands.inside,
-    c.requires.0.asks.small,
-  ),
-)
-
 pub returns-then-k-eq0 : goal.returns-then-k-eq0
 returns-then-k-eq0 c =
     word_identifier_law _ c.requires.0 c.put8-n.ensures c.word-w.ensures
     c.look.ensures c.is_foreign.ensures c.if-is_foreign.false
     c.same.ensures c.if-same.false
     c.keyword-k.ensures c.if-k-eq0.true c.with_text.ensures
-
-pub plain-requires : goal.plain-requires
-plain-requires c = (c.requires.0.few, omega (arith, c.requires.0.wide))
 
 pub returns : goal.returns
 returns c =
