@@ -8,7 +8,7 @@ use Prim.Native.Nat.{ℕ, ◌*◌, ◌≤◌, ◌<◌}
 use native.Mathlib.Omega.{arith}
 use lib.Dec.{ltb}
 use lib.ListN.{length, take, drop, take-append-drop}
-use borrow.Author.Tests.{lt-ltb, le-ltb, not-true}
+use borrow.Author.Tests.{lt-ltb, le-ltb}
 use Rattle.definition.specs.Source.{Ch, characters, is_some, utf8}
 use Rattle.definition.specs.Token.{Tok}
 use Rattle.definition.specs.Records.{tokens_words, tokens_text, errors_words}
@@ -55,10 +55,10 @@ module _ (s o : List ℕ) where
   whole_long h = rw (lt-ltb 16384 (length s) h, whole, O.whole_within)
 
   module _ (h : length s ≤ 16384) where
-    pub whole_foreign : {v : Bool} → v ≡ utf8 s → not v ≡ true → kept 2 o ≡ whole s o
+    pub whole_foreign : {v : Bool} → v ≡ utf8 s → v ≡ false → kept 2 o ≡ whole s o
     unfolding whole
-    whole_foreign {v} e n =
-        rw (le-ltb 16384 (length s) h, no_characters s (sym e ∙ not-true v n), whole, O.whole_within)
+    whole_foreign e n =
+        rw (le-ltb 16384 (length s) h, no_characters s (sym e ∙ n), whole, O.whole_within)
 
     pub whole_short : Stands s origin → length o < 65536 → kept 3 o ≡ whole s o
     unfolding whole

@@ -7,7 +7,7 @@ use mathlib.Core.List.{List, [], ◌∷◌, map}
 use Prim.Native.Nat.{ℕ, zero, suc, ◌+◌, ◌<◌, ◌≤◌}
 use native.Mathlib.Nat.{add-zero, zero-add}
 use native.Mathlib.Omega.{arith}
-use borrow.Author.Tests.{lt-ltb, le-ltb, ne_eqb, not-true}
+use borrow.Author.Tests.{lt-ltb, le-ltb, ne_eqb}
 use lib.ListN.{length, get_or, take, get_elem?}
 use Rattle.definition.specs.Tag as Tag
 use Rattle.definition.specs.Source.{Place, same_place, Ch, characters, is_some, utf8}
@@ -341,10 +341,10 @@ module _ (s : List ℕ) (list i : ℕ) (o : List ℕ) where
   unfolding S.sentence S.examine
   sentence_long h = rw (S.sentence, S.examine, lt-ltb 16384 (length s) h)
 
-  pub sentence_foreign : {v : Bool} → length s ≤ 16384 → v ≡ utf8 s → not v ≡ true → kept 2 o ≡ S.sentence s list i o
+  pub sentence_foreign : {v : Bool} → length s ≤ 16384 → v ≡ utf8 s → v ≡ false → kept 2 o ≡ S.sentence s list i o
   unfolding S.sentence S.examine
-  sentence_foreign {v} h e n =
-      rw (S.sentence, S.examine, le-ltb 16384 (length s) h, no_characters s (sym e ∙ not-true v n))
+  sentence_foreign h e n =
+      rw (S.sentence, S.examine, le-ltb 16384 (length s) h, no_characters s (sym e ∙ n))
 
   pub sentence_stopped : {n : ℕ} → S.examine s ≡ S.refused n → kept n o ≡ S.sentence s list i o
   unfolding S.sentence
