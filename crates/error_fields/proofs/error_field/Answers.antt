@@ -3,5 +3,4 @@ use borrow.Author.Rules.{rules}
 use Rattle.error_fields.proofs.error_field.Goals as goal
 
 pub returns : goal.returns
-returns c =
-    fielded_one _ c.write_bare.ensures
+returns c = fielded_one _ c.write_bare.ensures

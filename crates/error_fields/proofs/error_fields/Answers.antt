@@ -8,8 +8,7 @@ use Rattle.error_fields.proofs.error_fields.Goals as goal
 
 pub loop-i-init : goal.loop-i-init
 unfolding errs
-loop-i-init c =
-    fields_none refl c.requires.0
+loop-i-init c = fields_none refl c.requires.0
 
 pub loop-i-preserved : goal.loop-i-preserved
 loop-i-preserved c =

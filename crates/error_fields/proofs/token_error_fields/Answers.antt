@@ -8,12 +8,10 @@ use Rattle.error_fields.proofs.token_error_fields.Goals as goal
 
 pub loop-i-init : goal.loop-i-init
 unfolding listed
-loop-i-init c =
-    fields_none refl c.requires.0
+loop-i-init c = fields_none refl c.requires.0
 
 pub place_at-place-requires : goal.place_at-place-requires
-place_at-place-requires c =
-    place_fits _ _ _ c.requires.1.1 (omega arith)
+place_at-place-requires c = place_fits _ _ _ c.requires.1.1 (omega arith)
 
 pub entry-e-requires : goal.entry-e-requires
 entry-e-requires c =

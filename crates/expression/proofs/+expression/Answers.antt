@@ -22,8 +22,7 @@ use Rattle.definition.specs.Parser as P
 use Rattle.expression.proofs.+expression.Goals as goal
 
 pub access-atom-a-requires : goal.access-atom-a-requires
-access-atom-a-requires t c =
-    (omega (arith, c.decreases), c.requires)
+access-atom-a-requires t c = (omega (arith, c.decreases), c.requires)
 
 pub access-loop-a-init : goal.access-loop-a-init
 access-loop-a-init t c =
@@ -40,12 +39,10 @@ access-returns-in_default t c =
     (c.loop-a.invariant.1.rest (goes_stops c.loop-a.invariant.0 c.in_default.not-Done))
 
 pub access-peek-t-requires : goal.access-peek-t-requires
-access-peek-t-requires t c =
-    (c.loop-a.invariant.0.asked.asks.held, c.loop-a.invariant.0.asked.asks.at)
+access-peek-t-requires t c = (c.loop-a.invariant.0.asked.asks.held, c.loop-a.invariant.0.asked.asks.at)
 
 pub access-peek-u-requires : goal.access-peek-u-requires
-access-peek-u-requires t c =
-    (c.loop-a.invariant.0.asked.asks.held, omega (arith, c.peek-t.ensures.end))
+access-peek-u-requires t c = (c.loop-a.invariant.0.asked.asks.held, omega (arith, c.peek-t.ensures.end))
 
 pub access-returns-then-u-eq-END : goal.access-returns-then-u-eq-END
 unfolding P.parse_field_access_or_index
@@ -56,12 +53,10 @@ access-returns-then-u-eq-END t c =
     c.if-t-eq-DOT.true c.peek-u.ensures c.if-u-eq-END.true c.refuse.ensures))
 
 pub access-entry-error-requires : goal.access-entry-error-requires
-access-entry-error-requires t c =
-    omega (arith, c.peek-u.ensures)
+access-entry-error-requires t c = omega (arith, c.peek-u.ensures)
 
 pub access-note-b-requires : goal.access-note-b-requires
-access-note-b-requires t c =
-    omega (arith, c.loop-a.invariant.0.asked.asks)
+access-note-b-requires t c = omega (arith, c.loop-a.invariant.0.asked.asks)
 
 pub access-returns-then-u-ne-IDENTIFIER : goal.access-returns-then-u-ne-IDENTIFIER
 unfolding P.parse_field_access_or_index
@@ -226,8 +221,7 @@ access-loop-a-preserved t c =
     )
 
 pub add_sub-mul-a-requires : goal.add_sub-mul-a-requires
-add_sub-mul-a-requires t c =
-    (omega (arith, c.decreases), c.requires)
+add_sub-mul-a-requires t c = (omega (arith, c.decreases), c.requires)
 
 pub add_sub-operators-requires : goal.add_sub-operators-requires
 add_sub-operators-requires t c =
@@ -244,16 +238,13 @@ add_sub-returns t c =
     c.operators.ensures
 
 pub array-peek-t-requires : goal.array-peek-t-requires
-array-peek-t-requires t c =
-    (c.requires.0.asks.held, c.requires.0.asks.at)
+array-peek-t-requires t c = (c.requires.0.asks.held, c.requires.0.asks.at)
 
 pub array-entry-error-requires : goal.array-entry-error-requires
-array-entry-error-requires t c =
-    omega (arith, c.requires.1)
+array-entry-error-requires t c = omega (arith, c.requires.1)
 
 pub array-raise-requires : goal.array-raise-requires
-array-raise-requires t c =
-    raise_asked (asked_seen c.requires.0 c.peek-t.ensures)
+array-raise-requires t c = raise_asked (asked_seen c.requires.0 c.peek-t.ensures)
 
 pub array-returns-then-t-ne-INTEGER : goal.array-returns-then-t-ne-INTEGER
 array-returns-then-t-ne-INTEGER t c =
@@ -261,16 +252,13 @@ array-returns-then-t-ne-INTEGER t c =
     c.peek-t.ensures c.if-t-ne-INTEGER.true c.entry-error.ensures c.raise.ensures
 
 pub array-array_size-size-requires : goal.array-array_size-size-requires
-array-array_size-size-requires t c =
-    size_asked c.requires.0 c.peek-t.ensures c.if-t-ne-INTEGER.false
+array-array_size-size-requires t c = size_asked c.requires.0 c.peek-t.ensures c.if-t-ne-INTEGER.false
 
 pub array-entry-error-requires-then-not-size : goal.array-entry-error-requires-then-not-size
-array-entry-error-requires-then-not-size t c =
-    omega (arith, c.requires.1)
+array-entry-error-requires-then-not-size t c = omega (arith, c.requires.1)
 
 pub array-raise-requires-then-not-size : goal.array-raise-requires-then-not-size
-array-raise-requires-then-not-size t c =
-    raise_asked (asked_seen c.requires.0 c.peek-t.ensures)
+array-raise-requires-then-not-size t c = raise_asked (asked_seen c.requires.0 c.peek-t.ensures)
 
 pub array-returns-then-not-size : goal.array-returns-then-not-size
 array-returns-then-not-size t c =
@@ -279,8 +267,7 @@ array-returns-then-not-size t c =
     c.entry-error-then-not-size.ensures c.raise-then-not-size.ensures
 
 pub array-expect-a-requires : goal.array-expect-a-requires
-array-expect-a-requires t c =
-    (asks_fore c.requires.0.asks c.peek-t.ensures, (omega arith, omega arith))
+array-expect-a-requires t c = (asks_fore c.requires.0.asks c.peek-t.ensures, (omega arith, omega arith))
 
 pub array-returns-in_default : goal.array-returns-in_default
 array-returns-in_default t c =
@@ -309,16 +296,14 @@ array-returns t c =
     c.write_node.ensures
 
 pub atom-peek-t-requires : goal.atom-peek-t-requires
-atom-peek-t-requires t c =
-    (c.requires.asks.held, c.requires.asks.at)
+atom-peek-t-requires t c = (c.requires.asks.held, c.requires.asks.at)
 
 pub atom-literal-requires : goal.atom-literal-requires
 atom-literal-requires t c =
     record { asked = c.requires; bare = λ e. c.if-t-ne-L_PAREN.true (sym (c.peek-t.ensures.kind _) ∙ e) }
 
 pub atom-returns-then-t-ne-L_PAREN : goal.atom-returns-then-t-ne-L_PAREN
-atom-returns-then-t-ne-L_PAREN t c =
-    c.literal.ensures _
+atom-returns-then-t-ne-L_PAREN t c = c.literal.ensures _
 
 pub atom-expression-a-requires : goal.atom-expression-a-requires
 atom-expression-a-requires t c =
@@ -339,8 +324,7 @@ atom-returns t c =
     c.expression-a.ensures c.close.ensures
 
 pub bit_and-shift-a-requires : goal.bit_and-shift-a-requires
-bit_and-shift-a-requires t c =
-    (omega (arith, c.decreases), c.requires)
+bit_and-shift-a-requires t c = (omega (arith, c.decreases), c.requires)
 
 pub bit_and-operators-requires : goal.bit_and-operators-requires
 bit_and-operators-requires t c =
@@ -357,8 +341,7 @@ bit_and-returns t c =
     c.operators.ensures
 
 pub bit_or-cast-a-requires : goal.bit_or-cast-a-requires
-bit_or-cast-a-requires t c =
-    (omega (arith, c.decreases), c.requires)
+bit_or-cast-a-requires t c = (omega (arith, c.decreases), c.requires)
 
 pub bit_or-returns-in_default : goal.bit_or-returns-in_default
 bit_or-returns-in_default t c =
@@ -367,8 +350,7 @@ bit_or-returns-in_default t c =
     (omega (arith, c.cast-a.auto)) (omega (arith, c.cast-a.auto))) c.in_default.not-Done)
 
 pub bit_or-peek-t-requires : goal.bit_or-peek-t-requires
-bit_or-peek-t-requires t c =
-    (c.requires.asks.held, c.cast-a.ensures.moved.end)
+bit_or-peek-t-requires t c = (c.requires.asks.held, c.cast-a.ensures.moved.end)
 
 pub bit_or-returns-then-not-arithmetic : goal.bit_or-returns-then-not-arithmetic
 bit_or-returns-then-not-arithmetic t c =
@@ -398,12 +380,10 @@ bit_or-loop-k-preserved t c =
     (omega (arith, c.operators-a.auto)) (omega (arith, c.operators-a.auto))
 
 pub bit_or-returns : goal.bit_or-returns
-bit_or-returns t c =
-    levels_end c.loop-k.invariant c.loop-k-test.false c.requires c.cast-a.ensures
+bit_or-returns t c = levels_end c.loop-k.invariant c.loop-k-test.false c.requires c.cast-a.ensures
 
 pub bit_xor-bit_and-a-requires : goal.bit_xor-bit_and-a-requires
-bit_xor-bit_and-a-requires t c =
-    (omega (arith, c.decreases), c.requires)
+bit_xor-bit_and-a-requires t c = (omega (arith, c.decreases), c.requires)
 
 pub bit_xor-operators-requires : goal.bit_xor-operators-requires
 bit_xor-operators-requires t c =
@@ -420,17 +400,14 @@ bit_xor-returns t c =
     c.operators.ensures
 
 pub boolean-comparison-a-requires : goal.boolean-comparison-a-requires
-boolean-comparison-a-requires t c =
-    (omega (arith, c.decreases), c.requires)
+boolean-comparison-a-requires t c = (omega (arith, c.decreases), c.requires)
 
 pub boolean-returns-in_default : goal.boolean-returns-in_default
 unfolding P.expression_rule
-boolean-returns-in_default t c =
-    then_stops and_on c.comparison-a.ensures c.in_default.not-Done
+boolean-returns-in_default t c = then_stops and_on c.comparison-a.ensures c.in_default.not-Done
 
 pub boolean-peek-t-requires : goal.boolean-peek-t-requires
-boolean-peek-t-requires t c =
-    (c.requires.asks.held, omega (arith, c.comparison-a.ensures.moved.end))
+boolean-peek-t-requires t c = (c.requires.asks.held, omega (arith, c.comparison-a.ensures.moved.end))
 
 pub boolean-returns-then-t-ne-DOUBLE_AMPERSAND : goal.boolean-returns-then-t-ne-DOUBLE_AMPERSAND
 unfolding P.expression_rule
@@ -488,17 +465,14 @@ boolean-returns t c =
     c.abandon-c.ensures c.write_node.ensures)
 
 pub call-sizeof-a-requires : goal.call-sizeof-a-requires
-call-sizeof-a-requires t c =
-    (omega (arith, c.decreases), c.requires)
+call-sizeof-a-requires t c = (omega (arith, c.decreases), c.requires)
 
 pub call-returns-in_default : goal.call-returns-in_default
 unfolding P.parse_call
-call-returns-in_default t c =
-    then_stops call_on c.sizeof-a.ensures c.in_default.not-Done
+call-returns-in_default t c = then_stops call_on c.sizeof-a.ensures c.in_default.not-Done
 
 pub call-peek-t-requires : goal.call-peek-t-requires
-call-peek-t-requires t c =
-    (c.requires.asks.held, omega (arith, c.sizeof-a.ensures.moved.end))
+call-peek-t-requires t c = (c.requires.asks.held, omega (arith, c.sizeof-a.ensures.moved.end))
 
 pub call-returns-then-t-ne-L_PAREN : goal.call-returns-then-t-ne-L_PAREN
 unfolding P.parse_call
@@ -537,56 +511,43 @@ call-returns t c =
     c.silence-c.ensures c.write_node.ensures)
 
 pub cascade-bit_xor-requires : goal.cascade-bit_xor-requires
-cascade-bit_xor-requires t c =
-    (omega (arith, c.decreases), c.requires)
+cascade-bit_xor-requires t c = (omega (arith, c.decreases), c.requires)
 
 pub cascade-bit_and-requires : goal.cascade-bit_and-requires
-cascade-bit_and-requires t c =
-    (omega (arith, c.decreases), c.requires)
+cascade-bit_and-requires t c = (omega (arith, c.decreases), c.requires)
 
 pub cascade-shift-requires : goal.cascade-shift-requires
-cascade-shift-requires t c =
-    (omega (arith, c.decreases), c.requires)
+cascade-shift-requires t c = (omega (arith, c.decreases), c.requires)
 
 pub cascade-add_sub-requires : goal.cascade-add_sub-requires
-cascade-add_sub-requires t c =
-    (omega (arith, c.decreases), c.requires)
+cascade-add_sub-requires t c = (omega (arith, c.decreases), c.requires)
 
 pub cascade-mul-requires : goal.cascade-mul-requires
-cascade-mul-requires t c =
-    (omega (arith, c.decreases), c.requires)
+cascade-mul-requires t c = (omega (arith, c.decreases), c.requires)
 
 pub cascade-cast-requires : goal.cascade-cast-requires
-cascade-cast-requires t c =
-    (omega (arith, c.decreases), c.requires)
+cascade-cast-requires t c = (omega (arith, c.decreases), c.requires)
 
 pub cascade-returns-in-BitwiseOr : goal.cascade-returns-in-BitwiseOr
-cascade-returns-in-BitwiseOr t c =
-    rw c.in-BitwiseOr.is c.bit_xor.ensures
+cascade-returns-in-BitwiseOr t c = rw c.in-BitwiseOr.is c.bit_xor.ensures
 
 pub cascade-returns-in-BitwiseXor : goal.cascade-returns-in-BitwiseXor
-cascade-returns-in-BitwiseXor t c =
-    rw c.in-BitwiseXor.is c.bit_and.ensures
+cascade-returns-in-BitwiseXor t c = rw c.in-BitwiseXor.is c.bit_and.ensures
 
 pub cascade-returns-in-BitwiseAnd : goal.cascade-returns-in-BitwiseAnd
-cascade-returns-in-BitwiseAnd t c =
-    rw c.in-BitwiseAnd.is c.shift.ensures
+cascade-returns-in-BitwiseAnd t c = rw c.in-BitwiseAnd.is c.shift.ensures
 
 pub cascade-returns-in-BitShift : goal.cascade-returns-in-BitShift
-cascade-returns-in-BitShift t c =
-    rw c.in-BitShift.is c.add_sub.ensures
+cascade-returns-in-BitShift t c = rw c.in-BitShift.is c.add_sub.ensures
 
 pub cascade-returns-in-AddSub : goal.cascade-returns-in-AddSub
-cascade-returns-in-AddSub t c =
-    rw c.in-AddSub.is c.mul.ensures
+cascade-returns-in-AddSub t c = rw c.in-AddSub.is c.mul.ensures
 
 pub cascade-returns-in-Mul : goal.cascade-returns-in-Mul
-cascade-returns-in-Mul t c =
-    rw c.in-Mul.is c.cast.ensures
+cascade-returns-in-Mul t c = rw c.in-Mul.is c.cast.ensures
 
 pub cast-operand-a-requires : goal.cast-operand-a-requires
-cast-operand-a-requires t c =
-    (omega (arith, c.decreases), c.requires)
+cast-operand-a-requires t c = (omega (arith, c.decreases), c.requires)
 
 pub cast-loop-a-init : goal.cast-loop-a-init
 cast-loop-a-init t c =
@@ -603,8 +564,7 @@ cast-returns-in_default t c =
     (c.loop-a.invariant.1.rest (goes_stops c.loop-a.invariant.0 c.in_default.not-Done))
 
 pub cast-peek-t-requires : goal.cast-peek-t-requires
-cast-peek-t-requires t c =
-    (c.loop-a.invariant.0.asked.asks.held, c.loop-a.invariant.0.asked.asks.at)
+cast-peek-t-requires t c = (c.loop-a.invariant.0.asked.asks.held, c.loop-a.invariant.0.asked.asks.at)
 
 pub cast-returns-then-t-ne-KW_AS : goal.cast-returns-then-t-ne-KW_AS
 unfolding P.parse_cast
@@ -673,17 +633,14 @@ cast-loop-a-preserved t c =
     )
 
 pub comparison-bit_or-a-requires : goal.comparison-bit_or-a-requires
-comparison-bit_or-a-requires t c =
-    (omega (arith, c.decreases), c.requires)
+comparison-bit_or-a-requires t c = (omega (arith, c.decreases), c.requires)
 
 pub comparison-returns-in_default : goal.comparison-returns-in_default
 unfolding P.parse_comparison
-comparison-returns-in_default t c =
-    then_stops compare_on c.bit_or-a.ensures c.in_default.not-Done
+comparison-returns-in_default t c = then_stops compare_on c.bit_or-a.ensures c.in_default.not-Done
 
 pub comparison-peek-t-requires : goal.comparison-peek-t-requires
-comparison-peek-t-requires t c =
-    (c.requires.asks.held, omega (arith, c.bit_or-a.ensures.moved.end))
+comparison-peek-t-requires t c = (c.requires.asks.held, omega (arith, c.bit_or-a.ensures.moved.end))
 
 pub comparison-returns-then-op-eq0 : goal.comparison-returns-then-op-eq0
 unfolding P.parse_comparison
@@ -751,20 +708,16 @@ pub expression-overflow_sub-nesting : goal.expression-overflow_sub-nesting
 expression-overflow_sub-nesting t c = omega arith
 
 pub expression-boolean-requires : goal.expression-boolean-requires
-expression-boolean-requires t c =
-    (omega (arith, c.decreases), c.requires)
+expression-boolean-requires t c = (omega (arith, c.decreases), c.requires)
 
 pub expression-returns : goal.expression-returns
-expression-returns t c =
-    down Expression c.if-nesting-eq0.false c.boolean.ensures
+expression-returns t c = down Expression c.if-nesting-eq0.false c.boolean.ensures
 
 pub field-peek-t-requires : goal.field-peek-t-requires
-field-peek-t-requires t c =
-    (c.requires.asks.held, c.requires.asks.at)
+field-peek-t-requires t c = (c.requires.asks.held, c.requires.asks.at)
 
 pub field-expect_identifier-a-requires : goal.field-expect_identifier-a-requires
-field-expect_identifier-a-requires t c =
-    c.requires.asks
+field-expect_identifier-a-requires t c = c.requires.asks
 
 pub field-and_expect-b-requires : goal.field-and_expect-b-requires
 field-and_expect-b-requires t c =
@@ -811,48 +764,37 @@ field-returns t c =
     c.expression-c.ensures c.write_text_node.ensures
 
 pub item-named-requires : goal.item-named-requires
-item-named-requires t c =
-    (omega (arith, c.decreases), c.requires)
+item-named-requires t c = (omega (arith, c.decreases), c.requires)
 
 pub item-expression-requires : goal.item-expression-requires
-item-expression-requires t c =
-    (omega (arith, c.decreases), c.requires)
+item-expression-requires t c = (omega (arith, c.decreases), c.requires)
 
 pub item-named-requires-in-StructFields : goal.item-named-requires-in-StructFields
-item-named-requires-in-StructFields t c =
-    (omega (arith, c.decreases), c.requires)
+item-named-requires-in-StructFields t c = (omega (arith, c.decreases), c.requires)
 
 pub item-expression-requires-in-ArrayValues : goal.item-expression-requires-in-ArrayValues
-item-expression-requires-in-ArrayValues t c =
-    (omega (arith, c.decreases), c.requires)
+item-expression-requires-in-ArrayValues t c = (omega (arith, c.decreases), c.requires)
 
 pub item-field-requires : goal.item-field-requires
-item-field-requires t c =
-    (omega (arith, c.decreases), c.requires)
+item-field-requires t c = (omega (arith, c.decreases), c.requires)
 
 pub item-returns-in-Parameters : goal.item-returns-in-Parameters
-item-returns-in-Parameters t c =
-    item_parameter c.in-Parameters.is c.named.ensures
+item-returns-in-Parameters t c = item_parameter c.in-Parameters.is c.named.ensures
 
 pub item-returns-in-Arguments : goal.item-returns-in-Arguments
-item-returns-in-Arguments t c =
-    item_argument c.in-Arguments.is c.expression.ensures
+item-returns-in-Arguments t c = item_argument c.in-Arguments.is c.expression.ensures
 
 pub item-returns-in-StructFields : goal.item-returns-in-StructFields
-item-returns-in-StructFields t c =
-    item_field c.in-StructFields.is c.named-in-StructFields.ensures
+item-returns-in-StructFields t c = item_field c.in-StructFields.is c.named-in-StructFields.ensures
 
 pub item-returns-in-ArrayValues : goal.item-returns-in-ArrayValues
-item-returns-in-ArrayValues t c =
-    item_value c.in-ArrayValues.is c.expression-in-ArrayValues.ensures
+item-returns-in-ArrayValues t c = item_value c.in-ArrayValues.is c.expression-in-ArrayValues.ensures
 
 pub item-returns-in-StructValues : goal.item-returns-in-StructValues
-item-returns-in-StructValues t c =
-    item_named_value c.in-StructValues.is c.field.ensures
+item-returns-in-StructValues t c = item_named_value c.in-StructValues.is c.field.ensures
 
 pub list-expect-a-requires : goal.list-expect-a-requires
-list-expect-a-requires t c =
-    (c.requires.asks, c.opener-open.ensures.1)
+list-expect-a-requires t c = (c.requires.asks, c.opener-open.ensures.1)
 
 pub list-returns-in-Refused : goal.list-returns-in-Refused
 list-returns-in-Refused t c =
@@ -877,8 +819,7 @@ pub list-entry-error-requires : goal.list-entry-error-requires
 list-entry-error-requires t c = omega arith
 
 pub list-note-b-requires : goal.list-note-b-requires
-list-note-b-requires t c =
-    raise_asked c.loop-what.invariant.0.0
+list-note-b-requires t c = raise_asked c.loop-what.invariant.0.0
 
 pub list-returns-then-t-eq-END : goal.list-returns-then-t-eq-END
 list-returns-then-t-eq-END t c =
@@ -963,8 +904,7 @@ list-loop-what-preserved t c =
     )
 
 pub mul-cast-a-requires : goal.mul-cast-a-requires
-mul-cast-a-requires t c =
-    (omega (arith, c.decreases), c.requires)
+mul-cast-a-requires t c = (omega (arith, c.decreases), c.requires)
 
 pub mul-operators-requires : goal.mul-operators-requires
 mul-operators-requires t c =
@@ -981,8 +921,7 @@ mul-returns t c =
     c.operators.ensures
 
 pub named-typed_name-a-requires : goal.named-typed_name-a-requires
-named-typed_name-a-requires t c =
-    (omega (arith, c.decreases), c.requires)
+named-typed_name-a-requires t c = (omega (arith, c.decreases), c.requires)
 
 pub named-bare_name-requires : goal.named-bare_name-requires
 named-bare_name-requires t c =
@@ -990,28 +929,22 @@ named-bare_name-requires t c =
     (omega (arith, c.typed_name-a.auto))
 
 pub named-returns : goal.named-returns
-named-returns t c =
-    named_reads c.requires c.typed_name-a.ensures c.bare_name.ensures
+named-returns t c = named_reads c.requires c.typed_name-a.ensures c.bare_name.ensures
 
 pub operand-peek-t-requires : goal.operand-peek-t-requires
-operand-peek-t-requires t c =
-    (c.requires.asks.held, c.requires.asks.at)
+operand-peek-t-requires t c = (c.requires.asks.held, c.requires.asks.at)
 
 pub operand-peek-u-requires : goal.operand-peek-u-requires
-operand-peek-u-requires t c =
-    (c.requires.asks.held, omega (arith, c.peek-t.ensures.end))
+operand-peek-u-requires t c = (c.requires.asks.held, omega (arith, c.peek-t.ensures.end))
 
 pub operand-unary-requires : goal.operand-unary-requires
-operand-unary-requires t c =
-    (omega (arith, c.decreases), c.requires)
+operand-unary-requires t c = (omega (arith, c.decreases), c.requires)
 
 pub operand-returns-then-nesting-name_alone : goal.operand-returns-then-nesting-name_alone
-operand-returns-then-nesting-name_alone t c =
-    c.unary.ensures
+operand-returns-then-nesting-name_alone t c = c.unary.ensures
 
 pub operand-name-requires : goal.operand-name-requires
-operand-name-requires t c =
-    room_token c.requires c.peek-t.ensures
+operand-name-requires t c = room_token c.requires c.peek-t.ensures
 
 pub operand-returns : goal.operand-returns
 operand-returns t c =
@@ -1020,15 +953,13 @@ operand-returns t c =
     (omega (arith, c.name.auto))
 
 pub operators-loop-a-init : goal.operators-loop-a-init
-operators-loop-a-init t c =
-    (c.requires, at_start)
+operators-loop-a-init t c = (c.requires, at_start)
 
 pub operators-returns-in_default : goal.operators-returns-in_default
 operators-returns-in_default t c = c.loop-a.invariant.1.rest (goes_stops c.loop-a.invariant.0 c.in_default.not-Done)
 
 pub operators-peek-t-requires : goal.operators-peek-t-requires
-operators-peek-t-requires t c =
-    (c.loop-a.invariant.0.asked.asks.held, c.loop-a.invariant.0.asked.asks.at)
+operators-peek-t-requires t c = (c.loop-a.invariant.0.asked.asks.held, c.loop-a.invariant.0.asked.asks.at)
 
 pub operators-returns-then-op-eq0 : goal.operators-returns-then-op-eq0
 operators-returns-then-op-eq0 t c =
@@ -1102,8 +1033,7 @@ operators-loop-a-preserved t c =
     )
 
 pub shift-add_sub-a-requires : goal.shift-add_sub-a-requires
-shift-add_sub-a-requires t c =
-    (omega (arith, c.decreases), c.requires)
+shift-add_sub-a-requires t c = (omega (arith, c.decreases), c.requires)
 
 pub shift-operators-requires : goal.shift-operators-requires
 shift-operators-requires t c =
@@ -1120,12 +1050,10 @@ shift-returns t c =
     c.operators.ensures
 
 pub sizeof-peek-t-requires : goal.sizeof-peek-t-requires
-sizeof-peek-t-requires t c =
-    (c.requires.asks.held, c.requires.asks.at)
+sizeof-peek-t-requires t c = (c.requires.asks.held, c.requires.asks.at)
 
 pub sizeof-access-requires : goal.sizeof-access-requires
-sizeof-access-requires t c =
-    (omega (arith, c.decreases), c.requires)
+sizeof-access-requires t c = (omega (arith, c.decreases), c.requires)
 
 pub sizeof-returns-then-t-ne-KW_SIZEOF : goal.sizeof-returns-then-t-ne-KW_SIZEOF
 sizeof-returns-then-t-ne-KW_SIZEOF t c =
@@ -1133,8 +1061,7 @@ sizeof-returns-then-t-ne-KW_SIZEOF t c =
     c.access.ensures
 
 pub sizeof-expect-a-requires : goal.sizeof-expect-a-requires
-sizeof-expect-a-requires t c =
-    (asks_fore c.requires.asks c.peek-t.ensures, (omega arith, omega arith))
+sizeof-expect-a-requires t c = (asks_fore c.requires.asks c.peek-t.ensures, (omega arith, omega arith))
 
 pub sizeof-returns-in_default : goal.sizeof-returns-in_default
 sizeof-returns-in_default t c =
@@ -1184,16 +1111,13 @@ sizeof-returns t c =
     c.write_node.ensures
 
 pub ty-returns-then-nesting-eq0 : goal.ty-returns-then-nesting-eq0
-ty-returns-then-nesting-eq0 t c =
-    type_deep c.requires c.if-nesting-eq0.true c.refuse.ensures
+ty-returns-then-nesting-eq0 t c = type_deep c.requires c.if-nesting-eq0.true c.refuse.ensures
 
 pub ty-peek-t-requires : goal.ty-peek-t-requires
-ty-peek-t-requires t c =
-    (c.requires.asks.held, c.requires.asks.at)
+ty-peek-t-requires t c = (c.requires.asks.held, c.requires.asks.at)
 
 pub ty-write_text_node-requires : goal.ty-write_text_node-requires
-ty-write_text_node-requires t c =
-    room_token c.requires c.peek-t.ensures
+ty-write_text_node-requires t c = room_token c.requires c.peek-t.ensures
 
 pub ty-returns-then-t-eq-IDENTIFIER : goal.ty-returns-then-t-eq-IDENTIFIER
 ty-returns-then-t-eq-IDENTIFIER t c =
@@ -1260,8 +1184,7 @@ pub ty-entry-error-requires : goal.ty-entry-error-requires
 ty-entry-error-requires t c = omega arith
 
 pub ty-raise-requires : goal.ty-raise-requires
-ty-raise-requires t c =
-    raise_asked (asked_seen c.requires c.peek-t.ensures)
+ty-raise-requires t c = raise_asked (asked_seen c.requires c.peek-t.ensures)
 
 pub ty-returns-then-t-eq-END : goal.ty-returns-then-t-eq-END
 ty-returns-then-t-eq-END t c =
@@ -1270,12 +1193,10 @@ ty-returns-then-t-eq-END t c =
     c.entry-error.ensures c.raise.ensures
 
 pub ty-entry-error-requires-2 : goal.ty-entry-error-requires-2
-ty-entry-error-requires-2 t c =
-    omega (arith, c.peek-t.ensures)
+ty-entry-error-requires-2 t c = omega (arith, c.peek-t.ensures)
 
 pub ty-raise-requires-2 : goal.ty-raise-requires-2
-ty-raise-requires-2 t c =
-    raise_asked (asked_seen c.requires c.peek-t.ensures)
+ty-raise-requires-2 t c = raise_asked (asked_seen c.requires c.peek-t.ensures)
 
 pub ty-returns : goal.ty-returns
 ty-returns t c =
@@ -1284,8 +1205,7 @@ ty-returns t c =
     c.entry-error-2.ensures c.raise-2.ensures
 
 pub typed-expect-a-requires : goal.typed-expect-a-requires
-typed-expect-a-requires t c =
-    (c.requires.0.asks, (omega arith, omega arith))
+typed-expect-a-requires t c = (c.requires.0.asks, (omega arith, omega arith))
 
 pub typed-abandon-b-requires : goal.typed-abandon-b-requires
 typed-abandon-b-requires t c =
@@ -1321,8 +1241,7 @@ typed-returns t c =
     c.in-Done.is c.ty-c.ensures (rw same at c.abandon.ensures)
 
 pub typed_name-peek-t-requires : goal.typed_name-peek-t-requires
-typed_name-peek-t-requires t c =
-    (c.requires.asks.held, c.requires.asks.at)
+typed_name-peek-t-requires t c = (c.requires.asks.held, c.requires.asks.at)
 
 pub typed_name-typed-requires : goal.typed_name-typed-requires
 typed_name-typed-requires t c =
@@ -1340,8 +1259,7 @@ pub typed_name-entry-error-requires : goal.typed_name-entry-error-requires
 typed_name-entry-error-requires t c = omega arith
 
 pub typed_name-raise-requires : goal.typed_name-raise-requires
-typed_name-raise-requires t c =
-    raise_asked (asked_seen c.requires c.peek-t.ensures)
+typed_name-raise-requires t c = raise_asked (asked_seen c.requires c.peek-t.ensures)
 
 pub typed_name-returns-then-t-eq-END : goal.typed_name-returns-then-t-eq-END
 typed_name-returns-then-t-eq-END t c =
@@ -1349,12 +1267,10 @@ typed_name-returns-then-t-eq-END t c =
     c.entry-error.ensures c.raise.ensures
 
 pub typed_name-entry-error-requires-2 : goal.typed_name-entry-error-requires-2
-typed_name-entry-error-requires-2 t c =
-    omega (arith, c.peek-t.ensures)
+typed_name-entry-error-requires-2 t c = omega (arith, c.peek-t.ensures)
 
 pub typed_name-note-b-requires : goal.typed_name-note-b-requires
-typed_name-note-b-requires t c =
-    raise_asked (asked_seen c.requires c.peek-t.ensures)
+typed_name-note-b-requires t c = raise_asked (asked_seen c.requires c.peek-t.ensures)
 
 pub typed_name-returns-in_default : goal.typed_name-returns-in_default
 typed_name-returns-in_default t c =
@@ -1381,19 +1297,16 @@ typed_name-returns t c =
     c.typed-2.ensures
 
 pub unary-returns-then-nesting-eq0 : goal.unary-returns-then-nesting-eq0
-unary-returns-then-nesting-eq0 t c =
-    deep Unary c.requires.asks c.if-nesting-eq0.true c.refuse.ensures
+unary-returns-then-nesting-eq0 t c = deep Unary c.requires.asks c.if-nesting-eq0.true c.refuse.ensures
 
 pub unary-peek-t-requires : goal.unary-peek-t-requires
-unary-peek-t-requires t c =
-    (c.requires.asks.held, c.requires.asks.at)
+unary-peek-t-requires t c = (c.requires.asks.held, c.requires.asks.at)
 
 pub unary-overflow_sub-nesting : goal.unary-overflow_sub-nesting
 unary-overflow_sub-nesting t c = omega arith
 
 pub unary-call-requires : goal.unary-call-requires
-unary-call-requires t c =
-    (omega (arith, c.decreases), c.requires)
+unary-call-requires t c = (omega (arith, c.decreases), c.requires)
 
 pub unary-returns-then-tag-eq0 : goal.unary-returns-then-tag-eq0
 unary-returns-then-tag-eq0 t c =

@@ -3,12 +3,10 @@ use borrow.Author.Rules.{rules}
 use Rattle.expression.proofs.bare_name.Goals as goal
 
 pub returns-in_default : goal.returns-in_default
-returns-in_default c =
-    bare_stops c.requires c.in_default.not-Done
+returns-in_default c = bare_stops c.requires c.in_default.not-Done
 
 pub write_bare-pos-requires : goal.write_bare-pos-requires
-write_bare-pos-requires c =
-    bare_room c.requires c.in-Done.is c.peek-t.ensures
+write_bare-pos-requires c = bare_room c.requires c.in-Done.is c.peek-t.ensures
 
 pub returns-then-t-eq-IDENTIFIER : goal.returns-then-t-eq-IDENTIFIER
 returns-then-t-eq-IDENTIFIER c =
@@ -16,8 +14,7 @@ returns-then-t-eq-IDENTIFIER c =
     c.write_bare-pos.ensures
 
 pub write_bare-pos-requires-2 : goal.write_bare-pos-requires-2
-write_bare-pos-requires-2 c =
-    unknown_room c.requires c.in-Done.is
+write_bare-pos-requires-2 c = unknown_room c.requires c.in-Done.is
 
 pub returns : goal.returns
 returns c =

@@ -4,8 +4,7 @@ use borrow.Author.Rules.{rules}
 use Rattle.fallible.proofs.exchange.Goals as goal
 
 pub returns-then-j-m : goal.returns-then-j-m
-returns-then-j-m c =
-    exchanged_none c.requires.0 c.requires.1.0 c.if-j-m.true
+returns-then-j-m c = exchanged_none c.requires.0 c.requires.1.0 c.if-j-m.true
 
 pub returns : goal.returns
 returns c =

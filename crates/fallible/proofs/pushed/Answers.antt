@@ -3,5 +3,4 @@ use borrow.Author.Rules.{rules}
 use Rattle.fallible.proofs.pushed.Goals as goal
 
 pub returns : goal.returns
-returns c =
-    record { is = refl; reported = c.push.ensures; full = c.push-2.ensures }
+returns c = record { is = refl; reported = c.push.ensures; full = c.push-2.ensures }

@@ -9,43 +9,35 @@ use Prim.Native.Nat.{◌-◌}
 use Rattle.items.proofs.module.Goals as goal
 
 pub loop-st-init : goal.loop-st-init
-loop-st-init c =
-    ((c.requires, omega arith), at_start)
+loop-st-init c = ((c.requires, omega arith), at_start)
 
 pub peek-t-requires : goal.peek-t-requires
 peek-t-requires c = (c.loop-st.invariant.0.0.asks.held, c.loop-st.invariant.0.0.asks.at)
 
 pub shape_of-file-then-t-eq-END : goal.shape_of-file-then-t-eq-END
-shape_of-file-then-t-eq-END c =
-    omega (arith, c.loop-st.invariant.1)
+shape_of-file-then-t-eq-END c = omega (arith, c.loop-st.invariant.1)
 
 pub shape_of-reported-then-t-eq-END : goal.shape_of-reported-then-t-eq-END
-shape_of-reported-then-t-eq-END c =
-    omega (arith, c.loop-st.invariant.1)
+shape_of-reported-then-t-eq-END c = omega (arith, c.loop-st.invariant.1)
 
 pub shape_of-full-then-t-eq-END : goal.shape_of-full-then-t-eq-END
-shape_of-full-then-t-eq-END c =
-    omega (arith, c.loop-st.invariant.1)
+shape_of-full-then-t-eq-END c = omega (arith, c.loop-st.invariant.1)
 
 pub returns-then-t-eq-END : goal.returns-then-t-eq-END
 returns-then-t-eq-END c =
     c.loop-st.invariant.1.rest (module_end c.loop-st.invariant.0 c.peek-t.ensures c.if-t-eq-END.true)
 
 pub top_level_item-b-requires : goal.top_level_item-b-requires
-top_level_item-b-requires c =
-    c.loop-st.invariant.0.0
+top_level_item-b-requires c = c.loop-st.invariant.0.0
 
 pub shape_of-file-in-Refused : goal.shape_of-file-in-Refused
-shape_of-file-in-Refused c =
-    omega (arith, c.loop-st.invariant.1, c.top_level_item-b.auto)
+shape_of-file-in-Refused c = omega (arith, c.loop-st.invariant.1, c.top_level_item-b.auto)
 
 pub shape_of-reported-in-Refused : goal.shape_of-reported-in-Refused
-shape_of-reported-in-Refused c =
-    omega (arith, c.loop-st.invariant.1, c.top_level_item-b.auto)
+shape_of-reported-in-Refused c = omega (arith, c.loop-st.invariant.1, c.top_level_item-b.auto)
 
 pub shape_of-full-in-Refused : goal.shape_of-full-in-Refused
-shape_of-full-in-Refused c =
-    omega (arith, c.loop-st.invariant.1, c.top_level_item-b.auto)
+shape_of-full-in-Refused c = omega (arith, c.loop-st.invariant.1, c.top_level_item-b.auto)
 
 pub returns-in-Refused : goal.returns-in-Refused
 returns-in-Refused c =

@@ -5,24 +5,19 @@ use native.Mathlib.Omega.{arith}
 use Rattle.items.proofs.top_level_item.Goals as goal
 
 pub peek-t-requires : goal.peek-t-requires
-peek-t-requires c =
-    (c.requires.asks.held, c.requires.asks.at)
+peek-t-requires c = (c.requires.asks.held, c.requires.asks.at)
 
 pub function_definition-requires : goal.function_definition-requires
-function_definition-requires c =
-    c.requires
+function_definition-requires c = c.requires
 
 pub shape_of-file-then-t : goal.shape_of-file-then-t
-shape_of-file-then-t c =
-    omega (arith, c.function_definition.auto)
+shape_of-file-then-t c = omega (arith, c.function_definition.auto)
 
 pub shape_of-reported-then-t : goal.shape_of-reported-then-t
-shape_of-reported-then-t c =
-    omega (arith, c.function_definition.auto)
+shape_of-reported-then-t c = omega (arith, c.function_definition.auto)
 
 pub shape_of-full-then-t : goal.shape_of-full-then-t
-shape_of-full-then-t c =
-    omega (arith, c.function_definition.auto)
+shape_of-full-then-t c = omega (arith, c.function_definition.auto)
 
 pub returns-then-t : goal.returns-then-t
 returns-then-t c =
@@ -30,20 +25,16 @@ returns-then-t c =
     c.function_definition.ensures
 
 pub type_alias-requires : goal.type_alias-requires
-type_alias-requires c =
-    c.requires
+type_alias-requires c = c.requires
 
 pub shape_of-file-then-t-2 : goal.shape_of-file-then-t-2
-shape_of-file-then-t-2 c =
-    omega (arith, c.type_alias.auto)
+shape_of-file-then-t-2 c = omega (arith, c.type_alias.auto)
 
 pub shape_of-reported-then-t-2 : goal.shape_of-reported-then-t-2
-shape_of-reported-then-t-2 c =
-    omega (arith, c.type_alias.auto)
+shape_of-reported-then-t-2 c = omega (arith, c.type_alias.auto)
 
 pub shape_of-full-then-t-2 : goal.shape_of-full-then-t-2
-shape_of-full-then-t-2 c =
-    omega (arith, c.type_alias.auto)
+shape_of-full-then-t-2 c = omega (arith, c.type_alias.auto)
 
 pub returns-then-t-2 : goal.returns-then-t-2
 returns-then-t-2 c =
@@ -51,20 +42,16 @@ returns-then-t-2 c =
     c.type_alias.ensures
 
 pub use_path-requires : goal.use_path-requires
-use_path-requires c =
-    c.requires
+use_path-requires c = c.requires
 
 pub shape_of-file-then-t-eq-KW_USE : goal.shape_of-file-then-t-eq-KW_USE
-shape_of-file-then-t-eq-KW_USE c =
-    omega (arith, c.use_path.auto)
+shape_of-file-then-t-eq-KW_USE c = omega (arith, c.use_path.auto)
 
 pub shape_of-reported-then-t-eq-KW_USE : goal.shape_of-reported-then-t-eq-KW_USE
-shape_of-reported-then-t-eq-KW_USE c =
-    omega (arith, c.use_path.auto)
+shape_of-reported-then-t-eq-KW_USE c = omega (arith, c.use_path.auto)
 
 pub shape_of-full-then-t-eq-KW_USE : goal.shape_of-full-then-t-eq-KW_USE
-shape_of-full-then-t-eq-KW_USE c =
-    omega (arith, c.use_path.auto)
+shape_of-full-then-t-eq-KW_USE c = omega (arith, c.use_path.auto)
 
 pub returns-then-t-eq-KW_USE : goal.returns-then-t-eq-KW_USE
 returns-then-t-eq-KW_USE c =
@@ -72,20 +59,16 @@ returns-then-t-eq-KW_USE c =
     (c.use_path.ensures _)
 
 pub top_level_var_declaration-requires : goal.top_level_var_declaration-requires
-top_level_var_declaration-requires c =
-    c.requires
+top_level_var_declaration-requires c = c.requires
 
 pub shape_of-file-then-t-eq-KW_VAR : goal.shape_of-file-then-t-eq-KW_VAR
-shape_of-file-then-t-eq-KW_VAR c =
-    omega (arith, c.top_level_var_declaration.auto)
+shape_of-file-then-t-eq-KW_VAR c = omega (arith, c.top_level_var_declaration.auto)
 
 pub shape_of-reported-then-t-eq-KW_VAR : goal.shape_of-reported-then-t-eq-KW_VAR
-shape_of-reported-then-t-eq-KW_VAR c =
-    omega (arith, c.top_level_var_declaration.auto)
+shape_of-reported-then-t-eq-KW_VAR c = omega (arith, c.top_level_var_declaration.auto)
 
 pub shape_of-full-then-t-eq-KW_VAR : goal.shape_of-full-then-t-eq-KW_VAR
-shape_of-full-then-t-eq-KW_VAR c =
-    omega (arith, c.top_level_var_declaration.auto)
+shape_of-full-then-t-eq-KW_VAR c = omega (arith, c.top_level_var_declaration.auto)
 
 pub returns-then-t-eq-KW_VAR : goal.returns-then-t-eq-KW_VAR
 returns-then-t-eq-KW_VAR c =
@@ -93,12 +76,10 @@ returns-then-t-eq-KW_VAR c =
     c.if-t-eq-KW_VAR.true c.top_level_var_declaration.ensures
 
 pub leaf-requires : goal.leaf-requires
-leaf-requires c =
-    room_token c.requires c.peek-t.ensures
+leaf-requires c = room_token c.requires c.peek-t.ensures
 
 pub shape_of-file-then-t-eq-INLINE_ASSEMBLY_FRAGMENT : goal.shape_of-file-then-t-eq-INLINE_ASSEMBLY_FRAGMENT
-shape_of-file-then-t-eq-INLINE_ASSEMBLY_FRAGMENT c =
-    omega (arith, c.leaf.auto)
+shape_of-file-then-t-eq-INLINE_ASSEMBLY_FRAGMENT c = omega (arith, c.leaf.auto)
 
 pub returns-then-t-eq-INLINE_ASSEMBLY_FRAGMENT : goal.returns-then-t-eq-INLINE_ASSEMBLY_FRAGMENT
 returns-then-t-eq-INLINE_ASSEMBLY_FRAGMENT c =
@@ -106,20 +87,16 @@ returns-then-t-eq-INLINE_ASSEMBLY_FRAGMENT c =
     c.if-t-eq-KW_VAR.false c.requires c.if-t-eq-INLINE_ASSEMBLY_FRAGMENT.true c.leaf.ensures
 
 pub entry-error-requires : goal.entry-error-requires
-entry-error-requires c =
-    omega (arith, c.peek-t.ensures)
+entry-error-requires c = omega (arith, c.peek-t.ensures)
 
 pub raise-requires : goal.raise-requires
-raise-requires c =
-    raise_asked (asked_seen c.requires c.peek-t.ensures)
+raise-requires c = raise_asked (asked_seen c.requires c.peek-t.ensures)
 
 pub shape_of-reported : goal.shape_of-reported
-shape_of-reported c =
-    omega (arith, c.raise.auto)
+shape_of-reported c = omega (arith, c.raise.auto)
 
 pub shape_of-full : goal.shape_of-full
-shape_of-full c =
-    omega (arith, c.raise.auto)
+shape_of-full c = omega (arith, c.raise.auto)
 
 pub returns : goal.returns
 returns c =

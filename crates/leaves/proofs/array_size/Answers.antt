@@ -5,16 +5,13 @@ use native.Mathlib.Omega.{arith}
 use Rattle.leaves.proofs.array_size.Goals as goal
 
 pub returns-then-len-eq0 : goal.returns-then-len-eq0
-returns-then-len-eq0 c =
-    size_none c.args.text.now c.args.start c.if-len-eq0.true
+returns-then-len-eq0 c = size_none c.args.text.now c.args.start c.if-len-eq0.true
 
 pub returns-then-text-start-eq45 : goal.returns-then-text-start-eq45
-returns-then-text-start-eq45 c =
-    size_dash _ _ c.requires.0 c.if-len-eq0.false c.if-text-start-eq45.true
+returns-then-text-start-eq45 c = size_dash _ _ c.requires.0 c.if-len-eq0.false c.if-text-start-eq45.true
 
 pub loop-i-init : goal.loop-i-init
-loop-i-init c =
-    size_start _ _ c.requires.0 c.if-len-eq0.false c.requires.1.0 c.if-text-start-eq45.false
+loop-i-init c = size_start _ _ c.requires.0 c.if-len-eq0.false c.requires.1.0 c.if-text-start-eq45.false
 
 pub returns-then-d-base : goal.returns-then-d-base
 returns-then-d-base c =

@@ -3,12 +3,10 @@ use borrow.Author.Rules.{rules}
 use Rattle.leaves.proofs.comma.Goals as goal
 
 pub returns-then-t-eq-COMMA : goal.returns-then-t-eq-COMMA
-returns-then-t-eq-COMMA c =
-    comma_there c.requires c.peek-t.ensures c.if-t-eq-COMMA.true
+returns-then-t-eq-COMMA c = comma_there c.requires c.peek-t.ensures c.if-t-eq-COMMA.true
 
 pub returns-then-t-close : goal.returns-then-t-close
-returns-then-t-close c =
-    comma_close c.requires c.peek-t.ensures c.if-t-eq-COMMA.false c.if-t-close.true
+returns-then-t-close c = comma_close c.requires c.peek-t.ensures c.if-t-eq-COMMA.false c.if-t-close.true
 
 pub returns-then-t-eq-END : goal.returns-then-t-eq-END
 returns-then-t-eq-END c =

@@ -54,5 +54,4 @@ pub returns-then-k-eq-STAR : goal.returns-then-k-eq-STAR
 returns-then-k-eq-STAR c = at_level c.in-Mul.is (omega arith) (omega arith) (hit c.if-k-eq-STAR.true)
 
 pub returns-else-k-eq-STAR : goal.returns-else-k-eq-STAR
-returns-else-k-eq-STAR c =
-    at_level c.in-Mul.is (omega arith) (omega arith) (miss c.if-k-eq-STAR.false none)
+returns-else-k-eq-STAR c = at_level c.in-Mul.is (omega arith) (omega arith) (miss c.if-k-eq-STAR.false none)

@@ -10,5 +10,4 @@ pub overflow_add-result : goal.overflow_add-result
 overflow_add-result c = omega (arith, c.wide-2.ensures, c.wide.ensures, c.requires.0, c.requires.1)
 
 pub returns : goal.returns
-returns c =
-    rw (c.wide-2.ensures, c.wide.ensures) (packed _ _ c.requires.0 c.requires.1)
+returns c = rw (c.wide-2.ensures, c.wide.ensures) (packed _ _ c.requires.0 c.requires.1)

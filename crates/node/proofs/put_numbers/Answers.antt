@@ -9,20 +9,16 @@ returns-in-None c = rw c.in-None.is (nothing _ _)
 
 pub returns-in-Byte : goal.returns-in-Byte
 unfolding nums_bytes
-returns-in-Byte c =
-    rw c.in-Byte.is c.put.ensures
+returns-in-Byte c = rw c.in-Byte.is c.put.ensures
 
 pub returns-in-Two : goal.returns-in-Two
 unfolding nums_bytes
-returns-in-Two c =
-    rw c.in-Two.is c.put_two.ensures
+returns-in-Two c = rw c.in-Two.is c.put_two.ensures
 
 pub returns-in-Eight : goal.returns-in-Eight
 unfolding nums_bytes
-returns-in-Eight c =
-    rw c.in-Eight.is c.put_eight.ensures
+returns-in-Eight c = rw c.in-Eight.is c.put_eight.ensures
 
 pub returns-in-ByteTwo : goal.returns-in-ByteTwo
 unfolding nums_bytes
-returns-in-ByteTwo c =
-    rw c.in-ByteTwo.is (then c.put-p.ensures c.put_two-in-ByteTwo.ensures)
+returns-in-ByteTwo c = rw c.in-ByteTwo.is (then c.put-p.ensures c.put_two-in-ByteTwo.ensures)

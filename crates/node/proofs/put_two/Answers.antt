@@ -3,5 +3,4 @@ use borrow.Author.Rules.{rules}
 use Rattle.node.proofs.put_two.Goals as goal
 
 pub returns : goal.returns
-returns c =
-    then c.put-p.ensures c.put.ensures
+returns c = then c.put-p.ensures c.put.ensures

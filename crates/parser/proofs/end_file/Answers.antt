@@ -4,8 +4,7 @@ use borrow.Author.Rules.{rules}
 use Rattle.parser.proofs.end_file.Goals as goal
 
 pub write_bare-p-requires : goal.write_bare-p-requires
-write_bare-p-requires c =
-    record { room = omega (arith, c.requires.room); part = omega arith }
+write_bare-p-requires c = record { room = omega (arith, c.requires.room); part = omega arith }
 
 pub token_error_fields-q-requires : goal.token_error_fields-q-requires
 token_error_fields-q-requires c =

@@ -30,8 +30,7 @@ read_tokens-requires c =
     )
 
 pub shape_of-file : goal.shape_of-file
-shape_of-file c =
-    omega (arith, c.read_tokens.auto)
+shape_of-file c = omega (arith, c.read_tokens.auto)
 
 pub returns : goal.returns
 returns c =

@@ -5,12 +5,10 @@ use borrow.Author.Rules.{rules}
 use Rattle.parser.proofs.read_tokens.Goals as goal
 
 pub module-a-requires : goal.module-a-requires
-module-a-requires c =
-    module_asked _ _ _ _ _ c.requires.1.1 c.requires.0 (omega arith) (omega arith)
+module-a-requires c = module_asked _ _ _ _ _ c.requires.1.1 c.requires.0 (omega arith) (omega arith)
 
 pub shape_of-file-in-Refused : goal.shape_of-file-in-Refused
-shape_of-file-in-Refused c =
-    omega (arith, c.clear_bytes.auto, c.module-a.auto)
+shape_of-file-in-Refused c = omega (arith, c.clear_bytes.auto, c.module-a.auto)
 
 pub returns-in-Refused : goal.returns-in-Refused
 returns-in-Refused c =
@@ -25,8 +23,7 @@ end_file-bytes-requires c =
     (omega (arith, c.module-a.auto))
 
 pub shape_of-file : goal.shape_of-file
-shape_of-file c =
-    omega (arith, c.end_file-bytes.auto, c.module-a.auto)
+shape_of-file c = omega (arith, c.end_file-bytes.auto, c.module-a.auto)
 
 pub returns : goal.returns
 returns c =

@@ -4,9 +4,7 @@ use borrow.Author.Rules.{rules}
 use Rattle.reader.proofs.cleared.Goals as goal
 
 pub shape_of-file : goal.shape_of-file
-shape_of-file c =
-    omega (arith, c.clear_bytes.auto)
+shape_of-file c = omega (arith, c.clear_bytes.auto)
 
 pub returns : goal.returns
-returns c =
-    cleared_is _ c.clear_bytes.ensures
+returns c = cleared_is _ c.clear_bytes.ensures

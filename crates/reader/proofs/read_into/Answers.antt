@@ -5,8 +5,7 @@ use borrow.Author.Rules.{rules}
 use Rattle.reader.proofs.read_into.Goals as goal
 
 pub run-state-requires : goal.run-state-requires
-run-state-requires c =
-    c.requires.0
+run-state-requires c = c.requires.0
 
 pub returns-then-state-ne0 : goal.returns-then-state-ne0
 returns-then-state-ne0 c =

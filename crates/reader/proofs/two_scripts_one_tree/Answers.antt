@@ -3,5 +3,4 @@ use borrow.Author.Rules.{rules}
 use Rattle.reader.proofs.two_scripts_one_tree.Goals as goal
 
 pub returns : goal.returns
-returns c =
-    one_tree_of_answers _ _ _ _ c.read_script-a.ensures c.read_script-b.ensures
+returns c = one_tree_of_answers _ _ _ _ c.read_script-a.ensures c.read_script-b.ensures

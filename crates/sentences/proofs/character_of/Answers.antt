@@ -13,8 +13,7 @@ returns-then-s-start c =
     c.cursor_at-c.ensures c.if-s-start.true
 
 pub step-d-requires : goal.step-d-requires
-step-d-requires c =
-    (c.cursor_at-c.ensures.stands, search rules, c.requires.short)
+step-d-requires c = (c.cursor_at-c.ensures.stands, search rules, c.requires.short)
 
 pub returns : goal.returns
 returns c =

@@ -11,13 +11,11 @@ use native.Mathlib.Omega.{arith}
 use Rattle.sentences.proofs.say_parser_error.Goals as goal
 
 pub token_got-t-requires : goal.token_got-t-requires
-token_got-t-requires c =
-    c.requires.0.held
+token_got-t-requires c = c.requires.0.held
 
 pub overflow_add-end : goal.overflow_add-end
 unfolding unpack token_got
-overflow_add-end c =
-    omega (arith, (c.token_got-t.ensures _ c.requires.0.parts).inside, c.well_formed)
+overflow_add-end c = omega (arith, (c.token_got-t.ensures _ c.requires.0.parts).inside, c.well_formed)
 
 pub say_sentence-requires : goal.say_sentence-requires
 unfolding spoken lines compose parser_messages ascii unpack token_got

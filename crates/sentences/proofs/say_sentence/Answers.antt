@@ -6,12 +6,10 @@ use borrow.Author.Rules.{rules}
 use Rattle.sentences.proofs.say_sentence.Goals as goal
 
 pub line_end-end-requires : goal.line_end-end-requires
-line_end-end-requires c =
-    c.line_at-start.ensures.inside
+line_end-end-requires c = c.line_at-start.ensures.inside
 
 pub slice_bounds-say_message-count : goal.slice_bounds-say_message-count
-slice_bounds-say_message-count c =
-    c.line_end-end.ensures.low
+slice_bounds-say_message-count c = c.line_end-end.ensures.low
 
 pub say_message-requires : goal.say_message-requires
 say_message-requires c =

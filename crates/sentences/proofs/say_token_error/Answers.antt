@@ -10,12 +10,10 @@ use borrow.Author.Rules.{rules}
 use Rattle.sentences.proofs.say_token_error.Goals as goal
 
 pub character_of-c-requires : goal.character_of-c-requires
-character_of-c-requires c =
-    c.requires.0
+character_of-c-requires c = c.requires.0
 
 pub slice_bounds-say_sentence-count : goal.slice_bounds-say_sentence-count
-slice_bounds-say_sentence-count c =
-    c.character_of-c.ensures.low
+slice_bounds-say_sentence-count c = c.character_of-c.ensures.low
 
 pub say_sentence-requires : goal.say_sentence-requires
 unfolding spoken lines compose token_messages ascii

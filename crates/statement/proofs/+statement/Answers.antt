@@ -17,16 +17,13 @@ use Rattle.steps.proofs.Constructs.{deep, down}
 use Rattle.statement.proofs.+statement.Goals as goal
 
 pub block-peek-t-requires : goal.block-peek-t-requires
-block-peek-t-requires t c =
-    (c.requires.asked.asks.held, c.requires.asked.asks.at)
+block-peek-t-requires t c = (c.requires.asked.asks.held, c.requires.asked.asks.at)
 
 pub block-body-a-requires : goal.block-body-a-requires
-block-body-a-requires t c =
-    (omega (arith, c.decreases), c.requires.asked)
+block-body-a-requires t c = (omega (arith, c.decreases), c.requires.asked)
 
 pub block-write_node-requires : goal.block-write_node-requires
-block-write_node-requires t c =
-    room_at c.requires.asked c.body-a.ensures.moved (omega (arith, c.body-a.auto))
+block-write_node-requires t c = room_at c.requires.asked c.body-a.ensures.moved (omega (arith, c.body-a.auto))
 
 pub block-returns : goal.block-returns
 block-returns t c =
@@ -34,8 +31,7 @@ block-returns t c =
     c.write_node.ensures
 
 pub body-expect-a-requires : goal.body-expect-a-requires
-body-expect-a-requires t c =
-    (c.requires.asks, (omega arith, omega arith))
+body-expect-a-requires t c = (c.requires.asks, (omega arith, omega arith))
 
 pub body-body_rest-requires : goal.body-body_rest-requires
 body-body_rest-requires t c =
@@ -56,16 +52,13 @@ body-returns-in-Done t c =
     c.body_rest.ensures
 
 pub body-returns-in-Fatal : goal.body-returns-in-Fatal
-body-returns-in-Fatal t c =
-    body_none c.requires c.expect-a.ensures c.in-Fatal.is
+body-returns-in-Fatal t c = body_none c.requires c.expect-a.ensures c.in-Fatal.is
 
 pub body-returns-in-Refused : goal.body-returns-in-Refused
-body-returns-in-Refused t c =
-    body_refused c.requires c.expect-a.ensures (_, c.in-Refused.is)
+body-returns-in-Refused t c = body_refused c.requires c.expect-a.ensures (_, c.in-Refused.is)
 
 pub body_rest-loop-st-init : goal.body_rest-loop-st-init
-body_rest-loop-st-init t c =
-    ((c.requires, omega arith), at_start)
+body_rest-loop-st-init t c = ((c.requires, omega arith), at_start)
 
 pub body_rest-peek-t-requires : goal.body_rest-peek-t-requires
 body_rest-peek-t-requires t c = (c.loop-st.invariant.0.0.asks.held, c.loop-st.invariant.0.0.asks.at)
@@ -79,8 +72,7 @@ pub body_rest-entry-error-requires : goal.body_rest-entry-error-requires
 body_rest-entry-error-requires t c = omega arith
 
 pub body_rest-note-b-requires : goal.body_rest-note-b-requires
-body_rest-note-b-requires t c =
-    raise_asked c.loop-st.invariant.0.0
+body_rest-note-b-requires t c = raise_asked c.loop-st.invariant.0.0
 
 pub body_rest-returns-then-t-eq-END : goal.body_rest-returns-then-t-eq-END
 body_rest-returns-then-t-eq-END t c =
@@ -134,12 +126,10 @@ body_rest-loop-st-preserved t c =
     )
 
 pub guarded-expression-a-requires : goal.guarded-expression-a-requires
-guarded-expression-a-requires t c =
-    c.requires
+guarded-expression-a-requires t c = c.requires
 
 pub guarded-returns-in_default : goal.guarded-returns-in_default
-guarded-returns-in_default t c =
-    guarded_stops c.requires c.expression-a.ensures c.in_default.not-Done
+guarded-returns-in_default t c = guarded_stops c.requires c.expression-a.ensures c.in_default.not-Done
 
 pub guarded-statement-b-requires : goal.guarded-statement-b-requires
 guarded-statement-b-requires t c =
@@ -163,8 +153,7 @@ guarded-returns t c =
     c.abandon.ensures
 
 pub if_statement-peek-t-requires : goal.if_statement-peek-t-requires
-if_statement-peek-t-requires t c =
-    (c.requires.asked.asks.held, c.requires.asked.asks.at)
+if_statement-peek-t-requires t c = (c.requires.asked.asks.held, c.requires.asked.asks.at)
 
 pub if_statement-guarded-a-requires : goal.if_statement-guarded-a-requires
 if_statement-guarded-a-requires t c =
@@ -184,8 +173,7 @@ if_statement-returns-in_default t c =
     if_stops c.peek-t.ensures c.requires c.guarded-a.ensures c.in_default.not-Done
 
 pub if_statement-peek-u-requires : goal.if_statement-peek-u-requires
-if_statement-peek-u-requires t c =
-    (c.requires.asked.asks.held, c.guarded-a.ensures.moved.end)
+if_statement-peek-u-requires t c = (c.requires.asked.asks.held, c.guarded-a.ensures.moved.end)
 
 pub if_statement-write_node-requires : goal.if_statement-write_node-requires
 if_statement-write_node-requires t c =
@@ -237,8 +225,7 @@ if_statement-returns t c =
     c.abandon-c.ensures c.write_node-2.ensures
 
 pub loop_statement-peek-t-requires : goal.loop_statement-peek-t-requires
-loop_statement-peek-t-requires t c =
-    (c.requires.asked.asks.held, c.requires.asked.asks.at)
+loop_statement-peek-t-requires t c = (c.requires.asked.asks.held, c.requires.asked.asks.at)
 
 pub loop_statement-statement-a-requires : goal.loop_statement-statement-a-requires
 loop_statement-statement-a-requires t c =
@@ -265,84 +252,68 @@ loop_statement-returns t c =
     c.write_node.ensures
 
 pub statement-returns-then-nesting-eq0 : goal.statement-returns-then-nesting-eq0
-statement-returns-then-nesting-eq0 t c =
-    deep Statement c.requires.asks c.if-nesting-eq0.true c.refuse.ensures
+statement-returns-then-nesting-eq0 t c = deep Statement c.requires.asks c.if-nesting-eq0.true c.refuse.ensures
 
 pub statement-overflow_sub-nesting : goal.statement-overflow_sub-nesting
-statement-overflow_sub-nesting t c =
-    omega (arith, c.if-nesting-eq0.false)
+statement-overflow_sub-nesting t c = omega (arith, c.if-nesting-eq0.false)
 
 pub statement-statement_rule-requires : goal.statement-statement_rule-requires
-statement-statement_rule-requires t c =
-    (omega (arith, c.decreases), c.requires)
+statement-statement_rule-requires t c = (omega (arith, c.decreases), c.requires)
 
 pub statement-returns : goal.statement-returns
-statement-returns t c =
-    down Statement c.if-nesting-eq0.false c.statement_rule.ensures
+statement-returns t c = down Statement c.if-nesting-eq0.false c.statement_rule.ensures
 
 pub statement_rule-peek-t-requires : goal.statement_rule-peek-t-requires
-statement_rule-peek-t-requires t c =
-    (c.requires.asks.held, c.requires.asks.at)
+statement_rule-peek-t-requires t c = (c.requires.asks.held, c.requires.asks.at)
 
 pub statement_rule-return_statement-requires : goal.statement_rule-return_statement-requires
-statement_rule-return_statement-requires t c =
-    begins c.requires c.peek-t.ensures c.if-t-eq-KW_RETURN.true
+statement_rule-return_statement-requires t c = begins c.requires c.peek-t.ensures c.if-t-eq-KW_RETURN.true
 
 pub statement_rule-returns-then-t-eq-KW_RETURN : goal.statement_rule-returns-then-t-eq-KW_RETURN
-statement_rule-returns-then-t-eq-KW_RETURN t c =
-    c.return_statement.ensures
+statement_rule-returns-then-t-eq-KW_RETURN t c = c.return_statement.ensures
 
 pub statement_rule-var_statement-requires : goal.statement_rule-var_statement-requires
-statement_rule-var_statement-requires t c =
-    begins c.requires c.peek-t.ensures c.if-t-eq-KW_VAR.true
+statement_rule-var_statement-requires t c = begins c.requires c.peek-t.ensures c.if-t-eq-KW_VAR.true
 
 pub statement_rule-returns-then-t-eq-KW_VAR : goal.statement_rule-returns-then-t-eq-KW_VAR
-statement_rule-returns-then-t-eq-KW_VAR t c =
-    c.var_statement.ensures
+statement_rule-returns-then-t-eq-KW_VAR t c = c.var_statement.ensures
 
 pub statement_rule-block-requires : goal.statement_rule-block-requires
 statement_rule-block-requires t c =
     (omega (arith, c.decreases), begins c.requires c.peek-t.ensures c.if-t-eq-L_BRACE.true)
 
 pub statement_rule-returns-then-t-eq-L_BRACE : goal.statement_rule-returns-then-t-eq-L_BRACE
-statement_rule-returns-then-t-eq-L_BRACE t c =
-    c.block.ensures
+statement_rule-returns-then-t-eq-L_BRACE t c = c.block.ensures
 
 pub statement_rule-loop_statement-requires : goal.statement_rule-loop_statement-requires
 statement_rule-loop_statement-requires t c =
     (omega (arith, c.decreases), begins c.requires c.peek-t.ensures c.if-t-eq-KW_LOOP.true)
 
 pub statement_rule-returns-then-t-eq-KW_LOOP : goal.statement_rule-returns-then-t-eq-KW_LOOP
-statement_rule-returns-then-t-eq-KW_LOOP t c =
-    c.loop_statement.ensures
+statement_rule-returns-then-t-eq-KW_LOOP t c = c.loop_statement.ensures
 
 pub statement_rule-while_statement-requires : goal.statement_rule-while_statement-requires
 statement_rule-while_statement-requires t c =
     (omega (arith, c.decreases), begins c.requires c.peek-t.ensures c.if-t-eq-KW_WHILE.true)
 
 pub statement_rule-returns-then-t-eq-KW_WHILE : goal.statement_rule-returns-then-t-eq-KW_WHILE
-statement_rule-returns-then-t-eq-KW_WHILE t c =
-    c.while_statement.ensures
+statement_rule-returns-then-t-eq-KW_WHILE t c = c.while_statement.ensures
 
 pub statement_rule-break_statement-requires : goal.statement_rule-break_statement-requires
-statement_rule-break_statement-requires t c =
-    begins c.requires c.peek-t.ensures c.if-t-eq-KW_BREAK.true
+statement_rule-break_statement-requires t c = begins c.requires c.peek-t.ensures c.if-t-eq-KW_BREAK.true
 
 pub statement_rule-returns-then-t-eq-KW_BREAK : goal.statement_rule-returns-then-t-eq-KW_BREAK
-statement_rule-returns-then-t-eq-KW_BREAK t c =
-    c.break_statement.ensures _
+statement_rule-returns-then-t-eq-KW_BREAK t c = c.break_statement.ensures _
 
 pub statement_rule-if_statement-requires : goal.statement_rule-if_statement-requires
 statement_rule-if_statement-requires t c =
     (omega (arith, c.decreases), begins c.requires c.peek-t.ensures c.if-t-eq-KW_IF.true)
 
 pub statement_rule-returns-then-t-eq-KW_IF : goal.statement_rule-returns-then-t-eq-KW_IF
-statement_rule-returns-then-t-eq-KW_IF t c =
-    c.if_statement.ensures
+statement_rule-returns-then-t-eq-KW_IF t c = c.if_statement.ensures
 
 pub statement_rule-leaf-requires : goal.statement_rule-leaf-requires
-statement_rule-leaf-requires t c =
-    room_token c.requires c.peek-t.ensures
+statement_rule-leaf-requires t c = room_token c.requires c.peek-t.ensures
 
 pub statement_rule-returns-then-t-eq-INLINE_ASSEMBLY_FRAGMENT : goal.statement_rule-returns-then-t-eq-INLINE_ASSEMBLY_FRAGMENT
 statement_rule-returns-then-t-eq-INLINE_ASSEMBLY_FRAGMENT t c =
@@ -353,8 +324,7 @@ pub statement_rule-entry-error-requires : goal.statement_rule-entry-error-requir
 statement_rule-entry-error-requires t c = omega arith
 
 pub statement_rule-raise-requires : goal.statement_rule-raise-requires
-statement_rule-raise-requires t c =
-    raise_asked c.requires
+statement_rule-raise-requires t c = raise_asked c.requires
 
 pub statement_rule-returns-then-t-eq-END : goal.statement_rule-returns-then-t-eq-END
 statement_rule-returns-then-t-eq-END t c =
@@ -363,8 +333,7 @@ statement_rule-returns-then-t-eq-END t c =
     c.requires c.if-t-eq-END.true c.entry-error.ensures c.raise.ensures
 
 pub statement_rule-expression_statement-requires : goal.statement_rule-expression_statement-requires
-statement_rule-expression_statement-requires t c =
-    c.requires
+statement_rule-expression_statement-requires t c = c.requires
 
 pub statement_rule-returns : goal.statement_rule-returns
 statement_rule-returns t c =
@@ -373,8 +342,7 @@ statement_rule-returns t c =
     c.if-t-eq-END.false c.expression_statement.ensures
 
 pub while_statement-peek-t-requires : goal.while_statement-peek-t-requires
-while_statement-peek-t-requires t c =
-    (c.requires.asked.asks.held, c.requires.asked.asks.at)
+while_statement-peek-t-requires t c = (c.requires.asked.asks.held, c.requires.asked.asks.at)
 
 pub while_statement-guarded-a-requires : goal.while_statement-guarded-a-requires
 while_statement-guarded-a-requires t c =

@@ -3,8 +3,7 @@ use borrow.Author.Rules.{rules}
 use Rattle.steps.proofs.and_expect.Goals as goal
 
 pub returns-in_default : goal.returns-in_default
-returns-in_default c =
-    expected_stop c.requires.0 c.in_default.not-Done
+returns-in_default c = expected_stop c.requires.0 c.in_default.not-Done
 
 pub returns : goal.returns
 returns c =

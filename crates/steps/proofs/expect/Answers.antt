@@ -3,8 +3,7 @@ use borrow.Author.Rules.{rules}
 use Rattle.steps.proofs.expect.Goals as goal
 
 pub returns-then-t-wanted : goal.returns-then-t-wanted
-returns-then-t-wanted c =
-    expect_there c.requires.0 c.peek-t.ensures c.requires.1.0 c.if-t-wanted.true
+returns-then-t-wanted c = expect_there c.requires.0 c.peek-t.ensures c.requires.1.0 c.if-t-wanted.true
 
 pub returns-then-t-eq-END : goal.returns-then-t-eq-END
 returns-then-t-eq-END c =

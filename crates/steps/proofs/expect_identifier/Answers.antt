@@ -3,8 +3,7 @@ use borrow.Author.Rules.{rules}
 use Rattle.steps.proofs.expect_identifier.Goals as goal
 
 pub returns-then-t-eq-IDENTIFIER : goal.returns-then-t-eq-IDENTIFIER
-returns-then-t-eq-IDENTIFIER c =
-    identifier_there c.requires c.peek-t.ensures c.if-t-eq-IDENTIFIER.true
+returns-then-t-eq-IDENTIFIER c = identifier_there c.requires c.peek-t.ensures c.if-t-eq-IDENTIFIER.true
 
 pub returns-then-t-eq-END : goal.returns-then-t-eq-END
 returns-then-t-eq-END c =

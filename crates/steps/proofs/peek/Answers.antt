@@ -3,8 +3,7 @@ use borrow.Author.Rules.{rules}
 use Rattle.steps.proofs.peek.Goals as goal
 
 pub place_at-requires : goal.place_at-requires
-place_at-requires c =
-    place_sound c.requires.0 c.if-at-n.true
+place_at-requires c = place_sound c.requires.0 c.if-at-n.true
 
 pub returns-then-at-n : goal.returns-then-at-n
 returns-then-at-n c =
@@ -12,5 +11,4 @@ returns-then-at-n c =
     c.wide-then-at-n.ensures c.wide-then-at-n-2.ensures
 
 pub returns-else-at-n : goal.returns-else-at-n
-returns-else-at-n c =
-    seen_end c.requires.1 c.if-at-n.false
+returns-else-at-n c = seen_end c.requires.1 c.if-at-n.false

@@ -6,5 +6,4 @@ pub returns-in_default : goal.returns-in_default
 returns-in_default c = write_node_stop c.in_default.not-Done
 
 pub returns : goal.returns
-returns c =
-    write_node_on c.in-Done.is c.write_record-pos.ensures
+returns c = write_node_on c.in-Done.is c.write_record-pos.ensures

@@ -2,5 +2,4 @@ use borrow.Author.Rules.{rules}
 use Rattle.validate.proofs.valid_error.Goals as goal
 
 pub returns : goal.returns
-returns c =
-    rw (c.between.ensures, c.between-2.ensures, c.between-3.ensures)
+returns c = rw (c.between.ensures, c.between-2.ensures, c.between-3.ensures)

@@ -12,5 +12,4 @@ returns-then-c-eq116 c =
     simp (ne_eqb _ _ c.if-c-eq114.false, ne_eqb _ _ c.if-c-eq110.false, eq-eqb _ _ c.if-c-eq116.true)
 
 pub returns : goal.returns
-returns c =
-    simp (ne_eqb _ _ c.if-c-eq114.false, ne_eqb _ _ c.if-c-eq110.false, ne_eqb _ _ c.if-c-eq116.false)
+returns c = simp (ne_eqb _ _ c.if-c-eq114.false, ne_eqb _ _ c.if-c-eq110.false, ne_eqb _ _ c.if-c-eq116.false)

@@ -22,8 +22,7 @@ pub overflow_add-end : goal.overflow_add-end
 overflow_add-end c = omega (arith, c.loop-i.invariant.4 c.loop-i.i)
 
 pub returns-then-same : goal.returns-then-same
-returns-then-same c =
-    search_found c.loop-i.invariant.0 (search rules) (sym c.same.ensures ∙ c.if-same.true)
+returns-then-same c = search_found c.loop-i.invariant.0 (search rules) (sym c.same.ensures ∙ c.if-same.true)
 
 pub loop-i-preserved : goal.loop-i-preserved
 loop-i-preserved c =

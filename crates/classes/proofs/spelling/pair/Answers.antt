@@ -14,8 +14,7 @@ unfolding Z.pair found
 loop-i-init c = (searching refl, omega arith, refl, refl, refl)
 
 pub returns-then-c-firsts : goal.returns-then-c-firsts
-returns-then-c-firsts c =
-    search_found c.loop-i.invariant.0 (search rules) (search rules)
+returns-then-c-firsts c = search_found c.loop-i.invariant.0 (search rules) (search rules)
 
 pub loop-i-preserved : goal.loop-i-preserved
 loop-i-preserved c = (search (search_more, rules), search rules, search rules, search rules, search rules)

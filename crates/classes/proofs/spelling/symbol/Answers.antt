@@ -14,8 +14,7 @@ unfolding Z.symbol found
 loop-i-init c = (searching refl, omega arith, refl, refl)
 
 pub returns-then-c-spelled : goal.returns-then-c-spelled
-returns-then-c-spelled c =
-    search_found c.loop-i.invariant.0 (search rules) (search (eq-eqb, rules))
+returns-then-c-spelled c = search_found c.loop-i.invariant.0 (search rules) (search (eq-eqb, rules))
 
 pub loop-i-preserved : goal.loop-i-preserved
 loop-i-preserved c = (search (search_more, ne_eqb, rules), search rules, search rules, search rules)

@@ -7,20 +7,16 @@ use borrow.Author.Rules.{rules}
 use Rattle.items.proofs.functions.function.Goals as goal
 
 pub expect-a-requires : goal.expect-a-requires
-expect-a-requires c =
-    (c.requires.asks, (omega arith, omega arith))
+expect-a-requires c = (c.requires.asks, (omega arith, omega arith))
 
 pub shape_of-reported-in_default : goal.shape_of-reported-in_default
-shape_of-reported-in_default c =
-    omega (arith, c.expect-a.auto)
+shape_of-reported-in_default c = omega (arith, c.expect-a.auto)
 
 pub shape_of-full-in_default : goal.shape_of-full-in_default
-shape_of-full-in_default c =
-    omega (arith, c.expect-a.auto)
+shape_of-full-in_default c = omega (arith, c.expect-a.auto)
 
 pub returns-in_default : goal.returns-in_default
-returns-in_default c =
-    function_stops c.expect-a.ensures _ _ c.in_default.not-Done
+returns-in_default c = function_stops c.expect-a.ensures _ _ c.in_default.not-Done
 
 pub expect_identifier-b-requires : goal.expect_identifier-b-requires
 expect_identifier-b-requires c =
@@ -28,12 +24,10 @@ expect_identifier-b-requires c =
     (omega (arith, c.expect-a.auto)) (omega (arith, c.expect-a.auto))
 
 pub shape_of-reported-in_default-h : goal.shape_of-reported-in_default-h
-shape_of-reported-in_default-h c =
-    omega (arith, c.expect-a.auto, c.expect_identifier-b.auto)
+shape_of-reported-in_default-h c = omega (arith, c.expect-a.auto, c.expect_identifier-b.auto)
 
 pub shape_of-full-in_default-h : goal.shape_of-full-in_default-h
-shape_of-full-in_default-h c =
-    omega (arith, c.expect-a.auto, c.expect_identifier-b.auto)
+shape_of-full-in_default-h c = omega (arith, c.expect-a.auto, c.expect_identifier-b.auto)
 
 pub returns-in_default-h : goal.returns-in_default-h
 returns-in_default-h c =

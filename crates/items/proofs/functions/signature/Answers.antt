@@ -5,24 +5,19 @@ use borrow.Author.Rules.{rules}
 use Rattle.items.proofs.functions.signature.Goals as goal
 
 pub list-a-requires : goal.list-a-requires
-list-a-requires c =
-    c.requires
+list-a-requires c = c.requires
 
 pub shape_of-file-in_default : goal.shape_of-file-in_default
-shape_of-file-in_default c =
-    omega (arith, c.list-a.auto)
+shape_of-file-in_default c = omega (arith, c.list-a.auto)
 
 pub shape_of-reported-in_default : goal.shape_of-reported-in_default
-shape_of-reported-in_default c =
-    omega (arith, c.list-a.auto)
+shape_of-reported-in_default c = omega (arith, c.list-a.auto)
 
 pub shape_of-full-in_default : goal.shape_of-full-in_default
-shape_of-full-in_default c =
-    omega (arith, c.list-a.auto)
+shape_of-full-in_default c = omega (arith, c.list-a.auto)
 
 pub returns-in_default : goal.returns-in_default
-returns-in_default c =
-    signature_stops c.requires c.list-a.ensures c.in_default.not-Done
+returns-in_default c = signature_stops c.requires c.list-a.ensures c.in_default.not-Done
 
 pub return_type-b-requires : goal.return_type-b-requires
 return_type-b-requires c =
@@ -35,16 +30,13 @@ abandon-c-requires c =
     c.return_type-b.ensures (omega (arith, c.return_type-b.auto))
 
 pub shape_of-file-in_default-h : goal.shape_of-file-in_default-h
-shape_of-file-in_default-h c =
-    omega (arith, c.list-a.auto, c.return_type-b.auto, c.abandon-c.auto)
+shape_of-file-in_default-h c = omega (arith, c.list-a.auto, c.return_type-b.auto, c.abandon-c.auto)
 
 pub shape_of-reported-in_default-h : goal.shape_of-reported-in_default-h
-shape_of-reported-in_default-h c =
-    omega (arith, c.list-a.auto, c.return_type-b.auto, c.abandon-c.auto)
+shape_of-reported-in_default-h c = omega (arith, c.list-a.auto, c.return_type-b.auto, c.abandon-c.auto)
 
 pub shape_of-full-in_default-h : goal.shape_of-full-in_default-h
-shape_of-full-in_default-h c =
-    omega (arith, c.list-a.auto, c.return_type-b.auto, c.abandon-c.auto)
+shape_of-full-in_default-h c = omega (arith, c.list-a.auto, c.return_type-b.auto, c.abandon-c.auto)
 
 pub returns-in_default-h : goal.returns-in_default-h
 returns-in_default-h c =

@@ -5,24 +5,19 @@ use borrow.Author.Rules.{rules}
 use Rattle.items.proofs.functions.whole_function.Goals as goal
 
 pub returns-in_default : goal.returns-in_default
-returns-in_default c =
-    whole_stops c.requires c.in_default.not-Done
+returns-in_default c = whole_stops c.requires c.in_default.not-Done
 
 pub body-b-requires : goal.body-b-requires
-body-b-requires c =
-    c.requires.asked
+body-b-requires c = c.requires.asked
 
 pub shape_of-file-in_default-h : goal.shape_of-file-in_default-h
-shape_of-file-in_default-h c =
-    omega (arith, c.body-b.auto)
+shape_of-file-in_default-h c = omega (arith, c.body-b.auto)
 
 pub shape_of-reported-in_default-h : goal.shape_of-reported-in_default-h
-shape_of-reported-in_default-h c =
-    omega (arith, c.body-b.auto)
+shape_of-reported-in_default-h c = omega (arith, c.body-b.auto)
 
 pub shape_of-full-in_default-h : goal.shape_of-full-in_default-h
-shape_of-full-in_default-h c =
-    omega (arith, c.body-b.auto)
+shape_of-full-in_default-h c = omega (arith, c.body-b.auto)
 
 pub returns-in_default-h : goal.returns-in_default-h
 returns-in_default-h c =
@@ -38,12 +33,10 @@ exchange-requires c =
     )
 
 pub write_node-c-requires : goal.write_node-c-requires
-write_node-c-requires c =
-    room_at c.requires.asked c.body-b.ensures.moved (omega (arith, c.body-b.auto))
+write_node-c-requires c = room_at c.requires.asked c.body-b.ensures.moved (omega (arith, c.body-b.auto))
 
 pub peek-t-requires : goal.peek-t-requires
-peek-t-requires c =
-    (c.requires.asked.asks.held, c.requires.within)
+peek-t-requires c = (c.requires.asked.asks.held, c.requires.within)
 
 pub write_text_node-requires : goal.write_text_node-requires
 write_text_node-requires c =

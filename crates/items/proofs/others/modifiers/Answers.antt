@@ -6,12 +6,10 @@ use Prim.Native.Nat.{◌-◌, ◌≤◌}
 use Rattle.items.proofs.others.modifiers.Goals as goal
 
 pub loop-distinct-init : goal.loop-distinct-init
-loop-distinct-init c =
-    ((c.requires.1, (omega arith, omega arith)), λ m g. g)
+loop-distinct-init c = ((c.requires.1, (omega arith, omega arith)), λ m g. g)
 
 pub peek-t-requires : goal.peek-t-requires
-peek-t-requires c =
-    (c.requires.0, c.loop-distinct.invariant.0.0)
+peek-t-requires c = (c.requires.0, c.loop-distinct.invariant.0.0)
 
 pub loop-distinct-smaller-then-t-eq-KW_DISTINCT : goal.loop-distinct-smaller-then-t-eq-KW_DISTINCT
 loop-distinct-smaller-then-t-eq-KW_DISTINCT c =
@@ -39,8 +37,7 @@ loop-distinct-preserved c =
     )
 
 pub overflow_add-result : goal.overflow_add-result
-overflow_add-result c =
-    omega (arith, c.loop-distinct.invariant.0)
+overflow_add-result c = omega (arith, c.loop-distinct.invariant.0)
 
 pub returns-in-loop-distinct : goal.returns-in-loop-distinct
 returns-in-loop-distinct c =

@@ -6,28 +6,22 @@ use borrow.Author.Rules.{rules}
 use Rattle.items.proofs.others.path.Goals as goal
 
 pub peek-t-requires : goal.peek-t-requires
-peek-t-requires c =
-    (c.requires.asks.held, c.requires.asks.at)
+peek-t-requires c = (c.requires.asks.held, c.requires.asks.at)
 
 pub returns-then-t-eq-END : goal.returns-then-t-eq-END
-returns-then-t-eq-END c =
-    λ d. path_end d _ c.requires c.peek-t.ensures c.if-t-eq-END.true c.refuse.ensures
+returns-then-t-eq-END c = λ d. path_end d _ c.requires c.peek-t.ensures c.if-t-eq-END.true c.refuse.ensures
 
 pub entry-error-requires : goal.entry-error-requires
-entry-error-requires c =
-    omega (arith, c.peek-t.ensures.places)
+entry-error-requires c = omega (arith, c.peek-t.ensures.places)
 
 pub raise-requires : goal.raise-requires
-raise-requires c =
-    raise_asked c.requires
+raise-requires c = raise_asked c.requires
 
 pub shape_of-reported-then-t-ne-STRING : goal.shape_of-reported-then-t-ne-STRING
-shape_of-reported-then-t-ne-STRING c =
-    omega (arith, c.raise.auto)
+shape_of-reported-then-t-ne-STRING c = omega (arith, c.raise.auto)
 
 pub shape_of-full-then-t-ne-STRING : goal.shape_of-full-then-t-ne-STRING
-shape_of-full-then-t-ne-STRING c =
-    omega (arith, c.raise.auto)
+shape_of-full-then-t-ne-STRING c = omega (arith, c.raise.auto)
 
 pub returns-then-t-ne-STRING : goal.returns-then-t-ne-STRING
 returns-then-t-ne-STRING c =
@@ -35,24 +29,19 @@ returns-then-t-ne-STRING c =
     c.entry-error.ensures c.raise.ensures
 
 pub expect-a-requires : goal.expect-a-requires
-expect-a-requires c =
-    (asks_fore c.requires.asks c.peek-t.ensures, (omega arith, omega arith))
+expect-a-requires c = (asks_fore c.requires.asks c.peek-t.ensures, (omega arith, omega arith))
 
 pub write_text_node-requires : goal.write_text_node-requires
-write_text_node-requires c =
-    path_room c.requires c.peek-t.ensures c.if-t-ne-STRING.false c.expect-a.ensures
+write_text_node-requires c = path_room c.requires c.peek-t.ensures c.if-t-ne-STRING.false c.expect-a.ensures
 
 pub shape_of-file : goal.shape_of-file
-shape_of-file c =
-    omega (arith, c.write_text_node.auto, c.expect-a.auto)
+shape_of-file c = omega (arith, c.write_text_node.auto, c.expect-a.auto)
 
 pub shape_of-reported : goal.shape_of-reported
-shape_of-reported c =
-    omega (arith, c.write_text_node.auto, c.expect-a.auto)
+shape_of-reported c = omega (arith, c.write_text_node.auto, c.expect-a.auto)
 
 pub shape_of-full : goal.shape_of-full
-shape_of-full c =
-    omega (arith, c.write_text_node.auto, c.expect-a.auto)
+shape_of-full c = omega (arith, c.write_text_node.auto, c.expect-a.auto)
 
 pub returns : goal.returns
 returns c =

@@ -6,24 +6,19 @@ use borrow.Author.Rules.{rules}
 use Rattle.items.proofs.others.top_level_var_declaration.Goals as goal
 
 pub peek-t-requires : goal.peek-t-requires
-peek-t-requires c =
-    (c.requires.asks.held, c.requires.asks.at)
+peek-t-requires c = (c.requires.asks.held, c.requires.asks.at)
 
 pub expect-a-requires : goal.expect-a-requires
-expect-a-requires c =
-    (c.requires.asks, (omega arith, omega arith))
+expect-a-requires c = (c.requires.asks, (omega arith, omega arith))
 
 pub shape_of-reported-in_default : goal.shape_of-reported-in_default
-shape_of-reported-in_default c =
-    omega (arith, c.expect-a.auto)
+shape_of-reported-in_default c = omega (arith, c.expect-a.auto)
 
 pub shape_of-full-in_default : goal.shape_of-full-in_default
-shape_of-full-in_default c =
-    omega (arith, c.expect-a.auto)
+shape_of-full-in_default c = omega (arith, c.expect-a.auto)
 
 pub returns-in_default : goal.returns-in_default
-returns-in_default c =
-    var_stops c.peek-t.ensures c.expect-a.ensures c.in_default.not-Done
+returns-in_default c = var_stops c.peek-t.ensures c.expect-a.ensures c.in_default.not-Done
 
 pub declaration-requires : goal.declaration-requires
 declaration-requires c =
@@ -31,16 +26,13 @@ declaration-requires c =
     (omega (arith, c.expect-a.auto)) (omega (arith, c.expect-a.auto))
 
 pub shape_of-file : goal.shape_of-file
-shape_of-file c =
-    omega (arith, c.declaration.auto, c.expect-a.auto)
+shape_of-file c = omega (arith, c.declaration.auto, c.expect-a.auto)
 
 pub shape_of-reported : goal.shape_of-reported
-shape_of-reported c =
-    omega (arith, c.declaration.auto, c.expect-a.auto)
+shape_of-reported c = omega (arith, c.declaration.auto, c.expect-a.auto)
 
 pub shape_of-full : goal.shape_of-full
-shape_of-full c =
-    omega (arith, c.declaration.auto, c.expect-a.auto)
+shape_of-full c = omega (arith, c.declaration.auto, c.expect-a.auto)
 
 pub returns : goal.returns
 returns c =

@@ -6,12 +6,10 @@ use borrow.Author.Rules.{rules}
 use Rattle.items.proofs.others.type_alias.Goals as goal
 
 pub peek-t-requires : goal.peek-t-requires
-peek-t-requires c =
-    (c.requires.asks.held, c.requires.asks.at)
+peek-t-requires c = (c.requires.asks.held, c.requires.asks.at)
 
 pub modifiers-m-requires : goal.modifiers-m-requires
-modifiers-m-requires c =
-    (c.requires.asks.held, c.requires.asks.at)
+modifiers-m-requires c = (c.requires.asks.held, c.requires.asks.at)
 
 pub expect-a-requires : goal.expect-a-requires
 expect-a-requires c =
@@ -22,12 +20,10 @@ expect-a-requires c =
     )
 
 pub shape_of-reported-in_default : goal.shape_of-reported-in_default
-shape_of-reported-in_default c =
-    omega (arith, c.expect-a.auto)
+shape_of-reported-in_default c = omega (arith, c.expect-a.auto)
 
 pub shape_of-full-in_default : goal.shape_of-full-in_default
-shape_of-full-in_default c =
-    omega (arith, c.expect-a.auto)
+shape_of-full-in_default c = omega (arith, c.expect-a.auto)
 
 pub returns-in_default : goal.returns-in_default
 returns-in_default c =
@@ -41,16 +37,13 @@ alias-requires c =
     refl (omega (arith, c.expect-a.auto)) (omega (arith, c.expect-a.auto))
 
 pub shape_of-file : goal.shape_of-file
-shape_of-file c =
-    omega (arith, c.alias.auto, c.expect-a.auto)
+shape_of-file c = omega (arith, c.alias.auto, c.expect-a.auto)
 
 pub shape_of-reported : goal.shape_of-reported
-shape_of-reported c =
-    omega (arith, c.alias.auto, c.expect-a.auto)
+shape_of-reported c = omega (arith, c.alias.auto, c.expect-a.auto)
 
 pub shape_of-full : goal.shape_of-full
-shape_of-full c =
-    omega (arith, c.alias.auto, c.expect-a.auto)
+shape_of-full c = omega (arith, c.alias.auto, c.expect-a.auto)
 
 pub returns : goal.returns
 returns c =

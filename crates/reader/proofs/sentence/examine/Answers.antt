@@ -13,8 +13,7 @@ module-a-requires c =
     c.if-found-ne0.false) c.requires.1 c.requires.2 c.requires.3
 
 pub run-found-requires : goal.run-found-requires
-run-found-requires c =
-    c.requires.0
+run-found-requires c = c.requires.0
 
 pub returns-then-found-ne0 : goal.returns-then-found-ne0
 returns-then-found-ne0 c =
@@ -28,16 +27,13 @@ returns-then-found-eq0 c =
     c.if-found-eq0.true)
 
 pub shape_of-tokens-in-Refused : goal.shape_of-tokens-in-Refused
-shape_of-tokens-in-Refused c =
-    omega (arith, c.run-found.auto)
+shape_of-tokens-in-Refused c = omega (arith, c.run-found.auto)
 
 pub shape_of-errors-in-Refused : goal.shape_of-errors-in-Refused
-shape_of-errors-in-Refused c =
-    omega (arith, c.run-found.auto)
+shape_of-errors-in-Refused c = omega (arith, c.run-found.auto)
 
 pub shape_of-text-in-Refused : goal.shape_of-text-in-Refused
-shape_of-text-in-Refused c =
-    omega (arith, c.run-found.auto)
+shape_of-text-in-Refused c = omega (arith, c.run-found.auto)
 
 pub returns-in-Refused : goal.returns-in-Refused
 returns-in-Refused c =
@@ -50,16 +46,13 @@ returns-in-Refused c =
     c.if-found-eq0.false reads (_, c.in-Refused.is) ∙ ap refused (sym is))
 
 pub shape_of-tokens : goal.shape_of-tokens
-shape_of-tokens c =
-    omega (arith, c.run-found.auto)
+shape_of-tokens c = omega (arith, c.run-found.auto)
 
 pub shape_of-errors : goal.shape_of-errors
-shape_of-errors c =
-    omega (arith, c.run-found.auto)
+shape_of-errors c = omega (arith, c.run-found.auto)
 
 pub shape_of-text : goal.shape_of-text
-shape_of-text c =
-    omega (arith, c.run-found.auto)
+shape_of-text c = omega (arith, c.run-found.auto)
 
 pub returns : goal.returns
 returns c =

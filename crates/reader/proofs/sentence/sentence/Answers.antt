@@ -4,8 +4,7 @@ use borrow.Author.Rules.{rules}
 use Rattle.reader.proofs.sentence.sentence.Goals as goal
 
 pub returns-then-script-gt-SCRIPT_BYTES : goal.returns-then-script-gt-SCRIPT_BYTES
-returns-then-script-gt-SCRIPT_BYTES c =
-    sentence_long _ _ _ _ c.if-script-gt-SCRIPT_BYTES.true
+returns-then-script-gt-SCRIPT_BYTES c = sentence_long _ _ _ _ c.if-script-gt-SCRIPT_BYTES.true
 
 pub returns-then-not-valid : goal.returns-then-not-valid
 returns-then-not-valid c =

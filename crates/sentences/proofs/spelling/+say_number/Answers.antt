@@ -13,8 +13,7 @@ remainder : (n base : ℕ) → 2 ≤ base → base ≤ 16 → n % base < 16
 remainder n base b h = omega (arith, mod-lt n {m = base} (omega (arith, b)), h)
 
 pub say-requires : goal.say-requires
-say-requires t c =
-    short_same c.requires.2 (digit_one _ c.requires.0 _ c.if-n-base.true c.digit_char.ensures)
+say-requires t c = short_same c.requires.2 (digit_one _ c.requires.0 _ c.if-n-base.true c.digit_char.ensures)
 
 pub returns-then-n-base : goal.returns-then-n-base
 returns-then-n-base t c =

@@ -5,8 +5,7 @@ pub returns-then-n-eq34 : goal.returns-then-n-eq34
 returns-then-n-eq34 c = simp (eq-eqb _ _ c.if-n-eq34.true)
 
 pub returns-then-n-eq92 : goal.returns-then-n-eq92
-returns-then-n-eq92 c =
-    simp (ne_eqb _ _ c.if-n-eq34.false, eq-eqb _ _ c.if-n-eq92.true)
+returns-then-n-eq92 c = simp (ne_eqb _ _ c.if-n-eq34.false, eq-eqb _ _ c.if-n-eq92.true)
 
 pub returns-then-n-eq10 : goal.returns-then-n-eq10
 returns-then-n-eq10 c =

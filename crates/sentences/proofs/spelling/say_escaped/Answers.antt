@@ -33,8 +33,7 @@ returns-then-l-ne0 c =
     (escaped_letter _ c.letter-l.ensures c.if-l-ne0.true)
 
 pub overflow_cast-n : goal.overflow_cast-n
-overflow_cast-n c =
-    omega (arith, between_bounds 32 126 c.args.n c.if-n.true)
+overflow_cast-n c = omega (arith, between_bounds 32 126 c.args.n c.if-n.true)
 
 pub say-requires-then-n : goal.say-requires-then-n
 say-requires-then-n c =

@@ -8,12 +8,10 @@ use borrow.Author.Rules.{rules}
 use Rattle.sentences.proofs.spelling.say_name.Goals as goal
 
 pub line_end-end-requires : goal.line_end-end-requires
-line_end-end-requires c =
-    c.line_at-start.ensures.inside
+line_end-end-requires c = c.line_at-start.ensures.inside
 
 pub slice_bounds-say_all-count : goal.slice_bounds-say_all-count
-slice_bounds-say_all-count c =
-    c.line_end-end.ensures.low
+slice_bounds-say_all-count c = c.line_end-end.ensures.low
 
 pub say_all-requires : goal.say_all-requires
 unfolding lines ascii kind_names

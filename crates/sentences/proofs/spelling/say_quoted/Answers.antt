@@ -5,8 +5,7 @@ use native.Mathlib.Omega.{arith}
 use Rattle.sentences.proofs.spelling.say_quoted.Goals as goal
 
 pub say-open-requires : goal.say-open-requires
-say-open-requires c =
-    omega (arith, c.requires.1, quoted_length c.requires.0)
+say-open-requires c = omega (arith, c.requires.1, quoted_length c.requires.0)
 
 pub say_characters-end-requires : goal.say_characters-end-requires
 say_characters-end-requires c =

@@ -7,8 +7,7 @@ use native.Mathlib.Omega.{arith}
 use Rattle.sentences.proofs.spelling.say_token.Goals as goal
 
 pub say_name-named-requires : goal.say_name-named-requires
-say_name-named-requires c =
-    short_first _ _ c.requires.1
+say_name-named-requires c = short_first _ _ c.requires.1
 
 pub returns-then-not-has_text : goal.returns-then-not-has_text
 returns-then-not-has_text c =

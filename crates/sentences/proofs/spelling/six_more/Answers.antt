@@ -9,5 +9,4 @@ pub overflow_add-result : goal.overflow_add-result
 overflow_add-result c = omega arith
 
 pub returns : goal.returns
-returns c =
-    (omega (arith, c.less.ensures.0), omega (arith, c.less.ensures.1))
+returns c = (omega (arith, c.less.ensures.0), omega (arith, c.less.ensures.1))

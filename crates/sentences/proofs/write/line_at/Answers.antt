@@ -11,8 +11,7 @@ pub returns-then-table-at : goal.returns-then-table-at
 returns-then-table-at c = passing_out c.loop-at.invariant c.if-table-at.true
 
 pub returns-then-left-eq0 : goal.returns-then-left-eq0
-returns-then-left-eq0 c =
-    passing_end c.loop-at.invariant c.if-left-eq0.true
+returns-then-left-eq0 c = passing_end c.loop-at.invariant c.if-left-eq0.true
 
 pub loop-at-preserved : goal.loop-at-preserved
 loop-at-preserved c =

@@ -15,5 +15,4 @@ returns-then-table-end-eq10 c =
     ending_newline c.loop-end.invariant c.if-table-end.false c.if-table-end-eq10.true
 
 pub loop-end-preserved : goal.loop-end-preserved
-loop-end-preserved c =
-    ending_more c.loop-end.invariant c.if-table-end.false c.if-table-end-eq10.false
+loop-end-preserved c = ending_more c.loop-end.invariant c.if-table-end.false c.if-table-end-eq10.false

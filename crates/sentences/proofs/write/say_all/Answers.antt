@@ -9,12 +9,10 @@ pub loop-i-init : goal.loop-i-init
 loop-i-init c = (saying_start, omega arith)
 
 pub say-n-requires : goal.say-n-requires
-say-n-requires c =
-    saying_all_short c.loop-i.invariant.0 (search rules) c.requires
+say-n-requires c = saying_all_short c.loop-i.invariant.0 (search rules) c.requires
 
 pub loop-i-preserved : goal.loop-i-preserved
-loop-i-preserved c =
-    (saying_all_more c.loop-i.invariant.0 (search rules) c.say-n.ensures, search rules)
+loop-i-preserved c = (saying_all_more c.loop-i.invariant.0 (search rules) c.say-n.ensures, search rules)
 
 pub returns : goal.returns
 returns c = saying_all_end {i = c.loop-i.i} c.loop-i.invariant.0 (search rules)

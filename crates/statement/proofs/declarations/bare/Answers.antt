@@ -7,9 +7,7 @@ pub returns-in_default : goal.returns-in_default
 returns-in_default c = bare_stops c.in_default.not-Done
 
 pub shape_of-file : goal.shape_of-file
-shape_of-file c =
-    omega (arith, c.write_bare-pos.auto)
+shape_of-file c = omega (arith, c.write_bare-pos.auto)
 
 pub returns : goal.returns
-returns c =
-    bare_on c.in-Done.is c.write_bare-pos.ensures
+returns c = bare_on c.in-Done.is c.write_bare-pos.ensures

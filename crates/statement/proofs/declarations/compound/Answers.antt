@@ -6,39 +6,31 @@ use borrow.Author.Rules.{rules}
 use Rattle.statement.proofs.declarations.compound.Goals as goal
 
 pub expect-a-requires : goal.expect-a-requires
-expect-a-requires c =
-    (c.requires.asks, (omega arith, omega arith))
+expect-a-requires c = (c.requires.asks, (omega arith, omega arith))
 
 pub shape_of-reported-in_default : goal.shape_of-reported-in_default
-shape_of-reported-in_default c =
-    omega (arith, c.expect-a.auto)
+shape_of-reported-in_default c = omega (arith, c.expect-a.auto)
 
 pub shape_of-full-in_default : goal.shape_of-full-in_default
-shape_of-full-in_default c =
-    omega (arith, c.expect-a.auto)
+shape_of-full-in_default c = omega (arith, c.expect-a.auto)
 
 pub returns-in_default : goal.returns-in_default
-returns-in_default c =
-    compound_stops c.expect-a.ensures c.in_default.not-Done
+returns-in_default c = compound_stops c.expect-a.ensures c.in_default.not-Done
 
 pub peek-t-requires : goal.peek-t-requires
-peek-t-requires c =
-    (c.requires.asks.held, c.expect-a.ensures.moved.end)
+peek-t-requires c = (c.requires.asks.held, c.expect-a.ensures.moved.end)
 
 pub entry-error-requires : goal.entry-error-requires
 entry-error-requires c = omega arith
 
 pub raise-requires : goal.raise-requires
-raise-requires c =
-    omega (arith, c.expect-a.auto, c.requires.asks, c.expect-a.ensures.moved)
+raise-requires c = omega (arith, c.expect-a.auto, c.requires.asks, c.expect-a.ensures.moved)
 
 pub shape_of-reported-then-t-eq-END : goal.shape_of-reported-then-t-eq-END
-shape_of-reported-then-t-eq-END c =
-    omega (arith, c.raise.auto, c.expect-a.auto)
+shape_of-reported-then-t-eq-END c = omega (arith, c.raise.auto, c.expect-a.auto)
 
 pub shape_of-full-then-t-eq-END : goal.shape_of-full-then-t-eq-END
-shape_of-full-then-t-eq-END c =
-    omega (arith, c.raise.auto, c.expect-a.auto)
+shape_of-full-then-t-eq-END c = omega (arith, c.raise.auto, c.expect-a.auto)
 
 pub returns-then-t-eq-END : goal.returns-then-t-eq-END
 returns-then-t-eq-END c =
@@ -56,16 +48,13 @@ values-requires c =
     }
 
 pub shape_of-file-then-t-eq-L_BRACKET : goal.shape_of-file-then-t-eq-L_BRACKET
-shape_of-file-then-t-eq-L_BRACKET c =
-    omega (arith, c.values.auto, c.expect-a.auto)
+shape_of-file-then-t-eq-L_BRACKET c = omega (arith, c.values.auto, c.expect-a.auto)
 
 pub shape_of-reported-then-t-eq-L_BRACKET : goal.shape_of-reported-then-t-eq-L_BRACKET
-shape_of-reported-then-t-eq-L_BRACKET c =
-    omega (arith, c.values.auto, c.expect-a.auto)
+shape_of-reported-then-t-eq-L_BRACKET c = omega (arith, c.values.auto, c.expect-a.auto)
 
 pub shape_of-full-then-t-eq-L_BRACKET : goal.shape_of-full-then-t-eq-L_BRACKET
-shape_of-full-then-t-eq-L_BRACKET c =
-    omega (arith, c.values.auto, c.expect-a.auto)
+shape_of-full-then-t-eq-L_BRACKET c = omega (arith, c.values.auto, c.expect-a.auto)
 
 pub returns-then-t-eq-L_BRACKET : goal.returns-then-t-eq-L_BRACKET
 returns-then-t-eq-L_BRACKET c =
@@ -81,16 +70,13 @@ values-requires-then-t-eq-L_BRACE c =
     }
 
 pub shape_of-file-then-t-eq-L_BRACE : goal.shape_of-file-then-t-eq-L_BRACE
-shape_of-file-then-t-eq-L_BRACE c =
-    omega (arith, c.values-then-t-eq-L_BRACE.auto, c.expect-a.auto)
+shape_of-file-then-t-eq-L_BRACE c = omega (arith, c.values-then-t-eq-L_BRACE.auto, c.expect-a.auto)
 
 pub shape_of-reported-then-t-eq-L_BRACE : goal.shape_of-reported-then-t-eq-L_BRACE
-shape_of-reported-then-t-eq-L_BRACE c =
-    omega (arith, c.values-then-t-eq-L_BRACE.auto, c.expect-a.auto)
+shape_of-reported-then-t-eq-L_BRACE c = omega (arith, c.values-then-t-eq-L_BRACE.auto, c.expect-a.auto)
 
 pub shape_of-full-then-t-eq-L_BRACE : goal.shape_of-full-then-t-eq-L_BRACE
-shape_of-full-then-t-eq-L_BRACE c =
-    omega (arith, c.values-then-t-eq-L_BRACE.auto, c.expect-a.auto)
+shape_of-full-then-t-eq-L_BRACE c = omega (arith, c.values-then-t-eq-L_BRACE.auto, c.expect-a.auto)
 
 pub returns-then-t-eq-L_BRACE : goal.returns-then-t-eq-L_BRACE
 returns-then-t-eq-L_BRACE c =
@@ -98,20 +84,16 @@ returns-then-t-eq-L_BRACE c =
     c.peek-t.ensures c.if-t-eq-L_BRACE.true c.values-then-t-eq-L_BRACE.ensures
 
 pub entry-error-requires-2 : goal.entry-error-requires-2
-entry-error-requires-2 c =
-    omega (arith, c.peek-t.ensures)
+entry-error-requires-2 c = omega (arith, c.peek-t.ensures)
 
 pub raise-requires-2 : goal.raise-requires-2
-raise-requires-2 c =
-    omega (arith, c.expect-a.auto, c.requires.asks, c.expect-a.ensures.moved)
+raise-requires-2 c = omega (arith, c.expect-a.auto, c.requires.asks, c.expect-a.ensures.moved)
 
 pub shape_of-reported : goal.shape_of-reported
-shape_of-reported c =
-    omega (arith, c.raise-2.auto, c.expect-a.auto)
+shape_of-reported c = omega (arith, c.raise-2.auto, c.expect-a.auto)
 
 pub shape_of-full : goal.shape_of-full
-shape_of-full c =
-    omega (arith, c.raise-2.auto, c.expect-a.auto)
+shape_of-full c = omega (arith, c.raise-2.auto, c.expect-a.auto)
 
 pub returns : goal.returns
 returns c =

@@ -4,8 +4,7 @@ use native.Mathlib.Omega.{arith}
 use Rattle.statement.proofs.declarations.declaration.Goals as goal
 
 pub var_like_declaration-a-requires : goal.var_like_declaration-a-requires
-var_like_declaration-a-requires c =
-    c.requires
+var_like_declaration-a-requires c = c.requires
 
 pub and_expect-b-requires : goal.and_expect-b-requires
 and_expect-b-requires c =

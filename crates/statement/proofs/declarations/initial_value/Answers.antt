@@ -6,16 +6,13 @@ use borrow.Author.Rules.{rules}
 use Rattle.statement.proofs.declarations.initial_value.Goals as goal
 
 pub returns-in_default : goal.returns-in_default
-returns-in_default c =
-    value_stops c.requires c.in_default.not-Done
+returns-in_default c = value_stops c.requires c.in_default.not-Done
 
 pub peek-t-requires : goal.peek-t-requires
-peek-t-requires c =
-    (c.requires.asked.asks.held, c.requires.asked.asks.at)
+peek-t-requires c = (c.requires.asked.asks.held, c.requires.asked.asks.at)
 
 pub expression-b-requires : goal.expression-b-requires
-expression-b-requires c =
-    asked_seen c.requires.asked c.peek-t.ensures
+expression-b-requires c = asked_seen c.requires.asked c.peek-t.ensures
 
 pub abandon-c-requires : goal.abandon-c-requires
 abandon-c-requires c =
@@ -28,16 +25,13 @@ bare-requires c =
     c.abandon-c.ensures (omega (arith, c.expression-b.auto))
 
 pub shape_of-file-then-t-eq-EQUALS : goal.shape_of-file-then-t-eq-EQUALS
-shape_of-file-then-t-eq-EQUALS c =
-    omega (arith, c.bare.auto, c.abandon-c.auto, c.expression-b.auto)
+shape_of-file-then-t-eq-EQUALS c = omega (arith, c.bare.auto, c.abandon-c.auto, c.expression-b.auto)
 
 pub shape_of-reported-then-t-eq-EQUALS : goal.shape_of-reported-then-t-eq-EQUALS
-shape_of-reported-then-t-eq-EQUALS c =
-    omega (arith, c.bare.auto, c.abandon-c.auto, c.expression-b.auto)
+shape_of-reported-then-t-eq-EQUALS c = omega (arith, c.bare.auto, c.abandon-c.auto, c.expression-b.auto)
 
 pub shape_of-full-then-t-eq-EQUALS : goal.shape_of-full-then-t-eq-EQUALS
-shape_of-full-then-t-eq-EQUALS c =
-    omega (arith, c.bare.auto, c.abandon-c.auto, c.expression-b.auto)
+shape_of-full-then-t-eq-EQUALS c = omega (arith, c.bare.auto, c.abandon-c.auto, c.expression-b.auto)
 
 pub returns-then-t-eq-EQUALS : goal.returns-then-t-eq-EQUALS
 returns-then-t-eq-EQUALS c =
@@ -46,8 +40,7 @@ returns-then-t-eq-EQUALS c =
     c.bare.ensures
 
 pub compound-b-requires : goal.compound-b-requires
-compound-b-requires c =
-    asked_seen c.requires.asked c.peek-t.ensures
+compound-b-requires c = asked_seen c.requires.asked c.peek-t.ensures
 
 pub abandon-c-requires-then-t-eq-L_ARROW : goal.abandon-c-requires-then-t-eq-L_ARROW
 abandon-c-requires-then-t-eq-L_ARROW c =
@@ -78,12 +71,10 @@ returns-then-t-eq-L_ARROW c =
     c.bare-then-t-eq-L_ARROW.ensures
 
 pub bare-requires-2 : goal.bare-requires-2
-bare-requires-2 c =
-    record { room = omega (arith, c.requires.asked.room); part = omega arith }
+bare-requires-2 c = record { room = omega (arith, c.requires.asked.room); part = omega arith }
 
 pub shape_of-file : goal.shape_of-file
-shape_of-file c =
-    omega (arith, c.bare-2.auto)
+shape_of-file c = omega (arith, c.bare-2.auto)
 
 pub returns : goal.returns
 returns c =

@@ -8,16 +8,13 @@ pub returns-in_default : goal.returns-in_default
 returns-in_default c = named_stops c.in_default.not-Done
 
 pub peek-t-requires : goal.peek-t-requires
-peek-t-requires c =
-    (c.requires.held, c.requires.within)
+peek-t-requires c = (c.requires.held, c.requires.within)
 
 pub write_text_node-requires : goal.write_text_node-requires
-write_text_node-requires c =
-    bare_room c.requires c.in-Done.is c.peek-t.ensures
+write_text_node-requires c = bare_room c.requires c.in-Done.is c.peek-t.ensures
 
 pub shape_of-file-then-t-eq-IDENTIFIER : goal.shape_of-file-then-t-eq-IDENTIFIER
-shape_of-file-then-t-eq-IDENTIFIER c =
-    omega (arith, c.write_text_node.auto)
+shape_of-file-then-t-eq-IDENTIFIER c = omega (arith, c.write_text_node.auto)
 
 pub returns-then-t-eq-IDENTIFIER : goal.returns-then-t-eq-IDENTIFIER
 returns-then-t-eq-IDENTIFIER c =
@@ -25,12 +22,10 @@ returns-then-t-eq-IDENTIFIER c =
     c.write_text_node.ensures
 
 pub write_text_node-requires-2 : goal.write_text_node-requires-2
-write_text_node-requires-2 c =
-    unknown_room c.requires c.in-Done.is
+write_text_node-requires-2 c = unknown_room c.requires c.in-Done.is
 
 pub shape_of-file : goal.shape_of-file
-shape_of-file c =
-    omega (arith, c.write_text_node-2.auto)
+shape_of-file c = omega (arith, c.write_text_node-2.auto)
 
 pub returns : goal.returns
 returns c =

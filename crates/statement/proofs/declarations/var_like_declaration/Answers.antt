@@ -4,8 +4,7 @@ use native.Mathlib.Omega.{arith}
 use Rattle.statement.proofs.declarations.var_like_declaration.Goals as goal
 
 pub typed_name-a-requires : goal.typed_name-a-requires
-typed_name-a-requires c =
-    c.requires
+typed_name-a-requires c = c.requires
 
 pub initial_value-requires : goal.initial_value-requires
 initial_value-requires c =
@@ -18,16 +17,13 @@ initial_value-requires c =
     }
 
 pub shape_of-file : goal.shape_of-file
-shape_of-file c =
-    omega (arith, c.initial_value.auto, c.typed_name-a.auto)
+shape_of-file c = omega (arith, c.initial_value.auto, c.typed_name-a.auto)
 
 pub shape_of-reported : goal.shape_of-reported
-shape_of-reported c =
-    omega (arith, c.initial_value.auto, c.typed_name-a.auto)
+shape_of-reported c = omega (arith, c.initial_value.auto, c.typed_name-a.auto)
 
 pub shape_of-full : goal.shape_of-full
-shape_of-full c =
-    omega (arith, c.initial_value.auto, c.typed_name-a.auto)
+shape_of-full c = omega (arith, c.initial_value.auto, c.typed_name-a.auto)
 
 pub returns : goal.returns
 returns c =

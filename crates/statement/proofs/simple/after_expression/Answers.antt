@@ -5,48 +5,37 @@ use native.Mathlib.Omega.{arith}
 use Rattle.statement.proofs.simple.after_expression.Goals as goal
 
 pub peek-t-requires : goal.peek-t-requires
-peek-t-requires c =
-    (c.requires.0.asks.held, c.requires.0.asks.at)
+peek-t-requires c = (c.requires.0.asks.held, c.requires.0.asks.at)
 
 pub assignment-requires : goal.assignment-requires
-assignment-requires c =
-    (begins c.requires.0 c.peek-t.ensures c.if-t-eq-EQUALS.true, c.requires.1)
+assignment-requires c = (begins c.requires.0 c.peek-t.ensures c.if-t-eq-EQUALS.true, c.requires.1)
 
 pub shape_of-file-then-t-eq-EQUALS : goal.shape_of-file-then-t-eq-EQUALS
-shape_of-file-then-t-eq-EQUALS c =
-    omega (arith, c.assignment.auto)
+shape_of-file-then-t-eq-EQUALS c = omega (arith, c.assignment.auto)
 
 pub shape_of-reported-then-t-eq-EQUALS : goal.shape_of-reported-then-t-eq-EQUALS
-shape_of-reported-then-t-eq-EQUALS c =
-    omega (arith, c.assignment.auto)
+shape_of-reported-then-t-eq-EQUALS c = omega (arith, c.assignment.auto)
 
 pub shape_of-full-then-t-eq-EQUALS : goal.shape_of-full-then-t-eq-EQUALS
-shape_of-full-then-t-eq-EQUALS c =
-    omega (arith, c.assignment.auto)
+shape_of-full-then-t-eq-EQUALS c = omega (arith, c.assignment.auto)
 
 pub returns-then-t-eq-EQUALS : goal.returns-then-t-eq-EQUALS
-returns-then-t-eq-EQUALS c =
-    c.assignment.ensures
+returns-then-t-eq-EQUALS c = c.assignment.ensures
 
 pub compound_assignment-requires : goal.compound_assignment-requires
-compound_assignment-requires c =
-    (begins c.requires.0 c.peek-t.ensures c.if-t-eq-L_ARROW.true, c.requires.1)
+compound_assignment-requires c = (begins c.requires.0 c.peek-t.ensures c.if-t-eq-L_ARROW.true, c.requires.1)
 
 pub shape_of-file-then-t-eq-L_ARROW : goal.shape_of-file-then-t-eq-L_ARROW
-shape_of-file-then-t-eq-L_ARROW c =
-    omega (arith, c.compound_assignment.auto)
+shape_of-file-then-t-eq-L_ARROW c = omega (arith, c.compound_assignment.auto)
 
 pub shape_of-reported-then-t-eq-L_ARROW : goal.shape_of-reported-then-t-eq-L_ARROW
-shape_of-reported-then-t-eq-L_ARROW c =
-    omega (arith, c.compound_assignment.auto)
+shape_of-reported-then-t-eq-L_ARROW c = omega (arith, c.compound_assignment.auto)
 
 pub shape_of-full-then-t-eq-L_ARROW : goal.shape_of-full-then-t-eq-L_ARROW
-shape_of-full-then-t-eq-L_ARROW c =
-    omega (arith, c.compound_assignment.auto)
+shape_of-full-then-t-eq-L_ARROW c = omega (arith, c.compound_assignment.auto)
 
 pub returns-then-t-eq-L_ARROW : goal.returns-then-t-eq-L_ARROW
-returns-then-t-eq-L_ARROW c =
-    c.compound_assignment.ensures
+returns-then-t-eq-L_ARROW c = c.compound_assignment.ensures
 
 pub and_expect-b-requires : goal.and_expect-b-requires
 and_expect-b-requires c =
@@ -60,16 +49,13 @@ write_node-requires c =
     record { room = omega (arith, c.requires.0.room, c.and_expect-b.ensures.high); part = omega arith }
 
 pub shape_of-file : goal.shape_of-file
-shape_of-file c =
-    omega (arith, c.write_node.auto, c.and_expect-b.auto)
+shape_of-file c = omega (arith, c.write_node.auto, c.and_expect-b.auto)
 
 pub shape_of-reported : goal.shape_of-reported
-shape_of-reported c =
-    omega (arith, c.write_node.auto, c.and_expect-b.auto)
+shape_of-reported c = omega (arith, c.write_node.auto, c.and_expect-b.auto)
 
 pub shape_of-full : goal.shape_of-full
-shape_of-full c =
-    omega (arith, c.write_node.auto, c.and_expect-b.auto)
+shape_of-full c = omega (arith, c.write_node.auto, c.and_expect-b.auto)
 
 pub returns : goal.returns
 returns c =

@@ -6,12 +6,10 @@ use native.Mathlib.Omega.{arith}
 use Rattle.statement.proofs.simple.break_statement.Goals as goal
 
 pub peek-t-requires : goal.peek-t-requires
-peek-t-requires c =
-    (c.requires.asked.asks.held, c.requires.asked.asks.at)
+peek-t-requires c = (c.requires.asked.asks.held, c.requires.asked.asks.at)
 
 pub expect-a-requires : goal.expect-a-requires
-expect-a-requires c =
-    (asks_fore c.requires.asked.asks c.peek-t.ensures, (omega arith, omega arith))
+expect-a-requires c = (asks_fore c.requires.asked.asks c.peek-t.ensures, (omega arith, omega arith))
 
 pub write_node-requires : goal.write_node-requires
 write_node-requires c =
@@ -20,16 +18,13 @@ write_node-requires c =
     refl
 
 pub shape_of-file : goal.shape_of-file
-shape_of-file c =
-    omega (arith, c.write_node.auto, c.expect-a.auto)
+shape_of-file c = omega (arith, c.write_node.auto, c.expect-a.auto)
 
 pub shape_of-reported : goal.shape_of-reported
-shape_of-reported c =
-    omega (arith, c.write_node.auto, c.expect-a.auto)
+shape_of-reported c = omega (arith, c.write_node.auto, c.expect-a.auto)
 
 pub shape_of-full : goal.shape_of-full
-shape_of-full c =
-    omega (arith, c.write_node.auto, c.expect-a.auto)
+shape_of-full c = omega (arith, c.write_node.auto, c.expect-a.auto)
 
 pub returns : goal.returns
 returns c =

@@ -5,12 +5,10 @@ use native.Mathlib.Omega.{arith}
 use Rattle.statement.proofs.simple.compound_assignment.Goals as goal
 
 pub peek-t-requires : goal.peek-t-requires
-peek-t-requires c =
-    (c.requires.0.asked.asks.held, c.requires.0.asked.asks.at)
+peek-t-requires c = (c.requires.0.asked.asks.held, c.requires.0.asked.asks.at)
 
 pub compound-a-requires : goal.compound-a-requires
-compound-a-requires c =
-    asked_seen c.requires.0.asked c.peek-t.ensures
+compound-a-requires c = asked_seen c.requires.0.asked c.peek-t.ensures
 
 pub abandon-b-requires : goal.abandon-b-requires
 abandon-b-requires c =

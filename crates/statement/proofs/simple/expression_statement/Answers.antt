@@ -6,24 +6,19 @@ use borrow.Author.Rules.{rules}
 use Rattle.statement.proofs.simple.expression_statement.Goals as goal
 
 pub expression-a-requires : goal.expression-a-requires
-expression-a-requires c =
-    c.requires
+expression-a-requires c = c.requires
 
 pub shape_of-file-in_default : goal.shape_of-file-in_default
-shape_of-file-in_default c =
-    omega (arith, c.expression-a.auto)
+shape_of-file-in_default c = omega (arith, c.expression-a.auto)
 
 pub shape_of-reported-in_default : goal.shape_of-reported-in_default
-shape_of-reported-in_default c =
-    omega (arith, c.expression-a.auto)
+shape_of-reported-in_default c = omega (arith, c.expression-a.auto)
 
 pub shape_of-full-in_default : goal.shape_of-full-in_default
-shape_of-full-in_default c =
-    omega (arith, c.expression-a.auto)
+shape_of-full-in_default c = omega (arith, c.expression-a.auto)
 
 pub returns-in_default : goal.returns-in_default
-returns-in_default c =
-    statement_stops c.requires c.expression-a.ensures _ c.in_default.not-Done
+returns-in_default c = statement_stops c.requires c.expression-a.ensures _ c.in_default.not-Done
 
 pub write_node-requires : goal.write_node-requires
 write_node-requires c =
@@ -31,16 +26,13 @@ write_node-requires c =
     (omega (arith, c.expression-a.auto))
 
 pub shape_of-file-then-st-s : goal.shape_of-file-then-st-s
-shape_of-file-then-st-s c =
-    omega (arith, c.write_node.auto, c.expression-a.auto)
+shape_of-file-then-st-s c = omega (arith, c.write_node.auto, c.expression-a.auto)
 
 pub shape_of-reported-then-st-s : goal.shape_of-reported-then-st-s
-shape_of-reported-then-st-s c =
-    omega (arith, c.write_node.auto, c.expression-a.auto)
+shape_of-reported-then-st-s c = omega (arith, c.write_node.auto, c.expression-a.auto)
 
 pub shape_of-full-then-st-s : goal.shape_of-full-then-st-s
-shape_of-full-then-st-s c =
-    omega (arith, c.write_node.auto, c.expression-a.auto)
+shape_of-full-then-st-s c = omega (arith, c.write_node.auto, c.expression-a.auto)
 
 pub returns-then-st-s : goal.returns-then-st-s
 returns-then-st-s c =
@@ -61,16 +53,13 @@ after_expression-requires c =
     )
 
 pub shape_of-file : goal.shape_of-file
-shape_of-file c =
-    omega (arith, c.after_expression.auto, c.expression-a.auto)
+shape_of-file c = omega (arith, c.after_expression.auto, c.expression-a.auto)
 
 pub shape_of-reported : goal.shape_of-reported
-shape_of-reported c =
-    omega (arith, c.after_expression.auto, c.expression-a.auto)
+shape_of-reported c = omega (arith, c.after_expression.auto, c.expression-a.auto)
 
 pub shape_of-full : goal.shape_of-full
-shape_of-full c =
-    omega (arith, c.after_expression.auto, c.expression-a.auto)
+shape_of-full c = omega (arith, c.after_expression.auto, c.expression-a.auto)
 
 pub returns : goal.returns
 returns c =

@@ -5,20 +5,16 @@ use native.Mathlib.Omega.{arith}
 use Rattle.statement.proofs.simple.return_statement.Goals as goal
 
 pub peek-t-requires : goal.peek-t-requires
-peek-t-requires c =
-    (c.requires.asked.asks.held, c.requires.asked.asks.at)
+peek-t-requires c = (c.requires.asked.asks.held, c.requires.asked.asks.at)
 
 pub peek-u-requires : goal.peek-u-requires
-peek-u-requires c =
-    (c.requires.asked.asks.held, c.peek-t.ensures.end)
+peek-u-requires c = (c.requires.asked.asks.held, c.peek-t.ensures.end)
 
 pub write_node-requires : goal.write_node-requires
-write_node-requires c =
-    record { room = omega (arith, c.requires.asked.room); part = omega arith }
+write_node-requires c = record { room = omega (arith, c.requires.asked.room); part = omega arith }
 
 pub shape_of-file-then-u-eq-SEMICOLON : goal.shape_of-file-then-u-eq-SEMICOLON
-shape_of-file-then-u-eq-SEMICOLON c =
-    omega (arith, c.write_node.auto)
+shape_of-file-then-u-eq-SEMICOLON c = omega (arith, c.write_node.auto)
 
 pub returns-then-u-eq-SEMICOLON : goal.returns-then-u-eq-SEMICOLON
 returns-then-u-eq-SEMICOLON c =
@@ -26,8 +22,7 @@ returns-then-u-eq-SEMICOLON c =
     c.write_node.ensures
 
 pub expression-a-requires : goal.expression-a-requires
-expression-a-requires c =
-    asked_seen c.requires.asked c.peek-t.ensures
+expression-a-requires c = asked_seen c.requires.asked c.peek-t.ensures
 
 pub and_expect-b-requires : goal.and_expect-b-requires
 and_expect-b-requires c =
