@@ -26,7 +26,7 @@ def dependencies():
         line = line.split("#")[0]
         if ":" in line:
             name, needed = line.split(":", 1)
-            found[name.strip()] = needed.split()
+            found[name.split()[0]] = needed.split()    # a static library has a word after its name
     return found
 
 

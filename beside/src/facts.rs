@@ -8,11 +8,9 @@ use std::collections::{BTreeMap, HashSet};
 /// All names of the definition that a module of facts uses; below it only the names on the left stand.
 const OPENING: &str = "\
 -- Generated scripts, and the Rust's answers to them.
-use mathlib.Core.Path.{_≡_, refl}
-use mathlib.Core.List.{List, [], _∷_, map}
-use mathlib.Core.Option.{some}
-use Prim.Native.Nat.{ℕ}
-use Rattle·definition·specs.specs.Table.{Row, Lists, File, answered}
+use Rattle.std.specs.Prelude.{◌≡◌, refl, List, [], ◌∷◌, map, ℕ}
+use Rattle.std.proofs.Math.Option.{some}
+use Rattle.definition.specs.Table.{Row, Lists, File, answered}
 
 abbrev lists : ℕ → List ℕ → List ℕ → List ℕ → Lists
 lists n ts es text = record { number = n; toks = ts; errs = es; text = text }
@@ -37,9 +35,9 @@ pub fn print(count: usize, longest: usize, classes: &[Class]) {
     println!("{OPENING}");
     for (at, rows) in facts(&chosen).into_iter().enumerate() {
         let rows: Vec<String> = rows.iter().map(|script| row(script, &ask::answer(script))).collect();
-        println!("pub table-{at} : List Row\ntable-{at} =\n{}    []\n", rows.concat());
-        println!("pub holds-{at} : map answered table-{at} ≡ table-{at}");
-        println!("unfolding table-{at} {UNFOLDED}\nholds-{at} = refl\n");
+        println!("pub table_{at} : List Row\ntable_{at} =\n{}    []\n", rows.concat());
+        println!("pub holds_{at} : map answered table_{at} ≡ table_{at}");
+        println!("unfolding table_{at} {UNFOLDED}\nholds_{at} = refl\n");
     }
     eprintln!("{} rows; by number: {}", chosen.len(), by_number(&chosen));
 }

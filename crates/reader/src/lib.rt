@@ -95,9 +95,8 @@ pub fn read_script(script: &[u8], file: &mut [u8]) -> Written
     read_valid(script, file)
 }
 
-// The entry for C: returns the number, and stores the count of file bytes to `bytes`.
-#[unsafe(no_mangle)]
-pub extern "C" fn dn_read(script: &[u8], file: &mut [u8], bytes: &mut usize) -> u32
+// The form that the entry for C takes: returns the number, and stores the count of file bytes to `bytes`.
+pub fn dn_read(script: &[u8], file: &mut [u8], bytes: &mut usize) -> u32
     ensures { record { number = result; bytes = bytes.new; file = file.new }
         ≡ O.whole script.now file.old }
 {

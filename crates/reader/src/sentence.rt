@@ -229,9 +229,8 @@ pub fn sentence(script: &[u8], list: u32, position: usize, out: &mut [u8]) -> Wr
     sentence_of_valid(script, list, position, out)
 }
 
-// The entry for C: returns the number, and stores the count of the sentence's bytes to `bytes`.
-#[unsafe(no_mangle)]
-pub extern "C" fn dn_sentence(
+// The form that the entry for C takes: returns the number, and stores the count of the sentence's bytes to `bytes`.
+pub fn dn_sentence(
     script: &[u8],
     list: u32,
     position: usize,
