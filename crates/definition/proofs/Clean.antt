@@ -19,7 +19,7 @@ Clean s s' = length s'.full ≤ length s.full
 
 -- the state after an act is later than the state before it
 module _ (c : Goal → St → Res (Ans Node)) (o : (l : Loop) → St → Res (Left l))
-    (c-later : (g : Goal) (s : St) → After (λ a s'. Later s s') (c g s)) (o-later : (l : Loop) (s : St) → After (λ a s'. Later s s') (o l s)) where
+    (c_later : (g : Goal) (s : St) → After (λ a s'. Later s s') (c g s)) (o_later : (l : Loop) (s : St) → After (λ a s'. Later s s') (o l s)) where
   pub run_later : {A : Type 0} (m : Act A) (s₀ s : St) → Later s₀ s → After (λ a s'. Later s₀ s') (run c o m s)
   unfolding run
   run_later (done a) s₀ s l = l
@@ -31,19 +31,19 @@ module _ (c : Goal → St → Res (Ans Node)) (o : (l : Loop) → St → Res (Le
   run_later (if◌then◌else◌ true m n) s₀ s l = run_later m s₀ s l
   run_later (if◌then◌else◌ false m n) s₀ s l = run_later n s₀ s l
   run_later (call g k) s₀ s l =
-      join (λ a s'. Later s s') (λ a s'. Later s₀ s') (c g s) (λ a s'. run c o (k a) s') (c-later g s)
+      join (λ a s'. Later s s') (λ a s'. Later s₀ s') (c g s) (λ a s'. run c o (k a) s') (c_later g s)
       (λ a s' p. run_later (k a) s₀ s' (later_trans l p))
   run_later (loop g k) s₀ s l =
-      join (λ a s'. Later s s') (λ a s'. Later s₀ s') (o g s) (λ a s'. run c o (k a) s') (o-later g s)
+      join (λ a s'. Later s s') (λ a s'. Later s₀ s') (o g s) (λ a s'. run c o (k a) s') (o_later g s)
       (λ a s' p. run_later (k a) s₀ s' (later_trans l p))
   run_later panic s₀ s l = tt
 
 pub loops_later : (c : Goal → St → Res (Ans Node)) → ((g : Goal) (s : St) → After (λ a s'. Later s s') (c g s))
     → (n : ℕ) (l : Loop) (s : St) → After (λ a s'. Later s s') (loops c n l s)
 unfolding loops
-loops_later c c-later zero l s = tt
-loops_later c c-later (suc n) l s =
-    run_later c (λ m t. loops c n m t) c-later (λ m t. loops_later c c-later n m t) (turn l) s s (later_refl s)
+loops_later c c_later zero l s = tt
+loops_later c c_later (suc n) l s =
+    run_later c (λ m t. loops c n m t) c_later (λ m t. loops_later c c_later n m t) (turn l) s s (later_refl s)
 
 pub parse_later : (n : ℕ) (g : Goal) (s : St) → After (λ a s'. Later s s') (parse n g s)
 unfolding parse
@@ -54,8 +54,8 @@ parse_later (suc n) g s =
 
 -- I: an invariant of the tokens left
 module _ (G : Goal → St → Ans Node → St → Type 0) (L : (l : Loop) → St → Left l → St → Type 0)
-    (I : List Tok → Type 0) (I-tail : (ts : List Tok) → I ts → I (tail ts))
-    (I-later : (s s' : St) → Later s s' → I s.tokens → I s'.tokens) where
+    (I : List Tok → Type 0) (I_tail : (ts : List Tok) → I ts → I (tail ts))
+    (I_later : (s s' : St) → Later s s' → I s.tokens → I s'.tokens) where
   abbrev pub Known : St → Type 0
   Known s = I s.tokens
 
@@ -70,9 +70,9 @@ module _ (G : Goal → St → Ans Node → St → Type 0) (L : (l : Loop) → St
   Kept s Q a s' = Later s s' × (Clean s s' → Q a s')
 
   module _ (c : Goal → St → Res (Ans Node)) (o : (l : Loop) → St → Res (Left l))
-      (c-ok : (g : Goal) (s : St) → I s.tokens → After (Kept s (G g s)) (c g s))
-      (o-ok : (l : Loop) (s : St) → I s.tokens → After (Kept s (L l s)) (o l s))
-      (c-later : (g : Goal) (s : St) → After (λ a s'. Later s s') (c g s)) (o-later : (l : Loop) (s : St) → After (λ a s'. Later s s') (o l s)) where
+      (c_ok : (g : Goal) (s : St) → I s.tokens → After (Kept s (G g s)) (c g s))
+      (o_ok : (l : Loop) (s : St) → I s.tokens → After (Kept s (L l s)) (o l s))
+      (c_later : (g : Goal) (s : St) → After (λ a s'. Later s s') (c g s)) (o_later : (l : Loop) (s : St) → After (λ a s'. Later s s') (o l s)) where
     dirty : {A : Type 0} (Q : A → St → Type 0) (e : Err) (s : St) (r : Res A) → After (λ a s'. Later (push e s) s') r → After (Kept s Q) r
     dirty Q e s r h =
         weaken r (λ a s' l. (
@@ -96,21 +96,21 @@ module _ (G : Goal → St → Ans Node → St → Type 0) (L : (l : Loop) → St
     clean_sound Q (peek k) s i h = clean_sound Q (k (next_token s.tokens)) s i h
     clean_sound Q (consume r k) s i h =
         on_the_way Q s (advance r s) (run c o (k (next_token s.tokens)) (advance r s)) (later_advance r s)
-        (λ q. clean_sound Q (k (next_token s.tokens)) (advance r s) (I-tail s.tokens i) (h i))
-        (run_later c o c-later o-later (k (next_token s.tokens)) (advance r s) (advance r s) (later_refl (advance r s)))
+        (λ q. clean_sound Q (k (next_token s.tokens)) (advance r s) (I_tail s.tokens i) (h i))
+        (run_later c o c_later o_later (k (next_token s.tokens)) (advance r s) (advance r s) (later_refl (advance r s)))
     clean_sound Q (make e m) s i h =
         limit (Kept s Q) (ltb (length s.full) 255) (run c o m (push e s))
-        (λ _. dirty Q e s (run c o m (push e s)) (run_later c o c-later o-later m (push e s) (push e s) (later_refl (push e s))))
+        (λ _. dirty Q e s (run c o m (push e s)) (run_later c o c_later o_later m (push e s) (push e s) (later_refl (push e s))))
     clean_sound Q (if◌then◌else◌ true m n) s i h = clean_sound Q m s i (h.0 refl)
     clean_sound Q (if◌then◌else◌ false m n) s i h = clean_sound Q n s i (h.1 refl)
     clean_sound Q (call g k) s i h =
-        join (Kept s (G g s)) (Kept s Q) (c g s) (λ a s'. run c o (k a) s') (c-ok g s i)
-        (λ a s' p. on_the_way Q s s' (run c o (k a) s') p.0 (λ q. clean_sound Q (k a) s' (I-later s s' p.0 i) (each_ans (λ a. (s' : St) → Later s s' → G g s a s' → cwp (k a) Q s') h a s' p.0 (p.1 q)))
-        (run_later c o c-later o-later (k a) s' s' (later_refl s')))
+        join (Kept s (G g s)) (Kept s Q) (c g s) (λ a s'. run c o (k a) s') (c_ok g s i)
+        (λ a s' p. on_the_way Q s s' (run c o (k a) s') p.0 (λ q. clean_sound Q (k a) s' (I_later s s' p.0 i) (each_ans (λ a. (s' : St) → Later s s' → G g s a s' → cwp (k a) Q s') h a s' p.0 (p.1 q)))
+        (run_later c o c_later o_later (k a) s' s' (later_refl s')))
     clean_sound Q (loop g k) s i h =
-        join (Kept s (L g s)) (Kept s Q) (o g s) (λ a s'. run c o (k a) s') (o-ok g s i)
-        (λ a s' p. on_the_way Q s s' (run c o (k a) s') p.0 (λ q. clean_sound Q (k a) s' (I-later s s' p.0 i) (each g (λ a. (s' : St) → Later s s' → L g s a s' → cwp (k a) Q s') h a s' p.0 (p.1 q)))
-        (run_later c o c-later o-later (k a) s' s' (later_refl s')))
+        join (Kept s (L g s)) (Kept s Q) (o g s) (λ a s'. run c o (k a) s') (o_ok g s i)
+        (λ a s' p. on_the_way Q s s' (run c o (k a) s') p.0 (λ q. clean_sound Q (k a) s' (I_later s s' p.0 i) (each g (λ a. (s' : St) → Later s s' → L g s a s' → cwp (k a) Q s') h a s' p.0 (p.1 q)))
+        (run_later c o c_later o_later (k a) s' s' (later_refl s')))
     clean_sound Q panic s i h = tt
 
   module _ (rules : (g : Goal) (s : St) → I s.tokens → cwp (rule g) (G g s) s)
@@ -119,10 +119,10 @@ module _ (G : Goal → St → Ans Node → St → Type 0) (L : (l : Loop) → St
         → ((g : Goal) (s : St) → After (λ a s'. Later s s') (c g s))
         → (n : ℕ) (l : Loop) (s : St) → I s.tokens → After (Kept s (L l s)) (loops c n l s)
     unfolding loops
-    clean_loops c c-ok c-later zero l s i = tt
-    clean_loops c c-ok c-later (suc n) l s i =
-        clean_sound c (λ m t. loops c n m t) c-ok (λ m t j. clean_loops c c-ok c-later n m t j) c-later
-        (λ m t. loops_later c c-later n m t) (L l s) (turn l) s i (turns l s i)
+    clean_loops c c_ok c_later zero l s i = tt
+    clean_loops c c_ok c_later (suc n) l s i =
+        clean_sound c (λ m t. loops c n m t) c_ok (λ m t j. clean_loops c c_ok c_later n m t j) c_later
+        (λ m t. loops_later c c_later n m t) (L l s) (turn l) s i (turns l s i)
 
     pub clean_parse : (n : ℕ) (g : Goal) (s : St) → I s.tokens → After (Kept s (G g s)) (parse n g s)
     unfolding parse

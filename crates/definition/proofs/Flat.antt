@@ -31,8 +31,8 @@ same_cut false r r' e = refl
 
 -- two ways to run loops that agree where a loop has enough turns
 module _ (n : ℕ) (c : Goal → St → Res (Ans Node)) (o o' : (l : Loop) → St → Res (Left l))
-    (c-after : (g : Goal) (s : St) → After (λ a s'. Later s s' × Called s s') (c g s))
-    (o-after : (l : Loop) (s : St) → After (λ a s'. Later s s') (o l s)) (agree : (l : Loop) (s : St) → rank l + length s.tokens ≤ n → o l s ≡ o' l s) where
+    (c_after : (g : Goal) (s : St) → After (λ a s'. Later s s' × Called s s') (c g s))
+    (o_after : (l : Loop) (s : St) → After (λ a s'. Later s s') (o l s)) (agree : (l : Loop) (s : St) → rank l + length s.tokens ≤ n → o l s ≡ o' l s) where
   run_same : {A : Type 0} (m : Act A) (Q : St → Type 0) (s : St) → Enough n m Q s → run c o m s ≡ run c o' m s
   unfolding run
   run_same (done a) Q s h = refl
@@ -45,16 +45,16 @@ module _ (n : ℕ) (c : Goal → St → Res (Ans Node)) (o o' : (l : Loop) → S
   run_same (if◌then◌else◌ false m m') Q s h = run_same m' Q s (h.1 refl)
   run_same (call g k) Q s h =
       same_after (c g s) (c g s) (λ a s'. run c o (k a) s') (λ a s'. run c o' (k a) s')
-      (λ a s'. Later s s' × Called s s') refl (c-after g s)
+      (λ a s'. Later s s' × Called s s') refl (c_after g s)
       (λ a s' p. run_same (k a) Q s' (h a s' p.0 p.1))
   run_same (loop g k) Q s h =
       same_after (o g s) (o' g s) (λ a s'. run c o (k a) s') (λ a s'. run c o' (k a) s') (λ a s'. Later s s')
-      (agree g s h.0) (o-after g s) (λ a s' p. run_same (k a) Q s' (h.1 a s' p))
+      (agree g s h.0) (o_after g s) (λ a s' p. run_same (k a) Q s' (h.1 a s' p))
   run_same panic Q s h = refl
 
-module _ (c : Goal → St → Res (Ans Node)) (c-after : (g : Goal) (s : St) → After (λ a s'. Later s s' × Called s s') (c g s)) where
+module _ (c : Goal → St → Res (Ans Node)) (c_after : (g : Goal) (s : St) → After (λ a s'. Later s s' × Called s s') (c g s)) where
   all_later : (n : ℕ) (l : Loop) (s : St) → After (λ a s'. Later s s') (loops c n l s)
-  all_later n l s = loops_later c (λ g s. weaken (c g s) (λ a s' p. p.0) (c-after g s)) n l s
+  all_later n l s = loops_later c (λ g s. weaken (c g s) (λ a s' p. p.0) (c_after g s)) n l s
 
   -- more turns than enough change nothing
   fuel : (n m : ℕ) (l : Loop) (s : St) → rank l + length s.tokens ≤ n → n ≤ m → loops c n l s ≡ loops c m l s
@@ -71,7 +71,7 @@ module _ (c : Goal → St → Res (Ans Node)) (c-after : (g : Goal) (s : St) →
       no (Loop.Modifiers w) h = omega arith
   fuel (suc n) zero l s h d = absurd (omega arith)
   fuel (suc n) (suc m) l s h d =
-      run_same n c (λ k t. loops c n k t) (λ k t. loops c m k t) c-after (λ k t. all_later n k t)
+      run_same n c (λ k t. loops c n k t) (λ k t. loops c m k t) c_after (λ k t. all_later n k t)
       (λ k t q. fuel n m k t q (omega arith)) (turn l) any s (turn_enough n l s h)
 
   once : (l : Loop) (s : St)
@@ -80,7 +80,7 @@ module _ (c : Goal → St → Res (Ans Node)) (c-after : (g : Goal) (s : St) →
   unfolding loops
   once l s =
       run_same (suc (length s.tokens)) c (λ k t. loops c (suc (length s.tokens)) k t)
-      (λ k t. loops c (suc (suc (length t.tokens))) k t) c-after
+      (λ k t. loops c (suc (suc (length t.tokens))) k t) c_after
       (λ k t. all_later (suc (length s.tokens)) k t) agree (turn l) any s
       (turn_enough (suc (length s.tokens)) l s (omega (arith, rank_le l)))
     where

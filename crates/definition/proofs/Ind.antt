@@ -246,10 +246,10 @@ module _ (G : Goal → St → Ans Node → St → Type 0) (L : (l : Loop) → St
     wp_cascade AddSub = wp_mul
     wp_cascade Mul = cast
 
-  module _ (r_ok : (s : St) → R s) (m-ok : (e : Err) (s : St) → M e s) where
+  module _ (r_ok : (s : St) → R s) (m_ok : (e : Err) (s : St) → M e s) where
     module _ (c : Goal → St → Res (Ans Node)) (o : (l : Loop) → St → Res (Left l))
-        (c-ok : (g : Goal) (s : St) → After (λ a s'. Later s s' × G g s a s') (c g s))
-        (o-ok : (l : Loop) (s : St) → After (λ a s'. Later s s' × L l s a s') (o l s)) where
+        (c_ok : (g : Goal) (s : St) → After (λ a s'. Later s s' × G g s a s') (c g s))
+        (o_ok : (l : Loop) (s : St) → After (λ a s'. Later s s' × L l s a s') (o l s)) where
       -- if the precondition of an act holds, Q holds after its run
       pub sound : {A : Type 0} (Q : A → St → Type 0) (m : Act A) (s₀ s : St) → Later s₀ s → wp m Q s
           → After (λ a s'. Later s₀ s' × Q a s') (run c o m s)
@@ -259,15 +259,15 @@ module _ (G : Goal → St → Ans Node → St → Type 0) (L : (l : Loop) → St
       sound Q (consume r k) s₀ s l h = sound Q (k (next_token s.tokens)) s₀ (advance r s) (later_trans l (later_advance r s)) (h (r_ok s))
       sound Q (make e m) s₀ s l h =
           limit (λ a s'. Later s₀ s' × Q a s') (ltb (length s.full) 255) (run c o m (push e s))
-          (λ _. sound Q m s₀ (push e s) (later_trans l (later_push e s)) (h (m-ok e s)))
+          (λ _. sound Q m s₀ (push e s) (later_trans l (later_push e s)) (h (m_ok e s)))
       sound Q (if◌then◌else◌ true m n) s₀ s l h = sound Q m s₀ s l (h.0 refl)
       sound Q (if◌then◌else◌ false m n) s₀ s l h = sound Q n s₀ s l (h.1 refl)
       sound Q (call g k) s₀ s l h =
-          join (λ a s'. Later s s' × G g s a s') (λ a s'. Later s₀ s' × Q a s') (c g s) (λ a s'. run c o (k a) s') (c-ok g s)
+          join (λ a s'. Later s s' × G g s a s') (λ a s'. Later s₀ s' × Q a s') (c g s) (λ a s'. run c o (k a) s') (c_ok g s)
           (λ a s' p. sound Q (k a) s₀ s' (later_trans l p.0)
           (each_ans (λ a. (s' : St) → Later s s' → G g s a s' → wp (k a) Q s') h a s' p.0 p.1))
       sound Q (loop g k) s₀ s l h =
-          join (λ a s'. Later s s' × L g s a s') (λ a s'. Later s₀ s' × Q a s') (o g s) (λ a s'. run c o (k a) s') (o-ok g s)
+          join (λ a s'. Later s s' × L g s a s') (λ a s'. Later s₀ s' × Q a s') (o g s) (λ a s'. run c o (k a) s') (o_ok g s)
           (λ a s' p. sound Q (k a) s₀ s' (later_trans l p.0)
           (each g (λ a. (s' : St) → Later s s' → L g s a s' → wp (k a) Q s') h a s' p.0 p.1))
       sound Q panic s₀ s l h = tt
@@ -277,9 +277,9 @@ module _ (G : Goal → St → Ans Node → St → Type 0) (L : (l : Loop) → St
       pub loops_ind : (c : Goal → St → Res (Ans Node)) → ((g : Goal) (s : St) → After (λ a s'. Later s s' × G g s a s') (c g s))
           → (n : ℕ) (l : Loop) (s : St) → After (λ a s'. Later s s' × L l s a s') (loops c n l s)
       unfolding loops
-      loops_ind c c-ok zero l s = tt
-      loops_ind c c-ok (suc n) l s =
-          sound c (λ m t. loops c n m t) c-ok (λ m t. loops_ind c c-ok n m t) (L l s) (turn l) s s
+      loops_ind c c_ok zero l s = tt
+      loops_ind c c_ok (suc n) l s =
+          sound c (λ m t. loops c n m t) c_ok (λ m t. loops_ind c c_ok n m t) (L l s) (turn l) s s
           (later_refl s) (turns l s)
 
       pub parse_ind : (n : ℕ) (g : Goal) (s : St) → After (λ a s'. Later s s' × G g s a s') (parse n g s)

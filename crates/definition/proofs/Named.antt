@@ -480,8 +480,8 @@ module _ (us : List Tok) where
   pushed e s r h = record { tokens = h.tokens; full = all_append (Right us) s.full (e ∷ []) h.full (r, tt) }
 
   module _ (c : Goal → St → Res (Ans Node)) (o : (l : Loop) → St → Res (Left l))
-      (c-kept : (g : Goal) (s : St) → Kept s → KeptAfter (c g s))
-      (o-kept : (l : Loop) (s : St) → Kept s → KeptAfter (o l s)) where
+      (c_kept : (g : Goal) (s : St) → Kept s → KeptAfter (c g s))
+      (o_kept : (l : Loop) (s : St) → Kept s → KeptAfter (o l s)) where
     run_kept : {A : Type 0} (m : Act A) (s : St) → Makes m s.tokens → Kept s → KeptAfter (run c o m s)
     unfolding run
     run_kept (done a) s h k = k
@@ -493,19 +493,19 @@ module _ (us : List Tok) where
     run_kept (if◌then◌else◌ true m n) s h k = run_kept m s (h.0 refl) k
     run_kept (if◌then◌else◌ false m n) s h k = run_kept n s (h.1 refl) k
     run_kept (call g f) s h k =
-        join (λ a s'. Kept s') (λ a s'. Kept s') (c g s) (λ a s'. run c o (f a) s') (c-kept g s k)
+        join (λ a s'. Kept s') (λ a s'. Kept s') (c g s) (λ a s'. run c o (f a) s') (c_kept g s k)
         (λ a s' k'. run_kept (f a) s' (h a s'.tokens k'.tokens) k')
     run_kept (loop l f) s h k =
-        join (λ a s'. Kept s') (λ a s'. Kept s') (o l s) (λ a s'. run c o (f a) s') (o-kept l s k)
+        join (λ a s'. Kept s') (λ a s'. Kept s') (o l s) (λ a s'. run c o (f a) s') (o_kept l s k)
         (λ a s' k'. run_kept (f a) s' (h a s'.tokens k'.tokens) k')
     run_kept panic s h k = tt
 
   loops_kept : (c : Goal → St → Res (Ans Node)) → ((g : Goal) (s : St) → Kept s → KeptAfter (c g s))
       → (n : ℕ) (l : Loop) (s : St) → Kept s → KeptAfter (loops c n l s)
   unfolding loops
-  loops_kept c c-kept zero l s k = tt
-  loops_kept c c-kept (suc n) l s k =
-      run_kept c (λ m t. loops c n m t) c-kept (λ m t. loops_kept c c-kept n m t) (turn l) s
+  loops_kept c c_kept zero l s k = tt
+  loops_kept c c_kept (suc n) l s k =
+      run_kept c (λ m t. loops c n m t) c_kept (λ m t. loops_kept c c_kept n m t) (turn l) s
       ((safe_turn l).makes s.tokens k.tokens) k
 
   parse_kept : (n : ℕ) (g : Goal) (s : St) → Kept s → KeptAfter (parse n g s)

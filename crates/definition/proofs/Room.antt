@@ -83,8 +83,8 @@ abbrev Few : {A : Type 0} → A → St → Type 0
 Few a s = length s.full ≤ 255
 
 module _ (c : Goal → St → Res (Ans Node)) (o : (l : Loop) → St → Res (Left l))
-    (c-few : (g : Goal) (s : St) → length s.full ≤ 255 → After Few (c g s))
-    (o-few : (l : Loop) (s : St) → length s.full ≤ 255 → After Few (o l s)) where
+    (c_few : (g : Goal) (s : St) → length s.full ≤ 255 → After Few (c g s))
+    (o_few : (l : Loop) (s : St) → length s.full ≤ 255 → After Few (o l s)) where
   run_few : {A : Type 0} (m : Act A) (s : St) → length s.full ≤ 255 → After Few (run c o m s)
   unfolding run
   run_few (done a) s h = h
@@ -95,8 +95,8 @@ module _ (c : Goal → St → Res (Ans Node)) (o : (l : Loop) → St → Res (Le
       (omega (arith, ltb→lt (length s.full) 255 t, length-append s.full (e ∷ []))))
   run_few (if◌then◌else◌ true m n) s h = run_few m s h
   run_few (if◌then◌else◌ false m n) s h = run_few n s h
-  run_few (call g k) s h = join Few Few (c g s) (λ a s'. run c o (k a) s') (c-few g s h) (λ a s' p. run_few (k a) s' p)
-  run_few (loop g k) s h = join Few Few (o g s) (λ a s'. run c o (k a) s') (o-few g s h) (λ a s' p. run_few (k a) s' p)
+  run_few (call g k) s h = join Few Few (c g s) (λ a s'. run c o (k a) s') (c_few g s h) (λ a s' p. run_few (k a) s' p)
+  run_few (loop g k) s h = join Few Few (o g s) (λ a s'. run c o (k a) s') (o_few g s h) (λ a s' p. run_few (k a) s' p)
   run_few panic s h = tt
 
 loops_few : (c : Goal → St → Res (Ans Node)) → ((g : Goal) (s : St) → length s.full ≤ 255 → After Few (c g s))

@@ -510,15 +510,15 @@ module _ (f : Err → ℕ) where
       name : Tok
       name = next_token t.tokens
 
-      Is-built : Items → Fallible Node → St → Ans Node → St → Type 0
-      Is-built ps ty w = Built (19 + length name.text) ps ty w
+      IsBuilt : Items → Fallible Node → St → Ans Node → St → Type 0
+      IsBuilt ps ty w = Built (19 + length name.text) ps ty w
 
       built : (ps : Items) (ty : Fallible Node) (w : St) (Q : Ans Node → St → Type 0)
-          → ((y : Fallible Node) (s' : St) → Is-built ps ty w (ok y) s' → Q (ok y) s')
-          → ((es : List Err) (s' : St) → Is-built ps ty w (fatal es) s' → Q (fatal es) s')
+          → ((y : Fallible Node) (s' : St) → IsBuilt ps ty w (ok y) s' → Q (ok y) s')
+          → ((es : List Err) (s' : St) → IsBuilt ps ty w (fatal es) s' → Q (fatal es) s')
           → wp' (P.function_body p x name ps ty) Q w
       built ps ty w Q h e =
-          via G L R M (P.function_body p x name ps ty) (Is-built ps ty w) Q w (function_body_size p x name ps ty w) h e
+          via G L R M (P.function_body p x name ps ty) (IsBuilt ps ty w) Q w (function_body_size p x name ps ty w) h e
 
   function_definition_size : (s : St) → wp' P.parse_function_definition (Post 0 s) s
   unfolding P.parse_function_definition

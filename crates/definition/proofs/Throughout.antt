@@ -9,7 +9,7 @@ use Rattle.definition.proofs.Ind.{wp, each, to_each, module_ind}
 
 -- I: an invariant of the tokens left
 module _ (G : Goal → St → Ans Node → St → Type 0) (L : (l : Loop) → St → Left l → St → Type 0) (I : List Tok → Type 0)
-    (I-tail : (ts : List Tok) → I ts → I (tail ts)) (I-later : (s s' : St) → Later s s' → I s.tokens → I s'.tokens)
+    (I_tail : (ts : List Tok) → I ts → I (tail ts)) (I_later : (s s' : St) → Later s s' → I s.tokens → I s'.tokens)
   where
     abbrev pub Known : St → Type 0
     Known s = I s.tokens
@@ -31,16 +31,16 @@ module _ (G : Goal → St → Ans Node → St → Type 0) (L : (l : Loop) → St
     carry X Q (done a) s i h = h
     carry X Q (peek k) s i h = carry X Q (k (next_token s.tokens)) s i h
     carry X Q (consume r k) s i h =
-        λ _. carry X Q (k (next_token s.tokens)) (advance r s) (λ x. I-tail s.tokens (i x)) (λ x. h x (i x))
+        λ _. carry X Q (k (next_token s.tokens)) (advance r s) (λ x. I_tail s.tokens (i x)) (λ x. h x (i x))
     carry X Q (make e m) s i h = λ _. carry X Q m (push e s) i (λ x. h x tt)
     carry X Q (if◌then◌else◌ b m n) s i h = (λ d. carry X Q m s i (λ x. (h x).0 d), λ d. carry X Q n s i (λ x. (h x).1 d))
     carry X Q (call g k) s i h = (
-      λ y s' l p. carry X Q (k (ok y)) s' (λ x. I-later s s' l (i x)) (λ x. (h x).0 y s' l (p (i x))),
-      λ es s' l p. carry X Q (k (fatal es)) s' (λ x. I-later s s' l (i x)) (λ x. (h x).1 es s' l (p (i x))),
+      λ y s' l p. carry X Q (k (ok y)) s' (λ x. I_later s s' l (i x)) (λ x. (h x).0 y s' l (p (i x))),
+      λ es s' l p. carry X Q (k (fatal es)) s' (λ x. I_later s s' l (i x)) (λ x. (h x).1 es s' l (p (i x))),
     )
     carry X Q (loop g k) s i h =
         to_each g (λ a. (s' : St) → Later s s' → L' g s a s' → wp G' L' None Any (k a) (λ a s'. X → Q a s') s')
-        (λ a s' l p. carry X Q (k a) s' (λ x. I-later s s' l (i x))
+        (λ a s' l p. carry X Q (k a) s' (λ x. I_later s s' l (i x))
         (λ x. each g (λ a. (s' : St) → Later s s' → L g s a s' → wp G L Known Any (k a) Q s') (h x) a s' l (p (i x))))
     carry X Q panic s i h = tt
 

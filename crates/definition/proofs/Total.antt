@@ -130,8 +130,8 @@ module _ (n : ℕ) where
   limited false r h = tt
 
   module _ (c : Goal → St → Res (Ans Node)) (o : (l : Loop) → St → Res (Left l))
-      (c-after : (g : Goal) (s : St) → After (λ a s'. Later s s' × Called s s') (c g s)) (c-moves : (g : Goal) (s : St) → Moves (c g s))
-      (o-after : (l : Loop) (s : St) → After (λ a s'. Later s s') (o l s)) (o-moves : (l : Loop) (s : St) → rank l + length s.tokens ≤ n → Moves (o l s)) where
+      (c_after : (g : Goal) (s : St) → After (λ a s'. Later s s' × Called s s') (c g s)) (c_moves : (g : Goal) (s : St) → Moves (c g s))
+      (o_after : (l : Loop) (s : St) → After (λ a s'. Later s s') (o l s)) (o_moves : (l : Loop) (s : St) → rank l + length s.tokens ≤ n → Moves (o l s)) where
     run_moves : {A : Type 0} (m : Act A) (Q : St → Type 0) (s : St) → Enough m Q s → Moves (run c o m s)
     unfolding run
     run_moves (done a) Q s h = tt
@@ -141,10 +141,10 @@ module _ (n : ℕ) where
     run_moves (if◌then◌else◌ true m m') Q s h = run_moves m Q s (h.0 refl)
     run_moves (if◌then◌else◌ false m m') Q s h = run_moves m' Q s (h.1 refl)
     run_moves (call g k) Q s h =
-        follows (c g s) (λ a s'. run c o (k a) s') (λ a s'. Later s s' × Called s s') (c-after g s)
-        (c-moves g s) (λ a s' p. run_moves (k a) Q s' (h a s' p.0 p.1))
+        follows (c g s) (λ a s'. run c o (k a) s') (λ a s'. Later s s' × Called s s') (c_after g s)
+        (c_moves g s) (λ a s' p. run_moves (k a) Q s' (h a s' p.0 p.1))
     run_moves (loop g k) Q s h =
-        follows (o g s) (λ a s'. run c o (k a) s') (λ a s'. Later s s') (o-after g s) (o-moves g s h.0)
+        follows (o g s) (λ a s'. run c o (k a) s') (λ a s'. Later s s') (o_after g s) (o_moves g s h.0)
         (λ a s' p. run_moves (k a) Q s' (h.1 a s' p))
     run_moves panic Q s h = tt
 

@@ -285,10 +285,10 @@ module _ {w x : List ℕ} {n d : ℕ} {o r f : List ℕ} {s : State} {t : Token}
           on = omega (arith, F.at, C.moved.at, B.moved.at, X.moved.at, u.on, u.present);
           is = λ rd.
               let g = good_of z (X.is x plain d (past w x n s.at rd) o) in
-              let T-is : take a.state.pos o ≡ take s.pos o = ap (λ (k : ℕ). take k o) X.pos in
+              let T_is : take a.state.pos o ≡ take s.pos o = ap (λ (k : ℕ). take k o) X.pos in
               let v : Shows node (take s.pos o) (errs r s.reported) [] [] w x n o1 r2 f2 b (go d P.parse_type (st_of w x n f1 g.read a.state)) =
               subst (λ (T : List ℕ). Shows node T (errs r s.reported) [] [] w x n o1 r2 f2 b
-              (go d P.parse_type (st_of w x n f1 g.read a.state))) T-is
+              (go d P.parse_type (st_of w x n f1 g.read a.state))) T_is
               (subst (λ (E : List Err). Shows node (take a.state.pos o) E [] [] w x n o1 r2 f2 b
               (go d P.parse_type (st_of w x n f1 g.read a.state))) kept.1 (B.is g.read)) in
               say (sizeof_step d f s u h rd x ∙ follows d _ g.is

@@ -489,8 +489,8 @@ module _ {w x : List ℕ} {n : ℕ} {o r f r1 f1 : List ℕ} {s : State} {t : To
     module _ {d : ℕ} {o3 r3 f3 : List ℕ} {c : Answer} (z : b.status ≡ Done)
         (h : Reads node w x n d P.parse_expression o r2 f2 b.state o3 r3 f3 c) where
       -- the tokens account for the record
-      field-paid : c.state.pos + budget w n c.state.at + 16 + t.len ≤ s.pos + budget w n s.at
-      field-paid =
+      field_paid : c.state.pos + budget w n c.state.at + 16 + t.len ≤ s.pos + budget w n s.at
+      field_paid =
           let db : done_of b.status ≡ 1 = rw z in
           omega (
             arith,
@@ -503,7 +503,7 @@ module _ {w x : List ℕ} {n : ℕ} {o r f r1 f1 : List ℕ} {s : State} {t : To
           )
 
       pub field_room : length o3 ≡ length o → Room o3 x c.state.pos (16 + t.len) t.start t.len
-      field_room l = record { room = omega (arith, field-paid, q.room); part = v.part q.parts }
+      field_room l = record { room = omega (arith, field_paid, q.room); part = v.part q.parts }
 
       pub field_done : {o4 : List ℕ} {y : Answer}
           → NodeWritten x o3 c (record {
@@ -522,7 +522,7 @@ module _ {w x : List ℕ} {n : ℕ} {o r f r1 f1 : List ℕ} {s : State} {t : To
           let id : List Consumed → Fallible Tok = λ rd. record { item = (g rd).item; errors = (g rd).errors } in
           record_reads {K = node} (next_token (rest w x n s.at)).place (λ _. []) (next_token (rest w x n s.at)).text F
           (moved_onward (moved_trans e.moved u.moved) h.moved)
-          (omega (arith, e.on, u.moved.at, h.moved.at)) (omega (arith, field-paid))
+          (omega (arith, e.on, u.moved.at, h.moved.at)) (omega (arith, field_paid))
           (λ _ _. rw (m.place, (g []).holds.1, v.text))
           (λ rd. go d P.parse_expression (st_of w x n f2 (m.read d (g rd).read) b.state))
           (λ rd. go_bind d P.expect_identifier (or_return field_on) _ ∙ follows d field_on (g rd).is ∙ go_bind d (P.expect 26) (or_return (equals_on (id rd))) _ ∙ follows d (equals_on (id rd)) (m.is d (g rd).read)

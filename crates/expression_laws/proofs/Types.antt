@@ -214,8 +214,8 @@ module _ {w x : List ℕ} {n d : ℕ} {o r f : List ℕ} {s : State} (q : Asked 
 
     module _ (m1 : t.kind ≡ 1 → ⊥) where
       -- the continuation after `*`
-      abbrev star-on : Fallible Node → Act (Ans Node)
-      star-on e = wrapped node [] [] 18 (λ _. (next_token (rest w x n s.at)).place) (λ _. []) [] e
+      abbrev star_on : Fallible Node → Act (Ans Node)
+      star_on e = wrapped node [] [] 18 (λ _. (next_token (rest w x n s.at)).place) (λ _. []) [] e
 
       pub type_star : {o1 r1 f1 o2 : List ℕ} {b y : Answer} → t.kind ≡ 24
           → Reads node w x n (d - 1) P.parse_type o r f (fore s t) o1 r1 f1 b
@@ -225,8 +225,8 @@ module _ {w x : List ℕ} {n d : ℕ} {o r f : List ℕ} {s : State} (q : Asked 
           (record_reads (next_token (rest w x n s.at)).place (λ _. []) [] F (moved_onward (fore_moved q.asks v) u.moved) (omega (arith, v.present, v.on, u.moved.at)) (omega arith) (λ _ _. rw v.place)
           (λ rd. go (d - 1) P.parse_type (st_of w x n f (past w x n s.at rd) (fore s t)))
           (λ rd. rw (run, no v m1, yes v z)
-          (ap (λ (S : St). go (d - 1) (P.parse_type >>? star-on) S) (adv s v (λ _. plain) f rd _)) ∙ go_bind
-          (d - 1) P.parse_type (or_return star-on) _)
+          (ap (λ (S : St). go (d - 1) (P.parse_type >>? star_on) S) (adv s v (λ _. plain) f rd _)) ∙ go_bind
+          (d - 1) P.parse_type (or_return star_on) _)
           (λ rd. u.is (past w x n s.at rd)))
 
       module _ (m24 : t.kind ≡ 24 → ⊥) where
@@ -246,8 +246,8 @@ module _ {w x : List ℕ} {n d : ℕ} {o r f : List ℕ} {s : State} (q : Asked 
 
         module _ (m43 : t.kind ≡ 43 → ⊥) where
           -- the continuation after the fields
-          abbrev struct-on : Fallible Items → Act (Ans Node)
-          struct-on e = wrapped items [] [] 20 (λ _. (next_token (rest w x n s.at)).place) (λ i. two i.count ∷ []) [] e
+          abbrev struct_on : Fallible Items → Act (Ans Node)
+          struct_on e = wrapped items [] [] 20 (λ _. (next_token (rest w x n s.at)).place) (λ i. two i.count ∷ []) [] e
 
           pub type_struct : {o1 r1 f1 o2 : List ℕ} {a b y : Answer} → t.kind ≡ 16
               → ReadsList w x n (d - 1) StructFields o r f (fore s t) o1 r1 f1 a → b ≡ silent a s.reported
@@ -263,8 +263,8 @@ module _ {w x : List ℕ} {n d : ℕ} {o r f : List ℕ} {s : State} (q : Asked 
               (st_of w x n f (past w x n s.at rd) (fore s t)))
               (λ z S. go (d - 1) (or_return (λ y. P.good y.item []) z) S))
               (λ rd. rw (run, no v m1, no v m24, no v m43, yes v z) (ap (λ (S : St). go (d - 1)
-              (P.parse_list StructFields >>= λ i. struct-on (record { item = i; errors = [] })) S)
-              (adv s v (λ _. plain) f rd _)) ∙ dropping (d - 1) (P.parse_list StructFields) _ struct-on
+              (P.parse_list StructFields >>= λ i. struct_on (record { item = i; errors = [] })) S)
+              (adv s v (λ _. plain) f rd _)) ∙ dropping (d - 1) (P.parse_list StructFields) _ struct_on
               (λ i. refl) (st_of w x n f (past w x n s.at rd) (fore s t)))
               (λ rd. drops (d - 1) u.never (errs_length r s.reported (omega arith)) u.moved.reported
               (u.is (past w x n s.at rd))))
@@ -320,23 +320,23 @@ module _ {w x : List ℕ} {n : ℕ} (place : ℕ) {o r f : List ℕ} {s : State}
     module _ {r1 f1 : List ℕ} {a : Answer} (fits : not u.fits ≡ false)
         (e : Expects w n (λ role. P.expect_as role 44) r f (fore s t) r1 f1 a) where
       -- the continuations after the type, and after `]`
-      abbrev array-on : Fallible Node → Act (Ans Node)
-      array-on b =
+      abbrev array_on : Fallible Node → Act (Ans Node)
+      array_on b =
           wrapped node [] [] 19 (λ _. unpack_place place)
           (λ _. eight (number (next_token (rest w x n s.at)).base 0 (next_token (rest w x n s.at)).text) ∷ []) [] b
 
-      abbrev bracket-on : Fallible Tok → Act (Ans Node)
-      bracket-on _ = P.parse_type >>? array-on
+      abbrev bracket_on : Fallible Tok → Act (Ans Node)
+      bracket_on _ = P.parse_type >>? array_on
 
       bracket : (d : ℕ) (rd : List Consumed)
           → go d (P.parse_array_type (unpack_place place)) (st_of w x n f rd s)
           ≡ after (go d (P.expect 44) (st_of w x n f (past_as size w x n s.at rd) (fore s t)))
-          (λ z S. go d (or_return bracket-on z) S)
+          (λ z S. go d (or_return bracket_on z) S)
       unfolding go run P.parse_array_type
       bracket d rd =
           rw (run, yes v z, fit ∙ fits)
-          (ap (λ (S : St). go d (P.expect 44 >>? bracket-on) S) (adv s v (λ _. size) f rd _))
-          ∙ go_bind d (P.expect 44) (or_return bracket-on)
+          (ap (λ (S : St). go d (P.expect 44 >>? bracket_on) S) (adv s v (λ _. size) f rd _))
+          ∙ go_bind d (P.expect 44) (or_return bracket_on)
           (st_of w x n f (past_as size w x n s.at rd) (fore s t))
 
       pub array_open : {d : ℕ} → Stopped a → Reads node w x n d (P.parse_array_type (unpack_place place)) o r f s o r1 f1 a
@@ -345,7 +345,7 @@ module _ {w x : List ℕ} {n : ℕ} (place : ℕ) {o r f : List ℕ} {s : State}
             moved = moved_onward (fore_moved q.0.asks v) e.moved;
             on = omega (arith, v.present, v.on, e.moved.at);
             is = λ rd. say (bracket d rd)
-                (stops d bracket-on _ nd (e.is x plain d (past_as size w x n s.at rd) o));
+                (stops d bracket_on _ nd (e.is x plain d (past_as size w x n s.at rd) o));
           }
 
       pub array_done : {d : ℕ} {o2 r2 f2 o3 : List ℕ} {b y : Answer} → a.status ≡ Done
@@ -363,7 +363,7 @@ module _ {w x : List ℕ} {n : ℕ} (place : ℕ) {o r f : List ℕ} {s : State}
           (omega (arith, v.present, v.on, e.moved.at, c.moved.at)) (omega arith)
           (λ _ _. rw (v.text, v.base, k.number (not_false u.fits fits)))
           (λ rd. go d P.parse_type (st_of w x n f1 (g rd).read a.state))
-          (λ rd. bracket d rd ∙ follows d bracket-on (g rd).is ∙ go_bind d P.parse_type (or_return array-on) _)
+          (λ rd. bracket d rd ∙ follows d bracket_on (g rd).is ∙ go_bind d P.parse_type (or_return array_on) _)
           (λ rd. shown_from c e.pos (e.kept za).1 (g rd).read)
 
 -- ---- what their calls require

@@ -67,10 +67,10 @@ module _ {r held r₁ r₂ : List ℕ} {j k m : ℕ} (held₀ : List ℕ) where
       let all : take (m - j) held ≡ drop j (take m r) = ap (λ (x : List ℕ). take (m - j) x) a ∙ ap
       (λ (n : ℕ). take n (paste held₀ 0 (drop j r) (m - j))) (sym (zero-add (m - j))) ∙ take-paste held₀ 0
       (drop j r) (m - j) (omega arith) lr ∙ part_is r j (m - j) m (omega arith) hr in
-      let jk-is : j + (k - j) ≡ k = omega arith in
+      let jk_is : j + (k - j) ≡ k = omega arith in
       let back : take (m - k) (drop (k - j) held) ≡ drop k (take m r) =
       part_is held (k - j) (m - k) (m - j) (omega arith) (omega arith)
-      ∙ ap (λ (x : List ℕ). drop (k - j) x) all ∙ drop-drop (k - j) j (take m r) ∙ ap (λ (x : ℕ). drop x (take m r)) jk-is in
+      ∙ ap (λ (x : List ℕ). drop (k - j) x) all ∙ drop-drop (k - j) j (take m r) ∙ ap (λ (x : ℕ). drop x (take m r)) jk_is in
       let front : take (k - j) held ≡ drop j (take k r) =
       sym (take-take (k - j) (m - j) held (omega arith))
       ∙ ap (λ (x : List ℕ). take (k - j) x) (all ∙ sym (part_is r j (m - j) m (omega arith) hr))

@@ -208,10 +208,10 @@ module _ {w x : List ℕ} {n d name i j place : ℕ} {o r f : List ℕ} {a : Ans
         (g : Good items T E [] [] w x n o r f a k)
         (s : Good items T E g.item.recs g.errors w x n o1 r1 f1 b (go d (P.parse_body >>= as_answer) (st_of w x n f g.read a.state))) where
       -- the body, and all errors in the order of the report
-      turned-body : Shows items T E g.item.recs [] w x n o1 r2 f1 b
+      turned_body : Shows items T E g.item.recs [] w x n o1 r2 f1 b
           (gives (ok (reported (record { item = g.item; errors = g.errors })
           (record { item = s.item; errors = s.errors }))) (st_of w x n f1 s.read b.state))
-      turned-body =
+      turned_body =
           is_good h (record {
             item = s.item;
             errors = s.errors ++ g.errors;
@@ -224,9 +224,9 @@ module _ {w x : List ℕ} {n d name i j place : ℕ} {o r f : List ℕ} {a : Ans
             holds = s.holds;
           })
 
-      whole-shown : Shows node T E [] [] w x n o3 r2 f1 y
+      whole_shown : Shows node T E [] [] w x n o3 r2 f1 y
           (after k (λ z S. go d (or_return (function_on (unpack_place place) 0 (next_token (rest w x n name))) z) S))
-      whole-shown =
+      whole_shown =
           let p : Place = unpack_place place in
           let nm : Tok = next_token (rest w x n name) in
           let e : Fallible Items = record { item = g.item; errors = g.errors } in
@@ -236,14 +236,14 @@ module _ {w x : List ℕ} {n d name i j place : ℕ} {o r f : List ℕ} {a : Ans
           (st_of w x n f1 s.read b.state))
           (writes_node d (λ _. p) (λ _. byte 0 ∷ two g.item.count ∷ []) nm.text G
           (λ k _. rw (g.holds, u.text))
-          (writes_node d (λ _. p) (λ k. two k.count ∷ []) [] F (λ k e. rw e) turned-body))
+          (writes_node d (λ _. p) (λ k. two k.count ∷ []) [] F (λ k e. rw e) turned_body))
 
     pub whole_reads : FunctionOn w x n d 0 (unpack_place place) name i j o r f a o3 r2 f1 y
     whole_reads = record {
       moved = whole_moved;
       is =
           λ T E k li lj v. let g = good_of z v in
-          whole-shown lj g
+          whole_shown lj g
           (good_of h (rebased B.never g.item.recs g.errors g.tree g.reported (B.is g.read)));
     }
 
@@ -362,9 +362,9 @@ module _ {w x : List ℕ} {n d : ℕ} {o r f r1 f1 : List ℕ} {s : State} {a : 
     module _ {p : Place} {o3 r3 f3 : List ℕ} {c : Answer} (q : Asked w x n o r f s) (y : b.status ≡ Done)
         (G : ReadsSignature w x n d p o r2 f2 b.state o3 r3 f3 c) where
       -- `fn` and the name account for the records of the type, the block and the function
-      function-pays : c.state.pos + budget w n c.state.at + 25 + length (next_token (rest w x n a.state.at)).text
+      function_pays : c.state.pos + budget w n c.state.at + 25 + length (next_token (rest w x n a.state.at)).text
           ≤ s.pos + budget w n s.at
-      function-pays =
+      function_pays =
           let da : done_of a.status ≡ 1 = rw z in
           let db : done_of b.status ≡ 1 = rw y in
           let k = real w n a.state.at (omega (arith, Y.pays, db)) in
@@ -384,10 +384,10 @@ module _ {w x : List ℕ} {n d : ℕ} {o r f r1 f1 : List ℕ} {s : State} {a : 
                 fulls = omega (arith, q.asks, lf);
               };
           parts = q.parts;
-          room = omega (arith, function-pays, q.room, lo);
+          room = omega (arith, function_pays, q.room, lo);
         };
         within = X.moved.end;
-        room = omega (arith, function-pays, q.room, lo);
+        room = omega (arith, function_pays, q.room, lo);
         pos = omega (arith, G.moved.pos, X.pos, Y.pos);
         reported = omega (arith, G.moved.reported, (X.kept z).0, (Y.kept y).0);
       }
@@ -403,7 +403,7 @@ module _ {w x : List ℕ} {n d : ℕ} {o r f r1 f1 : List ℕ} {s : State} {a : 
                   at = omega (arith, W.moved.at, G.moved.at, X.moved.at, Y.moved.at);
                   end = W.moved.end;
                   pos = W.moved.pos;
-                  room = omega (arith, W.moved.room, function-pays);
+                  room = omega (arith, W.moved.room, function_pays);
                   reported = W.moved.reported;
                   less = omega (arith, W.moved, G.moved, X.moved, Y.moved);
                   full = omega (arith, W.moved.full, G.moved.full, X.moved.full, Y.moved.full);

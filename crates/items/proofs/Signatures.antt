@@ -138,8 +138,8 @@ module _ {w x : List ℕ} {n d : ℕ} {p : Place} {o r f o1 r1 f1 : List ℕ} {s
         }
 
     module _ {r3 : List ℕ} {c : Answer} (C : Abandoned r2 b s.pos s.reported a.state.reported r3 c) where
-      signature-moved : Moved w n s.pos s.reported (up 7 s) c.state
-      signature-moved =
+      signature_moved : Moved w n s.pos s.reported (up 7 s) c.state
+      signature_moved =
           let e : budget w n c.state.at ≡ budget w n b.state.at = ap (λ (k : ℕ). budget w n k) C.at in
           record {
             at = omega (arith, C.at, R.moved, B.moved);
@@ -161,16 +161,16 @@ module _ {w x : List ℕ} {n d : ℕ} {p : Place} {o r f o1 r1 f1 : List ℕ} {s
             B.moved.reported,
             (
               omega (arith, e, R.moved.reported),
-              (omega (arith, signature-moved, q.asks), omega (arith, signature-moved, q.asks, l)),
+              (omega (arith, signature_moved, q.asks), omega (arith, signature_moved, q.asks, l)),
             ),
           )
 
       module _ (rd : List Consumed)
           (g : Good items (take s.pos o) (errs r s.reported) [] [] w x n o1 r1 f1 a (go d (P.parse_list A.Parameters >>= as_answer) (st_of w x n f rd s))) where
         -- the type after the parameters
-        typed-after : Shows node (take s.pos o) (errs r s.reported) g.item.recs g.errors w x n o2 r3 f2 c
+        typed_after : Shows node (take s.pos o) (errs r s.reported) g.item.recs g.errors w x n o2 r3 f2 c
             (go d (return_rule p) (st_of w x n f1 g.read a.state))
-        typed-after =
+        typed_after =
             abandons {T = take s.pos o} {E = errs r s.reported} g.tree g.reported
             (length-take-le s.pos o (omega (arith, q.room)))
             (errs_length r s.reported (omega (arith, q.asks)))
@@ -178,10 +178,10 @@ module _ {w x : List ℕ} {n d : ℕ} {p : Place} {o r f o1 r1 f1 : List ℕ} {s
             (omega (arith, R.moved.pos, B.moved.pos))
             (omega (arith, R.moved.reported, B.moved.reported)) (R.is g.read)
 
-        typed-step : go d (signature_rule p) (st_of w x n f rd s)
+        typed_step : go d (signature_rule p) (st_of w x n f rd s)
             ≡ after (go d (return_rule p) (st_of w x n f1 g.read a.state))
             (λ z S. go d (or_return (signing (record { item = g.item; errors = g.errors })) z) S)
-        typed-step =
+        typed_step =
             listed d p (st_of w x n f rd s) ∙ follows d (typing p) g.is
             ∙ go_bind d (return_rule p) (or_return (signing (record { item = g.item; errors = g.errors })))
             (st_of w x n f1 g.read a.state)
@@ -189,11 +189,11 @@ module _ {w x : List ℕ} {n d : ℕ} {p : Place} {o r f o1 r1 f1 : List ℕ} {s
       -- a fatal or refused type is returned
       pub signature_untyped : a.status ≡ Done → Stopped c → ReadsSignature w x n d p o r f s o2 r3 f2 c
       signature_untyped z nd = record {
-        moved = signature-moved;
+        moved = signature_moved;
         is =
             λ rd. let g = good_of z (B.is rd) in
-            say (typed-step rd g)
-            (stops d (signing (record { item = g.item; errors = g.errors })) _ nd (typed-after rd g));
+            say (typed_step rd g)
+            (stops d (signing (record { item = g.item; errors = g.errors })) _ nd (typed_after rd g));
       }
 
       pub signature_reads : {r4 : List ℕ} → a.status ≡ Done → c.status ≡ Done
@@ -204,11 +204,11 @@ module _ {w x : List ℕ} {n d : ℕ} {p : Place} {o r f o1 r1 f1 : List ℕ} {s
       signature_reads z y X =
           let e : c.state.reported ≡ b.state.reported = ap (λ (z : Answer). z.state.reported) (still C y) in
           record {
-            moved = signature-moved;
+            moved = signature_moved;
             is = λ rd.
                 let g = good_of z (B.is rd) in
-                let v = good_of y (typed-after rd g) in
-                say (typed-step rd g ∙ follows d (signing (record { item = g.item; errors = g.errors })) v.is)
+                let v = good_of y (typed_after rd g) in
+                say (typed_step rd g ∙ follows d (signing (record { item = g.item; errors = g.errors })) v.is)
                 (is_good y
                 (record {
                   item = record { count = g.item.count; recs = g.item.recs ++ v.item.recs; errors = v.errors ++ g.errors };

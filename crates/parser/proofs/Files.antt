@@ -38,24 +38,24 @@ module_field : (count : ℕ) → rec_bytes (bare_of 0x5F (Two count) []) ≡ fie
 unfolding rec_bytes
 module_field count = simp append-nil refl
 
-module _ {o o1 o2 o3 o4 E r f : List ℕ} {p p1 p2 p3 p4 count m reported-count full-count : ℕ} (q : RestRoom o p E m r reported-count f full-count) (W : Wrote o p (bare_of 0x5F (Two count) []) 5 o1 p1) (A : TokenFields o1 p1 E m o2 p2)
-    (B : Fielded o2 p2 0x60 (errs r reported-count) o3 p3) (C : Fielded o3 p3 0x61 (errs f full-count) o4 p4) where
+module _ {o o1 o2 o3 o4 E r f : List ℕ} {p p1 p2 p3 p4 count m reported_count full_count : ℕ} (q : RestRoom o p E m r reported_count f full_count) (W : Wrote o p (bare_of 0x5F (Two count) []) 5 o1 p1) (A : TokenFields o1 p1 E m o2 p2)
+    (B : Fielded o2 p2 0x60 (errs r reported_count) o3 p3) (C : Fielded o3 p3 0x61 (errs f full_count) o4 p4) where
   -- the contents up to the end
-  front : (es : List Err) → errors_of E 0 m ≡ some es → take p4 o4 ≡ tree_file (take p o) count es (errs r reported-count) (errs f full-count)
+  front : (es : List Err) → errors_of E 0 m ≡ some es → take p4 o4 ≡ tree_file (take p o) count es (errs r reported_count) (errs f full_count)
   front es e =
       C.is
-      ∙ ap (λ (v : List ℕ). v ++ errs_bytes 0x61 (errs f full-count)) (B.is
-      ∙ ap (λ (v : List ℕ). v ++ errs_bytes 0x60 (errs r reported-count)) ((A es e).is
+      ∙ ap (λ (v : List ℕ). v ++ errs_bytes 0x61 (errs f full_count)) (B.is
+      ∙ ap (λ (v : List ℕ). v ++ errs_bytes 0x60 (errs r reported_count)) ((A es e).is
       ∙ ap (λ (v : List ℕ). v ++ errs_bytes 0x62 es)
       (W.is ∙ ap (λ (v : List ℕ). take p o ++ v) (module_field count))))
 
   -- the end is within the slice
   pub end_room : length o4 ≡ length o → p4 ≤ length o4
-  end_room l = omega (arith, q.room, W.end, token_end E m q.good A, list_end r reported-count B q.reps, list_end f full-count C q.fulls, l)
+  end_room l = omega (arith, q.room, W.end, token_end E m q.good A, list_end r reported_count B q.reps, list_end f full_count C q.fulls, l)
 
   -- the rest of the file is written, with zeros after it
-  pub ended : {o5 : List ℕ} → Cleared o4 p4 o5 → length o4 ≡ length o → RestWritten o p count E m r reported-count f full-count o5 p4
+  pub ended : {o5 : List ℕ} → Cleared o4 p4 o5 → length o4 ≡ length o → RestWritten o p count E m r reported_count f full_count o5 p4
   ended Z l = record {
     end = λ es e. sym (length-take-le p4 o4 (end_room l)) ∙ ap length (front es e);
-    is = λ es e. cleared_filled o p4 (tree_file (take p o) count es (errs r reported-count) (errs f full-count)) Z (front es e) l (end_room l);
+    is = λ es e. cleared_filled o p4 (tree_file (take p o) count es (errs r reported_count) (errs f full_count)) Z (front es e) l (end_room l);
   }

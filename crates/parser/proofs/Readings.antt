@@ -215,14 +215,14 @@ module _ (T : List ℕ) (n : ℕ) (E : List ℕ) (m : ℕ) (X : List ℕ) (g : i
   }
 
 module _ (T : List ℕ) (n : ℕ) (E : List ℕ) (m : ℕ) (X o : List ℕ) {o1 r1 f1 : List ℕ} {a : Answer}
-    (B : ReadsModule T X n 96 o1 r1 f1 a) (some-n : 0 < n) (l : length o1 ≡ length o) where
+    (B : ReadsModule T X n 96 o1 r1 f1 a) (some_n : 0 < n) (l : length o1 ≡ length o) where
   pub read_refused : {o2 : List ℕ} {k : ℕ} {y : Written} → Ended a → Cleared o1 0 o2 → k ≡ refusal_number a.status
       → y ≡ refusal_of k → ReadValidated T n E m X o o2 y
   read_refused {o2} {k} {y} z C u v h e =
       let t = tested T n E m X h e in
       let p : parse_module h.tokens ≡ refused k = ap parse_module (sym t.tokens) ∙ refused_of B z ∙ ap
       (λ (i : ℕ). refused i) (sym u) in
-      let s : 0 < length h.tokens = subst (λ (ts : List Tok). 0 < length ts) t.tokens (some_tokens T X n some-n) in
+      let s : 0 < length h.tokens = subst (λ (ts : List Tok). 0 < length ts) t.tokens (some_tokens T X n some_n) in
       rw v (ap (λ (f : List ℕ). answer (refusal_of k) f) (cleared_filled o 0 [] C refl l (omega arith))
       ∙ sym (none_of o h.tokens h.errors k s p))
 
@@ -234,7 +234,7 @@ module _ (T : List ℕ) (n : ℕ) (E : List ℕ) (m : ℕ) (X o : List ℕ) {o1 
       let t = tested T n E m X h e in
       let g = tree_of B (done_of_module B z) in
       let p : parse_module h.tokens ≡ gives g.tree g.state = ap parse_module (sym t.tokens) ∙ g.is in
-      let s : 0 < length h.tokens = subst (λ (ts : List Tok). 0 < length ts) t.tokens (some_tokens T X n some-n) in
+      let s : 0 < length h.tokens = subst (λ (ts : List Tok). 0 < length ts) t.tokens (some_tokens T X n some_n) in
       let ws : tree_file (take a.state.pos o1) a.count h.errors (errs r1 a.state.reported) (errs f1 a.state.full) ≡ file_bytes h.errors g.tree g.state.full =
       same_file h.errors g.recs (sym g.count) g.reported (sym g.full) in
       let bytes : b ≡ length (file_bytes h.errors g.tree g.state.full) = C.end h.errors t.errors ∙ ap length ws in

@@ -31,17 +31,17 @@ abbrev pub tree_file : List ℕ → ℕ → List Err → List Err → List Err �
 tree_file tree count es reported full = tree ++ field Tag.Module (u16 count) ++ errs_bytes Tag.TokenError es ++ errs_bytes Tag.ReportedError reported ++ errs_bytes Tag.FullError full
 
 -- room for what follows the tree after p; the m token errors are valid
-pub record RestRoom (o : List ℕ) (p : ℕ) (E : List ℕ) (m : ℕ) (r : List ℕ) (reported-count : ℕ) (f : List ℕ) (full-count : ℕ) : Type 0 where
-  pub room : p + 10 * m + 10 * reported-count + 10 * full-count + 18 ≤ length o
+pub record RestRoom (o : List ℕ) (p : ℕ) (E : List ℕ) (m : ℕ) (r : List ℕ) (reported_count : ℕ) (f : List ℕ) (full_count : ℕ) : Type 0 where
+  pub room : p + 10 * m + 10 * reported_count + 10 * full_count + 18 ≤ length o
   pub words : 4 * m ≤ length E
   pub good : is_some (errors_of E 0 m) ≡ true
-  pub reps : reported-count ≤ length r
-  pub fulls : full-count ≤ length f
+  pub reps : reported_count ≤ length r
+  pub fulls : full_count ≤ length f
 
 -- what follows the tree is written and ends at q, with zeros after it
-pub record RestWritten (o : List ℕ) (p count : ℕ) (E : List ℕ) (m : ℕ) (r : List ℕ) (reported-count : ℕ) (f : List ℕ) (full-count : ℕ) (o' : List ℕ) (q : ℕ) : Type 0 where
-  pub end : (es : List Err) → errors_of E 0 m ≡ some es → q ≡ length (tree_file (take p o) count es (errs r reported-count) (errs f full-count))
-  pub is : (es : List Err) → errors_of E 0 m ≡ some es → o' ≡ filled (length o) (tree_file (take p o) count es (errs r reported-count) (errs f full-count))
+pub record RestWritten (o : List ℕ) (p count : ℕ) (E : List ℕ) (m : ℕ) (r : List ℕ) (reported_count : ℕ) (f : List ℕ) (full_count : ℕ) (o' : List ℕ) (q : ℕ) : Type 0 where
+  pub end : (es : List Err) → errors_of E 0 m ≡ some es → q ≡ length (tree_file (take p o) count es (errs r reported_count) (errs f full_count))
+  pub is : (es : List Err) → errors_of E 0 m ≡ some es → o' ≡ filled (length o) (tree_file (take p o) count es (errs r reported_count) (errs f full_count))
 
 -- ---- records that are validated
 

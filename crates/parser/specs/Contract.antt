@@ -7,12 +7,12 @@ use Rattle.parser.specs.declared.Written.{Written}
 use Rattle.parser.specs.Answer as A
 
 abbrev pub RestRoom : MutSlice → ℕ → Slice → ℕ → Slice → ℕ → Slice → ℕ → Type 0
-RestRoom file pos errors m reported reported-count full full-count =
-    A.RestRoom file.now pos errors.now m reported.now reported-count full.now full-count
+RestRoom file pos errors m reported reported_count full full_count =
+    A.RestRoom file.now pos errors.now m reported.now reported_count full.now full_count
 
 abbrev pub RestWritten : MutLent → ℕ → ℕ → Lent → ℕ → Lent → ℕ → Lent → ℕ → ℕ → Type 0
-RestWritten file pos count errors m reported reported-count full full-count r =
-    A.RestWritten (old file) pos count (at_entry errors) m (at_entry reported) reported-count (at_entry full) full-count
+RestWritten file pos count errors m reported reported_count full full_count r =
+    A.RestWritten (old file) pos count (at_entry errors) m (at_entry reported) reported_count (at_entry full) full_count
     (new file) r
 
 -- the records passed to Read are valid

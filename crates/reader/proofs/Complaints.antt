@@ -188,8 +188,8 @@ module _ (s : List ℕ) (z : Stands s origin) (h : length s ≤ 16384) where
               full = a.state.full;
             }
 
-            examine-found : S.examine s ≡ S.found (found_of s T E X r l counts)
-            examine-found =
+            examine_found : S.examine s ≡ S.found (found_of s T E X r l counts)
+            examine_found =
                 reading (A.gives outcome.tree outcome.state) outcome.is
                 ∙ same_found (P.rest s origin) (rest T X f.tokens 0) (ap or_none (sym records.errors))
                 (sym outcome.reported) outcome.full
@@ -197,12 +197,12 @@ module _ (s : List ℕ) (z : Stands s origin) (h : length s ≤ 16384) where
             pub examine_holds : 256 ≤ length r → 256 ≤ length l → Holds s T E X r l counts
             examine_holds lr ll =
                 record {
-                  is = examine-found;
+                  is = examine_found;
                   script = record { stands = z; short = h };
                   tokens = record {
                     held = records.held;
                     parts = records.parts;
-                    quoted = λ p. quoted_at p _ (found_made (examined s _ examine-found)).good;
+                    quoted = λ p. quoted_at p _ (found_made (examined s _ examine_found)).good;
                   };
                   words = records.words;
                   valid = rw records.errors;

@@ -63,11 +63,11 @@ module _ (n : ℕ) {l : ℕ} (e : l ≡ letter_of n) where
   escaped_letter h =
       rw e (one (eqb n (char "\"")) (eqb n (char "\\")) (eqb n 10) (eqb n 13) (eqb n 9) (λ z. h (e ∙ z)))
     where
-      letter-by : Bool → Bool → Bool → Bool → Bool → ℕ
-      letter-by a b c d f = pick a 34 (pick b 92 (pick c 110 (pick d 114 (pick f 116 0))))
+      letter_by : Bool → Bool → Bool → Bool → Bool → ℕ
+      letter_by a b c d f = pick a 34 (pick b 92 (pick c 110 (pick d 114 (pick f 116 0))))
 
-      one : (a b c d f : Bool) → (letter-by a b c d f ≡ 0 → ⊥)
-          → ◌≡◌ {A = List ℕ} (92 ∷ letter-by a b c d f ∷ [])
+      one : (a b c d f : Bool) → (letter_by a b c d f ≡ 0 → ⊥)
+          → ◌≡◌ {A = List ℕ} (92 ∷ letter_by a b c d f ∷ [])
           (pick a (92 ∷ 34 ∷ []) (pick b (92 ∷ 92 ∷ [])
           (pick c (92 ∷ 110 ∷ []) (pick d (92 ∷ 114 ∷ []) (pick f (92 ∷ 116 ∷ [])
           (pick (between 32 126 n) (n ∷ []) (ascii "\\u{" ++ in_base 16 n ++ ascii "}")))))))

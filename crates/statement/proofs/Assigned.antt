@@ -118,15 +118,15 @@ module _ {w x : List ℕ} {n d : ℕ} {o r f : List ℕ} {s : State} {t : Token}
 
     module _ {r2 : List ℕ} {b : Answer} (C : Abandoned r1 a i s.reported s.reported r2 b) where
       -- from the end of the target to the end of the value
-      assigned-moved : Moved w n i s.reported s b.state
-      assigned-moved = moved_trans (fore_moved q.asks u) (abandoned_moved B.moved C)
+      assigned_moved : Moved w n i s.reported s b.state
+      assigned_moved = moved_trans (fore_moved q.asks u) (abandoned_moved B.moved C)
 
       pub assigned_asks : length r2 ≡ length r → length f1 ≡ length f → Follows w n r2 f1 b i s.reported
-      assigned_asks lr lf = record { asks = asks_moved q.asks assigned-moved lr lf; pos = C.low; reported = C.first }
+      assigned_asks lr lf = record { asks = asks_moved q.asks assigned_moved lr lf; pos = C.low; reported = C.first }
 
       pub assigned_room : {r3 f2 : List ℕ} {c : Answer} → Expected w n 50 i s.reported r2 f1 b r3 f2 c
           → length o1 ≡ length o → Room o1 x c.state.pos (16 + 0) 0 0
-      assigned_room X l = record { room = omega (arith, q.room, assigned-moved.room, X.high); part = omega arith }
+      assigned_room X l = record { room = omega (arith, q.room, assigned_moved.room, X.high); part = omega arith }
 
 -- a record is written only after a good answer
 node_written_high : {x o o' : List ℕ} {b y : Answer} {tag place : ℕ} → NodeWritten x o b (placed tag place) o' y

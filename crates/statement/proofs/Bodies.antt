@@ -138,16 +138,16 @@ module _ {w x : List ℕ} {n count : ℕ} {o r f : List ℕ} {s : State} {t : To
     module _ {d : ℕ} {o1 r1 f1 : List ℕ} {b : Answer} (m0 : t.kind ≡ 0 → ⊥)
         (u : Reads node w x n d P.parse_statement o r f s o1 r1 f1 b) where
       -- a turn that parses a statement
-      statement-turn : (rd : List Consumed) (l : Items)
+      statement_turn : (rd : List Consumed) (l : Items)
           → go d (statements_on l) (st_of w x n f rd s)
           ≡ go d (P.parse_statement >>= λ a. statements_on (P.integrate l a)) (st_of w x n f rd s)
       unfolding go run P.body_turn ◌>>=◌
-      statement-turn rd l = go_loop d (Body l) (st_of w x n f rd s) ∙ rw (run, no v m40, no v m0)
+      statement_turn rd l = go_loop d (Body l) (st_of w x n f rd s) ∙ rw (run, no v m40, no v m0)
 
       pub rest_refused : Ended b → LoopOn statements_on w x n d count o r f s o1 r1 f1 b
-      rest_refused h = loop_refused statements_on statements_on P.parse_statement statement-turn u h
+      rest_refused h = loop_refused statements_on statements_on P.parse_statement statement_turn u h
 
       pub rest_next : {k : ℕ} {o3 r3 f3 : List ℕ} {y : Answer} → Alive b → Counted b.status count k
           → LoopOn statements_on w x n d k o1 r1 f1 b.state o3 r3 f3 y
           → LoopOn statements_on w x n d count o r f s o3 r3 f3 y
-      rest_next h c l = loop_next statements_on P.parse_statement statement-turn u h c l
+      rest_next h c l = loop_next statements_on P.parse_statement statement_turn u h c l

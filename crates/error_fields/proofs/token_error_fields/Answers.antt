@@ -14,11 +14,10 @@ pub place_at-place-requires : goal.place_at-place-requires
 place_at-place-requires c = place_fits _ _ _ c.requires.1.1 (omega arith)
 
 pub entry-e-requires : goal.entry-e-requires
-entry-e-requires c =
-    (
-      number_fits _ _ c.wide.ensures _ c.requires.1.1 (omega arith),
-      (c.place_at-place.ensures.1, (omega arith, omega arith)),
-    )
+entry-e-requires c = (
+  number_fits _ _ c.wide.ensures _ c.requires.1.1 (omega arith),
+  (c.place_at-place.ensures.1, (omega arith, omega arith)),
+)
 
 pub loop-i-preserved : goal.loop-i-preserved
 loop-i-preserved c =

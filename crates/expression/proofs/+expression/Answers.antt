@@ -25,12 +25,11 @@ pub access-atom-a-requires : goal.access-atom-a-requires
 access-atom-a-requires t c = (omega (arith, c.decreases), c.requires)
 
 pub access-loop-a-init : goal.access-loop-a-init
-access-loop-a-init t c =
-    (
-      goes_on c.requires c.atom-a.ensures (omega (arith, c.atom-a.auto))
-          (omega (arith, c.atom-a.auto)) (omega (arith, c.atom-a.auto)),
-      at_start,
-    )
+access-loop-a-init t c = (
+  goes_on c.requires c.atom-a.ensures (omega (arith, c.atom-a.auto))
+      (omega (arith, c.atom-a.auto)) (omega (arith, c.atom-a.auto)),
+  at_start,
+)
 
 pub access-returns-in_default : goal.access-returns-in_default
 unfolding P.parse_field_access_or_index
@@ -83,18 +82,17 @@ access-loop-a-smaller-then-t-eq-DOT t c =
     )
 
 pub access-loop-a-preserved-then-t-eq-DOT : goal.access-loop-a-preserved-then-t-eq-DOT
-access-loop-a-preserved-then-t-eq-DOT t c =
-    (
-      turn_on c.loop-a.invariant.0
-          (dot_moved c.loop-a.invariant.0 c.peek-t.ensures c.peek-u.ensures
-          c.if-u-ne-IDENTIFIER.false c.write_text_node-a.ensures)
-          (omega (arith, c.write_text_node-a.auto)) refl refl,
-      one_turn c.loop-a.invariant.1 (omega (arith, c.write_text_node-a.auto)) refl refl
-          (omega (arith, c.peek-t.ensures.up, c.peek-u.ensures.up, c.write_text_node-a.ensures.at))
-          (λ _ _ _ _ g. dot_name c.loop-a.invariant.0 c.in-Done.is
-          c.peek-t.ensures c.if-t-eq-DOT.true c.peek-u.ensures c.if-u-eq-END.false
-          c.if-u-ne-IDENTIFIER.false c.write_text_node-a.ensures g),
-    )
+access-loop-a-preserved-then-t-eq-DOT t c = (
+  turn_on c.loop-a.invariant.0
+      (dot_moved c.loop-a.invariant.0 c.peek-t.ensures c.peek-u.ensures
+      c.if-u-ne-IDENTIFIER.false c.write_text_node-a.ensures)
+      (omega (arith, c.write_text_node-a.auto)) refl refl,
+  one_turn c.loop-a.invariant.1 (omega (arith, c.write_text_node-a.auto)) refl refl
+      (omega (arith, c.peek-t.ensures.up, c.peek-u.ensures.up, c.write_text_node-a.ensures.at))
+      (λ _ _ _ _ g. dot_name c.loop-a.invariant.0 c.in-Done.is
+      c.peek-t.ensures c.if-t-eq-DOT.true c.peek-u.ensures c.if-u-eq-END.false
+      c.if-u-ne-IDENTIFIER.false c.write_text_node-a.ensures g),
+)
 
 pub access-write_node-a-requires : goal.access-write_node-a-requires
 access-write_node-a-requires t c =
@@ -111,16 +109,15 @@ access-loop-a-smaller-then-t-eq-DOT_STAR t c =
     )
 
 pub access-loop-a-preserved-then-t-eq-DOT_STAR : goal.access-loop-a-preserved-then-t-eq-DOT_STAR
-access-loop-a-preserved-then-t-eq-DOT_STAR t c =
-    (
-      turn_on c.loop-a.invariant.0
-          (star_moved c.loop-a.invariant.0 c.peek-t.ensures c.if-t-eq-DOT_STAR.true c.write_node-a.ensures)
-          (omega (arith, c.write_node-a.auto)) refl refl,
-      one_turn c.loop-a.invariant.1 (omega (arith, c.write_node-a.auto)) refl refl
-          (omega (arith, c.peek-t.ensures.up, c.write_node-a.ensures.at))
-          (λ _ _ _ _ g. suffix_star c.loop-a.invariant.0 c.in-Done.is
-          c.peek-t.ensures c.if-t-eq-DOT.false c.if-t-eq-DOT_STAR.true c.write_node-a.ensures g),
-    )
+access-loop-a-preserved-then-t-eq-DOT_STAR t c = (
+  turn_on c.loop-a.invariant.0
+      (star_moved c.loop-a.invariant.0 c.peek-t.ensures c.if-t-eq-DOT_STAR.true c.write_node-a.ensures)
+      (omega (arith, c.write_node-a.auto)) refl refl,
+  one_turn c.loop-a.invariant.1 (omega (arith, c.write_node-a.auto)) refl refl
+      (omega (arith, c.peek-t.ensures.up, c.write_node-a.ensures.at))
+      (λ _ _ _ _ g. suffix_star c.loop-a.invariant.0 c.in-Done.is
+      c.peek-t.ensures c.if-t-eq-DOT.false c.if-t-eq-DOT_STAR.true c.write_node-a.ensures g),
+)
 
 pub access-returns-then-t-ne-L_BRACKET : goal.access-returns-then-t-ne-L_BRACKET
 unfolding P.parse_field_access_or_index
@@ -131,19 +128,18 @@ access-returns-then-t-ne-L_BRACKET t c =
     c.if-t-eq-DOT.false c.if-t-eq-DOT_STAR.false c.if-t-ne-L_BRACKET.true))
 
 pub access-expression-b-requires : goal.access-expression-b-requires
-access-expression-b-requires t c =
-    (
-      omega (
-        arith,
-        c.decreases,
-        c.atom-a.ensures.moved.at,
-        c.loop-a.invariant.1.on,
-        c.loop-a.invariant.0.asked.asks.at,
-        c.peek-t.ensures,
-        c.if-t-ne-L_BRACKET.false,
-      ),
-      asked_seen c.loop-a.invariant.0.asked c.peek-t.ensures,
-    )
+access-expression-b-requires t c = (
+  omega (
+    arith,
+    c.decreases,
+    c.atom-a.ensures.moved.at,
+    c.loop-a.invariant.1.on,
+    c.loop-a.invariant.0.asked.asks.at,
+    c.peek-t.ensures,
+    c.if-t-ne-L_BRACKET.false,
+  ),
+  asked_seen c.loop-a.invariant.0.asked c.peek-t.ensures,
+)
 
 pub access-abandon-c-requires : goal.access-abandon-c-requires
 access-abandon-c-requires t c =
@@ -151,14 +147,13 @@ access-abandon-c-requires t c =
     (omega (arith, c.expression-b.auto))
 
 pub access-and_expect-d-requires : goal.access-and_expect-d-requires
-access-and_expect-d-requires t c =
-    (
-      index_asks c.loop-a.invariant.0 c.in-Done.is c.peek-t.ensures
-          c.expression-b.ensures c.abandon-c.ensures
-          (omega (arith, c.abandon-c.auto, c.expression-b.auto))
-          (omega (arith, c.expression-b.auto)),
-      (omega arith, omega arith),
-    )
+access-and_expect-d-requires t c = (
+  index_asks c.loop-a.invariant.0 c.in-Done.is c.peek-t.ensures
+      c.expression-b.ensures c.abandon-c.ensures
+      (omega (arith, c.abandon-c.auto, c.expression-b.auto))
+      (omega (arith, c.expression-b.auto)),
+  (omega arith, omega arith),
+)
 
 pub access-write_node-a-requires-in-loop-a : goal.access-write_node-a-requires-in-loop-a
 access-write_node-a-requires-in-loop-a t c =
@@ -189,47 +184,45 @@ access-loop-a-smaller t c =
     )
 
 pub access-loop-a-preserved : goal.access-loop-a-preserved
-access-loop-a-preserved t c =
-    (
-      turn_on c.loop-a.invariant.0
-          (index_moved c.loop-a.invariant.0 c.in-Done.is c.peek-t.ensures
-          c.if-t-ne-L_BRACKET.false c.expression-b.ensures c.abandon-c.ensures
-          (omega (arith, c.abandon-c.auto, c.expression-b.auto))
-          (omega (arith, c.expression-b.auto)) c.and_expect-d.ensures
-          c.write_node-a-in-loop-a.ensures)
-          (omega (arith, c.write_node-a-in-loop-a.auto, c.expression-b.auto))
-          (omega (arith, c.and_expect-d.auto, c.abandon-c.auto, c.expression-b.auto))
-          (omega (arith, c.and_expect-d.auto, c.expression-b.auto)),
-      one_turn c.loop-a.invariant.1
-          (omega (arith, c.write_node-a-in-loop-a.auto, c.expression-b.auto))
-          (omega (arith, c.and_expect-d.auto, c.abandon-c.auto, c.expression-b.auto))
-          (omega (arith, c.and_expect-d.auto, c.expression-b.auto))
-          (omega (
-            arith,
-            c.peek-t.ensures.up,
-            c.expression-b.ensures.moved,
-            c.abandon-c.ensures.at,
-            c.and_expect-d.ensures.moved,
-            c.write_node-a-in-loop-a.ensures.at,
-          ))
-          (λ _ _ _ _ g. suffix_index c.loop-a.invariant.0 c.in-Done.is
-          c.peek-t.ensures c.if-t-ne-L_BRACKET.false c.expression-b.ensures
-          c.abandon-c.ensures
-          (omega (arith, c.abandon-c.auto, c.expression-b.auto))
-          (omega (arith, c.expression-b.auto)) c.and_expect-d.ensures
-          c.write_node-a-in-loop-a.ensures c.if-t-eq-DOT.false c.if-t-eq-DOT_STAR.false g),
-    )
+access-loop-a-preserved t c = (
+  turn_on c.loop-a.invariant.0
+      (index_moved c.loop-a.invariant.0 c.in-Done.is c.peek-t.ensures
+      c.if-t-ne-L_BRACKET.false c.expression-b.ensures c.abandon-c.ensures
+      (omega (arith, c.abandon-c.auto, c.expression-b.auto))
+      (omega (arith, c.expression-b.auto)) c.and_expect-d.ensures
+      c.write_node-a-in-loop-a.ensures)
+      (omega (arith, c.write_node-a-in-loop-a.auto, c.expression-b.auto))
+      (omega (arith, c.and_expect-d.auto, c.abandon-c.auto, c.expression-b.auto))
+      (omega (arith, c.and_expect-d.auto, c.expression-b.auto)),
+  one_turn c.loop-a.invariant.1
+      (omega (arith, c.write_node-a-in-loop-a.auto, c.expression-b.auto))
+      (omega (arith, c.and_expect-d.auto, c.abandon-c.auto, c.expression-b.auto))
+      (omega (arith, c.and_expect-d.auto, c.expression-b.auto))
+      (omega (
+        arith,
+        c.peek-t.ensures.up,
+        c.expression-b.ensures.moved,
+        c.abandon-c.ensures.at,
+        c.and_expect-d.ensures.moved,
+        c.write_node-a-in-loop-a.ensures.at,
+      ))
+      (λ _ _ _ _ g. suffix_index c.loop-a.invariant.0 c.in-Done.is
+      c.peek-t.ensures c.if-t-ne-L_BRACKET.false c.expression-b.ensures
+      c.abandon-c.ensures
+      (omega (arith, c.abandon-c.auto, c.expression-b.auto))
+      (omega (arith, c.expression-b.auto)) c.and_expect-d.ensures
+      c.write_node-a-in-loop-a.ensures c.if-t-eq-DOT.false c.if-t-eq-DOT_STAR.false g),
+)
 
 pub add_sub-mul-a-requires : goal.add_sub-mul-a-requires
 add_sub-mul-a-requires t c = (omega (arith, c.decreases), c.requires)
 
 pub add_sub-operators-requires : goal.add_sub-operators-requires
-add_sub-operators-requires t c =
-    (
-      omega (arith, c.decreases, c.requires.asks.at, c.mul-a.ensures.moved.at),
-      goes_on c.requires c.mul-a.ensures (omega (arith, c.mul-a.auto))
-          (omega (arith, c.mul-a.auto)) (omega (arith, c.mul-a.auto)),
-    )
+add_sub-operators-requires t c = (
+  omega (arith, c.decreases, c.requires.asks.at, c.mul-a.ensures.moved.at),
+  goes_on c.requires c.mul-a.ensures (omega (arith, c.mul-a.auto))
+      (omega (arith, c.mul-a.auto)) (omega (arith, c.mul-a.auto)),
+)
 
 pub add_sub-returns : goal.add_sub-returns
 unfolding P.parse_add_sub
@@ -276,12 +269,11 @@ array-returns-in_default t c =
     c.expect-a.ensures c.in_default.not-Done
 
 pub array-ty-b-requires : goal.array-ty-b-requires
-array-ty-b-requires t c =
-    (
-      omega (arith, c.decreases, c.peek-t.ensures, c.expect-a.ensures.moved),
-      bracket_asked c.requires.0 c.peek-t.ensures c.expect-a.ensures
-          (omega (arith, c.expect-a.auto)) (omega (arith, c.expect-a.auto)),
-    )
+array-ty-b-requires t c = (
+  omega (arith, c.decreases, c.peek-t.ensures, c.expect-a.ensures.moved),
+  bracket_asked c.requires.0 c.peek-t.ensures c.expect-a.ensures
+      (omega (arith, c.expect-a.auto)) (omega (arith, c.expect-a.auto)),
+)
 
 pub array-write_node-requires : goal.array-write_node-requires
 array-write_node-requires t c =
@@ -306,11 +298,10 @@ pub atom-returns-then-t-ne-L_PAREN : goal.atom-returns-then-t-ne-L_PAREN
 atom-returns-then-t-ne-L_PAREN t c = c.literal.ensures _
 
 pub atom-expression-a-requires : goal.atom-expression-a-requires
-atom-expression-a-requires t c =
-    (
-      omega (arith, c.decreases, c.requires.asks.at, c.peek-t.ensures, c.if-t-ne-L_PAREN.false),
-      asked_seen c.requires c.peek-t.ensures,
-    )
+atom-expression-a-requires t c = (
+  omega (arith, c.decreases, c.requires.asks.at, c.peek-t.ensures, c.if-t-ne-L_PAREN.false),
+  asked_seen c.requires c.peek-t.ensures,
+)
 
 pub atom-close-requires : goal.atom-close-requires
 atom-close-requires t c =
@@ -327,12 +318,11 @@ pub bit_and-shift-a-requires : goal.bit_and-shift-a-requires
 bit_and-shift-a-requires t c = (omega (arith, c.decreases), c.requires)
 
 pub bit_and-operators-requires : goal.bit_and-operators-requires
-bit_and-operators-requires t c =
-    (
-      omega (arith, c.decreases, c.requires.asks.at, c.shift-a.ensures.moved.at),
-      goes_on c.requires c.shift-a.ensures (omega (arith, c.shift-a.auto))
-          (omega (arith, c.shift-a.auto)) (omega (arith, c.shift-a.auto)),
-    )
+bit_and-operators-requires t c = (
+  omega (arith, c.decreases, c.requires.asks.at, c.shift-a.ensures.moved.at),
+  goes_on c.requires c.shift-a.ensures (omega (arith, c.shift-a.auto))
+      (omega (arith, c.shift-a.auto)) (omega (arith, c.shift-a.auto)),
+)
 
 pub bit_and-returns : goal.bit_and-returns
 unfolding P.parse_bitwise_and
@@ -367,11 +357,10 @@ bit_or-loop-k-init t c =
     (omega (arith, c.cast-a.auto)) (omega (arith, c.cast-a.auto)))
 
 pub bit_or-operators-a-requires : goal.bit_or-operators-a-requires
-bit_or-operators-a-requires t c =
-    (
-      omega (arith, c.decreases, c.requires.asks.at, c.loop-k.invariant.forward),
-      c.loop-k.invariant.on,
-    )
+bit_or-operators-a-requires t c = (
+  omega (arith, c.decreases, c.requires.asks.at, c.loop-k.invariant.forward),
+  c.loop-k.invariant.on,
+)
 
 pub bit_or-loop-k-preserved : goal.bit_or-loop-k-preserved
 bit_or-loop-k-preserved t c =
@@ -386,12 +375,11 @@ pub bit_xor-bit_and-a-requires : goal.bit_xor-bit_and-a-requires
 bit_xor-bit_and-a-requires t c = (omega (arith, c.decreases), c.requires)
 
 pub bit_xor-operators-requires : goal.bit_xor-operators-requires
-bit_xor-operators-requires t c =
-    (
-      omega (arith, c.decreases, c.requires.asks.at, c.bit_and-a.ensures.moved.at),
-      goes_on c.requires c.bit_and-a.ensures (omega (arith, c.bit_and-a.auto))
-          (omega (arith, c.bit_and-a.auto)) (omega (arith, c.bit_and-a.auto)),
-    )
+bit_xor-operators-requires t c = (
+  omega (arith, c.decreases, c.requires.asks.at, c.bit_and-a.ensures.moved.at),
+  goes_on c.requires c.bit_and-a.ensures (omega (arith, c.bit_and-a.auto))
+      (omega (arith, c.bit_and-a.auto)) (omega (arith, c.bit_and-a.auto)),
+)
 
 pub bit_xor-returns : goal.bit_xor-returns
 unfolding P.parse_bitwise_xor
@@ -419,22 +407,21 @@ boolean-returns-then-t-ne-DOUBLE_AMPERSAND t c =
     c.peek-t.ensures c.if-t-ne-DOUBLE_AMPERSAND.true)
 
 pub boolean-comparison-b-requires : goal.boolean-comparison-b-requires
-boolean-comparison-b-requires t c =
-    (
-      omega (
-        arith,
-        c.decreases,
-        c.requires.asks.at,
-        c.comparison-a.ensures.moved.at,
-        c.peek-t.ensures,
-        c.if-t-ne-DOUBLE_AMPERSAND.false,
-      ),
-      asked_seen
-          (asked_moved c.requires c.comparison-a.ensures.moved
-          (omega (arith, c.comparison-a.auto)) (omega (arith, c.comparison-a.auto))
-          (omega (arith, c.comparison-a.auto)))
-          c.peek-t.ensures,
-    )
+boolean-comparison-b-requires t c = (
+  omega (
+    arith,
+    c.decreases,
+    c.requires.asks.at,
+    c.comparison-a.ensures.moved.at,
+    c.peek-t.ensures,
+    c.if-t-ne-DOUBLE_AMPERSAND.false,
+  ),
+  asked_seen
+      (asked_moved c.requires c.comparison-a.ensures.moved
+      (omega (arith, c.comparison-a.auto)) (omega (arith, c.comparison-a.auto))
+      (omega (arith, c.comparison-a.auto)))
+      c.peek-t.ensures,
+)
 
 pub boolean-abandon-c-requires : goal.boolean-abandon-c-requires
 boolean-abandon-c-requires t c =
@@ -483,18 +470,17 @@ call-returns-then-t-ne-L_PAREN t c =
     c.in-Done.is c.peek-t.ensures c.if-t-ne-L_PAREN.true)
 
 pub call-list-b-requires : goal.call-list-b-requires
-call-list-b-requires t c =
-    (
-      omega (
-        arith,
-        c.decreases,
-        c.sizeof-a.ensures.moved.end,
-        call_later c.requires c.sizeof-a.ensures c.peek-t.ensures
-            c.if-t-ne-L_PAREN.false,
-      ),
-      (asked_moved c.requires c.sizeof-a.ensures.moved (omega (arith, c.sizeof-a.auto))
-          (omega (arith, c.sizeof-a.auto)) (omega (arith, c.sizeof-a.auto))),
-    )
+call-list-b-requires t c = (
+  omega (
+    arith,
+    c.decreases,
+    c.sizeof-a.ensures.moved.end,
+    call_later c.requires c.sizeof-a.ensures c.peek-t.ensures
+        c.if-t-ne-L_PAREN.false,
+  ),
+  (asked_moved c.requires c.sizeof-a.ensures.moved (omega (arith, c.sizeof-a.auto))
+      (omega (arith, c.sizeof-a.auto)) (omega (arith, c.sizeof-a.auto))),
+)
 
 pub call-write_node-requires : goal.call-write_node-requires
 call-write_node-requires t c =
@@ -550,12 +536,11 @@ pub cast-operand-a-requires : goal.cast-operand-a-requires
 cast-operand-a-requires t c = (omega (arith, c.decreases), c.requires)
 
 pub cast-loop-a-init : goal.cast-loop-a-init
-cast-loop-a-init t c =
-    (
-      goes_on c.requires c.operand-a.ensures (omega (arith, c.operand-a.auto))
-          (omega (arith, c.operand-a.auto)) (omega (arith, c.operand-a.auto)),
-      at_start,
-    )
+cast-loop-a-init t c = (
+  goes_on c.requires c.operand-a.ensures (omega (arith, c.operand-a.auto))
+      (omega (arith, c.operand-a.auto)) (omega (arith, c.operand-a.auto)),
+  at_start,
+)
 
 pub cast-returns-in_default : goal.cast-returns-in_default
 unfolding P.parse_cast
@@ -575,19 +560,18 @@ cast-returns-then-t-ne-KW_AS t c =
     c.if-t-ne-KW_AS.true))
 
 pub cast-ty-b-requires : goal.cast-ty-b-requires
-cast-ty-b-requires t c =
-    (
-      omega (
-        arith,
-        c.decreases,
-        c.operand-a.ensures.moved.at,
-        c.loop-a.invariant.1.on,
-        c.loop-a.invariant.0.asked.asks.at,
-        c.peek-t.ensures,
-        c.if-t-ne-KW_AS.false,
-      ),
-      asked_seen c.loop-a.invariant.0.asked c.peek-t.ensures,
-    )
+cast-ty-b-requires t c = (
+  omega (
+    arith,
+    c.decreases,
+    c.operand-a.ensures.moved.at,
+    c.loop-a.invariant.1.on,
+    c.loop-a.invariant.0.asked.asks.at,
+    c.peek-t.ensures,
+    c.if-t-ne-KW_AS.false,
+  ),
+  asked_seen c.loop-a.invariant.0.asked c.peek-t.ensures,
+)
 
 pub cast-abandon-c-requires : goal.cast-abandon-c-requires
 cast-abandon-c-requires t c =
@@ -612,25 +596,24 @@ cast-loop-a-smaller t c =
     )
 
 pub cast-loop-a-preserved : goal.cast-loop-a-preserved
-cast-loop-a-preserved t c =
-    (
-      joined_on c.loop-a.invariant.0 c.peek-t.ensures c.ty-b.ensures
-          c.abandon-c.ensures c.write_node-a.ensures (omega (arith, c.if-t-ne-KW_AS.false))
-          (omega (arith, c.write_node-a.auto, c.ty-b.auto))
-          (omega (arith, c.abandon-c.auto, c.ty-b.auto)) (omega (arith, c.ty-b.auto)),
-      one_turn c.loop-a.invariant.1 (omega (arith, c.write_node-a.auto, c.ty-b.auto))
-          (omega (arith, c.abandon-c.auto, c.ty-b.auto)) (omega (arith, c.ty-b.auto))
-          (omega (
-            arith,
-            c.peek-t.ensures.up,
-            c.ty-b.ensures.moved,
-            c.abandon-c.ensures.at,
-            c.write_node-a.ensures.at,
-          ))
-          (λ _ _ _ _ g. casts_more c.loop-a.invariant.0 c.in-Done.is
-          c.peek-t.ensures c.if-t-ne-KW_AS.false c.ty-b.ensures c.abandon-c.ensures
-          c.write_node-a.ensures g),
-    )
+cast-loop-a-preserved t c = (
+  joined_on c.loop-a.invariant.0 c.peek-t.ensures c.ty-b.ensures
+      c.abandon-c.ensures c.write_node-a.ensures (omega (arith, c.if-t-ne-KW_AS.false))
+      (omega (arith, c.write_node-a.auto, c.ty-b.auto))
+      (omega (arith, c.abandon-c.auto, c.ty-b.auto)) (omega (arith, c.ty-b.auto)),
+  one_turn c.loop-a.invariant.1 (omega (arith, c.write_node-a.auto, c.ty-b.auto))
+      (omega (arith, c.abandon-c.auto, c.ty-b.auto)) (omega (arith, c.ty-b.auto))
+      (omega (
+        arith,
+        c.peek-t.ensures.up,
+        c.ty-b.ensures.moved,
+        c.abandon-c.ensures.at,
+        c.write_node-a.ensures.at,
+      ))
+      (λ _ _ _ _ g. casts_more c.loop-a.invariant.0 c.in-Done.is
+      c.peek-t.ensures c.if-t-ne-KW_AS.false c.ty-b.ensures c.abandon-c.ensures
+      c.write_node-a.ensures g),
+)
 
 pub comparison-bit_or-a-requires : goal.comparison-bit_or-a-requires
 comparison-bit_or-a-requires t c = (omega (arith, c.decreases), c.requires)
@@ -653,23 +636,22 @@ comparison-returns-then-op-eq0 t c =
     c.if-op-eq0.true)
 
 pub comparison-bit_or-b-requires : goal.comparison-bit_or-b-requires
-comparison-bit_or-b-requires t c =
-    (
-      omega (
-        arith,
-        c.decreases,
-        c.requires.asks.at,
-        c.bit_or-a.ensures.moved.at,
-        c.peek-t.ensures,
-        c.comparison_operator-op.ensures,
-        c.if-op-eq0.false,
-      ),
-      asked_seen
-          (asked_moved c.requires c.bit_or-a.ensures.moved
-          (omega (arith, c.bit_or-a.auto)) (omega (arith, c.bit_or-a.auto))
-          (omega (arith, c.bit_or-a.auto)))
-          c.peek-t.ensures,
-    )
+comparison-bit_or-b-requires t c = (
+  omega (
+    arith,
+    c.decreases,
+    c.requires.asks.at,
+    c.bit_or-a.ensures.moved.at,
+    c.peek-t.ensures,
+    c.comparison_operator-op.ensures,
+    c.if-op-eq0.false,
+  ),
+  asked_seen
+      (asked_moved c.requires c.bit_or-a.ensures.moved
+      (omega (arith, c.bit_or-a.auto)) (omega (arith, c.bit_or-a.auto))
+      (omega (arith, c.bit_or-a.auto)))
+      c.peek-t.ensures,
+)
 
 pub comparison-abandon-c-requires : goal.comparison-abandon-c-requires
 comparison-abandon-c-requires t c =
@@ -720,14 +702,13 @@ pub field-expect_identifier-a-requires : goal.field-expect_identifier-a-requires
 field-expect_identifier-a-requires t c = c.requires.asks
 
 pub field-and_expect-b-requires : goal.field-and_expect-b-requires
-field-and_expect-b-requires t c =
-    (
-      field_follows c.requires c.peek-t.ensures
-          c.expect_identifier-a.ensures
-          (omega (arith, c.expect_identifier-a.auto))
-          (omega (arith, c.expect_identifier-a.auto)),
-      (omega arith, omega arith),
-    )
+field-and_expect-b-requires t c = (
+  field_follows c.requires c.peek-t.ensures
+      c.expect_identifier-a.ensures
+      (omega (arith, c.expect_identifier-a.auto))
+      (omega (arith, c.expect_identifier-a.auto)),
+  (omega arith, omega arith),
+)
 
 pub field-returns-in_default : goal.field-returns-in_default
 field-returns-in_default t c =
@@ -737,19 +718,18 @@ field-returns-in_default t c =
     (omega (arith, c.expect_identifier-a.auto)) c.in_default.not-Done
 
 pub field-expression-c-requires : goal.field-expression-c-requires
-field-expression-c-requires t c =
-    (
-      omega (
-        arith,
-        c.decreases,
-        c.expect_identifier-a.ensures.moved,
-        c.and_expect-b.ensures.moved,
-      ),
-      field_asked c.requires c.peek-t.ensures
-          c.expect_identifier-a.ensures c.and_expect-b.ensures
-          (omega (arith, c.expect_identifier-a.auto, c.and_expect-b.auto))
-          (omega (arith, c.expect_identifier-a.auto, c.and_expect-b.auto)),
-    )
+field-expression-c-requires t c = (
+  omega (
+    arith,
+    c.decreases,
+    c.expect_identifier-a.ensures.moved,
+    c.and_expect-b.ensures.moved,
+  ),
+  field_asked c.requires c.peek-t.ensures
+      c.expect_identifier-a.ensures c.and_expect-b.ensures
+      (omega (arith, c.expect_identifier-a.auto, c.and_expect-b.auto))
+      (omega (arith, c.expect_identifier-a.auto, c.and_expect-b.auto)),
+)
 
 pub field-write_text_node-requires : goal.field-write_text_node-requires
 field-write_text_node-requires t c =
@@ -802,15 +782,14 @@ list-returns-in-Refused t c =
     (_, c.in-Refused.is)
 
 pub list-loop-what-init : goal.list-loop-what-init
-list-loop-what-init t c =
-    (
-      (
-        asked_moved c.requires c.expect-a.ensures.moved refl
-            (omega (arith, c.expect-a.auto)) (omega (arith, c.expect-a.auto)),
-        omega arith,
-      ),
-      at_start,
-    )
+list-loop-what-init t c = (
+  (
+    asked_moved c.requires c.expect-a.ensures.moved refl
+        (omega (arith, c.expect-a.auto)) (omega (arith, c.expect-a.auto)),
+    omega arith,
+  ),
+  at_start,
+)
 
 pub list-peek-t-requires : goal.list-peek-t-requires
 list-peek-t-requires t c = (c.loop-what.invariant.0.0.asks.held, c.loop-what.invariant.0.0.asks.at)
@@ -838,11 +817,10 @@ list-returns-then-t-close t c =
     c.closer-close.ensures c.if-t-close.true))
 
 pub list-item-b-requires : goal.list-item-b-requires
-list-item-b-requires t c =
-    (
-      omega (arith, c.decreases, c.expect-a.ensures.moved, c.loop-what.invariant.1.on),
-      c.loop-what.invariant.0.0,
-    )
+list-item-b-requires t c = (
+  omega (arith, c.decreases, c.expect-a.ensures.moved, c.loop-what.invariant.1.on),
+  c.loop-what.invariant.0.0,
+)
 
 pub list-returns-in-Refused-h : goal.list-returns-in-Refused-h
 list-returns-in-Refused-h t c =
@@ -888,31 +866,29 @@ list-loop-what-smaller t c =
     )
 
 pub list-loop-what-preserved : goal.list-loop-what-preserved
-list-loop-what-preserved t c =
-    (
-      rest_asked c.loop-what.invariant.0 c.peek-t.ensures c.if-t-eq-END.false
-          c.item-b.ensures c.comma-c.ensures c.counted-count.ensures
-          (omega (arith, c.item-b.auto)) (omega (arith, c.comma-c.auto, c.item-b.auto))
-          (omega (arith, c.comma-c.auto, c.item-b.auto)),
-      one_turn c.loop-what.invariant.1 (omega (arith, c.item-b.auto))
-          (omega (arith, c.comma-c.auto, c.item-b.auto))
-          (omega (arith, c.comma-c.auto, c.item-b.auto))
-          (omega (arith, c.item-b.ensures.moved, c.comma-c.ensures.moved))
-          (λ _ _ _ _ g. rest_next _ c.loop-what.invariant.0 c.peek-t.ensures c.if-t-eq-END.false
-          c.closer-close.ensures c.if-t-close.false c.item-b.ensures c.in_default-h.not-Refused
-          c.comma-c.ensures c.in-Done.is c.counted-count.ensures g),
-    )
+list-loop-what-preserved t c = (
+  rest_asked c.loop-what.invariant.0 c.peek-t.ensures c.if-t-eq-END.false
+      c.item-b.ensures c.comma-c.ensures c.counted-count.ensures
+      (omega (arith, c.item-b.auto)) (omega (arith, c.comma-c.auto, c.item-b.auto))
+      (omega (arith, c.comma-c.auto, c.item-b.auto)),
+  one_turn c.loop-what.invariant.1 (omega (arith, c.item-b.auto))
+      (omega (arith, c.comma-c.auto, c.item-b.auto))
+      (omega (arith, c.comma-c.auto, c.item-b.auto))
+      (omega (arith, c.item-b.ensures.moved, c.comma-c.ensures.moved))
+      (λ _ _ _ _ g. rest_next _ c.loop-what.invariant.0 c.peek-t.ensures c.if-t-eq-END.false
+      c.closer-close.ensures c.if-t-close.false c.item-b.ensures c.in_default-h.not-Refused
+      c.comma-c.ensures c.in-Done.is c.counted-count.ensures g),
+)
 
 pub mul-cast-a-requires : goal.mul-cast-a-requires
 mul-cast-a-requires t c = (omega (arith, c.decreases), c.requires)
 
 pub mul-operators-requires : goal.mul-operators-requires
-mul-operators-requires t c =
-    (
-      omega (arith, c.decreases, c.requires.asks.at, c.cast-a.ensures.moved.at),
-      goes_on c.requires c.cast-a.ensures (omega (arith, c.cast-a.auto))
-          (omega (arith, c.cast-a.auto)) (omega (arith, c.cast-a.auto)),
-    )
+mul-operators-requires t c = (
+  omega (arith, c.decreases, c.requires.asks.at, c.cast-a.ensures.moved.at),
+  goes_on c.requires c.cast-a.ensures (omega (arith, c.cast-a.auto))
+      (omega (arith, c.cast-a.auto)) (omega (arith, c.cast-a.auto)),
+)
 
 pub mul-returns : goal.mul-returns
 unfolding P.parse_mul
@@ -968,19 +944,18 @@ operators-returns-then-op-eq0 t c =
     c.operator-op.ensures c.if-op-eq0.true)
 
 pub operators-cascade-b-requires : goal.operators-cascade-b-requires
-operators-cascade-b-requires t c =
-    (
-      omega (
-        arith,
-        c.decreases,
-        c.loop-a.invariant.1.on,
-        c.loop-a.invariant.0.asked.asks.at,
-        c.peek-t.ensures,
-        c.operator-op.ensures,
-        c.if-op-eq0.false,
-      ),
-      asked_seen c.loop-a.invariant.0.asked c.peek-t.ensures,
-    )
+operators-cascade-b-requires t c = (
+  omega (
+    arith,
+    c.decreases,
+    c.loop-a.invariant.1.on,
+    c.loop-a.invariant.0.asked.asks.at,
+    c.peek-t.ensures,
+    c.operator-op.ensures,
+    c.if-op-eq0.false,
+  ),
+  asked_seen c.loop-a.invariant.0.asked c.peek-t.ensures,
+)
 
 pub operators-abandon-c-requires : goal.operators-abandon-c-requires
 operators-abandon-c-requires t c =
@@ -1009,39 +984,37 @@ operators-loop-a-smaller t c =
     )
 
 pub operators-loop-a-preserved : goal.operators-loop-a-preserved
-operators-loop-a-preserved t c =
-    (
-      joined_on c.loop-a.invariant.0 c.peek-t.ensures c.cascade-b.ensures
-          c.abandon-c.ensures c.write_node-a.ensures
-          (omega (arith, c.operator-op.ensures, c.if-op-eq0.false))
-          (omega (arith, c.write_node-a.auto, c.cascade-b.auto))
-          (omega (arith, c.abandon-c.auto, c.cascade-b.auto))
-          (omega (arith, c.cascade-b.auto)),
-      one_turn c.loop-a.invariant.1 (omega (arith, c.write_node-a.auto, c.cascade-b.auto))
-          (omega (arith, c.abandon-c.auto, c.cascade-b.auto))
-          (omega (arith, c.cascade-b.auto))
-          (omega (
-            arith,
-            c.peek-t.ensures.up,
-            c.cascade-b.ensures.moved,
-            c.abandon-c.ensures.at,
-            c.write_node-a.ensures.at,
-          ))
-          (λ _ _ _ _ g. operators_more c.loop-a.invariant.0 c.in-Done.is
-          c.peek-t.ensures _ c.operator-op.ensures c.if-op-eq0.false
-          c.cascade-b.ensures c.abandon-c.ensures c.write_node-a.ensures g),
-    )
+operators-loop-a-preserved t c = (
+  joined_on c.loop-a.invariant.0 c.peek-t.ensures c.cascade-b.ensures
+      c.abandon-c.ensures c.write_node-a.ensures
+      (omega (arith, c.operator-op.ensures, c.if-op-eq0.false))
+      (omega (arith, c.write_node-a.auto, c.cascade-b.auto))
+      (omega (arith, c.abandon-c.auto, c.cascade-b.auto))
+      (omega (arith, c.cascade-b.auto)),
+  one_turn c.loop-a.invariant.1 (omega (arith, c.write_node-a.auto, c.cascade-b.auto))
+      (omega (arith, c.abandon-c.auto, c.cascade-b.auto))
+      (omega (arith, c.cascade-b.auto))
+      (omega (
+        arith,
+        c.peek-t.ensures.up,
+        c.cascade-b.ensures.moved,
+        c.abandon-c.ensures.at,
+        c.write_node-a.ensures.at,
+      ))
+      (λ _ _ _ _ g. operators_more c.loop-a.invariant.0 c.in-Done.is
+      c.peek-t.ensures _ c.operator-op.ensures c.if-op-eq0.false
+      c.cascade-b.ensures c.abandon-c.ensures c.write_node-a.ensures g),
+)
 
 pub shift-add_sub-a-requires : goal.shift-add_sub-a-requires
 shift-add_sub-a-requires t c = (omega (arith, c.decreases), c.requires)
 
 pub shift-operators-requires : goal.shift-operators-requires
-shift-operators-requires t c =
-    (
-      omega (arith, c.decreases, c.requires.asks.at, c.add_sub-a.ensures.moved.at),
-      goes_on c.requires c.add_sub-a.ensures (omega (arith, c.add_sub-a.auto))
-          (omega (arith, c.add_sub-a.auto)) (omega (arith, c.add_sub-a.auto)),
-    )
+shift-operators-requires t c = (
+  omega (arith, c.decreases, c.requires.asks.at, c.add_sub-a.ensures.moved.at),
+  goes_on c.requires c.add_sub-a.ensures (omega (arith, c.add_sub-a.auto))
+      (omega (arith, c.add_sub-a.auto)) (omega (arith, c.add_sub-a.auto)),
+)
 
 pub shift-returns : goal.shift-returns
 unfolding P.parse_bit_shift
@@ -1069,30 +1042,28 @@ sizeof-returns-in_default t c =
     c.in_default.not-Done
 
 pub sizeof-ty-b-requires : goal.sizeof-ty-b-requires
-sizeof-ty-b-requires t c =
-    (
-      omega (
-        arith,
-        c.decreases,
-        c.requires.asks.at,
-        c.peek-t.ensures,
-        c.if-t-ne-KW_SIZEOF.false,
-        c.expect-a.ensures.moved,
-      ),
-      asked_moved (asked_seen c.requires c.peek-t.ensures)
-          c.expect-a.ensures.moved refl (omega (arith, c.expect-a.auto))
-          (omega (arith, c.expect-a.auto)),
-    )
+sizeof-ty-b-requires t c = (
+  omega (
+    arith,
+    c.decreases,
+    c.requires.asks.at,
+    c.peek-t.ensures,
+    c.if-t-ne-KW_SIZEOF.false,
+    c.expect-a.ensures.moved,
+  ),
+  asked_moved (asked_seen c.requires c.peek-t.ensures)
+      c.expect-a.ensures.moved refl (omega (arith, c.expect-a.auto))
+      (omega (arith, c.expect-a.auto)),
+)
 
 pub sizeof-and_expect-c-requires : goal.sizeof-and_expect-c-requires
-sizeof-and_expect-c-requires t c =
-    (
-      sizeof_asks c.requires c.peek-t.ensures c.if-t-ne-KW_SIZEOF.false
-          c.expect-a.ensures c.in-Done.is c.ty-b.ensures
-          (omega (arith, c.ty-b.auto, c.expect-a.auto))
-          (omega (arith, c.ty-b.auto, c.expect-a.auto)),
-      (omega arith, omega arith),
-    )
+sizeof-and_expect-c-requires t c = (
+  sizeof_asks c.requires c.peek-t.ensures c.if-t-ne-KW_SIZEOF.false
+      c.expect-a.ensures c.in-Done.is c.ty-b.ensures
+      (omega (arith, c.ty-b.auto, c.expect-a.auto))
+      (omega (arith, c.ty-b.auto, c.expect-a.auto)),
+  (omega arith, omega arith),
+)
 
 pub sizeof-write_node-requires : goal.sizeof-write_node-requires
 sizeof-write_node-requires t c =
@@ -1128,11 +1099,10 @@ pub ty-overflow_sub-nesting : goal.ty-overflow_sub-nesting
 ty-overflow_sub-nesting t c = omega arith
 
 pub ty-ty-a-requires : goal.ty-ty-a-requires
-ty-ty-a-requires t c =
-    (
-      omega (arith, c.decreases, c.peek-t.ensures, c.if-t-eq-STAR.true),
-      asked_seen c.requires c.peek-t.ensures,
-    )
+ty-ty-a-requires t c = (
+  omega (arith, c.decreases, c.peek-t.ensures, c.if-t-eq-STAR.true),
+  asked_seen c.requires c.peek-t.ensures,
+)
 
 pub ty-write_node-requires : goal.ty-write_node-requires
 ty-write_node-requires t c =
@@ -1148,11 +1118,10 @@ pub ty-overflow_sub-nesting-then-t-eq-L_BRACKET : goal.ty-overflow_sub-nesting-t
 ty-overflow_sub-nesting-then-t-eq-L_BRACKET t c = omega arith
 
 pub ty-array-requires : goal.ty-array-requires
-ty-array-requires t c =
-    (
-      omega (arith, c.decreases, c.peek-t.ensures, c.if-t-eq-L_BRACKET.true),
-      array_asked c.requires c.peek-t.ensures,
-    )
+ty-array-requires t c = (
+  omega (arith, c.decreases, c.peek-t.ensures, c.if-t-eq-L_BRACKET.true),
+  array_asked c.requires c.peek-t.ensures,
+)
 
 pub ty-returns-then-t-eq-L_BRACKET : goal.ty-returns-then-t-eq-L_BRACKET
 ty-returns-then-t-eq-L_BRACKET t c =
@@ -1163,11 +1132,10 @@ pub ty-overflow_sub-nesting-then-t-eq-KW_STRUCT : goal.ty-overflow_sub-nesting-t
 ty-overflow_sub-nesting-then-t-eq-KW_STRUCT t c = omega arith
 
 pub ty-list-a-requires : goal.ty-list-a-requires
-ty-list-a-requires t c =
-    (
-      omega (arith, c.decreases, c.peek-t.ensures, c.if-t-eq-KW_STRUCT.true),
-      asked_seen c.requires c.peek-t.ensures,
-    )
+ty-list-a-requires t c = (
+  omega (arith, c.decreases, c.peek-t.ensures, c.if-t-eq-KW_STRUCT.true),
+  asked_seen c.requires c.peek-t.ensures,
+)
 
 pub ty-write_node-requires-then-t-eq-KW_STRUCT : goal.ty-write_node-requires-then-t-eq-KW_STRUCT
 ty-write_node-requires-then-t-eq-KW_STRUCT t c =
@@ -1244,11 +1212,10 @@ pub typed_name-peek-t-requires : goal.typed_name-peek-t-requires
 typed_name-peek-t-requires t c = (c.requires.asks.held, c.requires.asks.at)
 
 pub typed_name-typed-requires : goal.typed_name-typed-requires
-typed_name-typed-requires t c =
-    (
-      omega (arith, c.decreases, c.peek-t.ensures),
-      (asked_seen c.requires c.peek-t.ensures, (refl, omega arith)),
-    )
+typed_name-typed-requires t c = (
+  omega (arith, c.decreases, c.peek-t.ensures),
+  (asked_seen c.requires c.peek-t.ensures, (refl, omega arith)),
+)
 
 pub typed_name-returns-then-t-eq-IDENTIFIER : goal.typed_name-returns-then-t-eq-IDENTIFIER
 typed_name-returns-then-t-eq-IDENTIFIER t c =
@@ -1278,17 +1245,16 @@ typed_name-returns-in_default t c =
     c.entry-error-2.ensures c.note-b.ensures c.in_default.not-Done
 
 pub typed_name-typed-requires-2 : goal.typed_name-typed-requires-2
-typed_name-typed-requires-2 t c =
-    (
-      omega (
-        arith,
-        c.decreases,
-        c.peek-t.ensures,
-        noted_moved c.requires c.peek-t.ensures c.note-b.ensures,
-      ),
-      noted_asked c.requires c.peek-t.ensures c.note-b.ensures
-          (omega (arith, c.note-b.auto)) (omega (arith, c.note-b.auto)),
-    )
+typed_name-typed-requires-2 t c = (
+  omega (
+    arith,
+    c.decreases,
+    c.peek-t.ensures,
+    noted_moved c.requires c.peek-t.ensures c.note-b.ensures,
+  ),
+  noted_asked c.requires c.peek-t.ensures c.note-b.ensures
+      (omega (arith, c.note-b.auto)) (omega (arith, c.note-b.auto)),
+)
 
 pub typed_name-returns : goal.typed_name-returns
 typed_name-returns t c =
@@ -1317,18 +1283,17 @@ pub unary-overflow_sub-nesting-2 : goal.unary-overflow_sub-nesting-2
 unary-overflow_sub-nesting-2 t c = omega arith
 
 pub unary-unary-a-requires : goal.unary-unary-a-requires
-unary-unary-a-requires t c =
-    (
-      omega (
-        arith,
-        c.decreases,
-        c.requires.asks.at,
-        c.peek-t.ensures,
-        c.prefix-tag.ensures,
-        c.if-tag-eq0.false,
-      ),
-      asked_seen c.requires c.peek-t.ensures,
-    )
+unary-unary-a-requires t c = (
+  omega (
+    arith,
+    c.decreases,
+    c.requires.asks.at,
+    c.peek-t.ensures,
+    c.prefix-tag.ensures,
+    c.if-tag-eq0.false,
+  ),
+  asked_seen c.requires c.peek-t.ensures,
+)
 
 pub unary-write_node-requires : goal.unary-write_node-requires
 unary-write_node-requires t c =

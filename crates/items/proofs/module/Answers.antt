@@ -66,17 +66,16 @@ loop-st-smaller c =
     )
 
 pub loop-st-preserved : goal.loop-st-preserved
-loop-st-preserved c =
-    (
-      loop_asked c.loop-st.invariant.0 c.peek-t.ensures c.if-t-eq-END.false
-          c.top_level_item-b.ensures c.counted-count.ensures
-          (omega (arith, c.top_level_item-b.auto))
-          (omega (arith, c.top_level_item-b.auto))
-          (omega (arith, c.top_level_item-b.auto)),
-      one_turn c.loop-st.invariant.1 (omega (arith, c.top_level_item-b.auto))
-          (omega (arith, c.top_level_item-b.auto))
-          (omega (arith, c.top_level_item-b.auto))
-          c.top_level_item-b.ensures.moved.at
-          (λ _ _ _ _ g. module_next c.loop-st.invariant.0 c.peek-t.ensures c.if-t-eq-END.false
-          c.top_level_item-b.ensures c.in_default.not-Refused c.counted-count.ensures g),
-    )
+loop-st-preserved c = (
+  loop_asked c.loop-st.invariant.0 c.peek-t.ensures c.if-t-eq-END.false
+      c.top_level_item-b.ensures c.counted-count.ensures
+      (omega (arith, c.top_level_item-b.auto))
+      (omega (arith, c.top_level_item-b.auto))
+      (omega (arith, c.top_level_item-b.auto)),
+  one_turn c.loop-st.invariant.1 (omega (arith, c.top_level_item-b.auto))
+      (omega (arith, c.top_level_item-b.auto))
+      (omega (arith, c.top_level_item-b.auto))
+      c.top_level_item-b.ensures.moved.at
+      (λ _ _ _ _ g. module_next c.loop-st.invariant.0 c.peek-t.ensures c.if-t-eq-END.false
+      c.top_level_item-b.ensures c.in_default.not-Refused c.counted-count.ensures g),
+)

@@ -7,46 +7,43 @@ pub write_bare-p-requires : goal.write_bare-p-requires
 write_bare-p-requires c = record { room = omega (arith, c.requires.room); part = omega arith }
 
 pub token_error_fields-q-requires : goal.token_error_fields-q-requires
-token_error_fields-q-requires c =
-    (
-      omega (
-        arith,
-        c.requires.room,
-        c.write_bare-p.ensures.end,
-        c.write_bare-p.auto,
-      ),
-      (c.requires.words, c.requires.good),
-    )
+token_error_fields-q-requires c = (
+  omega (
+    arith,
+    c.requires.room,
+    c.write_bare-p.ensures.end,
+    c.write_bare-p.auto,
+  ),
+  (c.requires.words, c.requires.good),
+)
 
 pub error_fields-r-requires : goal.error_fields-r-requires
-error_fields-r-requires c =
-    (
-      omega (
-        arith,
-        c.requires.room,
-        c.write_bare-p.ensures.end,
-        token_end _ _ c.requires.good c.token_error_fields-q.ensures,
-        c.write_bare-p.auto,
-        c.token_error_fields-q.auto,
-      ),
-      omega (arith, c.requires.reps),
-    )
+error_fields-r-requires c = (
+  omega (
+    arith,
+    c.requires.room,
+    c.write_bare-p.ensures.end,
+    token_end _ _ c.requires.good c.token_error_fields-q.ensures,
+    c.write_bare-p.auto,
+    c.token_error_fields-q.auto,
+  ),
+  omega (arith, c.requires.reps),
+)
 
 pub error_fields-end-requires : goal.error_fields-end-requires
-error_fields-end-requires c =
-    (
-      omega (
-        arith,
-        c.requires.room,
-        c.write_bare-p.ensures.end,
-        token_end _ _ c.requires.good c.token_error_fields-q.ensures,
-        list_end _ _ c.error_fields-r.ensures c.requires.reps,
-        c.write_bare-p.auto,
-        c.token_error_fields-q.auto,
-        c.error_fields-r.auto,
-      ),
-      omega (arith, c.requires.fulls),
-    )
+error_fields-end-requires c = (
+  omega (
+    arith,
+    c.requires.room,
+    c.write_bare-p.ensures.end,
+    token_end _ _ c.requires.good c.token_error_fields-q.ensures,
+    list_end _ _ c.error_fields-r.ensures c.requires.reps,
+    c.write_bare-p.auto,
+    c.token_error_fields-q.auto,
+    c.error_fields-r.auto,
+  ),
+  omega (arith, c.requires.fulls),
+)
 
 pub clear_bytes-requires : goal.clear_bytes-requires
 clear_bytes-requires c =

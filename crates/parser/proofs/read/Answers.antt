@@ -20,14 +20,13 @@ returns-then-count-eq0 c =
     c.refused-then-count-eq0.ensures
 
 pub read_tokens-requires : goal.read_tokens-requires
-read_tokens-requires c =
-    (
-      omega (arith, c.if-file-lt-FILE_BYTES.false),
-      (
-        omega (arith, c.if-count-eq0.false),
-        sym c.valid_records.ensures ∙ c.if-not-valid_records.false,
-      ),
-    )
+read_tokens-requires c = (
+  omega (arith, c.if-file-lt-FILE_BYTES.false),
+  (
+    omega (arith, c.if-count-eq0.false),
+    sym c.valid_records.ensures ∙ c.if-not-valid_records.false,
+  ),
+)
 
 pub shape_of-file : goal.shape_of-file
 shape_of-file c = omega (arith, c.read_tokens.auto)

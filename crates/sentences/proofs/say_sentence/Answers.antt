@@ -12,12 +12,11 @@ pub slice_bounds-say_message-count : goal.slice_bounds-say_message-count
 slice_bounds-say_message-count c = c.line_end-end.ensures.low
 
 pub say_message-requires : goal.say_message-requires
-say_message-requires c =
-    (
-      c.requires.0,
-      short_same c.requires.1 (ap (spoken (meaning_of c.args.m c.args.text.now))
-          (line_between c.line_at-start.ensures c.line_end-end.ensures)),
-    )
+say_message-requires c = (
+  c.requires.0,
+  short_same c.requires.1 (ap (spoken (meaning_of c.args.m c.args.text.now))
+      (line_between c.line_at-start.ensures c.line_end-end.ensures)),
+)
 
 pub returns : goal.returns
 returns c =

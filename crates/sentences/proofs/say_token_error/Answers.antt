@@ -17,12 +17,11 @@ slice_bounds-say_sentence-count c = c.character_of-c.ensures.low
 
 pub say_sentence-requires : goal.say_sentence-requires
 unfolding spoken lines compose token_messages ascii
-say_sentence-requires c =
-    (
-      λ h. clash (sym h),
-      short_same c.requires.2 (token_says _ c.args.script.now
-          c.args.errors.now c.args.i (λ m. refl) c.character_of-c.ensures),
-    )
+say_sentence-requires c = (
+  λ h. clash (sym h),
+  short_same c.requires.2 (token_says _ c.args.script.now
+      c.args.errors.now c.args.i (λ m. refl) c.character_of-c.ensures),
+)
 
 pub returns : goal.returns
 unfolding spoken lines compose token_messages ascii

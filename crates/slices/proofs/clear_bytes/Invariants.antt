@@ -1,7 +1,6 @@
 use Prim.Native.Nat.{◌-◌}
 use lib.ListN.{length}
-use Rattle.slices.proofs.Clearing.{Clearing, clear_start, clear_more, clear_end}
-use borrow.Author.Rules.{rules}
+use Rattle.slices.proofs.Clearing.{Clearing}
 use Rattle.slices.proofs.clear_bytes.Given as goal
 
 abbrev pub invariant-loop-i : goal.invariant-loop-i

@@ -1,6 +1,4 @@
-use Prim.Native.Nat.{◌-◌}
-use lib.ListN.{length}
-use Rattle.slices.proofs.Clearing.{Clearing, clear_start, clear_more, clear_end}
+use Rattle.slices.proofs.Clearing.{clear_start, clear_more, clear_end}
 use borrow.Author.Rules.{rules}
 use Rattle.slices.proofs.clear_words.Goals as goal
 

@@ -1,6 +1,5 @@
 use borrow.Author.Rules.{rules}
-use Prim.Native.Nat.{◌-◌}
-use Rattle.slices.proofs.Writing.{Copying, copying_start, copying_more, copying_end}
+use Rattle.slices.proofs.Writing.{copying_start, copying_more, copying_end}
 use Rattle.slices.proofs.copy.Goals as goal
 
 pub loop-i-init : goal.loop-i-init

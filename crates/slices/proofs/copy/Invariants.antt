@@ -1,6 +1,5 @@
-use borrow.Author.Rules.{rules}
 use Prim.Native.Nat.{◌-◌}
-use Rattle.slices.proofs.Writing.{Copying, copying_start, copying_more, copying_end}
+use Rattle.slices.proofs.Writing.{Copying}
 use Rattle.slices.proofs.copy.Given as goal
 
 abbrev pub invariant-loop-i : goal.invariant-loop-i

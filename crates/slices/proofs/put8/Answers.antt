@@ -1,5 +1,4 @@
 use Rattle.slices.proofs.Writing.{wrote_one}
-use borrow.Author.Rules.{rules}
 use Rattle.slices.proofs.put8.Goals as goal
 
 pub returns : goal.returns

@@ -1,8 +1,5 @@
-use Prim.Native.Nat.{◌-◌}
-use lib.ListN.{length}
-use Rattle.source.proofs.Low.{High, high_start, high_more, high_end}
+use Rattle.source.proofs.Low.{high_start, high_more, high_end}
 use native.Mathlib.Omega.{arith}
-use borrow.Author.Rules.{rules}
 use Rattle.source.proofs.highest.Goals as goal
 use Rattle.source.proofs.highest.Goals.{then-high-b, else-high-b}
 

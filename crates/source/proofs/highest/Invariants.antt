@@ -1,9 +1,6 @@
-use mathlib.Core.Logic.{⊎_elim}
 use Prim.Native.Nat.{◌-◌}
 use lib.ListN.{length}
-use Rattle.source.proofs.Low.{High, high_start, high_more, high_end}
-use native.Mathlib.Omega.{arith}
-use borrow.Author.Rules.{rules}
+use Rattle.source.proofs.Low.{High}
 use Rattle.source.proofs.highest.Given as goal
 
 abbrev pub invariant-loop-i : goal.invariant-loop-i

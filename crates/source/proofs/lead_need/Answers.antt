@@ -2,7 +2,6 @@ use mathlib.Core.Path.{◌∙◌}
 use borrow.Author.Tests.{lt-ltb, le-ltb, eq-eqb, ne_eqb}
 use Rattle.definition.specs.Choice.{first}
 use Rattle.definition.specs.Source.{lead}
-use borrow.Author.Rules.{rules}
 use Rattle.source.proofs.lead_need.Goals as goal
 
 pub returns-then-b-lt128 : goal.returns-then-b-lt128

@@ -1,6 +1,5 @@
 use mathlib.Core.Path.{◌∙◌}
 use borrow.Author.Tests.{lt-ltb, le-ltb, eq-eqb, ne_eqb}
-use borrow.Author.Rules.{rules}
 use Rattle.source.proofs.next_need.Goals as goal
 
 pub returns-then-missing-eq-WRONG : goal.returns-then-missing-eq-WRONG

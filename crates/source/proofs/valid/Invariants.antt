@@ -1,9 +1,6 @@
 use Prim.Native.Nat.{◌-◌}
 use lib.ListN.{length}
-use Rattle.source.proofs.Laws.{Ran, ran_start, ran_more, ran_end}
-use Rattle.source.proofs.Low.{low_utf8}
-use native.Mathlib.Omega.{arith}
-use borrow.Author.Rules.{rules}
+use Rattle.source.proofs.Laws.{Ran}
 use Rattle.source.proofs.valid.Given as goal
 
 abbrev pub invariant-loop-i : goal.invariant-loop-i

@@ -34,17 +34,16 @@ pub body-expect-a-requires : goal.body-expect-a-requires
 body-expect-a-requires t c = (c.requires.asks, (omega arith, omega arith))
 
 pub body-body_rest-requires : goal.body-body_rest-requires
-body-body_rest-requires t c =
-    (
-      omega (
-        arith,
-        c.decreases,
-        c.expect-a.ensures.moved.end,
-        passed c.expect-a.ensures c.in-Done.is,
-      ),
-      asked_moved c.requires c.expect-a.ensures.moved refl
-          (omega (arith, c.expect-a.auto)) (omega (arith, c.expect-a.auto)),
-    )
+body-body_rest-requires t c = (
+  omega (
+    arith,
+    c.decreases,
+    c.expect-a.ensures.moved.end,
+    passed c.expect-a.ensures c.in-Done.is,
+  ),
+  asked_moved c.requires c.expect-a.ensures.moved refl
+      (omega (arith, c.expect-a.auto)) (omega (arith, c.expect-a.auto)),
+)
 
 pub body-returns-in-Done : goal.body-returns-in-Done
 body-returns-in-Done t c =
@@ -111,19 +110,18 @@ body_rest-loop-st-smaller t c =
     )
 
 pub body_rest-loop-st-preserved : goal.body_rest-loop-st-preserved
-body_rest-loop-st-preserved t c =
-    (
-      loop_asked c.loop-st.invariant.0 c.peek-t.ensures c.if-t-eq-END.false
-          c.statement-b.ensures c.counted-count.ensures
-          (omega (arith, c.statement-b.auto)) (omega (arith, c.statement-b.auto))
-          (omega (arith, c.statement-b.auto)),
-      one_turn c.loop-st.invariant.1 (omega (arith, c.statement-b.auto))
-          (omega (arith, c.statement-b.auto)) (omega (arith, c.statement-b.auto))
-          c.statement-b.ensures.moved.at
-          (λ _ _ _ _ g. rest_next c.loop-st.invariant.0 c.peek-t.ensures c.if-t-eq-R_BRACE.false
-          c.if-t-eq-END.false c.statement-b.ensures c.in_default.not-Refused
-          c.counted-count.ensures g),
-    )
+body_rest-loop-st-preserved t c = (
+  loop_asked c.loop-st.invariant.0 c.peek-t.ensures c.if-t-eq-END.false
+      c.statement-b.ensures c.counted-count.ensures
+      (omega (arith, c.statement-b.auto)) (omega (arith, c.statement-b.auto))
+      (omega (arith, c.statement-b.auto)),
+  one_turn c.loop-st.invariant.1 (omega (arith, c.statement-b.auto))
+      (omega (arith, c.statement-b.auto)) (omega (arith, c.statement-b.auto))
+      c.statement-b.ensures.moved.at
+      (λ _ _ _ _ g. rest_next c.loop-st.invariant.0 c.peek-t.ensures c.if-t-eq-R_BRACE.false
+      c.if-t-eq-END.false c.statement-b.ensures c.in_default.not-Refused
+      c.counted-count.ensures g),
+)
 
 pub guarded-expression-a-requires : goal.guarded-expression-a-requires
 guarded-expression-a-requires t c = c.requires
@@ -132,13 +130,12 @@ pub guarded-returns-in_default : goal.guarded-returns-in_default
 guarded-returns-in_default t c = guarded_stops c.requires c.expression-a.ensures c.in_default.not-Done
 
 pub guarded-statement-b-requires : goal.guarded-statement-b-requires
-guarded-statement-b-requires t c =
-    (
-      omega (arith, c.decreases, c.expression-a.ensures.moved),
-      asked_moved c.requires c.expression-a.ensures.moved
-          (omega (arith, c.expression-a.auto)) (omega (arith, c.expression-a.auto))
-          (omega (arith, c.expression-a.auto)),
-    )
+guarded-statement-b-requires t c = (
+  omega (arith, c.decreases, c.expression-a.ensures.moved),
+  asked_moved c.requires c.expression-a.ensures.moved
+      (omega (arith, c.expression-a.auto)) (omega (arith, c.expression-a.auto))
+      (omega (arith, c.expression-a.auto)),
+)
 
 pub guarded-abandon-requires : goal.guarded-abandon-requires
 guarded-abandon-requires t c =
@@ -156,17 +153,16 @@ pub if_statement-peek-t-requires : goal.if_statement-peek-t-requires
 if_statement-peek-t-requires t c = (c.requires.asked.asks.held, c.requires.asked.asks.at)
 
 pub if_statement-guarded-a-requires : goal.if_statement-guarded-a-requires
-if_statement-guarded-a-requires t c =
-    (
-      omega (
-        arith,
-        c.decreases,
-        starts_kind c.requires c.peek-t.ensures,
-        c.peek-t.ensures.on,
-        c.peek-t.ensures.end,
-      ),
-      asked_seen c.requires.asked c.peek-t.ensures,
-    )
+if_statement-guarded-a-requires t c = (
+  omega (
+    arith,
+    c.decreases,
+    starts_kind c.requires c.peek-t.ensures,
+    c.peek-t.ensures.on,
+    c.peek-t.ensures.end,
+  ),
+  asked_seen c.requires.asked c.peek-t.ensures,
+)
 
 pub if_statement-returns-in_default : goal.if_statement-returns-in_default
 if_statement-returns-in_default t c =
@@ -188,21 +184,20 @@ if_statement-returns-then-u-ne-KW_ELSE t c =
     c.write_node.ensures
 
 pub if_statement-statement-b-requires : goal.if_statement-statement-b-requires
-if_statement-statement-b-requires t c =
-    (
-      omega (
-        arith,
-        c.decreases,
-        starts_kind c.requires c.peek-t.ensures,
-        c.peek-t.ensures.on,
-        c.guarded-a.ensures.moved.at,
-        c.peek-u.ensures.up,
-        c.peek-u.ensures.end,
-      ),
-      later_asked c.requires.asked c.peek-t.ensures c.guarded-a.ensures.moved
-          c.peek-u.ensures (omega (arith, c.guarded-a.auto))
-          (omega (arith, c.guarded-a.auto)) (omega (arith, c.guarded-a.auto)),
-    )
+if_statement-statement-b-requires t c = (
+  omega (
+    arith,
+    c.decreases,
+    starts_kind c.requires c.peek-t.ensures,
+    c.peek-t.ensures.on,
+    c.guarded-a.ensures.moved.at,
+    c.peek-u.ensures.up,
+    c.peek-u.ensures.end,
+  ),
+  later_asked c.requires.asked c.peek-t.ensures c.guarded-a.ensures.moved
+      c.peek-u.ensures (omega (arith, c.guarded-a.auto))
+      (omega (arith, c.guarded-a.auto)) (omega (arith, c.guarded-a.auto)),
+)
 
 pub if_statement-abandon-c-requires : goal.if_statement-abandon-c-requires
 if_statement-abandon-c-requires t c =
@@ -228,17 +223,16 @@ pub loop_statement-peek-t-requires : goal.loop_statement-peek-t-requires
 loop_statement-peek-t-requires t c = (c.requires.asked.asks.held, c.requires.asked.asks.at)
 
 pub loop_statement-statement-a-requires : goal.loop_statement-statement-a-requires
-loop_statement-statement-a-requires t c =
-    (
-      omega (
-        arith,
-        c.decreases,
-        starts_kind c.requires c.peek-t.ensures,
-        c.peek-t.ensures.on,
-        c.peek-t.ensures.end,
-      ),
-      asked_seen c.requires.asked c.peek-t.ensures,
-    )
+loop_statement-statement-a-requires t c = (
+  omega (
+    arith,
+    c.decreases,
+    starts_kind c.requires c.peek-t.ensures,
+    c.peek-t.ensures.on,
+    c.peek-t.ensures.end,
+  ),
+  asked_seen c.requires.asked c.peek-t.ensures,
+)
 
 pub loop_statement-write_node-requires : goal.loop_statement-write_node-requires
 loop_statement-write_node-requires t c =
@@ -345,17 +339,16 @@ pub while_statement-peek-t-requires : goal.while_statement-peek-t-requires
 while_statement-peek-t-requires t c = (c.requires.asked.asks.held, c.requires.asked.asks.at)
 
 pub while_statement-guarded-a-requires : goal.while_statement-guarded-a-requires
-while_statement-guarded-a-requires t c =
-    (
-      omega (
-        arith,
-        c.decreases,
-        starts_kind c.requires c.peek-t.ensures,
-        c.peek-t.ensures.on,
-        c.peek-t.ensures.end,
-      ),
-      asked_seen c.requires.asked c.peek-t.ensures,
-    )
+while_statement-guarded-a-requires t c = (
+  omega (
+    arith,
+    c.decreases,
+    starts_kind c.requires c.peek-t.ensures,
+    c.peek-t.ensures.on,
+    c.peek-t.ensures.end,
+  ),
+  asked_seen c.requires.asked c.peek-t.ensures,
+)
 
 pub while_statement-write_node-requires : goal.while_statement-write_node-requires
 while_statement-write_node-requires t c =

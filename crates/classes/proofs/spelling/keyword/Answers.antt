@@ -25,14 +25,13 @@ pub returns-then-same : goal.returns-then-same
 returns-then-same c = search_found c.loop-i.invariant.0 (search rules) (sym c.same.ensures ∙ c.if-same.true)
 
 pub loop-i-preserved : goal.loop-i-preserved
-loop-i-preserved c =
-    (
-      search_more c.loop-i.invariant.0 (search rules) (sym c.same.ensures ∙ c.if-same.false),
-      search rules,
-      search rules,
-      search rules,
-      search rules,
-    )
+loop-i-preserved c = (
+  search_more c.loop-i.invariant.0 (search rules) (sym c.same.ensures ∙ c.if-same.false),
+  search rules,
+  search rules,
+  search rules,
+  search rules,
+)
 
 pub returns : goal.returns
 returns c = search (search_end, rules)

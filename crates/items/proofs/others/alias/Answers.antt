@@ -49,13 +49,12 @@ ty-b-requires c =
     (omega (arith, c.expect-a.auto)) (omega (arith, c.expect-a.auto))
 
 pub and_expect-c-requires : goal.and_expect-c-requires
-and_expect-c-requires c =
-    (
-      alias_follows c.requires c.peek-t.ensures c.expect-a.ensures c.ty-b.ensures
-          c.in-Done.is (omega (arith, c.ty-b.auto, c.expect-a.auto))
-          (omega (arith, c.ty-b.auto, c.expect-a.auto)),
-      (omega arith, omega arith),
-    )
+and_expect-c-requires c = (
+  alias_follows c.requires c.peek-t.ensures c.expect-a.ensures c.ty-b.ensures
+      c.in-Done.is (omega (arith, c.ty-b.auto, c.expect-a.auto))
+      (omega (arith, c.ty-b.auto, c.expect-a.auto)),
+  (omega arith, omega arith),
+)
 
 pub write_text_node-requires : goal.write_text_node-requires
 write_text_node-requires c =

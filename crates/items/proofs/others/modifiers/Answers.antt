@@ -17,11 +17,10 @@ loop-distinct-smaller-then-t-eq-KW_DISTINCT c =
     omega (arith, v.on, v.end, c.if-t-eq-KW_DISTINCT.true)
 
 pub loop-distinct-preserved-then-t-eq-KW_DISTINCT : goal.loop-distinct-preserved-then-t-eq-KW_DISTINCT
-loop-distinct-preserved-then-t-eq-KW_DISTINCT c =
-    (
-      (c.peek-t.ensures.end, (omega arith, c.loop-distinct.invariant.0.1.1)),
-      λ m g. c.loop-distinct.invariant.1 m (modifiers_distinct c.peek-t.ensures c.if-t-eq-KW_DISTINCT.true g),
-    )
+loop-distinct-preserved-then-t-eq-KW_DISTINCT c = (
+  (c.peek-t.ensures.end, (omega arith, c.loop-distinct.invariant.0.1.1)),
+  λ m g. c.loop-distinct.invariant.1 m (modifiers_distinct c.peek-t.ensures c.if-t-eq-KW_DISTINCT.true g),
+)
 
 pub loop-distinct-smaller : goal.loop-distinct-smaller
 loop-distinct-smaller c =
@@ -29,12 +28,11 @@ loop-distinct-smaller c =
     omega (arith, v.on, v.end, c.if-t-eq-KW_INTERNAL.true)
 
 pub loop-distinct-preserved : goal.loop-distinct-preserved
-loop-distinct-preserved c =
-    (
-      (c.peek-t.ensures.end, (c.loop-distinct.invariant.0.1.0, omega arith)),
-      λ m g. c.loop-distinct.invariant.1 m
-          (modifiers_internal c.peek-t.ensures c.if-t-eq-KW_DISTINCT.false c.if-t-eq-KW_INTERNAL.true g),
-    )
+loop-distinct-preserved c = (
+  (c.peek-t.ensures.end, (c.loop-distinct.invariant.0.1.0, omega arith)),
+  λ m g. c.loop-distinct.invariant.1 m
+      (modifiers_internal c.peek-t.ensures c.if-t-eq-KW_DISTINCT.false c.if-t-eq-KW_INTERNAL.true g),
+)
 
 pub overflow_add-result : goal.overflow_add-result
 overflow_add-result c = omega (arith, c.loop-distinct.invariant.0)

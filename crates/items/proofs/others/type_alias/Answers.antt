@@ -12,12 +12,11 @@ pub modifiers-m-requires : goal.modifiers-m-requires
 modifiers-m-requires c = (c.requires.asks.held, c.requires.asks.at)
 
 pub expect-a-requires : goal.expect-a-requires
-expect-a-requires c =
-    (
-      asks_moved c.requires.asks (modified_moved c.requires c.modifiers-m.ensures) refl
-          refl,
-      (omega arith, omega arith),
-    )
+expect-a-requires c = (
+  asks_moved c.requires.asks (modified_moved c.requires c.modifiers-m.ensures) refl
+      refl,
+  (omega arith, omega arith),
+)
 
 pub shape_of-reported-in_default : goal.shape_of-reported-in_default
 shape_of-reported-in_default c = omega (arith, c.expect-a.auto)

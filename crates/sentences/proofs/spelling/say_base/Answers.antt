@@ -16,13 +16,12 @@ say_all-next-requires c =
 
 pub say_number-requires : goal.say_number-requires
 unfolding ascii
-say_number-requires c =
-    (
-      omega arith,
-      omega arith,
-      short_then (44 ∷ 32 ∷ []) _
-          (short_same c.requires (base_integer _ c.if-kind-ne-INTEGER.false)) c.say_all-next.ensures,
-    )
+say_number-requires c = (
+  omega arith,
+  omega arith,
+  short_then (44 ∷ 32 ∷ []) _
+      (short_same c.requires (base_integer _ c.if-kind-ne-INTEGER.false)) c.say_all-next.ensures,
+)
 
 pub returns : goal.returns
 unfolding ascii

@@ -59,18 +59,17 @@ say_all-open-requires c =
     )
 
 pub say_number-end-requires : goal.say_number-end-requires
-say_number-end-requires c =
-    (
-      omega arith,
-      omega arith,
-      omega (
-        arith,
-        c.requires,
-        c.say_all-open.ensures,
-        number_length c.args.n
-            c.letter-l.ensures c.if-l-ne0.false c.if-n.false,
-      ),
-    )
+say_number-end-requires c = (
+  omega arith,
+  omega arith,
+  omega (
+    arith,
+    c.requires,
+    c.say_all-open.ensures,
+    number_length c.args.n
+        c.letter-l.ensures c.if-l-ne0.false c.if-n.false,
+  ),
+)
 
 pub say-requires-2 : goal.say-requires-2
 say-requires-2 c =

@@ -7,17 +7,16 @@ pub var_like_declaration-a-requires : goal.var_like_declaration-a-requires
 var_like_declaration-a-requires c = c.requires
 
 pub and_expect-b-requires : goal.and_expect-b-requires
-and_expect-b-requires c =
-    (
-      record {
-        asks = asks_moved c.requires.asks c.var_like_declaration-a.ensures.moved
-            (omega (arith, c.var_like_declaration-a.auto))
-            (omega (arith, c.var_like_declaration-a.auto));
-        pos = c.var_like_declaration-a.ensures.moved.pos;
-        reported = c.var_like_declaration-a.ensures.moved.reported;
-      },
-      (omega arith, omega arith),
-    )
+and_expect-b-requires c = (
+  record {
+    asks = asks_moved c.requires.asks c.var_like_declaration-a.ensures.moved
+        (omega (arith, c.var_like_declaration-a.auto))
+        (omega (arith, c.var_like_declaration-a.auto));
+    pos = c.var_like_declaration-a.ensures.moved.pos;
+    reported = c.var_like_declaration-a.ensures.moved.reported;
+  },
+  (omega arith, omega arith),
+)
 
 pub named-requires : goal.named-requires
 named-requires c =

@@ -38,11 +38,10 @@ pub returns-then-t-eq-L_ARROW : goal.returns-then-t-eq-L_ARROW
 returns-then-t-eq-L_ARROW c = c.compound_assignment.ensures
 
 pub and_expect-b-requires : goal.and_expect-b-requires
-and_expect-b-requires c =
-    (
-      record { asks = c.requires.0.asks; pos = c.requires.1.0; reported = omega (arith, c.requires.1.1) },
-      (omega arith, omega arith),
-    )
+and_expect-b-requires c = (
+  record { asks = c.requires.0.asks; pos = c.requires.1.0; reported = omega (arith, c.requires.1.1) },
+  (omega arith, omega arith),
+)
 
 pub write_node-requires : goal.write_node-requires
 write_node-requires c =

@@ -16,14 +16,13 @@ abandon-b-requires c =
     c.expression-a.ensures (omega (arith, c.expression-a.auto)))
 
 pub and_expect-c-requires : goal.and_expect-c-requires
-and_expect-c-requires c =
-    (
-      rw c.requires.1.1 (assigned_asks c.requires.0.asked c.requires.1.0 c.peek-t.ensures
-          c.expression-a.ensures (rw c.requires.1.1 at c.abandon-b.ensures)
-          (omega (arith, c.abandon-b.auto, c.expression-a.auto))
-          (omega (arith, c.expression-a.auto))),
-      (omega arith, omega arith),
-    )
+and_expect-c-requires c = (
+  rw c.requires.1.1 (assigned_asks c.requires.0.asked c.requires.1.0 c.peek-t.ensures
+      c.expression-a.ensures (rw c.requires.1.1 at c.abandon-b.ensures)
+      (omega (arith, c.abandon-b.auto, c.expression-a.auto))
+      (omega (arith, c.expression-a.auto))),
+  (omega arith, omega arith),
+)
 
 pub write_node-requires : goal.write_node-requires
 write_node-requires c =

@@ -41,16 +41,15 @@ returns-then-st-s c =
     (omega (arith, c.expression-a.auto)) c.if-st-s.true c.write_node.ensures
 
 pub after_expression-requires : goal.after_expression-requires
-after_expression-requires c =
-    (
-      asked_moved c.requires c.expression-a.ensures.moved
-          (omega (arith, c.expression-a.auto)) (omega (arith, c.expression-a.auto))
-          (omega (arith, c.expression-a.auto)),
-      (
-        c.expression-a.ensures.moved.pos,
-        omega (arith, c.if-st-s.false, c.expression-a.ensures.moved.reported),
-      ),
-    )
+after_expression-requires c = (
+  asked_moved c.requires c.expression-a.ensures.moved
+      (omega (arith, c.expression-a.auto)) (omega (arith, c.expression-a.auto))
+      (omega (arith, c.expression-a.auto)),
+  (
+    c.expression-a.ensures.moved.pos,
+    omega (arith, c.if-st-s.false, c.expression-a.ensures.moved.reported),
+  ),
+)
 
 pub shape_of-file : goal.shape_of-file
 shape_of-file c = omega (arith, c.after_expression.auto, c.expression-a.auto)

@@ -25,18 +25,17 @@ pub expression-a-requires : goal.expression-a-requires
 expression-a-requires c = asked_seen c.requires.asked c.peek-t.ensures
 
 pub and_expect-b-requires : goal.and_expect-b-requires
-and_expect-b-requires c =
-    (
-      record {
-        asks = asks_moved c.requires.asked.asks
-            (moved_trans (fore_moved c.requires.asked.asks c.peek-t.ensures)
-            c.expression-a.ensures.moved) (omega (arith, c.expression-a.auto))
-            (omega (arith, c.expression-a.auto));
-        pos = c.expression-a.ensures.moved.pos;
-        reported = c.expression-a.ensures.moved.reported;
-      },
-      (omega arith, omega arith),
-    )
+and_expect-b-requires c = (
+  record {
+    asks = asks_moved c.requires.asked.asks
+        (moved_trans (fore_moved c.requires.asked.asks c.peek-t.ensures)
+        c.expression-a.ensures.moved) (omega (arith, c.expression-a.auto))
+        (omega (arith, c.expression-a.auto));
+    pos = c.expression-a.ensures.moved.pos;
+    reported = c.expression-a.ensures.moved.reported;
+  },
+  (omega arith, omega arith),
+)
 
 pub write_node-requires-2 : goal.write_node-requires-2
 write_node-requires-2 c =
