@@ -1,19 +1,15 @@
 -- Loops that collect items: one law for each way in which a turn ends. Assumes nothing.
 use mathlib.Core.Path.{◌≡◌, refl, sym, ap, ◌∙◌}
 use mathlib.Core.List.{List, [], ◌∷◌, ◌++◌}
-use mathlib.Core.Logic.{⊎_elim}
 use Prim.Native.Nat.{ℕ, ◌≤◌}
 use native.Mathlib.Omega.{arith}
 use lib.ListN.{length, take}
-use types.Run.{OneOf}
-use denote.Enum.Declared.{tag_of}
 use Rattle.definition.specs.Node.{recs_bytes}
 use Rattle.definition.specs.Fallible.{Err, Ans, ok, fatal}
 use Rattle.definition.specs.Act.{Act, Items, Node, done, make, Consumed, Res, gives, refused, after, run, ◌>>=◌}
 use Rattle.definition.specs.Parser as P
 use Rattle.definition.specs.Go.{go}
 use Rattle.definition.proofs.Flat.{go_bind}
-use Rattle.fallible.specs.contracts.Status.{the_type}
 use Rattle.fallible.specs.declared.State.{State}
 use Rattle.fallible.specs.declared.Status.{Status}
 use Rattle.fallible.specs.declared.Status.TheVariants.{Done, Fatal, Refused}

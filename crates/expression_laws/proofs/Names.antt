@@ -1,13 +1,10 @@
 -- One law for each return of `bare_name`, `typed`, `typed_name`, `named` and `field`. Assumes nothing.
 use mathlib.Core.Path.{◌≡◌, refl, sym, ap, ◌∙◌}
 use mathlib.Core.List.{List, [], ◌∷◌, ◌++◌, append-nil}
-use mathlib.Core.Logic.{⊎_elim}
 use Prim.Native.Nat.{ℕ, ◌+◌, ◌*◌, ◌≤◌, ◌<◌}
 use native.Mathlib.Omega.{arith}
 use lib.ListN.{length, take, drop, length-drop}
 use lib.Seq.{length-take-le}
-use types.Run.{OneOf}
-use denote.Enum.Declared.{tag_of}
 use borrow.Author.Tests.{eq-eqb, ne_eqb}
 use Rattle.definition.specs.Ascii.{ascii}
 use Rattle.definition.specs.Node.{recs_bytes}
@@ -25,7 +22,6 @@ use Rattle.fallible.specs.declared.Status.TheVariants.{Done, Fatal, Refused}
 use Rattle.fallible.specs.declared.Answer.{Answer}
 use Rattle.fallible.specs.Lists.{unpack, error_at, errs}
 use Rattle.fallible.specs.Answers.{refused_at, one_more, raised, noted, Raised, AbandonedOf, Abandoned, Cuts}
-use Rattle.fallible.specs.contracts.Status.{the_type}
 use Rattle.fallible.proofs.Grown.{errs_length}
 use Rattle.steps.specs.declared.Token.{Token}
 use Rattle.steps.specs.Tokens.{rest, budget, Parts, Seen}

@@ -1,18 +1,14 @@
 -- The laws of `make` and `abandon`. Assumes nothing.
 use mathlib.Core.Path.{◌≡◌, refl, sym, ap, ◌∙◌}
 use mathlib.Core.List.{List, [], ◌∷◌}
-use mathlib.Core.Logic.{⊎_elim}
 use Prim.Native.Nat.{ℕ, ◌+◌, ◌-◌, ◌≤◌, ◌<◌}
 use native.Mathlib.Omega.{arith}
 use borrow.Author.Tests.{lt-ltb, le-ltb}
-use types.Run.{OneOf}
-use denote.Enum.Declared.{tag_of}
 use Rattle.fallible.specs.declared.Tally.{Tally}
 use Rattle.fallible.specs.declared.State.{State}
 use Rattle.fallible.specs.declared.Status.{Status}
 use Rattle.fallible.specs.declared.Status.TheVariants.{Done, Fatal, Refused}
 use Rattle.fallible.specs.declared.Answer.{Answer}
-use Rattle.fallible.specs.contracts.Status.{the_type}
 use Rattle.fallible.specs.Tallies.{Pushed, Propagated}
 use Rattle.fallible.specs.Answers.{refused_at, making, Raised, AbandonedOf, Abandoned, Cuts}
 

@@ -2,12 +2,9 @@
 use mathlib.Core.Path.{subst, ◌≡◌, refl, sym, ap, ◌∙◌}
 use mathlib.Core.Option.{some}
 use mathlib.Core.List.{List, [], ◌∷◌, ◌++◌, append-nil}
-use mathlib.Core.Logic.{⊎_elim}
 use Prim.Native.Nat.{ℕ, min, ◌+◌, ◌*◌, ◌%◌, ◌≤◌}
 use native.Mathlib.Omega.{arith}
 use lib.ListN.{take}
-use types.Run.{OneOf}
-use denote.Enum.Declared.{tag_of}
 use Rattle.definition.specs.Node.{Num, byte, recs_bytes}
 use Rattle.definition.specs.Fallible.{Ans, ok}
 use Rattle.definition.specs.Token.{next_token}
@@ -23,7 +20,6 @@ use Rattle.fallible.specs.declared.Status.TheVariants.{Done, Fatal, Refused}
 use Rattle.fallible.specs.declared.Answer.{Answer}
 use Rattle.fallible.specs.Lists.{unpack, error_at, errs}
 use Rattle.fallible.specs.Answers.{raised, Raised}
-use Rattle.fallible.specs.contracts.Status.{the_type}
 use Rattle.steps.specs.declared.Token.{Token}
 use Rattle.steps.specs.Tokens.{rest, budget, Seen}
 use Rattle.steps.specs.Shows.{st_of, Asks, node, token, Reads, Expects, NodeWritten, texted, untexted}

@@ -29,8 +29,6 @@ use Rattle.steps.specs.Tokens.{rest}
 use Rattle.steps.specs.Shows.{st_of, Asked, ShowsOf, items}
 use Rattle.steps.proofs.Tokens.{rest_cons, rest_nil}
 use Rattle.steps.proofs.Answers.{good_of}
-use denote.Enum.Declared.{tag_of}
-use Rattle.fallible.specs.contracts.Status.{the_type}
 use Rattle.leaves.proofs.Atoms.{Ended, Alive, if_alive}
 use Rattle.expression_laws.specs.Post.{as_answer}
 use Rattle.validate.specs.Tested.{Tested}

@@ -4,15 +4,12 @@ use mathlib.Core.Path.{◌≡◌, refl, sym, ap, ◌∙◌, subst}
 use mathlib.Core.Bool.{Bool, true, false}
 use mathlib.Core.Option.{none, some}
 use mathlib.Core.List.{List, [], ◌∷◌, ◌++◌, append-nil, append_assoc, map, map-append}
-use mathlib.Core.Logic.{⊎_elim}
 use Prim.Native.Nat.{ℕ, zero, suc, ◌≤◌}
 use native.Mathlib.Omega.{arith}
 use lib.Dec.{ltb}
 use lib.ListN.{length, take, drop}
 use lib.Seq.{take-take, take_at, drop_at}
 use borrow.Author.Tests.{ltb-true}
-use types.Run.{OneOf}
-use denote.Enum.Declared.{tag_of}
 use Rattle.definition.specs.Choice.{pick}
 use Rattle.definition.specs.Source.{Place, nowhere}
 use Rattle.definition.specs.Node.{Num, Rec, rec_bytes, recs_bytes}
@@ -21,7 +18,6 @@ use Rattle.definition.specs.Act.{Act, Node, Consumed, St, Res, gives, after, or_
 use Rattle.definition.specs.Parser as P
 use Rattle.definition.specs.Go.{go}
 use Rattle.definition.proofs.Room.{recs_append}
-use Rattle.fallible.specs.contracts.Status.{the_type}
 use Rattle.fallible.proofs.Grown.{errs_length}
 use Rattle.fallible.specs.declared.State.{State}
 use Rattle.fallible.specs.declared.Status.{Status}

@@ -4,10 +4,7 @@ use mathlib.Core.Bool.{Bool, true, false}
 use mathlib.Core.List.{List, [], ◌∷◌, ◌++◌, append-nil}
 use Prim.Native.Nat.{ℕ, ◌≤◌, ◌<◌}
 use native.Mathlib.Omega.{arith}
-use mathlib.Core.Logic.{⊎_elim}
 use lib.Dec.{ltb}
-use types.Run.{OneOf}
-use denote.Enum.Declared.{tag_of}
 use lib.ListN.{take}
 use Rattle.definition.specs.Choice.{pick}
 use Rattle.definition.specs.Node.{recs_bytes}
@@ -24,7 +21,6 @@ use Rattle.fallible.specs.Lists.{unpack, error_at, errs}
 use Rattle.fallible.specs.Answers.{refused_at, one_more, making, raised, Raised, AbandonedOf, Abandoned}
 use Rattle.node.specs.Put.{Wrote, rec_of, size_of}
 use Rattle.node.specs.declared.Record.{Record}
-use Rattle.fallible.specs.contracts.Status.{the_type}
 use Rattle.steps.specs.declared.Token.{Token}
 use Rattle.steps.specs.Tokens.{rest, budget, Seen}
 use Rattle.steps.specs.Shows.{st_of, Asks, Moved, done_of, token, Expects, Follows, ExpectedOf, Expected, NodeWrittenOf, NodeWritten}

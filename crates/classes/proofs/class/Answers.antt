@@ -2,7 +2,6 @@ use mathlib.Core.Path.{◌≡◌, sym, ◌∙◌}
 use Rattle.definition.specs.Tokenizer as Z
 use borrow.Author.Tests.{eq-eqb, ne_eqb}
 use Rattle.classes.proofs.Choices.{yes, no, is, not, some_kind, no_kind, alone, class_is, no_symbol, letter_begins, white_begins}
-use borrow.Author.Rules.{rules}
 use Rattle.classes.proofs.class.Goals as goal
 use Rattle.classes.proofs.class.Goals.{Else-symbol-gt0}
 

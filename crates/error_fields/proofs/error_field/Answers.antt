@@ -1,5 +1,4 @@
 use Rattle.error_fields.proofs.Bytes.{fielded_one}
-use borrow.Author.Rules.{rules}
 use Rattle.error_fields.proofs.error_field.Goals as goal
 
 pub returns : goal.returns

@@ -1,9 +1,6 @@
-use mathlib.Core.Path.{refl}
 use Prim.Native.Nat.{◌-◌}
 use Rattle.fallible.specs.Lists.{errs}
-use Rattle.error_fields.proofs.Fielding.{Fielding, fields_none, fields_more, fields_done, errs_next}
-use borrow.Author.Rules.{rules}
-use native.Mathlib.Omega.{arith}
+use Rattle.error_fields.proofs.Fielding.{Fielding}
 use Rattle.error_fields.proofs.error_fields.Given as goal
 
 abbrev pub invariant-loop-i : goal.invariant-loop-i

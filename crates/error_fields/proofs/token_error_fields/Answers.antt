@@ -1,8 +1,6 @@
 use mathlib.Core.Path.{refl}
-use Prim.Native.Nat.{◌-◌}
-use Rattle.error_fields.proofs.Fielding.{Fielding, fields_none}
+use Rattle.error_fields.proofs.Fielding.{fields_none}
 use Rattle.error_fields.proofs.Records.{listed, place_fits, number_fits, token_more, token_done}
-use borrow.Author.Rules.{rules}
 use native.Mathlib.Omega.{arith}
 use Rattle.error_fields.proofs.token_error_fields.Goals as goal
 

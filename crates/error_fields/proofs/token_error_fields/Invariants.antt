@@ -1,9 +1,6 @@
-use mathlib.Core.Path.{refl}
 use Prim.Native.Nat.{◌-◌}
-use Rattle.error_fields.proofs.Fielding.{Fielding, fields_none}
-use Rattle.error_fields.proofs.Records.{listed, place_fits, number_fits, token_more, token_done}
-use borrow.Author.Rules.{rules}
-use native.Mathlib.Omega.{arith}
+use Rattle.error_fields.proofs.Fielding.{Fielding}
+use Rattle.error_fields.proofs.Records.{listed}
 use Rattle.error_fields.proofs.token_error_fields.Given as goal
 
 abbrev pub invariant-loop-i : goal.invariant-loop-i

@@ -1,23 +1,8 @@
-use mathlib.Core.Path.{refl, sym, ◌∙◌}
-use Rattle.steps.proofs.Moves.{asked_seen, room_token, asks_fore, asks_moved, fore_moved, moved_trans, asked_moved}
 use Rattle.expression_laws.specs.Post.{suffixes_on, operators_on, casts_on, LoopOn, listed_on}
-use Rattle.expression_laws.proofs.Joins.{then_asked, goes_on, goes_stops, join_cuts, turn_on, join_room, joined_on, room_at}
-use Rattle.expression_laws.proofs.Turns.{GoesTurned, at_start, one_turn, ItemsTurned}
-use Rattle.expression_laws.proofs.Suffixes.{suffix_none, suffix_star, star_moved, dot_end, dot_name, dot_moved, dot_other, index_asks, index_moved, suffix_index}
-use borrow.Author.Rules.{rules}
-use native.Mathlib.Omega.{arith}
-use Prim.Native.Nat.{ℕ, ◌-◌, ◌+◌, ◌*◌}
-use Rattle.definition.specs.Act.{AddSub, BitAnd, BitXor, Expression, Mul, Shift, Unary}
-use Rattle.expression_laws.proofs.Types.{array_no_integer, array_no_size, array_open, array_done, raise_asked, size_asked, bracket_asked, array_room, type_deep, type_name, type_star, type_array, type_struct, type_end, type_other, star_room, struct_room, array_asked}
-use Rattle.expression_laws.proofs.Calls.{atom_group, call_on, call_none, call_done, call_later, call_room, sizeof_other, sizeof_stop, sizeof_asks, sizeof_done, unary_none, unary_prefix}
-use Rattle.leaves.proofs.Choices.{no_operator}
-use Rattle.expression_laws.proofs.Levels.{operators_none, Levelled, levels_start, levels_more, levels_end, levels_pass, and_on, and_none, and_found, casts_none, casts_more, compare_on, compare_none, compare_found, operators_more}
-use borrow.Author.Tests.{not-true}
-use Rattle.steps.proofs.Constructs.{then_stops, deep, down}
-use Rattle.expression_laws.proofs.Names.{field_follows, field_asked, field_stops, field_room, field_done, named_reads, named_room, typed_colon, typed_type, colon_cuts, type_asked, type_cuts, identifier_name, identifier_end, identifier_refused, identifier_noted, noted_moved, noted_asked}
-use Rattle.expression_laws.proofs.Lists.{item_parameter, item_argument, item_field, item_value, item_named_value, list_refused, list_on, rest_end, rest_closed, rest_item, rest_comma, rest_next, comma_asks, rest_asked}
+use Rattle.expression_laws.proofs.Turns.{GoesTurned, ItemsTurned}
+use Prim.Native.Nat.{◌-◌, ◌+◌, ◌*◌}
+use Rattle.expression_laws.proofs.Levels.{Levelled}
 use Rattle.leaves.specs.Leaves.{listed_of, level_of}
-use Rattle.expression_laws.proofs.Operands.{name_operand}
 use Rattle.definition.specs.Parser as P
 use Rattle.expression.proofs.+expression.Given as goal
 

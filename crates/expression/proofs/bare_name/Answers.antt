@@ -1,5 +1,4 @@
 use Rattle.expression_laws.proofs.Names.{bare_stops, bare_name, bare_unknown, bare_room, unknown_room}
-use borrow.Author.Rules.{rules}
 use Rattle.expression.proofs.bare_name.Goals as goal
 
 pub returns-in_default : goal.returns-in_default

@@ -1,5 +1,4 @@
 use Rattle.fallible.proofs.Cuts.{same, cut}
-use borrow.Author.Rules.{rules}
 use Rattle.fallible.proofs.abandon.Goals as goal
 
 pub returns-in_default : goal.returns-in_default

@@ -1,6 +1,4 @@
-use Prim.Native.Nat.{◌-◌}
-use Rattle.fallible.proofs.Exchanges.{Copying, copy_none, copy_more, copy_done}
-use borrow.Author.Rules.{rules}
+use Rattle.fallible.proofs.Exchanges.{copy_none, copy_more, copy_done}
 use native.Mathlib.Omega.{arith}
 use Rattle.fallible.proofs.copy.Goals as goal
 

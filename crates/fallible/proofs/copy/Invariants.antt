@@ -1,7 +1,5 @@
 use Prim.Native.Nat.{◌-◌}
-use Rattle.fallible.proofs.Exchanges.{Copying, copy_none, copy_more, copy_done}
-use borrow.Author.Rules.{rules}
-use native.Mathlib.Omega.{arith}
+use Rattle.fallible.proofs.Exchanges.{Copying}
 use Rattle.fallible.proofs.copy.Given as goal
 
 abbrev pub invariant-loop-i : goal.invariant-loop-i

@@ -1,5 +1,4 @@
 use Rattle.fallible.proofs.Entries.{entry_is}
-use borrow.Author.Rules.{rules}
 use Rattle.fallible.proofs.entry.Goals as goal
 
 pub returns : goal.returns

@@ -1,6 +1,5 @@
 use Rattle.fallible.proofs.Exchanges.{exchanged, exchanged_none}
 use native.Mathlib.Omega.{arith}
-use borrow.Author.Rules.{rules}
 use Rattle.fallible.proofs.exchange.Goals as goal
 
 pub returns-then-j-m : goal.returns-then-j-m

@@ -1,6 +1,5 @@
 use Rattle.fallible.proofs.Cuts.{made, none_made}
 use native.Mathlib.Omega.{arith}
-use borrow.Author.Rules.{rules}
 use Rattle.fallible.proofs.make.Goals as goal
 
 pub returns-then-st-ge-ERRORS : goal.returns-then-st-ge-ERRORS

@@ -1,5 +1,4 @@
 use mathlib.Core.Path.{ap}
-use borrow.Author.Rules.{rules}
 use Rattle.fallible.proofs.propagated.Goals as goal
 
 pub returns : goal.returns

@@ -1,6 +1,5 @@
 use mathlib.Core.Path.{refl}
 use Rattle.fallible.proofs.Grown.{grown, errs_more}
-use borrow.Author.Rules.{rules}
 use Rattle.fallible.proofs.push.Goals as goal
 
 pub returns : goal.returns

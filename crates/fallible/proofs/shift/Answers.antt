@@ -1,6 +1,4 @@
-use Prim.Native.Nat.{◌+◌, ◌-◌}
-use Rattle.fallible.proofs.Shifts.{Shifting, shift_none, shift_more, shift_done}
-use borrow.Author.Rules.{rules}
+use Rattle.fallible.proofs.Shifts.{shift_none, shift_more, shift_done}
 use native.Mathlib.Omega.{arith}
 use Rattle.fallible.proofs.shift.Goals as goal
 

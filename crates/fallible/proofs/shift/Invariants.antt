@@ -1,7 +1,5 @@
 use Prim.Native.Nat.{◌+◌, ◌-◌}
-use Rattle.fallible.proofs.Shifts.{Shifting, shift_none, shift_more, shift_done}
-use borrow.Author.Rules.{rules}
-use native.Mathlib.Omega.{arith}
+use Rattle.fallible.proofs.Shifts.{Shifting}
 use Rattle.fallible.proofs.shift.Given as goal
 
 abbrev pub invariant-loop-i : goal.invariant-loop-i

@@ -1,11 +1,7 @@
-use Rattle.expression_laws.specs.Post.{LoopOn}
-use Rattle.expression_laws.proofs.Turns.{ItemsTurned, at_start, one_turn}
+use Rattle.expression_laws.proofs.Turns.{at_start, one_turn}
 use Rattle.expression_laws.proofs.Loops.{loop_asked}
-use Rattle.items.specs.Rules.{items_on}
 use Rattle.items.proofs.Modules.{module_end, module_refused, module_next}
-use borrow.Author.Rules.{rules}
 use native.Mathlib.Omega.{arith}
-use Prim.Native.Nat.{◌-◌}
 use Rattle.items.proofs.module.Goals as goal
 
 pub loop-st-init : goal.loop-st-init

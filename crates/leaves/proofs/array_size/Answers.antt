@@ -1,6 +1,4 @@
-use Prim.Native.Nat.{◌-◌}
-use Rattle.leaves.proofs.Values.{Numbering, size_none, size_dash, size_start, size_done, size_more, size_over, size_fits}
-use borrow.Author.Rules.{rules}
+use Rattle.leaves.proofs.Values.{size_none, size_dash, size_start, size_done, size_more, size_over, size_fits}
 use native.Mathlib.Omega.{arith}
 use Rattle.leaves.proofs.array_size.Goals as goal
 

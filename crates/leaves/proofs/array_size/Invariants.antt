@@ -1,7 +1,5 @@
 use Prim.Native.Nat.{◌-◌}
-use Rattle.leaves.proofs.Values.{Numbering, size_none, size_dash, size_start, size_done, size_more, size_over, size_fits}
-use borrow.Author.Rules.{rules}
-use native.Mathlib.Omega.{arith}
+use Rattle.leaves.proofs.Values.{Numbering}
 use Rattle.leaves.proofs.array_size.Given as goal
 
 abbrev pub invariant-loop-i : goal.invariant-loop-i

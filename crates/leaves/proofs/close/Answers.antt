@@ -1,5 +1,4 @@
 use Rattle.leaves.proofs.Atoms.{close_ended, close_refused, close_on}
-use borrow.Author.Rules.{rules}
 use Rattle.leaves.proofs.close.Goals as goal
 
 pub returns-in-Refused : goal.returns-in-Refused

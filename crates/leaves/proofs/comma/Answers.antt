@@ -1,5 +1,4 @@
 use Rattle.leaves.proofs.Lists.{comma_there, comma_close, comma_end, comma_other}
-use borrow.Author.Rules.{rules}
 use Rattle.leaves.proofs.comma.Goals as goal
 
 pub returns-then-t-eq-COMMA : goal.returns-then-t-eq-COMMA

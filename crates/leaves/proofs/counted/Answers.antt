@@ -1,5 +1,4 @@
 use Rattle.leaves.proofs.Lists.{counted_done}
-use borrow.Author.Rules.{rules}
 use Rattle.leaves.proofs.counted.Goals as goal
 
 pub returns-in-Done : goal.returns-in-Done

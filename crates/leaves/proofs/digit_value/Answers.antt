@@ -1,6 +1,5 @@
 use Rattle.leaves.proofs.Values.{no_digit, decimal, upper, lower}
 use native.Mathlib.Omega.{arith}
-use borrow.Author.Rules.{rules}
 use Rattle.leaves.proofs.digit_value.Goals as goal
 
 pub returns-then-c-lt48 : goal.returns-then-c-lt48

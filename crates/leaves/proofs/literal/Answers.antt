@@ -1,7 +1,6 @@
 use Rattle.leaves.proofs.Atoms.{integer_reads, name_reads, string_reads, true_reads, false_reads, end_reads, other_reads}
 use Rattle.steps.proofs.Moves.{room_token}
 use native.Mathlib.Omega.{arith}
-use borrow.Author.Rules.{rules}
 use Rattle.leaves.proofs.literal.Goals as goal
 
 pub leaf-requires : goal.leaf-requires

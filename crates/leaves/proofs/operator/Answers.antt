@@ -1,6 +1,5 @@
 use Rattle.leaves.proofs.Choices.{at_level, hit, miss, none}
 use native.Mathlib.Omega.{arith}
-use borrow.Author.Rules.{rules}
 use Rattle.leaves.proofs.operator.Goals as goal
 
 pub returns-then-k-eq-LEFT_SHIFT : goal.returns-then-k-eq-LEFT_SHIFT

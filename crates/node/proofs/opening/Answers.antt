@@ -1,5 +1,4 @@
 use Rattle.node.proofs.Laws.{then}
-use borrow.Author.Rules.{rules}
 use Rattle.node.proofs.opening.Goals as goal
 
 pub returns : goal.returns

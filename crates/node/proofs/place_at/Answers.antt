@@ -1,5 +1,4 @@
 use Rattle.node.proofs.Laws.{packed}
-use borrow.Author.Rules.{rules}
 use native.Mathlib.Omega.{arith}
 use Rattle.node.proofs.place_at.Goals as goal
 

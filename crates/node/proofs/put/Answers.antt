@@ -1,6 +1,5 @@
 use Rattle.node.proofs.Laws.{grew_one}
 use native.Mathlib.Omega.{arith}
-use borrow.Author.Rules.{rules}
 use Rattle.node.proofs.put.Goals as goal
 
 pub returns : goal.returns

@@ -1,5 +1,4 @@
 use Rattle.node.proofs.Laws.{then, eight_twos}
-use borrow.Author.Rules.{rules}
 use Rattle.node.proofs.put_eight.Goals as goal
 
 pub returns : goal.returns

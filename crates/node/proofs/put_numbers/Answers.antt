@@ -1,6 +1,5 @@
 use Rattle.definition.specs.Node.{nums_bytes}
 use Rattle.node.proofs.Laws.{then, nothing}
-use borrow.Author.Rules.{rules}
 use Rattle.node.proofs.put_numbers.Goals as goal
 
 pub returns-in-None : goal.returns-in-None

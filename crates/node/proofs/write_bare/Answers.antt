@@ -1,5 +1,4 @@
 use Rattle.node.proofs.Laws.{is_bare}
-use borrow.Author.Rules.{rules}
 use Rattle.node.proofs.write_bare.Goals as goal
 
 pub returns : goal.returns

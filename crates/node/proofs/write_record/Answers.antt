@@ -1,5 +1,4 @@
 use Rattle.node.proofs.Laws.{is_record}
-use borrow.Author.Rules.{rules}
 use Rattle.node.proofs.write_record.Goals as goal
 
 pub returns : goal.returns

@@ -1,6 +1,5 @@
 use Rattle.parser.proofs.Files.{token_end, list_end, end_room, ended}
 use native.Mathlib.Omega.{arith}
-use borrow.Author.Rules.{rules}
 use Rattle.parser.proofs.end_file.Goals as goal
 
 pub write_bare-p-requires : goal.write_bare-p-requires

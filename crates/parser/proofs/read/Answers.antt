@@ -1,8 +1,6 @@
 use Rattle.parser.proofs.Readings.{read_short, read_bad, read_good, read_none}
-use borrow.Author.Tests.{not-true, not-false}
 use mathlib.Core.Path.{sym, ◌∙◌}
 use native.Mathlib.Omega.{arith}
-use borrow.Author.Rules.{rules}
 use Rattle.parser.proofs.read.Goals as goal
 
 pub returns-then-file-lt-FILE_BYTES : goal.returns-then-file-lt-FILE_BYTES

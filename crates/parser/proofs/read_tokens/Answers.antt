@@ -1,7 +1,6 @@
 use Rattle.items.proofs.Modules.{module_reads}
 use Rattle.parser.proofs.Readings.{module_asked, rest_room, read_refused, read_done}
 use native.Mathlib.Omega.{arith}
-use borrow.Author.Rules.{rules}
 use Rattle.parser.proofs.read_tokens.Goals as goal
 
 pub module-a-requires : goal.module-a-requires

@@ -1,6 +1,5 @@
 use Rattle.reader.proofs.Cases.{cleared_is}
 use native.Mathlib.Omega.{arith}
-use borrow.Author.Rules.{rules}
 use Rattle.reader.proofs.cleared.Goals as goal
 
 pub shape_of-file : goal.shape_of-file

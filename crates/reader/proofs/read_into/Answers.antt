@@ -1,7 +1,6 @@
 use Rattle.reader.proofs.Cases.{whole_stopped, whole_none, whole_validated, whole_read}
 use mathlib.Core.Path.{◌∙◌}
 use native.Mathlib.Omega.{arith}
-use borrow.Author.Rules.{rules}
 use Rattle.reader.proofs.read_into.Goals as goal
 
 pub run-state-requires : goal.run-state-requires

@@ -1,6 +1,5 @@
 use Rattle.reader.proofs.Cases.{whole_long, whole_foreign, whole_short}
 use Rattle.tokenizer.proofs.Answer.{at_start}
-use borrow.Author.Rules.{rules}
 use Rattle.reader.proofs.read_script.Goals as goal
 
 pub returns-then-script-gt-SCRIPT_BYTES : goal.returns-then-script-gt-SCRIPT_BYTES

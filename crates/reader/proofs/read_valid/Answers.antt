@@ -1,5 +1,4 @@
 use native.Mathlib.Omega.{arith}
-use borrow.Author.Rules.{rules}
 use Rattle.reader.proofs.read_valid.Goals as goal
 
 pub read_into-r-requires : goal.read_into-r-requires

@@ -1,5 +1,4 @@
 use Rattle.reader.proofs.Demand3.{one_tree_of_answers}
-use borrow.Author.Rules.{rules}
 use Rattle.reader.proofs.two_scripts_one_tree.Goals as goal
 
 pub returns : goal.returns

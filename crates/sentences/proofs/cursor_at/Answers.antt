@@ -1,8 +1,4 @@
-use Prim.Native.Nat.{◌-◌}
-use lib.ListN.{length}
-use Rattle.definition.specs.Source.{place_at}
-use Rattle.sentences.proofs.Messages.{Walking, walking_start, walking_end, walking_found, walking_more}
-use borrow.Author.Rules.{rules}
+use Rattle.sentences.proofs.Messages.{walking_start, walking_end, walking_found, walking_more}
 use Rattle.sentences.proofs.cursor_at.Goals as goal
 
 pub loop-c-init : goal.loop-c-init

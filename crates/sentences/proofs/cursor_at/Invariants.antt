@@ -1,8 +1,7 @@
 use Prim.Native.Nat.{◌-◌}
 use lib.ListN.{length}
 use Rattle.definition.specs.Source.{place_at}
-use Rattle.sentences.proofs.Messages.{Walking, walking_start, walking_end, walking_found, walking_more}
-use borrow.Author.Rules.{rules}
+use Rattle.sentences.proofs.Messages.{Walking}
 use Rattle.sentences.proofs.cursor_at.Given as goal
 
 abbrev pub invariant-loop-c : goal.invariant-loop-c

@@ -1,10 +1,7 @@
-use mathlib.Core.Path.{refl}
 use Prim.Native.Nat.{◌-◌, ◌≤◌}
 use lib.ListN.{length, drop}
-use Rattle.sentences.proofs.Saying.{Saying, saying_start, each_short, each_more, each_end}
-use Rattle.sentences.specs.Messages.{meaning_of, spoken_byte, spoken}
-use borrow.Author.Rules.{rules}
-use native.Mathlib.Omega.{arith}
+use Rattle.sentences.proofs.Saying.{Saying}
+use Rattle.sentences.specs.Messages.{meaning_of, spoken}
 use Rattle.sentences.proofs.say_message.Given as goal
 
 abbrev pub invariant-loop-i : goal.invariant-loop-i

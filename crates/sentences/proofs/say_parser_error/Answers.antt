@@ -6,7 +6,6 @@ use Rattle.sentences.proofs.Saying.{said_same, short_same}
 use Rattle.sentences.proofs.Lines.{lines}
 use Rattle.sentences.specs.Messages.{spoken}
 use Rattle.sentences.proofs.Messages.{text_part, got_quoted, parser_says}
-use borrow.Author.Rules.{rules}
 use native.Mathlib.Omega.{arith}
 use Rattle.sentences.proofs.say_parser_error.Goals as goal
 

@@ -1,7 +1,6 @@
 use Rattle.sentences.proofs.Saying.{said_same, short_same}
 use Rattle.sentences.specs.Messages.{meaning_of}
 use Rattle.sentences.proofs.Messages.{spoken_expected, spoken_got, spoken_character, spoken_itself}
-use borrow.Author.Rules.{rules}
 use Rattle.sentences.proofs.say_part.Goals as goal
 
 pub say_name-requires : goal.say_name-requires

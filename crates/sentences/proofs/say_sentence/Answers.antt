@@ -2,7 +2,6 @@ use mathlib.Core.Path.{ap}
 use Rattle.sentences.proofs.Saying.{said_same, short_same}
 use Rattle.sentences.proofs.Lines.{line_between}
 use Rattle.sentences.specs.Messages.{meaning_of, spoken}
-use borrow.Author.Rules.{rules}
 use Rattle.sentences.proofs.say_sentence.Goals as goal
 
 pub line_end-end-requires : goal.line_end-end-requires

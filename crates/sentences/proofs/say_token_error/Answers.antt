@@ -6,7 +6,6 @@ use Rattle.sentences.proofs.Lines.{lines}
 use Rattle.sentences.specs.Messages.{spoken}
 use Rattle.sentences.proofs.Messages.{token_says}
 use Rattle.definition.proofs.Tests.{clash}
-use borrow.Author.Rules.{rules}
 use Rattle.sentences.proofs.say_token_error.Goals as goal
 
 pub character_of-c-requires : goal.character_of-c-requires

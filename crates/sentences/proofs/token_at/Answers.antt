@@ -1,5 +1,4 @@
-use Prim.Native.Nat.{◌-◌}
-use Rattle.sentences.proofs.Messages.{Seeking, seeking_start, seeking_none, seeking_found, seeking_more, onward}
+use Rattle.sentences.proofs.Messages.{seeking_start, seeking_none, seeking_found, seeking_more, onward}
 use Rattle.sentences.proofs.token_at.Goals as goal
 
 pub loop-t-init : goal.loop-t-init

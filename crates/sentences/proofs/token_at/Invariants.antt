@@ -1,5 +1,5 @@
 use Prim.Native.Nat.{◌-◌}
-use Rattle.sentences.proofs.Messages.{Seeking, seeking_start, seeking_none, seeking_found, seeking_more, onward}
+use Rattle.sentences.proofs.Messages.{Seeking}
 use Rattle.sentences.proofs.token_at.Given as goal
 
 abbrev pub invariant-loop-t : goal.invariant-loop-t

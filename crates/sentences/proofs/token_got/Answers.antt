@@ -1,5 +1,4 @@
 use Rattle.sentences.proofs.Messages.{got_none, got_some}
-use borrow.Author.Rules.{rules}
 use Rattle.sentences.proofs.token_got.Goals as goal
 
 pub returns-then-got-eq-END : goal.returns-then-got-eq-END

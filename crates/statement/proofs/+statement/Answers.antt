@@ -1,17 +1,13 @@
 use Rattle.expression_laws.proofs.Joins.{room_at}
 use Rattle.statement.proofs.Statements.{block_reads, guarded_stops, guarded_reads, later_cuts, starts_kind, if_stops, if_two, if_three, later_asked, later_room, loop_reads, begins, assembly_reads, end_reads, other_reads, while_reads}
 use native.Mathlib.Omega.{arith}
-use Prim.Native.Nat.{ℕ, ◌-◌, ◌+◌, ◌*◌}
 use mathlib.Core.Path.{refl}
 use Rattle.steps.proofs.Moves.{asked_moved, asked_seen, fore_moved, moved_trans, room_token}
 use Rattle.statement.proofs.Bodies.{body_refused, body_none, body_on, rest_closed, rest_end, rest_refused, rest_next}
 use Rattle.statement.proofs.Spare.{passed}
-use borrow.Author.Rules.{rules}
 use Rattle.expression_laws.proofs.Types.{raise_asked}
-use Rattle.expression_laws.proofs.Turns.{ItemsTurned, at_start, one_turn}
-use Rattle.expression_laws.specs.Post.{LoopOn}
+use Rattle.expression_laws.proofs.Turns.{at_start, one_turn}
 use Rattle.expression_laws.proofs.Loops.{loop_asked}
-use Rattle.statement.specs.Post.{statements_on}
 use Rattle.definition.specs.Act.{Statement}
 use Rattle.steps.proofs.Constructs.{deep, down}
 use Rattle.statement.proofs.+statement.Goals as goal

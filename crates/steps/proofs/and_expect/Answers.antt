@@ -1,5 +1,4 @@
 use Rattle.steps.proofs.OneToken.{expected_stop, expected_on}
-use borrow.Author.Rules.{rules}
 use Rattle.steps.proofs.and_expect.Goals as goal
 
 pub returns-in_default : goal.returns-in_default

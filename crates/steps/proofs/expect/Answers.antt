@@ -1,5 +1,4 @@
 use Rattle.steps.proofs.OneToken.{expect_there, expect_end, expect_other}
-use borrow.Author.Rules.{rules}
 use Rattle.steps.proofs.expect.Goals as goal
 
 pub returns-then-t-wanted : goal.returns-then-t-wanted

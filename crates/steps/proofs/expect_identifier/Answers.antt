@@ -1,5 +1,4 @@
 use Rattle.steps.proofs.OneToken.{identifier_there, identifier_end, identifier_other}
-use borrow.Author.Rules.{rules}
 use Rattle.steps.proofs.expect_identifier.Goals as goal
 
 pub returns-then-t-eq-IDENTIFIER : goal.returns-then-t-eq-IDENTIFIER

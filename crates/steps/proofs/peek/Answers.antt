@@ -1,5 +1,4 @@
 use Rattle.steps.proofs.Tokens.{place_sound, seen_wide, seen_end}
-use borrow.Author.Rules.{rules}
 use Rattle.steps.proofs.peek.Goals as goal
 
 pub place_at-requires : goal.place_at-requires

@@ -1,5 +1,4 @@
 use Rattle.steps.proofs.OneToken.{write_node_stop, write_node_on}
-use borrow.Author.Rules.{rules}
 use Rattle.steps.proofs.write_text_node.Goals as goal
 
 pub returns-in_default : goal.returns-in_default

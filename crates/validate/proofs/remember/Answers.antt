@@ -1,5 +1,4 @@
 use mathlib.Core.Path.{refl, sym, ◌∙◌}
-use borrow.Author.Rules.{rules}
 use Rattle.validate.proofs.remember.Goals as goal
 
 pub returns-then-has_text : goal.returns-then-has_text

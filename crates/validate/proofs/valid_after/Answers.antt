@@ -2,7 +2,6 @@ use Rattle.validate.proofs.Turns.{early, comes_later}
 use Rattle.token_records.specs.Push.{place_at}
 use Rattle.token_records.specs.Tested.{words_of}
 use mathlib.Core.Bool.{true, false}
-use borrow.Author.Rules.{rules}
 use Rattle.validate.proofs.valid_after.Goals as goal
 
 pub returns-then-not-comes_after : goal.returns-then-not-comes_after

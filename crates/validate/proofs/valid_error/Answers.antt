@@ -1,4 +1,3 @@
-use borrow.Author.Rules.{rules}
 use Rattle.validate.proofs.valid_error.Goals as goal
 
 pub returns : goal.returns

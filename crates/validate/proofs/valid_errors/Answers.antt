@@ -1,6 +1,4 @@
-use Prim.Native.Nat.{◌-◌}
-use Rattle.validate.proofs.Turns.{Errors, errors_start, error_more, error_bad, errors_end}
-use borrow.Author.Rules.{rules}
+use Rattle.validate.proofs.Turns.{errors_start, error_more, error_bad, errors_end}
 use Rattle.validate.proofs.valid_errors.Goals as goal
 
 pub loop-i-init : goal.loop-i-init

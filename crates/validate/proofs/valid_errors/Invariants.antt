@@ -1,6 +1,5 @@
 use Prim.Native.Nat.{◌-◌}
-use Rattle.validate.proofs.Turns.{Errors, errors_start, error_more, error_bad, errors_end}
-use borrow.Author.Rules.{rules}
+use Rattle.validate.proofs.Turns.{Errors}
 use Rattle.validate.proofs.valid_errors.Given as goal
 
 abbrev pub invariant-loop-i : goal.invariant-loop-i

@@ -1,6 +1,4 @@
-use Prim.Native.Nat.{◌-◌}
-use Rattle.validate.proofs.Turns.{Tokens, tokens_start, token_more, token_bad, tokens_end}
-use borrow.Author.Rules.{rules}
+use Rattle.validate.proofs.Turns.{tokens_start, token_more, token_bad, tokens_end}
 use Rattle.validate.proofs.valid_tokens.Goals as goal
 
 pub loop-i-init : goal.loop-i-init

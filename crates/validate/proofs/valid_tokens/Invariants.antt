@@ -1,6 +1,5 @@
 use Prim.Native.Nat.{◌-◌}
-use Rattle.validate.proofs.Turns.{Tokens, tokens_start, token_more, token_bad, tokens_end}
-use borrow.Author.Rules.{rules}
+use Rattle.validate.proofs.Turns.{Tokens}
 use Rattle.validate.proofs.valid_tokens.Given as goal
 
 abbrev pub invariant-loop-i : goal.invariant-loop-i

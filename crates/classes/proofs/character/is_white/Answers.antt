@@ -1,4 +1,3 @@
-use borrow.Author.Rules.{rules}
 use Rattle.classes.proofs.character.is_white.Goals as goal
 
 pub returns : goal.returns

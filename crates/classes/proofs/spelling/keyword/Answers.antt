@@ -1,9 +1,7 @@
-use mathlib.Core.Path.{◌≡◌, refl, sym, ◌∙◌}
-use Prim.Native.Nat.{ℕ, ◌≤◌, ◌-◌, ◌+◌, ◌*◌}
+use mathlib.Core.Path.{refl, sym, ◌∙◌}
 use mathlib.Core.List.{[], ◌∷◌}
-use lib.ListN.{length, get_or, take, drop}
 use Rattle.definition.specs.Tokenizer as Z
-use Rattle.classes.proofs.Choices.{Searching, found, searching, search_more, search_found, search_end, small, at_most}
+use Rattle.classes.proofs.Choices.{found, searching, search_more, search_found, search_end, small, at_most}
 use borrow.Author.Rules.{rules}
 use native.Mathlib.Omega.{arith}
 use Rattle.classes.proofs.spelling.keyword.Goals as goal

@@ -1,11 +1,8 @@
-use mathlib.Core.Path.{◌≡◌, refl, sym, ◌∙◌}
+use mathlib.Core.Path.{◌≡◌}
 use Prim.Native.Nat.{ℕ, ◌≤◌, ◌-◌, ◌+◌, ◌*◌}
-use mathlib.Core.List.{[], ◌∷◌}
 use lib.ListN.{length, get_or, take, drop}
 use Rattle.definition.specs.Tokenizer as Z
-use Rattle.classes.proofs.Choices.{Searching, found, searching, search_more, search_found, search_end, small, at_most}
-use borrow.Author.Rules.{rules}
-use native.Mathlib.Omega.{arith}
+use Rattle.classes.proofs.Choices.{Searching}
 use Rattle.classes.proofs.spelling.keyword.Given as goal
 
 abbrev pub invariant-loop-i : goal.invariant-loop-i

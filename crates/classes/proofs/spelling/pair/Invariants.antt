@@ -1,12 +1,10 @@
 use Prim.Native.Nat.{◌≤◌, ◌-◌}
-use mathlib.Core.Path.{◌≡◌, refl}
+use mathlib.Core.Path.{◌≡◌}
 use mathlib.Core.Bool.{◌&&◌}
 use lib.Dec.{eqb}
 use lib.ListN.{length, get_or}
 use Rattle.definition.specs.Tokenizer as Z
-use Rattle.classes.proofs.Choices.{Searching, found, searching, search_more, search_found, search_end}
-use borrow.Author.Rules.{rules}
-use native.Mathlib.Omega.{arith}
+use Rattle.classes.proofs.Choices.{Searching}
 use Rattle.classes.proofs.spelling.pair.Given as goal
 
 abbrev pub invariant-loop-i : goal.invariant-loop-i

@@ -1,7 +1,5 @@
 use borrow.Author.Rules.{rules}
-use Prim.Native.Nat.{◌-◌}
-use lib.ListN.{length}
-use Rattle.classes.proofs.Same.{Comparing, cm_start, cm_more, cm_differ, cm_short, cm_end}
+use Rattle.classes.proofs.Same.{cm_start, cm_more, cm_differ, cm_short, cm_end}
 use Rattle.classes.proofs.spelling.same.Goals as goal
 
 pub loop-i-init : goal.loop-i-init

@@ -1,7 +1,6 @@
-use borrow.Author.Rules.{rules}
 use Prim.Native.Nat.{◌-◌}
 use lib.ListN.{length}
-use Rattle.classes.proofs.Same.{Comparing, cm_start, cm_more, cm_differ, cm_short, cm_end}
+use Rattle.classes.proofs.Same.{Comparing}
 use Rattle.classes.proofs.spelling.same.Given as goal
 
 abbrev pub invariant-loop-i : goal.invariant-loop-i

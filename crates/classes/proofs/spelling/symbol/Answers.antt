@@ -1,9 +1,6 @@
-use Prim.Native.Nat.{◌≤◌, ◌-◌}
-use mathlib.Core.Path.{◌≡◌, refl}
-use lib.Dec.{eqb}
-use lib.ListN.{length, get_or}
+use mathlib.Core.Path.{refl}
 use Rattle.definition.specs.Tokenizer as Z
-use Rattle.classes.proofs.Choices.{Searching, found, searching, search_more, search_found, search_end}
+use Rattle.classes.proofs.Choices.{found, searching, search_more, search_found, search_end}
 use borrow.Author.Tests.{eq-eqb, ne_eqb}
 use borrow.Author.Rules.{rules}
 use native.Mathlib.Omega.{arith}

@@ -1,12 +1,9 @@
 use Prim.Native.Nat.{◌≤◌, ◌-◌}
-use mathlib.Core.Path.{◌≡◌, refl}
+use mathlib.Core.Path.{◌≡◌}
 use lib.Dec.{eqb}
 use lib.ListN.{length, get_or}
 use Rattle.definition.specs.Tokenizer as Z
-use Rattle.classes.proofs.Choices.{Searching, found, searching, search_more, search_found, search_end}
-use borrow.Author.Tests.{eq-eqb, ne_eqb}
-use borrow.Author.Rules.{rules}
-use native.Mathlib.Omega.{arith}
+use Rattle.classes.proofs.Choices.{Searching}
 use Rattle.classes.proofs.spelling.symbol.Given as goal
 
 abbrev pub invariant-loop-i : goal.invariant-loop-i

@@ -3,7 +3,6 @@ use Rattle.items.proofs.Definitions.{function_stops, function_unnamed, function_
 use Rattle.steps.proofs.Moves.{asks_moved, asked_moved, moved_trans}
 use mathlib.Core.Path.{refl, ap}
 use native.Mathlib.Omega.{arith}
-use borrow.Author.Rules.{rules}
 use Rattle.items.proofs.functions.function.Goals as goal
 
 pub expect-a-requires : goal.expect-a-requires

@@ -1,7 +1,6 @@
 use Rattle.items.proofs.Signatures.{signature_stops, signature_cuts, signature_untyped, signature_order, signature_reads}
 use Rattle.steps.proofs.Moves.{asked_moved}
 use native.Mathlib.Omega.{arith}
-use borrow.Author.Rules.{rules}
 use Rattle.items.proofs.functions.signature.Goals as goal
 
 pub list-a-requires : goal.list-a-requires

@@ -1,7 +1,6 @@
 use Rattle.items.proofs.Definitions.{whole_stops, whole_refused, whole_order, whole_room, whole_reads}
 use Rattle.expression_laws.proofs.Joins.{room_at}
 use native.Mathlib.Omega.{arith}
-use borrow.Author.Rules.{rules}
 use Rattle.items.proofs.functions.whole_function.Goals as goal
 
 pub returns-in_default : goal.returns-in_default

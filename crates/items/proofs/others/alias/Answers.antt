@@ -3,7 +3,6 @@ use Rattle.steps.proofs.Moves.{asks_fore, asked_seen, asked_moved}
 use Rattle.expression_laws.proofs.Types.{raise_asked}
 use mathlib.Core.Path.{refl}
 use native.Mathlib.Omega.{arith}
-use borrow.Author.Rules.{rules}
 use Rattle.items.proofs.others.alias.Goals as goal
 
 pub peek-t-requires : goal.peek-t-requires

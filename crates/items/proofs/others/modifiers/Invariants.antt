@@ -1,7 +1,5 @@
 use Rattle.items.specs.Items.{Modified}
 use Rattle.items.specs.declared.others.AliasWords.{AliasWords}
-use Rattle.items.proofs.Aliased.{modifiers_none, modifiers_distinct, modifiers_internal}
-use native.Mathlib.Omega.{arith}
 use Prim.Native.Nat.{◌-◌, ◌≤◌}
 use Rattle.items.proofs.others.modifiers.Given as goal
 

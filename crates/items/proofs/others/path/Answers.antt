@@ -2,7 +2,6 @@ use Rattle.items.proofs.Aliased.{path_end, path_other, path_room, path_done}
 use Rattle.steps.proofs.Moves.{asks_fore}
 use Rattle.expression_laws.proofs.Types.{raise_asked}
 use native.Mathlib.Omega.{arith}
-use borrow.Author.Rules.{rules}
 use Rattle.items.proofs.others.path.Goals as goal
 
 pub peek-t-requires : goal.peek-t-requires

@@ -2,7 +2,6 @@ use Rattle.items.proofs.Aliased.{var_stops, var_on}
 use Rattle.steps.proofs.Moves.{asked_moved}
 use mathlib.Core.Path.{refl}
 use native.Mathlib.Omega.{arith}
-use borrow.Author.Rules.{rules}
 use Rattle.items.proofs.others.top_level_var_declaration.Goals as goal
 
 pub peek-t-requires : goal.peek-t-requires

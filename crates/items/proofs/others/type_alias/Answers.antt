@@ -2,7 +2,6 @@ use Rattle.items.proofs.Aliased.{keyword_stops, keyword_on, modified_moved, modi
 use Rattle.steps.proofs.Moves.{asks_moved, asked_moved, moved_trans}
 use mathlib.Core.Path.{refl}
 use native.Mathlib.Omega.{arith}
-use borrow.Author.Rules.{rules}
 use Rattle.items.proofs.others.type_alias.Goals as goal
 
 pub peek-t-requires : goal.peek-t-requires

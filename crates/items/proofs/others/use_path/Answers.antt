@@ -2,7 +2,6 @@ use Rattle.items.proofs.Aliased.{use_stops, use_on}
 use Rattle.steps.proofs.Moves.{asked_moved}
 use mathlib.Core.Path.{refl}
 use native.Mathlib.Omega.{arith}
-use borrow.Author.Rules.{rules}
 use Rattle.items.proofs.others.use_path.Goals as goal
 
 pub peek-t-requires : goal.peek-t-requires

@@ -3,7 +3,6 @@ use Rattle.definition.specs.Sentence.{refused}
 use Rattle.reader.proofs.Complaints.{examine_stopped, examine_none, examine_valid, examine_refused, refusal_above, examine_holds, stopped, accepted}
 use Rattle.parser.proofs.Readings.{module_asked}
 use Rattle.items.proofs.Modules.{module_reads}
-use borrow.Author.Rules.{rules}
 use native.Mathlib.Omega.{arith}
 use Rattle.reader.proofs.sentence.examine.Goals as goal
 

@@ -1,6 +1,5 @@
 use Rattle.sentences.proofs.Saying.{said_none, said_same, short_same}
 use Rattle.reader.proofs.Complaints.{list_past, list_at}
-use borrow.Author.Rules.{rules}
 use native.Mathlib.Omega.{arith}
 use Rattle.reader.proofs.sentence.say_at.Goals as goal
 

@@ -1,6 +1,5 @@
 use Rattle.sentences.proofs.Saying.{said_none, said_same, short_same}
 use Rattle.reader.proofs.Complaints.{found_short, token_none, token_one, reported_one, full_one, no_list}
-use borrow.Author.Rules.{rules}
 use native.Mathlib.Omega.{arith}
 use Rattle.reader.proofs.sentence.say_entry.Goals as goal
 

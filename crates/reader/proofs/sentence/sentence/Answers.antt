@@ -1,6 +1,5 @@
 use Rattle.reader.proofs.Complaints.{sentence_long, sentence_foreign}
 use Rattle.tokenizer.proofs.Answer.{at_start}
-use borrow.Author.Rules.{rules}
 use Rattle.reader.proofs.sentence.sentence.Goals as goal
 
 pub returns-then-script-gt-SCRIPT_BYTES : goal.returns-then-script-gt-SCRIPT_BYTES

@@ -1,5 +1,4 @@
 use Rattle.reader.proofs.Complaints.{sentence_stopped}
-use borrow.Author.Rules.{rules}
 use native.Mathlib.Omega.{arith}
 use Rattle.reader.proofs.sentence.sentence_of_valid.Goals as goal
 

@@ -1,5 +1,4 @@
 use Rattle.reader.proofs.Complaints.{sentence_short, sentence_done}
-use borrow.Author.Rules.{rules}
 use native.Mathlib.Omega.{arith}
 use Rattle.reader.proofs.sentence.write_sentence.Goals as goal
 

@@ -1,6 +1,5 @@
 use native.Mathlib.Nat.{sub-zero}
 use Rattle.sentences.proofs.Spelled.{code_one, code_two, code_three, code_four, second, third, fourth}
-use borrow.Author.Rules.{rules}
 use native.Mathlib.Omega.{arith}
 use Rattle.sentences.proofs.spelling.code.Goals as goal
 

@@ -2,7 +2,6 @@ use mathlib.Core.List.{[], ◌∷◌}
 use Rattle.definition.specs.Ascii.{ascii}
 use Rattle.sentences.proofs.Saying.{said_none, said_then, said_same, short_same, short_first, short_then}
 use Rattle.sentences.proofs.Spelled.{base_integer, base_none}
-use borrow.Author.Rules.{rules}
 use native.Mathlib.Omega.{arith}
 use Rattle.sentences.proofs.spelling.say_base.Goals as goal
 

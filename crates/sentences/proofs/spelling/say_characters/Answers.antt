@@ -1,7 +1,4 @@
-use Rattle.sentences.proofs.Spelled.{Quoting, quoting_start, quoting_end, quoting_bytes, quoting_short, quoting_more}
-use Prim.Native.Nat.{◌-◌}
-use lib.ListN.{length}
-use borrow.Author.Rules.{rules}
+use Rattle.sentences.proofs.Spelled.{quoting_start, quoting_end, quoting_bytes, quoting_short, quoting_more}
 use native.Mathlib.Omega.{arith}
 use Rattle.sentences.proofs.spelling.say_characters.Goals as goal
 

@@ -1,8 +1,6 @@
-use Rattle.sentences.proofs.Spelled.{Quoting, quoting_start, quoting_end, quoting_bytes, quoting_short, quoting_more}
+use Rattle.sentences.proofs.Spelled.{Quoting}
 use Prim.Native.Nat.{◌-◌}
 use lib.ListN.{length}
-use borrow.Author.Rules.{rules}
-use native.Mathlib.Omega.{arith}
 use Rattle.sentences.proofs.spelling.say_characters.Given as goal
 
 abbrev pub invariant-loop-c : goal.invariant-loop-c

@@ -4,7 +4,6 @@ use Rattle.definition.specs.Ascii.{ascii}
 use Rattle.definition.proofs.Tests.{between_bounds}
 use Rattle.sentences.proofs.Saying.{said_then, said_same}
 use Rattle.sentences.proofs.Spelled.{escaped_letter, escaped_itself, escaped_number, number_length}
-use borrow.Author.Rules.{rules}
 use native.Mathlib.Omega.{arith}
 use Rattle.sentences.proofs.spelling.say_escaped.Goals as goal
 

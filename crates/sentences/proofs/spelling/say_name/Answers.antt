@@ -4,7 +4,6 @@ use Rattle.definition.specs.Sentence.{kind_names}
 use Rattle.sentences.proofs.Lines.{lines, line_between}
 use Rattle.sentences.proofs.Saying.{said_same, short_same}
 use Rattle.sentences.proofs.Spelled.{name_line}
-use borrow.Author.Rules.{rules}
 use Rattle.sentences.proofs.spelling.say_name.Goals as goal
 
 pub line_end-end-requires : goal.line_end-end-requires

@@ -1,6 +1,5 @@
 use Rattle.sentences.proofs.Saying.{said_then, said_same}
 use Rattle.sentences.proofs.Spelled.{quoted, quoted_length}
-use borrow.Author.Rules.{rules}
 use native.Mathlib.Omega.{arith}
 use Rattle.sentences.proofs.spelling.say_quoted.Goals as goal
 

@@ -1,8 +1,6 @@
 use mathlib.Core.Path.{sym, ◌∙◌}
-use borrow.Author.Tests.{not-true, not-false}
 use Rattle.sentences.proofs.Saying.{said_then, said_same, short_first}
 use Rattle.sentences.proofs.Spelled.{spelled_text, spelled_plain, text_length}
-use borrow.Author.Rules.{rules}
 use native.Mathlib.Omega.{arith}
 use Rattle.sentences.proofs.spelling.say_token.Goals as goal
 

@@ -1,7 +1,4 @@
-use Rattle.sentences.proofs.Lines.{Passing, passing_start, passing_out, passing_end, passing_more}
-use Prim.Native.Nat.{◌-◌}
-use lib.ListN.{length}
-use borrow.Author.Rules.{rules}
+use Rattle.sentences.proofs.Lines.{passing_start, passing_out, passing_end, passing_more}
 use Rattle.sentences.proofs.write.line_at.Goals as goal
 
 pub loop-at-init : goal.loop-at-init

@@ -1,7 +1,6 @@
-use Rattle.sentences.proofs.Lines.{Passing, passing_start, passing_out, passing_end, passing_more}
+use Rattle.sentences.proofs.Lines.{Passing}
 use Prim.Native.Nat.{◌-◌}
 use lib.ListN.{length}
-use borrow.Author.Rules.{rules}
 use Rattle.sentences.proofs.write.line_at.Given as goal
 
 abbrev pub invariant-loop-at : goal.invariant-loop-at

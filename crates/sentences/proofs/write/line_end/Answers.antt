@@ -1,7 +1,4 @@
-use Rattle.sentences.proofs.Lines.{Ending, ending_start, ending_out, ending_newline, ending_more}
-use Prim.Native.Nat.{◌-◌}
-use lib.ListN.{length}
-use borrow.Author.Rules.{rules}
+use Rattle.sentences.proofs.Lines.{ending_start, ending_out, ending_newline, ending_more}
 use Rattle.sentences.proofs.write.line_end.Goals as goal
 
 pub loop-end-init : goal.loop-end-init

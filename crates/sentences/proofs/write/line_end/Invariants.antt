@@ -1,7 +1,6 @@
-use Rattle.sentences.proofs.Lines.{Ending, ending_start, ending_out, ending_newline, ending_more}
+use Rattle.sentences.proofs.Lines.{Ending}
 use Prim.Native.Nat.{◌-◌}
 use lib.ListN.{length}
-use borrow.Author.Rules.{rules}
 use Rattle.sentences.proofs.write.line_end.Given as goal
 
 abbrev pub invariant-loop-end : goal.invariant-loop-end

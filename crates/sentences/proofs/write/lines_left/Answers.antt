@@ -1,5 +1,4 @@
 use borrow.Author.Tests.{eq-eqb, ne_eqb}
-use borrow.Author.Rules.{rules}
 use Rattle.sentences.proofs.write.lines_left.Goals as goal
 
 pub returns-then-b-eq10 : goal.returns-then-b-eq10

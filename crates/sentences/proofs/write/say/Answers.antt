@@ -1,5 +1,4 @@
 use Rattle.sentences.proofs.Saying.{said_wrote, said_beyond}
-use borrow.Author.Rules.{rules}
 use Rattle.sentences.proofs.write.say.Goals as goal
 
 pub returns-then-at-out : goal.returns-then-at-out

@@ -1,6 +1,4 @@
-use Rattle.sentences.proofs.Saying.{Saying, saying_start, saying_all_short, saying_all_more, saying_all_end}
-use Prim.Native.Nat.{◌-◌, ◌≤◌}
-use lib.ListN.{length, drop}
+use Rattle.sentences.proofs.Saying.{saying_start, saying_all_short, saying_all_more, saying_all_end}
 use borrow.Author.Rules.{rules}
 use native.Mathlib.Omega.{arith}
 use Rattle.sentences.proofs.write.say_all.Goals as goal

@@ -1,8 +1,6 @@
-use Rattle.sentences.proofs.Saying.{Saying, saying_start, saying_all_short, saying_all_more, saying_all_end}
+use Rattle.sentences.proofs.Saying.{Saying}
 use Prim.Native.Nat.{◌-◌, ◌≤◌}
 use lib.ListN.{length, drop}
-use borrow.Author.Rules.{rules}
-use native.Mathlib.Omega.{arith}
 use Rattle.sentences.proofs.write.say_all.Given as goal
 
 abbrev pub invariant-loop-i : goal.invariant-loop-i

@@ -1,6 +1,5 @@
 use Rattle.statement.proofs.Initial.{bare_stops, bare_on}
 use native.Mathlib.Omega.{arith}
-use borrow.Author.Rules.{rules}
 use Rattle.statement.proofs.declarations.bare.Goals as goal
 
 pub returns-in_default : goal.returns-in_default

@@ -2,7 +2,6 @@ use Rattle.statement.proofs.Declared.{compound_stops, compound_array, compound_s
 use Rattle.steps.proofs.Moves.{asked_moved, asks_moved}
 use mathlib.Core.Path.{refl, ◌∙◌}
 use native.Mathlib.Omega.{arith}
-use borrow.Author.Rules.{rules}
 use Rattle.statement.proofs.declarations.compound.Goals as goal
 
 pub expect-a-requires : goal.expect-a-requires

@@ -2,7 +2,6 @@ use Rattle.statement.proofs.Initial.{value_stops, value_assigned, value_compound
 use Rattle.steps.proofs.Moves.{asked_seen}
 use Rattle.expression_laws.proofs.Joins.{join_cuts, join_room}
 use native.Mathlib.Omega.{arith}
-use borrow.Author.Rules.{rules}
 use Rattle.statement.proofs.declarations.initial_value.Goals as goal
 
 pub returns-in_default : goal.returns-in_default

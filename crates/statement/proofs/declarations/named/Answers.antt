@@ -1,7 +1,6 @@
 use Rattle.statement.proofs.Declared.{named_stops, named_there, named_none}
 use Rattle.expression_laws.proofs.Names.{bare_room, unknown_room}
 use native.Mathlib.Omega.{arith}
-use borrow.Author.Rules.{rules}
 use Rattle.statement.proofs.declarations.named.Goals as goal
 
 pub returns-in_default : goal.returns-in_default

@@ -2,7 +2,6 @@ use Rattle.statement.proofs.Assigned.{statement_stops, statement_errors, stateme
 use Rattle.steps.proofs.Moves.{asked_moved}
 use Rattle.expression_laws.proofs.Joins.{room_at}
 use native.Mathlib.Omega.{arith}
-use borrow.Author.Rules.{rules}
 use Rattle.statement.proofs.simple.expression_statement.Goals as goal
 
 pub expression-a-requires : goal.expression-a-requires
