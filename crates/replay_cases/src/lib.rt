@@ -1,4 +1,4 @@
-// Shared by the programs that read a list of cases from standard input (beside/README.md has the formats).
+// Shared by the programs, most of which read a list of cases from standard input (beside/README.md has the formats).
 #![tactic(auto)]
 
 ghost use Rattle.std.specs.Prelude.{◌≤◌, length};

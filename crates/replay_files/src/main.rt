@@ -50,7 +50,7 @@ fn file_agrees(script: &[u8], file: &mut [u8], expected: &[u8], o: Opening) -> b
     if got.bytes != o.bytes {
         return false;
     }
-    file == expected
+    &*file == expected
 }
 
 // The same, with the script and the slices cut to their lengths.

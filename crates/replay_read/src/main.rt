@@ -138,7 +138,7 @@ fn read_agrees(
 ) -> bool {
     let got = parser::read(tokens, o.tokens, errors, o.errors, text, file);
     texts_agree(input, tokens, text)
-        & (file == expected)
+        & (&*file == expected)
         & (got.number == o.number)
         & (got.bytes == o.bytes)
 }

@@ -53,7 +53,7 @@ fn sentence_agrees(script: &[u8], slice: &mut [u8], expected: &[u8], o: Opening)
     if got.bytes != o.bytes {
         return false;
     }
-    slice == expected
+    &*slice == expected
 }
 
 // The same, with the script and the slices cut to their lengths.
