@@ -4,7 +4,7 @@
 #![tactic(auto)]
 
 use replay_cases::{Counts, Found, long, three, wide};
-use std::io::{self, Stdin};
+use std::io::Stdin;
 
 // The bytes of the file slice before each call.
 const FILLER: u8 = 165;
@@ -116,8 +116,8 @@ fn all_cases(input: &mut Stdin) -> Counts {
     counts
 }
 
-fn main(rt: HostRuntime) -> io::Result<()> {
+fn main(rt: HostRuntime) {
     let mut input = rt.stdin();
     let counts = all_cases(&mut input);
-    replay_cases::print(&rt, counts)
+    let _ = replay_cases::print(&rt, counts);
 }

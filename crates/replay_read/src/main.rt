@@ -3,7 +3,7 @@
 #![tactic(auto)]
 
 use replay_cases::{Counts, Found, eight, four, long, pair, three, wide};
-use std::io::{self, Stdin};
+use std::io::Stdin;
 
 // The bytes of the file slice before each call.
 const FILLER: u8 = 165;
@@ -233,8 +233,8 @@ fn all_cases(input: &mut Stdin) -> Counts {
     counts
 }
 
-fn main(rt: HostRuntime) -> io::Result<()> {
+fn main(rt: HostRuntime) {
     let mut input = rt.stdin();
     let counts = all_cases(&mut input);
-    replay_cases::print(&rt, counts)
+    let _ = replay_cases::print(&rt, counts);
 }
