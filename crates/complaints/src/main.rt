@@ -1,16 +1,17 @@
 // Reads a script from standard input and writes its complaints to standard output, a line for each: the token errors,
 // then the full list, as LINE:COLUMN: SENTENCE, or `end of script: SENTENCE` where the place is 0:0. A refused script
 // gets one line with its number and what it means. Writes nothing if there are no complaints, or if standard input
-// cannot be read to its end. Reports a failed read or write on standard error: a program has no exit status.
+// cannot be read to its end. Reports a failed read or write on standard error; the exit status is
+// always 0.
 #![tactic(auto)]
 
 ghost use Rattle.std.specs.Prelude.{true, ◌≡◌, ◌<◌, ◌≤◌, length};
 
 use definition::{limit, refusal, tag};
-use libc::{STDERR_FILENO, STDIN_FILENO, STDOUT_FILENO};
 use reader::read_script;
 use reader::sentence::sentence;
 use replay_cases::{long, pair};
+use std::io::{Read, Stdin};
 
 // The bytes of the longest sentence.
 const SENTENCE_BYTES: usize = 98333;
@@ -21,8 +22,8 @@ const HEAD_BYTES: usize = 3;
 const ERROR_BYTES: usize = 10;
 
 // Writes to standard output. This and all that write return false if not all could be written.
-fn write(text: &[u8]) -> bool {
-    io::write_all(STDOUT_FILENO, text)
+fn write(rt: &impl Print, text: &[u8]) -> bool {
+    rt.write_all(text).is_ok()
 }
 
 // The first `n` bytes of a slice; all of it if it has fewer.
@@ -36,42 +37,42 @@ fn first(s: &[u8], n: usize) -> &[u8] {
 
 // ---- a complaint
 
-fn write_place(line: u32, column: u32) -> bool {
+fn write_place(rt: &impl Print, line: u32, column: u32) -> bool {
     if line == 0 {
-        return write(b"end of script");
+        return write(rt, b"end of script");
     }
-    if !io::print_decimal(STDOUT_FILENO, line as u64) {
+    if rt.print(line).is_err() {
         return false;
     }
-    if !write(b":") {
+    if !write(rt, b":") {
         return false;
     }
-    io::print_decimal(STDOUT_FILENO, column as u64)
+    rt.print(column).is_ok()
 }
 
-fn write_sentence(script: &[u8], list: u32, position: usize) -> bool {
+fn write_sentence(rt: &impl Print, script: &[u8], list: u32, position: usize) -> bool {
     let mut out = [0u8; SENTENCE_BYTES];
     let w = sentence(script, list, position, &mut out);
     if w.number != 0 {
         return false;
     }
-    write(first(&out, w.bytes))
+    write(rt, first(&out, w.bytes))
 }
 
 // Writes the line of the error at a position of a list; `field` is its field of the file.
-fn write_complaint(script: &[u8], list: u32, position: usize, field: &[u8]) -> bool
+fn write_complaint(rt: &impl Print, script: &[u8], list: u32, position: usize, field: &[u8]) -> bool
     requires { length field.now ≡ 10 }
 {
-    if !write_place(pair(field[4], field[5]), pair(field[6], field[7])) {
+    if !write_place(rt, pair(field[4], field[5]), pair(field[6], field[7])) {
         return false;
     }
-    if !write(b": ") {
+    if !write(rt, b": ") {
         return false;
     }
-    if !write_sentence(script, list, position) {
+    if !write_sentence(rt, script, list, position) {
         return false;
     }
-    write(b"\n")
+    write(rt, b"\n")
 }
 
 // ---- the fields of the file
@@ -103,14 +104,14 @@ fn is_error(field: &[u8], list: u8) -> bool
 }
 
 // Writes the errors of a list, which are fields of the file.
-fn write_list(script: &[u8], file: &[u8], list: u8) -> bool {
+fn write_list(rt: &impl Print, script: &[u8], file: &[u8], list: u8) -> bool {
     let mut at = 0;
     let mut position = 0;
     while at < file.len() {
         let end = after_field(file, at);
         let field = &file[at..end];
         if is_error(field, list) {
-            if !write_complaint(script, list as u32, position, field) {
+            if !write_complaint(rt, script, list as u32, position, field) {
                 return false;
             }
             position += 1;
@@ -120,100 +121,102 @@ fn write_list(script: &[u8], file: &[u8], list: u8) -> bool {
     true
 }
 
-fn write_complaints(script: &[u8], file: &[u8]) -> bool {
-    if !write_list(script, file, tag::TOKEN_ERROR) {
+fn write_complaints(rt: &impl Print, script: &[u8], file: &[u8]) -> bool {
+    if !write_list(rt, script, file, tag::TOKEN_ERROR) {
         return false;
     }
-    write_list(script, file, tag::FULL_ERROR)
+    write_list(rt, script, file, tag::FULL_ERROR)
 }
 
 // ---- a refusal
 
 // Writes what the number of a refusal means. With a file slice that is long enough there is no 3; the last is 12.
-fn write_meaning(number: u32) -> bool {
+fn write_meaning(rt: &impl Print, number: u32) -> bool {
     if number == refusal::SCRIPT_LENGTH {
-        return write(b"the script has more than 16,384 bytes");
+        return write(rt, b"the script has more than 16,384 bytes");
     }
     if number == refusal::NOT_UTF8 {
-        return write(b"the script is not UTF-8");
+        return write(rt, b"the script is not UTF-8");
     }
     if number == refusal::FOREIGN_CHARACTER {
         return write(
+            rt,
             b"a character above 127, and not in a string, a comment or assembly or after a minus",
         );
     }
     if number == refusal::MINUS_AT_END {
-        return write(b"the script ends with a dash that is a minus");
+        return write(rt, b"the script ends with a dash that is a minus");
     }
     if number == refusal::TOKENS {
-        return write(b"more than 2,048 tokens");
+        return write(rt, b"more than 2,048 tokens");
     }
     if number == refusal::TOKEN_ERRORS {
-        return write(b"more than 255 token errors");
+        return write(rt, b"more than 255 token errors");
     }
     if number == refusal::NO_TOKENS {
-        return write(b"the script has no token");
+        return write(rt, b"the script has no token");
     }
     if number == refusal::NESTING as u32 {
-        return write(b"nested too deep: more than 96 counted calls are open");
+        return write(rt, b"nested too deep: more than 96 counted calls are open");
     }
     if number == refusal::END_AFTER_WORD as u32 {
-        return write(b"the script ends right after `type`, `use` or the dot of `.name`");
+        return write(
+            rt,
+            b"the script ends right after `type`, `use` or the dot of `.name`",
+        );
     }
-    write(b"more than 255 errors of the parser")
+    write(rt, b"more than 255 errors of the parser")
 }
 
-fn write_refusal(number: u32) -> bool {
-    if !write(b"refused, ") {
+fn write_refusal(rt: &impl Print, number: u32) -> bool {
+    if !write(rt, b"refused, ") {
         return false;
     }
-    if !io::print_decimal(STDOUT_FILENO, number as u64) {
+    if rt.print(number).is_err() {
         return false;
     }
-    if !write(b": ") {
+    if !write(rt, b": ") {
         return false;
     }
-    if !write_meaning(number) {
+    if !write_meaning(rt, number) {
         return false;
     }
-    write(b"\n")
+    write(rt, b"\n")
 }
 
 // ---- the script
 
 // Reads the script to a file, and writes its complaints or its refusal.
-fn write_all(script: &[u8]) -> bool {
+fn write_all(rt: &impl Print, script: &[u8]) -> bool {
     let mut file = [0u8; limit::FILE_BYTES];
     let w = read_script(script, &mut file);
     if w.number != 0 {
-        return write_refusal(w.number);
+        return write_refusal(rt, w.number);
     }
-    write_complaints(script, first(&file, w.bytes))
+    write_complaints(rt, script, first(&file, w.bytes))
 }
 
 // Whether standard input has ended: one more read does not fail and returns nothing.
-fn at_end() -> bool {
+fn at_end(input: &mut Stdin) -> bool {
     let mut b = [0u8; 1];
-    libc::read(STDIN_FILENO, &mut b) == 0
+    match input.read(&mut b) {
+        Ok(n) => n == 0,
+        Err(_) => false,
+    }
 }
 
-fn main() {
+fn main(rt: HostRuntime) {
     // One byte more than the longest script, so that a longer input is refused and not cut.
     let mut script = [0u8; limit::SCRIPT_BYTES + 1];
-    let n = io::read_full(STDIN_FILENO, &mut script);
+    let mut input = rt.stdin();
+    let n = replay_cases::read_full(&mut input, &mut script);
     if n <= limit::SCRIPT_BYTES {
-        if !at_end() {
-            io::write_all(
-                STDERR_FILENO,
-                b"complaints: standard input cannot be read to its end\n",
-            );
+        if !at_end(&mut input) {
+            let _ = eprintln!(rt; "complaints: standard input cannot be read to its end");
             return;
         }
     }
-    if !write_all(&script[..n]) {
-        io::write_all(
-            STDERR_FILENO,
-            b"complaints: the complaints are not written whole\n",
-        );
+    if !write_all(&rt, &script[..n]) {
+        let _ = eprintln!(rt; "complaints: the complaints are not written whole");
     }
 }

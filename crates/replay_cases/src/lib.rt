@@ -1,7 +1,9 @@
-// Shared by the programs that read a list of cases from standard input (beside/README.md has the formats).
+// Shared by the programs, most of which read a list of cases from standard input (beside/README.md has the formats).
 #![tactic(auto)]
 
-use libc::{STDIN_FILENO, STDOUT_FILENO};
+ghost use Rattle.std.specs.Prelude.{◌≤◌, length};
+
+use std::io::{self, Read, Stdin};
 
 // ---- numbers, high byte first
 
@@ -31,13 +33,27 @@ pub fn eight(high: u32, low: u32) -> usize {
 
 // ---- bytes
 
+// Reads until a slice is full, the input ends or a read fails; how many bytes it put at the start.
+pub fn read_full(input: &mut Stdin, space: &mut [u8]) -> usize
+    ensures { result ≤ length space.new }
+{
+    let mut done = 0;
+    while done < space.len() {
+        match input.read(&mut space[done..]) {
+            Ok(n) if n > 0 => done += n,
+            _ => return done,
+        }
+    }
+    done
+}
+
 // Reads `n` bytes to the start of a slice; false if there are fewer.
-pub fn fill(space: &mut [u8], n: usize) -> bool {
+pub fn fill(input: &mut Stdin, space: &mut [u8], n: usize) -> bool {
     if space.len() < n {
         return false;
     }
     let from = 0;
-    io::read_full(STDIN_FILENO, &mut space[from..n]) == n
+    read_full(input, &mut space[from..n]) == n
 }
 
 // ---- counts
@@ -109,14 +125,9 @@ pub fn counted(counts: Counts, found: Found) -> Counts {
     }
 }
 
-pub fn print(counts: Counts) {
+pub fn print(rt: &impl Print, counts: Counts) -> io::Result<()> {
     if counts.differ != 0 {
-        io::write_all(STDOUT_FILENO, b"the first that differs: ");
-        io::print_decimal(STDOUT_FILENO, counts.first);
-        io::write_all(STDOUT_FILENO, b"\n");
+        println!(rt; "the first that differs: {}", counts.first)?;
     }
-    io::print_decimal(STDOUT_FILENO, counts.agree);
-    io::write_all(STDOUT_FILENO, b" agree, ");
-    io::print_decimal(STDOUT_FILENO, counts.differ);
-    io::write_all(STDOUT_FILENO, b" differ\n");
+    println!(rt; "{} agree, {} differ", counts.agree, counts.differ)
 }

@@ -3,8 +3,8 @@
 // differs.
 #![tactic(auto)]
 
-use libc::STDIN_FILENO;
 use replay_cases::{Counts, Found, long, three, wide};
+use std::io::Stdin;
 
 // The bytes of the file slice before each call.
 const FILLER: u8 = 165;
@@ -50,7 +50,7 @@ fn file_agrees(script: &[u8], file: &mut [u8], expected: &[u8], o: Opening) -> b
     if got.bytes != o.bytes {
         return false;
     }
-    check::same(file, expected)
+    &*file == expected
 }
 
 // The same, with the script and the slices cut to their lengths.
@@ -76,38 +76,38 @@ fn parts_agree(script: &[u8], file: &mut [u8], expected: &[u8], o: Opening) -> b
 }
 
 // Reads the script and the tree file of a case, and compares the results.
-fn script_agrees(o: Opening) -> bool {
+fn script_agrees(input: &mut Stdin, o: Opening) -> bool {
     let mut script = [0u8; SCRIPT];
     let mut file = [FILLER; FILE];
     let mut expected = [rest(o.number); FILE];
-    if !replay_cases::fill(&mut script, o.script_bytes) {
+    if !replay_cases::fill(input, &mut script, o.script_bytes) {
         return false;
     }
-    if !replay_cases::fill(&mut expected, o.bytes) {
+    if !replay_cases::fill(input, &mut expected, o.bytes) {
         return false;
     }
     parts_agree(&script, &mut file, &expected, o)
 }
 
-fn case() -> Found {
+fn case(input: &mut Stdin) -> Found {
     let mut b = [0u8; 10];
-    let got = io::read_full(STDIN_FILENO, &mut b);
+    let got = replay_cases::read_full(input, &mut b);
     if got == 0 {
         return Found::End;
     }
     if got != 10 {
         return Found::Differs;
     }
-    replay_cases::compared(script_agrees(opened(&b)))
+    replay_cases::compared(script_agrees(input, opened(&b)))
 }
 
 // More than the cases of any list.
 const MOST: u64 = 1000000000;
 
-fn all_cases() -> Counts {
+fn all_cases(input: &mut Stdin) -> Counts {
     let mut counts = replay_cases::none();
     for turn in 0..MOST {
-        let found = case();
+        let found = case(input);
         if replay_cases::is_end(found) {
             return counts;
         }
@@ -116,6 +116,8 @@ fn all_cases() -> Counts {
     counts
 }
 
-fn main() {
-    replay_cases::print(all_cases());
+fn main(rt: HostRuntime) {
+    let mut input = rt.stdin();
+    let counts = all_cases(&mut input);
+    let _ = replay_cases::print(&rt, counts);
 }

@@ -2,8 +2,8 @@
 // from standard input, and writes how many agree and how many differ, and the number of the first that differs.
 #![tactic(auto)]
 
-use libc::STDIN_FILENO;
 use replay_cases::{Counts, Found, eight, four, long, pair, three, wide};
+use std::io::Stdin;
 
 // The bytes of the file slice before each call.
 const FILLER: u8 = 165;
@@ -45,12 +45,12 @@ fn opened(b: &[u8; 32]) -> Opening {
 // ---- slices
 
 // Reads a word to an index; false if the input or the slice is too short.
-fn read_word(words: &mut [u32], at: usize) -> bool {
+fn read_word(input: &mut Stdin, words: &mut [u32], at: usize) -> bool {
     if words.len() <= at {
         return false;
     }
     let mut b = [0u8; 4];
-    if io::read_full(STDIN_FILENO, &mut b) != 4 {
+    if replay_cases::read_full(input, &mut b) != 4 {
         return false;
     }
     words[at] = four(b[0], b[1], b[2], b[3]);
@@ -58,9 +58,9 @@ fn read_word(words: &mut [u32], at: usize) -> bool {
 }
 
 // Reads `count` words to the start of a slice; false if the input or the slice is too short.
-fn read_words(words: &mut [u32], count: usize) -> bool {
+fn read_words(input: &mut Stdin, words: &mut [u32], count: usize) -> bool {
     for at in 0..count {
-        if !read_word(words, at) {
+        if !read_word(input, words, at) {
             return false;
         }
     }
@@ -100,24 +100,24 @@ fn part_agrees(tokens: &[u32], text: &[u8], at: usize, size: usize) -> bool {
     }
     let end = start + size;
     let got = token_records::token_text(tokens, text, at);
-    check::same(got, &text[start..end])
+    got == &text[start..end]
 }
 
 // Reads the length of a record's text, and compares it with what Token text gives.
-fn text_agrees(tokens: &[u32], text: &[u8], at: usize) -> bool {
+fn text_agrees(input: &mut Stdin, tokens: &[u32], text: &[u8], at: usize) -> bool {
     let mut b = [0u8; 2];
-    if io::read_full(STDIN_FILENO, &mut b) != 2 {
+    if replay_cases::read_full(input, &mut b) != 2 {
         return false;
     }
     part_agrees(tokens, text, at, long(pair(b[0], b[1])))
 }
 
 // The same for each record of the slice, also after one that differs. Past the last record there is no text.
-fn texts_agree(tokens: &[u32], text: &[u8]) -> bool {
+fn texts_agree(input: &mut Stdin, tokens: &[u32], text: &[u8]) -> bool {
     let count = tokens.len() / 8;
     let mut agree = textless(tokens, text, count) & textless(tokens, text, 18446744073709551615);
     for at in 0..count {
-        if !text_agrees(tokens, text, at) {
+        if !text_agrees(input, tokens, text, at) {
             agree = false;
         }
     }
@@ -128,6 +128,7 @@ fn texts_agree(tokens: &[u32], text: &[u8]) -> bool {
 
 // Whether Read and Token text give the results of a case; `expected` is the file slice at exit.
 fn read_agrees(
+    input: &mut Stdin,
     tokens: &[u32],
     errors: &[u32],
     text: &[u8],
@@ -136,14 +137,15 @@ fn read_agrees(
     o: Opening,
 ) -> bool {
     let got = parser::read(tokens, o.tokens, errors, o.errors, text, file);
-    texts_agree(tokens, text)
-        & check::same(file, expected)
+    texts_agree(input, tokens, text)
+        & (&*file == expected)
         & (got.number == o.number)
         & (got.bytes == o.bytes)
 }
 
 // The same, with the slices cut to their lengths.
 fn parts_agree(
+    input: &mut Stdin,
     tokens: &[u32],
     errors: &[u32],
     text: &[u8],
@@ -172,6 +174,7 @@ fn parts_agree(
         return false;
     }
     read_agrees(
+        input,
         &tokens[from..token_words],
         &errors[from..error_words],
         &text[from..text_bytes],
@@ -182,46 +185,46 @@ fn parts_agree(
 }
 
 // Reads the slices and the tree file of a case, all before the call, and compares the results.
-fn slices_agree(o: Opening) -> bool {
+fn slices_agree(input: &mut Stdin, o: Opening) -> bool {
     let mut tokens = [0u32; 17000];
     let mut errors = [0u32; 2000];
     let mut text = [0u8; 20000];
     let mut file = [FILLER; 70000];
     let mut expected = [rest(o.number); 70000];
-    if !read_words(&mut tokens, o.token_words) {
+    if !read_words(input, &mut tokens, o.token_words) {
         return false;
     }
-    if !read_words(&mut errors, o.error_words) {
+    if !read_words(input, &mut errors, o.error_words) {
         return false;
     }
-    if !replay_cases::fill(&mut text, o.text_bytes) {
+    if !replay_cases::fill(input, &mut text, o.text_bytes) {
         return false;
     }
-    if !replay_cases::fill(&mut expected, o.bytes) {
+    if !replay_cases::fill(input, &mut expected, o.bytes) {
         return false;
     }
-    parts_agree(&tokens, &errors, &text, &mut file, &expected, o)
+    parts_agree(input, &tokens, &errors, &text, &mut file, &expected, o)
 }
 
-fn case() -> Found {
+fn case(input: &mut Stdin) -> Found {
     let mut b = [0u8; 32];
-    let got = io::read_full(STDIN_FILENO, &mut b);
+    let got = replay_cases::read_full(input, &mut b);
     if got == 0 {
         return Found::End;
     }
     if got != 32 {
         return Found::Differs;
     }
-    replay_cases::compared(slices_agree(opened(&b)))
+    replay_cases::compared(slices_agree(input, opened(&b)))
 }
 
 // More than the cases of any list.
 const MOST: u64 = 1000000000;
 
-fn all_cases() -> Counts {
+fn all_cases(input: &mut Stdin) -> Counts {
     let mut counts = replay_cases::none();
     for turn in 0..MOST {
-        let found = case();
+        let found = case(input);
         if replay_cases::is_end(found) {
             return counts;
         }
@@ -230,6 +233,8 @@ fn all_cases() -> Counts {
     counts
 }
 
-fn main() {
-    replay_cases::print(all_cases());
+fn main(rt: HostRuntime) {
+    let mut input = rt.stdin();
+    let counts = all_cases(&mut input);
+    let _ = replay_cases::print(&rt, counts);
 }

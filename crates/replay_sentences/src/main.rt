@@ -2,8 +2,8 @@
 // standard input, and writes how many agree and how many differ, and the number of the first that differs.
 #![tactic(auto)]
 
-use libc::STDIN_FILENO;
 use replay_cases::{Counts, Found, eight, four, long, three, wide};
+use std::io::Stdin;
 
 // The bytes of the sentence slice before each call.
 const FILLER: u8 = 165;
@@ -53,7 +53,7 @@ fn sentence_agrees(script: &[u8], slice: &mut [u8], expected: &[u8], o: Opening)
     if got.bytes != o.bytes {
         return false;
     }
-    check::same(slice, expected)
+    &*slice == expected
 }
 
 // The same, with the script and the slices cut to their lengths.
@@ -79,38 +79,38 @@ fn parts_agree(script: &[u8], slice: &mut [u8], expected: &[u8], o: Opening) -> 
 }
 
 // Reads the script and the sentence of a case, and compares the results.
-fn script_agrees(o: Opening) -> bool {
+fn script_agrees(input: &mut Stdin, o: Opening) -> bool {
     let mut script = [0u8; SCRIPT];
     let mut slice = [FILLER; SENTENCE];
     let mut expected = [rest(o.number); SENTENCE];
-    if !replay_cases::fill(&mut script, o.script_bytes) {
+    if !replay_cases::fill(input, &mut script, o.script_bytes) {
         return false;
     }
-    if !replay_cases::fill(&mut expected, o.bytes) {
+    if !replay_cases::fill(input, &mut expected, o.bytes) {
         return false;
     }
     parts_agree(&script, &mut slice, &expected, o)
 }
 
-fn case() -> Found {
+fn case(input: &mut Stdin) -> Found {
     let mut b = [0u8; 22];
-    let got = io::read_full(STDIN_FILENO, &mut b);
+    let got = replay_cases::read_full(input, &mut b);
     if got == 0 {
         return Found::End;
     }
     if got != 22 {
         return Found::Differs;
     }
-    replay_cases::compared(script_agrees(opened(&b)))
+    replay_cases::compared(script_agrees(input, opened(&b)))
 }
 
 // More than the cases of any list.
 const MOST: u64 = 1000000000;
 
-fn all_cases() -> Counts {
+fn all_cases(input: &mut Stdin) -> Counts {
     let mut counts = replay_cases::none();
     for turn in 0..MOST {
-        let found = case();
+        let found = case(input);
         if replay_cases::is_end(found) {
             return counts;
         }
@@ -119,6 +119,8 @@ fn all_cases() -> Counts {
     counts
 }
 
-fn main() {
-    replay_cases::print(all_cases());
+fn main(rt: HostRuntime) {
+    let mut input = rt.stdin();
+    let counts = all_cases(&mut input);
+    let _ = replay_cases::print(&rt, counts);
 }

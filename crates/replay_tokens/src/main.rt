@@ -2,8 +2,8 @@
 // standard input, and writes how many agree and how many differ, and the number of the first that differs.
 #![tactic(auto)]
 
-use libc::STDIN_FILENO;
 use replay_cases::{Counts, Found, fill, long, pair, three, wide};
+use std::io::Stdin;
 use tokenizer::Tokenized;
 
 // The bytes of the slices before each call.
@@ -57,9 +57,9 @@ fn rest_byte(number: u32) -> u8 {
 // ---- slices
 
 // Whether the next twelve bytes of the input encode the token record at an index.
-fn token_agrees(tokens: &[u32], at: usize) -> bool {
+fn token_agrees(input: &mut Stdin, tokens: &[u32], at: usize) -> bool {
     let mut b = [0u8; 12];
-    if io::read_full(STDIN_FILENO, &mut b) != 12 {
+    if replay_cases::read_full(input, &mut b) != 12 {
         return false;
     }
     if tokens.len() / 8 <= at {
@@ -91,9 +91,9 @@ fn token_agrees(tokens: &[u32], at: usize) -> bool {
 }
 
 // Whether the next six bytes of the input encode the token error at an index.
-fn error_agrees(errors: &[u32], at: usize) -> bool {
+fn error_agrees(input: &mut Stdin, errors: &[u32], at: usize) -> bool {
     let mut b = [0u8; 6];
-    if io::read_full(STDIN_FILENO, &mut b) != 6 {
+    if replay_cases::read_full(input, &mut b) != 6 {
         return false;
     }
     if errors.len() / 4 <= at {
@@ -112,19 +112,19 @@ fn error_agrees(errors: &[u32], at: usize) -> bool {
     errors[i + 3] == wide(b[5])
 }
 
-fn record_agrees(words: &[u32], at: usize, is_token: bool) -> bool {
+fn record_agrees(input: &mut Stdin, words: &[u32], at: usize, is_token: bool) -> bool {
     if is_token {
-        token_agrees(words, at)
+        token_agrees(input, words, at)
     } else {
-        error_agrees(words, at)
+        error_agrees(input, words, at)
     }
 }
 
 // Compares `count` records with the input. Reads them all, also after one that differs.
-fn records_agree(words: &[u32], count: u32, are_tokens: bool) -> bool {
+fn records_agree(input: &mut Stdin, words: &[u32], count: u32, are_tokens: bool) -> bool {
     let mut agree = true;
     for at in 0..count {
-        if !record_agrees(words, at as usize, are_tokens) {
+        if !record_agrees(input, words, at as usize, are_tokens) {
             agree = false;
         }
     }
@@ -142,21 +142,21 @@ fn words_are(words: &[u32], from: usize, word: u32) -> bool {
 }
 
 // Whether the token slice has the next `count` records of the input, and the right words after them.
-fn tokens_agree(tokens: &[u32], count: u32, number: u32) -> bool {
+fn tokens_agree(input: &mut Stdin, tokens: &[u32], count: u32, number: u32) -> bool {
     let end = long(count) % 65536 * 8;
-    records_agree(tokens, count, true) & words_are(tokens, end, rest_word(number))
+    records_agree(input, tokens, count, true) & words_are(tokens, end, rest_word(number))
 }
 
 // The same for the error slice.
-fn errors_agree(errors: &[u32], count: u32, number: u32) -> bool {
+fn errors_agree(input: &mut Stdin, errors: &[u32], count: u32, number: u32) -> bool {
     let end = long(count) % 65536 * 4;
-    records_agree(errors, count, false) & words_are(errors, end, rest_word(number))
+    records_agree(input, errors, count, false) & words_are(errors, end, rest_word(number))
 }
 
 // The same for the text slice.
-fn text_agrees(text: &[u8], count: u32, number: u32) -> bool {
+fn text_agrees(input: &mut Stdin, text: &[u8], count: u32, number: u32) -> bool {
     let mut expected = [rest_byte(number); 20000];
-    if !fill(&mut expected, long(count)) {
+    if !fill(input, &mut expected, long(count)) {
         return false;
     }
     let from = 0;
@@ -164,7 +164,7 @@ fn text_agrees(text: &[u8], count: u32, number: u32) -> bool {
     if expected.len() < n {
         return false;
     }
-    check::same(text, &expected[from..n])
+    text == &expected[from..n]
 }
 
 // ---- cases
@@ -177,14 +177,21 @@ fn counts_agree(got: Tokenized, o: Opening) -> bool {
 }
 
 // Whether the slices at exit are those of a case. Reads all of its records, also after one that differs.
-fn slices_agree(tokens: &[u32], errors: &[u32], text: &[u8], o: Opening) -> bool {
-    tokens_agree(tokens, o.tokens, o.number)
-        & errors_agree(errors, o.errors, o.number)
-        & text_agrees(text, o.bytes, o.number)
+fn slices_agree(
+    input: &mut Stdin,
+    tokens: &[u32],
+    errors: &[u32],
+    text: &[u8],
+    o: Opening,
+) -> bool {
+    tokens_agree(input, tokens, o.tokens, o.number)
+        & errors_agree(input, errors, o.errors, o.number)
+        & text_agrees(input, text, o.bytes, o.number)
 }
 
 // Tokenises, then reads the expected records; whether they agree.
 fn exit_agrees(
+    input: &mut Stdin,
     script: &[u8],
     tokens: &mut [u32],
     errors: &mut [u32],
@@ -192,11 +199,12 @@ fn exit_agrees(
     o: Opening,
 ) -> bool {
     let got = tokenizer::tokenize(script, tokens, errors, text);
-    slices_agree(tokens, errors, text, o) & counts_agree(got, o)
+    slices_agree(input, tokens, errors, text, o) & counts_agree(got, o)
 }
 
 // The same, with the script and the slices cut to their lengths.
 fn parts_agree(
+    input: &mut Stdin,
     script: &[u8],
     tokens: &mut [u32],
     errors: &mut [u32],
@@ -221,6 +229,7 @@ fn parts_agree(
         return false;
     }
     exit_agrees(
+        input,
         &script[from..script_bytes],
         &mut tokens[from..token_words],
         &mut errors[from..error_words],
@@ -230,36 +239,36 @@ fn parts_agree(
 }
 
 // Reads the script of a case, and compares the results.
-fn script_agrees(o: Opening) -> bool {
+fn script_agrees(input: &mut Stdin, o: Opening) -> bool {
     let mut script = [0u8; 20000];
     let mut tokens = [FILLER_WORD; 17000];
     let mut errors = [FILLER_WORD; 2000];
     let mut text = [FILLER; 20000];
-    if !fill(&mut script, o.script_bytes) {
+    if !fill(input, &mut script, o.script_bytes) {
         return false;
     }
-    parts_agree(&script, &mut tokens, &mut errors, &mut text, o)
+    parts_agree(input, &script, &mut tokens, &mut errors, &mut text, o)
 }
 
-fn case() -> Found {
+fn case(input: &mut Stdin) -> Found {
     let mut b = [0u8; 19];
-    let got = io::read_full(STDIN_FILENO, &mut b);
+    let got = replay_cases::read_full(input, &mut b);
     if got == 0 {
         return Found::End;
     }
     if got != 19 {
         return Found::Differs;
     }
-    replay_cases::compared(script_agrees(opened(&b)))
+    replay_cases::compared(script_agrees(input, opened(&b)))
 }
 
 // More than the cases of any list.
 const MOST: u64 = 1000000000;
 
-fn all_cases() -> Counts {
+fn all_cases(input: &mut Stdin) -> Counts {
     let mut counts = replay_cases::none();
     for turn in 0..MOST {
-        let found = case();
+        let found = case(input);
         if replay_cases::is_end(found) {
             return counts;
         }
@@ -268,6 +277,8 @@ fn all_cases() -> Counts {
     counts
 }
 
-fn main() {
-    replay_cases::print(all_cases());
+fn main(rt: HostRuntime) {
+    let mut input = rt.stdin();
+    let counts = all_cases(&mut input);
+    let _ = replay_cases::print(&rt, counts);
 }
