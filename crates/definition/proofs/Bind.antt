@@ -5,7 +5,7 @@ use lib.Dec.{ltb}
 use lib.ListN.{length}
 use Rattle.definition.specs.Fallible.{Ans}
 use Rattle.definition.specs.Token.{next_token}
-use Rattle.definition.specs.Act.{Node, Goal, Loop, Left, Act, done, peek, consume, make, if◌then◌else◌, call, loop, panic, St, Res, gives, refused, after, advance, push, run, ◌>>=◌}
+use Rattle.definition.specs.Act.{Node, Goal, Loop, Left, Act, done, peek, consume, make, when◌then◌else◌, call, loop, panic, St, Res, gives, refused, after, advance, push, run, ◌>>=◌}
 
 cut : {A B : Type 0} (b : Bool) (r : Res B) (q : Res A) (f : A → St → Res B) → r ≡ after q f
     → ◌≡◌ {A = Res B} (elim b as (λ _. Res B) [ true ↦ r | false ↦ refused 12 ])
@@ -29,8 +29,8 @@ run_bind c o (consume r k) f s = run_bind c o (k (next_token s.tokens)) f (advan
 run_bind {A} {B} c o (make e m) f s =
     cut (ltb (length s.full) 255) (run c o (m >>= f) (push e s)) (run c o m (push e s))
     (λ a t. run c o (f a) t) (run_bind c o m f (push e s))
-run_bind c o (if◌then◌else◌ true m n) f s = run_bind c o m f s
-run_bind c o (if◌then◌else◌ false m n) f s = run_bind c o n f s
+run_bind c o (when◌then◌else◌ true m n) f s = run_bind c o m f s
+run_bind c o (when◌then◌else◌ false m n) f s = run_bind c o n f s
 run_bind c o (call g k) f s =
     assoc (c g s) (λ a t. run c o (k a) t) (λ a t. run c o (f a) t) (λ a t. run c o (k a >>= f) t)
     (λ a t. run_bind c o (k a) f t)

@@ -8,7 +8,7 @@ use lib.Dec.{ltb}
 use lib.ListN.{length, length-append}
 use Rattle.definition.specs.Fallible.{Err, Ans}
 use Rattle.definition.specs.Token.{Tok, next_token, tail}
-use Rattle.definition.specs.Act.{Node, Goal, Loop, Module, Left, Act, done, peek, consume, make, if◌then◌else◌, call, loop, panic, St, begin, Res, gives, refused, advance, push, run}
+use Rattle.definition.specs.Act.{Node, Goal, Loop, Module, Left, Act, done, peek, consume, make, when◌then◌else◌, call, loop, panic, St, begin, Res, gives, refused, advance, push, run}
 use Rattle.definition.specs.Parser.{rule, turn, loops, parse, parse_module, no_items}
 use Rattle.definition.proofs.Later.{Later, later_refl, later_trans, later_advance, later_push, later_full, After, weaken}
 use Rattle.definition.proofs.Ind.{join, limit, wp, each, each_ans}
@@ -28,8 +28,8 @@ module _ (c : Goal → St → Res (Ans Node)) (o : (l : Loop) → St → Res (Le
   run_later (make e m) s₀ s l =
       limit (λ a s'. Later s₀ s') (ltb (length s.full) 255) (run c o m (push e s))
       (λ _. run_later m s₀ (push e s) (later_trans l (later_push e s)))
-  run_later (if◌then◌else◌ true m n) s₀ s l = run_later m s₀ s l
-  run_later (if◌then◌else◌ false m n) s₀ s l = run_later n s₀ s l
+  run_later (when◌then◌else◌ true m n) s₀ s l = run_later m s₀ s l
+  run_later (when◌then◌else◌ false m n) s₀ s l = run_later n s₀ s l
   run_later (call g k) s₀ s l =
       join (λ a s'. Later s s') (λ a s'. Later s₀ s') (c g s) (λ a s'. run c o (k a) s') (c_later g s)
       (λ a s' p. run_later (k a) s₀ s' (later_trans l p))
@@ -101,8 +101,8 @@ module _ (G : Goal → St → Ans Node → St → Type 0) (L : (l : Loop) → St
     clean_sound Q (make e m) s i h =
         limit (Kept s Q) (ltb (length s.full) 255) (run c o m (push e s))
         (λ _. dirty Q e s (run c o m (push e s)) (run_later c o c_later o_later m (push e s) (push e s) (later_refl (push e s))))
-    clean_sound Q (if◌then◌else◌ true m n) s i h = clean_sound Q m s i (h.0 refl)
-    clean_sound Q (if◌then◌else◌ false m n) s i h = clean_sound Q n s i (h.1 refl)
+    clean_sound Q (when◌then◌else◌ true m n) s i h = clean_sound Q m s i (h.0 refl)
+    clean_sound Q (when◌then◌else◌ false m n) s i h = clean_sound Q n s i (h.1 refl)
     clean_sound Q (call g k) s i h =
         join (Kept s (G g s)) (Kept s Q) (c g s) (λ a s'. run c o (k a) s') (c_ok g s i)
         (λ a s' p. on_the_way Q s s' (run c o (k a) s') p.0 (λ q. clean_sound Q (k a) s' (I_later s s' p.0 i) (each_ans (λ a. (s' : St) → Later s s' → G g s a s' → cwp (k a) Q s') h a s' p.0 (p.1 q)))

@@ -9,7 +9,7 @@ use lib.Dec.{ltb}
 use lib.ListN.{length}
 use Rattle.definition.specs.Fallible.{Ans}
 use Rattle.definition.specs.Token.{Tok, next_token}
-use Rattle.definition.specs.Act.{Node, Goal, Loop, Left, Act, done, peek, consume, make, if◌then◌else◌, call, loop, panic, St, begin, Res, gives, refused, after, advance, push, run, ◌>>=◌}
+use Rattle.definition.specs.Act.{Node, Goal, Loop, Left, Act, done, peek, consume, make, when◌then◌else◌, call, loop, panic, St, begin, Res, gives, refused, after, advance, push, run, ◌>>=◌}
 use Rattle.definition.specs.Go.{go, turns}
 use Rattle.definition.specs.Parser.{rule, turn, loops, parse, parse_module_within, parse_module, no_items}
 use Rattle.definition.proofs.Later.{Later, After, weaken}
@@ -41,8 +41,8 @@ module _ (n : ℕ) (c : Goal → St → Res (Ans Node)) (o o' : (l : Loop) → S
   run_same (make e m) Q s h =
       same_cut (ltb (length s.full) 255) (run c o m (push e s)) (run c o' m (push e s))
       (run_same m Q (push e s) h)
-  run_same (if◌then◌else◌ true m m') Q s h = run_same m Q s (h.0 refl)
-  run_same (if◌then◌else◌ false m m') Q s h = run_same m' Q s (h.1 refl)
+  run_same (when◌then◌else◌ true m m') Q s h = run_same m Q s (h.0 refl)
+  run_same (when◌then◌else◌ false m m') Q s h = run_same m' Q s (h.1 refl)
   run_same (call g k) Q s h =
       same_after (c g s) (c g s) (λ a s'. run c o (k a) s') (λ a s'. run c o' (k a) s')
       (λ a s'. Later s s' × Called s s') refl (c_after g s)

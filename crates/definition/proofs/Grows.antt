@@ -9,7 +9,7 @@ use lib.ListN.{length}
 use Rattle.definition.specs.Kind as K
 use Rattle.definition.specs.Token.{Tok, next_token, tail, ◌is◌, end_token}
 use Rattle.definition.specs.Fallible.{Ans, Err, ok, fatal}
-use Rattle.definition.specs.Act.{Node, Goal, Statement, Expression, Unary, Type', Loop, Left, Act, done, peek, consume, make, if◌then◌else◌, call, loop, panic, St, advance, push, ◌>>=◌}
+use Rattle.definition.specs.Act.{Node, Goal, Statement, Expression, Unary, Type', Loop, Left, Act, done, peek, consume, make, when◌then◌else◌, call, loop, panic, St, advance, push, ◌>>=◌}
 use Rattle.definition.specs.Parser as P
 use Rattle.definition.specs.Parser.{rule, turn, statement_rule, expression_rule, unary_rule, type_rule, parse_body, expression_statement, parse_call, parse_sizeof, parse_field_access_or_index, parse_atom, prefix, parse_comparison}
 use Rattle.definition.proofs.Tests.{clash, never_both, is_kind}
@@ -51,7 +51,7 @@ stays s₀ (done a) s h = h
 stays s₀ (peek k) s h = stays s₀ (k (next_token s.tokens)) s h
 stays s₀ (consume r k) s h = λ _. stays s₀ (k (next_token s.tokens)) (advance r s) (omega (arith, tail_le s.tokens))
 stays s₀ (make e m) s h = λ _. stays s₀ m (push e s) h
-stays s₀ (if◌then◌else◌ b m n) s h = (λ e. stays s₀ m s h, λ e. stays s₀ n s h)
+stays s₀ (when◌then◌else◌ b m n) s h = (λ e. stays s₀ m s h, λ e. stays s₀ n s h)
 stays s₀ (call g k) s h = (
   λ x s' l p. stays s₀ (k (ok x)) s' (omega (arith, later_left l)),
   λ es s' l p. stays s₀ (k (fatal es)) s'
@@ -68,7 +68,7 @@ Reads (done a) = ⊥
 Reads (peek k) = (t : Tok) → t is K.End ≡ false → Reads (k t)
 Reads (consume r k) = Unit {0}
 Reads (make e m) = ⊥
-Reads (if◌then◌else◌ b m n) = (b ≡ true → Reads m) × (b ≡ false → Reads n)
+Reads (when◌then◌else◌ b m n) = (b ≡ true → Reads m) × (b ≡ false → Reads n)
 Reads (call g k) = Unit {0}
 Reads (loop l k) = ⊥
 Reads panic = Unit {0}
@@ -78,7 +78,7 @@ reads s (done a) e r = absurd r
 reads s (peek k) e r = reads s (k (next_token s.tokens)) e (r (next_token s.tokens) e)
 reads s (consume p k) e r = λ _. stays s (k (next_token s.tokens)) (advance p s) (tail_lt s.tokens e)
 reads s (make x m) e r = absurd r
-reads s (if◌then◌else◌ b m n) e r = (λ d. reads s m e (r.0 d), λ d. reads s n e (r.1 d))
+reads s (when◌then◌else◌ b m n) e r = (λ d. reads s m e (r.0 d), λ d. reads s n e (r.1 d))
 reads s (call g k) e r = (λ x s' l p. stays s (k (ok x)) s' (p e), λ es s' l p. stays s (k (fatal es)) s' (p e))
 reads s (loop g k) e r = absurd r
 reads s panic e r = tt

@@ -9,7 +9,7 @@ use lib.Dec.{ltb, T, ltb→lt}
 use lib.ListN.{length}
 use Rattle.definition.specs.Fallible.{Err, Fallible, Ans, ok, fatal}
 use Rattle.definition.specs.Token.{Tok, next_token}
-use Rattle.definition.specs.Act.{Node, Items, Words, Goal, Loop, Module, Body, ListOf, Operators, Casts, Suffixes, Modifiers, Level, BitOr, BitXor, BitAnd, Shift, AddSub, Mul, Left, Act, done, peek, consume, make, if◌then◌else◌, call, loop, panic, St, begin, Res, gives, refused, after, advance, push, run, ◌>>=◌, ◌>>?◌, or_return}
+use Rattle.definition.specs.Act.{Node, Items, Words, Goal, Loop, Module, Body, ListOf, Operators, Casts, Suffixes, Modifiers, Level, BitOr, BitXor, BitAnd, Shift, AddSub, Mul, Left, Act, done, peek, consume, make, when◌then◌else◌, call, loop, panic, St, begin, Res, gives, refused, after, advance, push, run, ◌>>=◌, ◌>>?◌, or_return}
 use Rattle.definition.specs.Parser as P
 use Rattle.definition.specs.Parser.{rule, turn, loops, parse, parse_module, no_items}
 use Rattle.definition.proofs.Tests.{is_kind}
@@ -93,7 +93,7 @@ module _ (G : Goal → St → Ans Node → St → Type 0) (L : (l : Loop) → St
   wp (peek k) Q s = wp (k (next_token s.tokens)) Q s
   wp (consume r k) Q s = R s → wp (k (next_token s.tokens)) Q (advance r s)
   wp (make e m) Q s = M e s → wp m Q (push e s)
-  wp (if◌then◌else◌ b m n) Q s = (b ≡ true → wp m Q s) × (b ≡ false → wp n Q s)
+  wp (when◌then◌else◌ b m n) Q s = (b ≡ true → wp m Q s) × (b ≡ false → wp n Q s)
   wp (call g k) Q s = EachAns (λ a. (s' : St) → Later s s' → G g s a s' → wp (k a) Q s')
   wp (loop l k) Q s = Each l (λ a. (s' : St) → Later s s' → L l s a s' → wp (k a) Q s')
   wp panic Q s = Unit {0}
@@ -103,7 +103,7 @@ module _ (G : Goal → St → Ans Node → St → Type 0) (L : (l : Loop) → St
   wp_always Q (peek k) s h = wp_always Q (k (next_token s.tokens)) s h
   wp_always Q (consume p k) s h = λ r. wp_always Q (k (next_token s.tokens)) (advance p s) h
   wp_always Q (make x m) s h = λ r. wp_always Q m (push x s) h
-  wp_always Q (if◌then◌else◌ b m n) s h = (λ d. wp_always Q m s h, λ d. wp_always Q n s h)
+  wp_always Q (when◌then◌else◌ b m n) s h = (λ d. wp_always Q m s h, λ d. wp_always Q n s h)
   wp_always Q (call g k) s h = (λ x s' l p. wp_always Q (k (ok x)) s' h, λ es s' l p. wp_always Q (k (fatal es)) s' h)
   wp_always Q (loop g k) s h = to_each g (λ a. (s' : St) → Later s s' → L g s a s' → wp (k a) Q s') (λ a s' l p. wp_always Q (k a) s' h)
   wp_always Q panic s h = tt
@@ -113,7 +113,7 @@ module _ (G : Goal → St → Ans Node → St → Type 0) (L : (l : Loop) → St
   wp_mono P Q (peek k) s h w = wp_mono P Q (k (next_token s.tokens)) s h w
   wp_mono P Q (consume p k) s h w = λ r. wp_mono P Q (k (next_token s.tokens)) (advance p s) h (w r)
   wp_mono P Q (make x m) s h w = λ r. wp_mono P Q m (push x s) h (w r)
-  wp_mono P Q (if◌then◌else◌ b m n) s h w = (λ d. wp_mono P Q m s h (w.0 d), λ d. wp_mono P Q n s h (w.1 d))
+  wp_mono P Q (when◌then◌else◌ b m n) s h w = (λ d. wp_mono P Q m s h (w.0 d), λ d. wp_mono P Q n s h (w.1 d))
   wp_mono P Q (call g k) s h w = (
     λ x s' l p. wp_mono P Q (k (ok x)) s' h (w.0 x s' l p),
     λ es s' l p. wp_mono P Q (k (fatal es)) s' h
@@ -131,7 +131,7 @@ module _ (G : Goal → St → Ans Node → St → Type 0) (L : (l : Loop) → St
   wp_bind (peek k) f Q s h = wp_bind (k (next_token s.tokens)) f Q s h
   wp_bind (consume p k) f Q s h = λ r. wp_bind (k (next_token s.tokens)) f Q (advance p s) (h r)
   wp_bind (make x m) f Q s h = λ r. wp_bind m f Q (push x s) (h r)
-  wp_bind (if◌then◌else◌ b m n) f Q s h = (λ d. wp_bind m f Q s (h.0 d), λ d. wp_bind n f Q s (h.1 d))
+  wp_bind (when◌then◌else◌ b m n) f Q s h = (λ d. wp_bind m f Q s (h.0 d), λ d. wp_bind n f Q s (h.1 d))
   wp_bind (call g k) f Q s h = (
     λ x s' l p. wp_bind (k (ok x)) f Q s' (h.0 x s' l p),
     λ es s' l p. wp_bind (k (fatal es)) f Q s'
@@ -150,7 +150,7 @@ module _ (G : Goal → St → Ans Node → St → Type 0) (L : (l : Loop) → St
   wp_later P Q (peek k) s₀ s l h w = wp_later P Q (k (next_token s.tokens)) s₀ s l h w
   wp_later P Q (consume p k) s₀ s l h w = λ r. wp_later P Q (k (next_token s.tokens)) s₀ (advance p s) (later_trans l (later_advance p s)) h (w r)
   wp_later P Q (make x m) s₀ s l h w = λ r. wp_later P Q m s₀ (push x s) (later_trans l (later_push x s)) h (w r)
-  wp_later P Q (if◌then◌else◌ b m n) s₀ s l h w = (λ d. wp_later P Q m s₀ s l h (w.0 d), λ d. wp_later P Q n s₀ s l h (w.1 d))
+  wp_later P Q (when◌then◌else◌ b m n) s₀ s l h w = (λ d. wp_later P Q m s₀ s l h (w.0 d), λ d. wp_later P Q n s₀ s l h (w.1 d))
   wp_later P Q (call g k) s₀ s l h w = (
     λ x s' k' p. wp_later P Q (k (ok x)) s₀ s' (later_trans l k') h (w.0 x s' k' p),
     λ es s' k' p. wp_later P
@@ -260,8 +260,8 @@ module _ (G : Goal → St → Ans Node → St → Type 0) (L : (l : Loop) → St
       sound Q (make e m) s₀ s l h =
           limit (λ a s'. Later s₀ s' × Q a s') (ltb (length s.full) 255) (run c o m (push e s))
           (λ _. sound Q m s₀ (push e s) (later_trans l (later_push e s)) (h (m_ok e s)))
-      sound Q (if◌then◌else◌ true m n) s₀ s l h = sound Q m s₀ s l (h.0 refl)
-      sound Q (if◌then◌else◌ false m n) s₀ s l h = sound Q n s₀ s l (h.1 refl)
+      sound Q (when◌then◌else◌ true m n) s₀ s l h = sound Q m s₀ s l (h.0 refl)
+      sound Q (when◌then◌else◌ false m n) s₀ s l h = sound Q n s₀ s l (h.1 refl)
       sound Q (call g k) s₀ s l h =
           join (λ a s'. Later s s' × G g s a s') (λ a s'. Later s₀ s' × Q a s') (c g s) (λ a s'. run c o (k a) s') (c_ok g s)
           (λ a s' p. sound Q (k a) s₀ s' (later_trans l p.0)

@@ -14,7 +14,7 @@ use Rattle.definition.specs.Fallible.{Err, Fallible, Ans, ok, fatal}
 use Rattle.definition.specs.Token.{Tok, next_token, tail, ◌is◌}
 use Rattle.definition.specs.Act.{Node, Items, Goal, Statement, Expression, Unary, Type', Listed, Parameters, Arguments, StructFields, ArrayValues, StructValues}
 use Rattle.definition.specs.Act.{Level, BitOr, BitXor, BitAnd, Shift, AddSub, Mul, Loop, Module, Body, ListOf, Operators, Casts, Suffixes, Modifiers, Left}
-use Rattle.definition.specs.Act.{Role, Act, done, peek, consume, make, if◌then◌else◌, call, loop, panic, ◌>>=◌, or_return, ◌>>?◌, St, begin, Res, gives, advance, push, run}
+use Rattle.definition.specs.Act.{Role, Act, done, peek, consume, make, when◌then◌else◌, call, loop, panic, ◌>>=◌, or_return, ◌>>?◌, St, begin, Res, gives, advance, push, run}
 use Rattle.definition.specs.Parser as P
 use Rattle.definition.specs.Parser.{error, rule, turn, loops, parse, parse_module}
 use Rattle.definition.proofs.Tests.{clash, All, all_append, is_in, ◌∈◌, here, there}
@@ -104,7 +104,7 @@ module _ (us : List Tok) where
   Makes (peek k) ts = Makes (k (next_token ts)) ts
   Makes (consume r k) ts = Makes (k (next_token ts)) (tail ts)
   Makes (make e m) ts = Right us e × Makes m ts
-  Makes (if◌then◌else◌ b m n) ts = (b ≡ true → Makes m ts) × (b ≡ false → Makes n ts)
+  Makes (when◌then◌else◌ b m n) ts = (b ≡ true → Makes m ts) × (b ≡ false → Makes n ts)
   Makes (call g k) ts = (a : Ans Node) (ts' : List Tok) → Inside ts' → Makes (k a) ts'
   Makes (loop l k) ts = (a : Left l) (ts' : List Tok) → Inside ts' → Makes (k a) ts'
   Makes panic ts = Unit {0}
@@ -121,7 +121,7 @@ module _ (us : List Tok) where
   makes_bind (peek k) f ts i h s = makes_bind (k (next_token ts)) f ts i h s
   makes_bind (consume r k) f ts i h s = makes_bind (k (next_token ts)) f (tail ts) (inside_tail ts i) h s
   makes_bind (make e m) f ts i h s = (h.0, makes_bind m f ts i h.1 s)
-  makes_bind (if◌then◌else◌ b m n) f ts i h s =
+  makes_bind (when◌then◌else◌ b m n) f ts i h s =
       (λ d. makes_bind m f ts i (h.0 d) s, λ d. makes_bind n f ts i (h.1 d) s)
   makes_bind (call g k) f ts i h s = λ a ts' i'. makes_bind (k a) f ts' i' (h a ts' i') s
   makes_bind (loop l k) f ts i h s = λ a ts' i'. makes_bind (k a) f ts' i' (h a ts' i') s
@@ -148,7 +148,7 @@ module _ (us : List Tok) where
   safe_make e m r h = record { makes = λ ts i. (r, h.makes ts i) }
 
   safe_if : {A : Type 0} (b : Bool) (m n : Act A) → (b ≡ true → Safe m) → (b ≡ false → Safe n)
-      → Safe (if◌then◌else◌ b m n)
+      → Safe (when◌then◌else◌ b m n)
   safe_if b m n h g = record { makes = λ ts i. (λ d. (h d).makes ts i, λ d. (g d).makes ts i) }
 
   safe_call : {A : Type 0} (g : Goal) (k : Ans Node → Act A) → ((a : Ans Node) → Safe (k a)) → Safe (call g k)
@@ -490,8 +490,8 @@ module _ (us : List Tok) where
     run_kept (make e m) s h k =
         limit (λ a s'. Kept s') (ltb (length s.full) 255) (run c o m (push e s))
         (λ _. run_kept m (push e s) h.1 (pushed e s h.0 k))
-    run_kept (if◌then◌else◌ true m n) s h k = run_kept m s (h.0 refl) k
-    run_kept (if◌then◌else◌ false m n) s h k = run_kept n s (h.1 refl) k
+    run_kept (when◌then◌else◌ true m n) s h k = run_kept m s (h.0 refl) k
+    run_kept (when◌then◌else◌ false m n) s h k = run_kept n s (h.1 refl) k
     run_kept (call g f) s h k =
         join (λ a s'. Kept s') (λ a s'. Kept s') (c g s) (λ a s'. run c o (f a) s') (c_kept g s k)
         (λ a s' k'. run_kept (f a) s' (h a s'.tokens k'.tokens) k')

@@ -12,7 +12,7 @@ use Rattle.definition.specs.Source.{Place}
 use Rattle.definition.specs.Node.{Num, byte, two, eight, Rec, at_place, nums_bytes, rec_bytes, recs_bytes}
 use Rattle.definition.specs.Fallible.{Err, errs_bytes, Ans}
 use Rattle.definition.specs.Token.{Tok, next_token, ◌is◌}
-use Rattle.definition.specs.Act.{Node, Items, Goal, Loop, Module, Body, ListOf, Operators, Casts, Suffixes, Modifiers, Left, Act, done, peek, consume, make, if◌then◌else◌, call, loop, panic, St, begin, Res, gives, advance, push, run}
+use Rattle.definition.specs.Act.{Node, Items, Goal, Loop, Module, Body, ListOf, Operators, Casts, Suffixes, Modifiers, Left, Act, done, peek, consume, make, when◌then◌else◌, call, loop, panic, St, begin, Res, gives, advance, push, run}
 use Rattle.definition.specs.Parser as P
 use Rattle.definition.specs.Parser.{rule, turn, loops, parse, parse_module}
 use Rattle.definition.specs.Operations.{whole, file_bytes}
@@ -93,8 +93,8 @@ module _ (c : Goal → St → Res (Ans Node)) (o : (l : Loop) → St → Res (Le
   run_few (make e m) s h =
       limit Few (ltb (length s.full) 255) (run c o m (push e s)) (λ t. run_few m (push e s)
       (omega (arith, ltb→lt (length s.full) 255 t, length-append s.full (e ∷ []))))
-  run_few (if◌then◌else◌ true m n) s h = run_few m s h
-  run_few (if◌then◌else◌ false m n) s h = run_few n s h
+  run_few (when◌then◌else◌ true m n) s h = run_few m s h
+  run_few (when◌then◌else◌ false m n) s h = run_few n s h
   run_few (call g k) s h = join Few Few (c g s) (λ a s'. run c o (k a) s') (c_few g s h) (λ a s' p. run_few (k a) s' p)
   run_few (loop g k) s h = join Few Few (o g s) (λ a s'. run c o (k a) s') (o_few g s h) (λ a s' p. run_few (k a) s' p)
   run_few panic s h = tt

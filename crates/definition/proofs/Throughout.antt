@@ -2,7 +2,7 @@
 use mathlib.Core.List.{List, []}
 use Rattle.definition.specs.Fallible.{Err, Ans, ok, fatal}
 use Rattle.definition.specs.Token.{Tok, next_token, tail}
-use Rattle.definition.specs.Act.{Node, Goal, Loop, Module, Left, Act, done, peek, consume, make, if◌then◌else◌, call, loop, panic, St, begin, advance, push}
+use Rattle.definition.specs.Act.{Node, Goal, Loop, Module, Left, Act, done, peek, consume, make, when◌then◌else◌, call, loop, panic, St, begin, advance, push}
 use Rattle.definition.specs.Parser.{rule, turn, parse_module, no_items}
 use Rattle.definition.proofs.Later.{Later, After, weaken}
 use Rattle.definition.proofs.Ind.{wp, each, to_each, module_ind}
@@ -33,7 +33,7 @@ module _ (G : Goal → St → Ans Node → St → Type 0) (L : (l : Loop) → St
     carry X Q (consume r k) s i h =
         λ _. carry X Q (k (next_token s.tokens)) (advance r s) (λ x. I_tail s.tokens (i x)) (λ x. h x (i x))
     carry X Q (make e m) s i h = λ _. carry X Q m (push e s) i (λ x. h x tt)
-    carry X Q (if◌then◌else◌ b m n) s i h = (λ d. carry X Q m s i (λ x. (h x).0 d), λ d. carry X Q n s i (λ x. (h x).1 d))
+    carry X Q (when◌then◌else◌ b m n) s i h = (λ d. carry X Q m s i (λ x. (h x).0 d), λ d. carry X Q n s i (λ x. (h x).1 d))
     carry X Q (call g k) s i h = (
       λ y s' l p. carry X Q (k (ok y)) s' (λ x. I_later s s' l (i x)) (λ x. (h x).0 y s' l (p (i x))),
       λ es s' l p. carry X Q (k (fatal es)) s' (λ x. I_later s s' l (i x)) (λ x. (h x).1 es s' l (p (i x))),

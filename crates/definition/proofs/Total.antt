@@ -11,7 +11,7 @@ use Rattle.definition.specs.Kind as K
 use Rattle.definition.specs.Fallible.{Ans, ok, fatal}
 use Rattle.definition.specs.Node.{byte}
 use Rattle.definition.specs.Token.{Tok, next_token, tail, ◌is◌}
-use Rattle.definition.specs.Act.{Node, Goal, Loop, Module, Body, ListOf, Operators, Casts, Suffixes, Modifiers, Listed, Parameters, Arguments, StructFields, ArrayValues, StructValues, Left, Consumed, Act, done, peek, consume, make, if◌then◌else◌, call, loop, panic, St, begin, Res, gives, refused, after, plain, advance, push, run, next, or_return, ◌>>=◌, ◌>>?◌}
+use Rattle.definition.specs.Act.{Node, Goal, Loop, Module, Body, ListOf, Operators, Casts, Suffixes, Modifiers, Listed, Parameters, Arguments, StructFields, ArrayValues, StructValues, Left, Consumed, Act, done, peek, consume, make, when◌then◌else◌, call, loop, panic, St, begin, Res, gives, refused, after, plain, advance, push, run, next, or_return, ◌>>=◌, ◌>>?◌}
 use Rattle.definition.specs.Parser as P
 use Rattle.definition.specs.Tag as T
 use Rattle.definition.specs.Parser.{rule, turn, loops, parse, parse_module_within, parse_module}
@@ -57,7 +57,7 @@ module _ (n : ℕ) where
   Enough (peek k) Q s = Enough (k (next_token s.tokens)) Q s
   Enough (consume r k) Q s = Enough (k (next_token s.tokens)) Q (advance r s)
   Enough (make e m) Q s = Enough m Q (push e s)
-  Enough (if◌then◌else◌ b m m') Q s = (b ≡ true → Enough m Q s) × (b ≡ false → Enough m' Q s)
+  Enough (when◌then◌else◌ b m m') Q s = (b ≡ true → Enough m Q s) × (b ≡ false → Enough m' Q s)
   Enough (call g k) Q s = (a : Ans Node) (s' : St) → Later s s' → Called s s' → Enough (k a) Q s'
   Enough (loop l k) Q s = (rank l + length s.tokens ≤ n) × ((a : Left l) (s' : St) → Later s s' → Enough (k a) Q s')
   Enough panic Q s = Unit {0}
@@ -71,7 +71,7 @@ module _ (n : ℕ) where
       plenty (k (next_token s.tokens)) Q s₀ (advance r s) (later_trans z (later_advance r s))
       (omega (arith, Gr.tail_le s.tokens)) (λ s' d. q s' (omega (arith, Gr.tail_le s.tokens)))
   plenty (make e m) Q s₀ s z h q = plenty m Q s₀ (push e s) (later_trans z (later_push e s)) h q
-  plenty (if◌then◌else◌ b m m') Q s₀ s z h q = (λ _. plenty m Q s₀ s z h q, λ _. plenty m' Q s₀ s z h q)
+  plenty (when◌then◌else◌ b m m') Q s₀ s z h q = (λ _. plenty m Q s₀ s z h q, λ _. plenty m' Q s₀ s z h q)
   plenty (call g k) Q s₀ s z h q =
       λ a s' l c. plenty (k a) Q s₀ s' (later_trans z l) (omega (arith, later_left l))
       (λ s'' d. q s'' (omega (arith, later_left l)))
@@ -89,7 +89,7 @@ module _ (n : ℕ) where
   enough_bind (peek k) f P Q s h q = enough_bind (k (next_token s.tokens)) f P Q s h q
   enough_bind (consume r k) f P Q s h q = enough_bind (k (next_token s.tokens)) f P Q (advance r s) h q
   enough_bind (make e m) f P Q s h q = enough_bind m f P Q (push e s) h q
-  enough_bind (if◌then◌else◌ b m m') f P Q s h q = (λ d. enough_bind m f P Q s (h.0 d) q, λ d. enough_bind m' f P Q s (h.1 d) q)
+  enough_bind (when◌then◌else◌ b m m') f P Q s h q = (λ d. enough_bind m f P Q s (h.0 d) q, λ d. enough_bind m' f P Q s (h.1 d) q)
   enough_bind (call g k) f P Q s h q = λ a s' l c. enough_bind (k a) f P Q s' (h a s' l c) q
   enough_bind (loop g k) f P Q s h q = (h.0, λ a s' l. enough_bind (k a) f P Q s' (h.1 a s' l) q)
   enough_bind panic f P Q s h q = tt
@@ -100,7 +100,7 @@ module _ (n : ℕ) where
   First (peek k) = (t : Tok) → First (k t)
   First (consume r k) = Unit {0}
   First (make e m) = ⊥
-  First (if◌then◌else◌ b m m') = (b ≡ true → First m) × (b ≡ false → First m')
+  First (when◌then◌else◌ b m m') = (b ≡ true → First m) × (b ≡ false → First m')
   First (call g k) = Unit {0}
   First (loop l k) = ⊥
   First panic = Unit {0}
@@ -115,7 +115,7 @@ module _ (n : ℕ) where
       plenty (k (next_token s.tokens)) (Less s) s (advance p s) (later_advance p s)
       (omega (arith, Gr.tail_lt s.tokens e)) (λ s' d. omega (arith, Gr.tail_lt s.tokens e))
   begins (make x m) s e r h = absurd r
-  begins (if◌then◌else◌ b m m') s e r h = (λ d. begins m s e (r.0 d) h, λ d. begins m' s e (r.1 d) h)
+  begins (when◌then◌else◌ b m m') s e r h = (λ d. begins m s e (r.0 d) h, λ d. begins m' s e (r.1 d) h)
   begins (call g k) s e r h = λ a s' l c. plenty (k a) (Less s) s s' l (omega (arith, c e)) (λ s'' d. omega (arith, c e))
   begins (loop l k) s e r h = absurd r
   begins panic s e r h = tt
@@ -138,8 +138,8 @@ module _ (n : ℕ) where
     run_moves (peek k) Q s h = run_moves (k (next_token s.tokens)) Q s h
     run_moves (consume r k) Q s h = run_moves (k (next_token s.tokens)) Q (advance r s) h
     run_moves (make e m) Q s h = limited (ltb (length s.full) 255) (run c o m (push e s)) (run_moves m Q (push e s) h)
-    run_moves (if◌then◌else◌ true m m') Q s h = run_moves m Q s (h.0 refl)
-    run_moves (if◌then◌else◌ false m m') Q s h = run_moves m' Q s (h.1 refl)
+    run_moves (when◌then◌else◌ true m m') Q s h = run_moves m Q s (h.0 refl)
+    run_moves (when◌then◌else◌ false m m') Q s h = run_moves m' Q s (h.1 refl)
     run_moves (call g k) Q s h =
         follows (c g s) (λ a s'. run c o (k a) s') (λ a s'. Later s s' × Called s s') (c_after g s)
         (c_moves g s) (λ a s' p. run_moves (k a) Q s' (h a s' p.0 p.1))

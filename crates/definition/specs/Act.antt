@@ -63,12 +63,12 @@ pub data Act (A : Type 0) : Type 0 where
   peek : (Tok → Act A) → Act A  -- self.tokens.peek()
   consume : (Tok → Role) → (Tok → Act A) → Act A  -- self.tokens.next(); the next token decides its role
   make : Err → Act A → Act A  -- ParseError::new(..)
-  if◌then◌else◌ : Bool → Act A → Act A → Act A
+  when◌then◌else◌ : Bool → Act A → Act A → Act A
   call : Goal → (Ans Node → Act A) → Act A  -- a call of one of the four
   loop : (l : Loop) → (Left l → Act A) → Act A  -- a loop, or its next turn
   panic : Act A  -- where the Rust panics
 
-infix 10 if◌then◌else◌
+infix 10 when◌then◌else◌
 abbrev pub next_as : {A : Type 0} → Role → (Tok → Act A) → Act A
 next_as r k = consume (λ _. r) k
 
@@ -81,7 +81,7 @@ done a >>= f = f a
 peek k >>= f = peek (λ t. k t >>= f)
 consume r k >>= f = consume r (λ t. k t >>= f)
 make e m >>= f = make e (m >>= f)
-if◌then◌else◌ b m n >>= f = if b then (m >>= f) else (n >>= f)
+when◌then◌else◌ b m n >>= f = when b then (m >>= f) else (n >>= f)
 call g k >>= f = call g (λ a. k a >>= f)
 loop l k >>= f = loop l (λ a. k a >>= f)
 panic >>= f = panic
@@ -135,7 +135,7 @@ run c o (done a) s = gives a s
 run c o (peek k) s = run c o (k (next_token s.tokens)) s
 run c o (consume r k) s = run c o (k (next_token s.tokens)) (advance r s)
 run c o (make e m) s = elim (ltb (length s.full) 255) [ true ↦ run c o m (push e s) | false ↦ refused 12 ]
-run c o (if◌then◌else◌ b m n) s = elim b [ true ↦ run c o m s | false ↦ run c o n s ]
+run c o (when◌then◌else◌ b m n) s = elim b [ true ↦ run c o m s | false ↦ run c o n s ]
 run c o (call g k) s = after (c g s) (λ a s'. run c o (k a) s')
 run c o (loop l k) s = after (o l s) (λ a s'. run c o (k a) s')
 run c o panic s = refused 11

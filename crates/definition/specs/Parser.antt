@@ -13,7 +13,7 @@ use Rattle.definition.specs.Token.{Tok, ◌is◌, number, dashed}
 use Rattle.definition.specs.Act.{Node, Items, Goal, Statement, Expression, Unary, Type', Listed, Parameters, Arguments, StructFields, ArrayValues, StructValues}
 use Rattle.definition.specs.Act.{Level, BitOr, BitXor, BitAnd, Shift, AddSub, Mul, Words, Role, plain, group, final, size, St, begin, Res, refused, run}
 use Rattle.definition.specs.Act.{Loop, Module, Body, ListOf, Operators, Casts, Suffixes, Modifiers, Left}
-use Rattle.definition.specs.Act.{Act, done, peek, consume, make, if◌then◌else◌, call, loop, panic, next, next_as, ◌>>=◌, ◌>>?◌}
+use Rattle.definition.specs.Act.{Act, done, peek, consume, make, when◌then◌else◌, call, loop, panic, next, next_as, ◌>>=◌, ◌>>?◌}
 
 -- ---- answers
 
@@ -55,8 +55,8 @@ with_error i e = record { count = i.count; recs = i.recs; errors = i.errors ++ (
 abbrev pub expect_as : Role → ℕ → Act (Ans Tok)
 expect_as r k =
     next_as r λ t.
-    if t is k then good t [] else
-    if t is K.End then raise (error E.ExpectedAtEnd nowhere k 0) else
+    when t is k then good t [] else
+    when t is K.End then raise (error E.ExpectedAtEnd nowhere k 0) else
     raise (error E.Expected t.place k t.kind)
 
 abbrev pub expect : ℕ → Act (Ans Tok)
@@ -65,8 +65,8 @@ expect k = expect_as plain k
 abbrev pub expect_identifier : Act (Ans Tok)
 expect_identifier =
     next λ t.
-    if t is K.Identifier then good t [] else
-    if t is K.End then raise (error E.EndOfFile nowhere 0 0) else
+    when t is K.Identifier then good t [] else
+    when t is K.End then raise (error E.EndOfFile nowhere 0 0) else
     raise (error E.Identifier t.place 0 0)
 
 abbrev pub parse_statement : Act (Ans Node)
@@ -96,8 +96,8 @@ typed name es =
 unfoldable pub parse_typed_identifier : Act (Ans Typed)
 parse_typed_identifier =
     next λ t.
-    if t is K.Identifier then typed t.text [] else
-    if t is K.End then raise (error E.EndOfFile nowhere 0 0) else
+    when t is K.Identifier then typed t.text [] else
+    when t is K.End then raise (error E.EndOfFile nowhere 0 0) else
     (let e = error E.Identifier t.place 0 0 in make e (typed (ascii "<?>") (e ∷ [])))
 
 -- ---- parse_bounded_list_of
@@ -147,16 +147,16 @@ comma_role k t = pick (t is closer k) final plain
 unfoldable pub after_item : Listed → Items → Act Items
 after_item k i =
     peek λ t.
-    if t is K.Comma then (consume (comma_role k) λ _. loop (ListOf k i) done) else
-    if t is closer k then loop (ListOf k i) done else
-    if t is K.End then loop (ListOf k i) done else
+    when t is K.Comma then (consume (comma_role k) λ _. loop (ListOf k i) done) else
+    when t is closer k then loop (ListOf k i) done else
+    when t is K.End then loop (ListOf k i) done else
     (next λ t. let e = error E.InList t.place 0 t.kind in make e (loop (ListOf k (with_error i e)) done))
 
 unfoldable pub list_turn : Listed → Items → Act Items
 list_turn k i =
     peek λ t.
-    if t is K.End then (let e = error E.ListAtEnd nowhere 0 0 in make e (done (with_error i e))) else
-    if t is closer k then (next λ _. done i) else
+    when t is K.End then (let e = error E.ListAtEnd nowhere 0 0 in make e (done (with_error i e))) else
+    when t is closer k then (next λ _. done i) else
     (item k >>= λ a. after_item k (integrate i a))
 
 -- ---- parse_type
@@ -164,8 +164,8 @@ list_turn k i =
 unfoldable pub parse_array_type : Place → Act (Ans Node)
 parse_array_type p =
     next_as size λ n.
-    if not (n is K.Integer) then raise (error E.ArraySize p 0 0) else
-    if dashed n.text || not (ltb (number n.base 0 n.text) (2 ^ 64)) then
+    when not (n is K.Integer) then raise (error E.ArraySize p 0 0) else
+    when dashed n.text || not (ltb (number n.base 0 n.text) (2 ^ 64)) then
     raise (error E.ArraySizePositive p 0 0) else
     (expect K.RBracket >>? λ _.
     parse_type >>? λ ty.
@@ -174,12 +174,12 @@ parse_array_type p =
 unfoldable pub type_rule : Act (Ans Node)
 type_rule =
     next λ t.
-    if t is K.Identifier then good (node [] T.Name t.place [] t.text) [] else
-    if t is K.Star then (parse_type >>? λ ty. good (node ty.item.recs T.Pointer t.place [] []) ty.errors) else
-    if t is K.LBracket then parse_array_type t.place else
-    if t is K.KwStruct then
+    when t is K.Identifier then good (node [] T.Name t.place [] t.text) [] else
+    when t is K.Star then (parse_type >>? λ ty. good (node ty.item.recs T.Pointer t.place [] []) ty.errors) else
+    when t is K.LBracket then parse_array_type t.place else
+    when t is K.KwStruct then
     (parse_list StructFields >>= λ i. good (node i.recs T.Struct t.place (two i.count ∷ []) []) []) else
-    if t is K.End then raise (error E.TypeAtEnd nowhere 0 0) else
+    when t is K.End then raise (error E.TypeAtEnd nowhere 0 0) else
     raise (error E.Type' t.place 0 t.kind)
 
 -- ---- expressions
@@ -208,14 +208,14 @@ parse_group =
 unfoldable pub parse_atom : Act (Ans Node)
 parse_atom =
     peek λ t.
-    if t is K.Integer then (next λ t. good (node [] T.Integer t.place (byte t.base ∷ []) t.text) []) else
-    if t is K.Identifier then (next λ t. good (node [] T.Identifier t.place [] t.text) []) else
-    if t is K.String then (next λ t. good (node [] T.String t.place [] t.text) []) else
-    if t is K.KwTrue then (next λ t. good (node [] T.Boolean t.place (byte 1 ∷ []) []) []) else
-    if t is K.KwFalse then (next λ t. good (node [] T.Boolean t.place (byte 0 ∷ []) []) []) else
-    if t is K.LParen then parse_group else
+    when t is K.Integer then (next λ t. good (node [] T.Integer t.place (byte t.base ∷ []) t.text) []) else
+    when t is K.Identifier then (next λ t. good (node [] T.Identifier t.place [] t.text) []) else
+    when t is K.String then (next λ t. good (node [] T.String t.place [] t.text) []) else
+    when t is K.KwTrue then (next λ t. good (node [] T.Boolean t.place (byte 1 ∷ []) []) []) else
+    when t is K.KwFalse then (next λ t. good (node [] T.Boolean t.place (byte 0 ∷ []) []) []) else
+    when t is K.LParen then parse_group else
     (next λ t.
-    if t is K.End then raise (error E.ExpressionAtEnd nowhere 0 0) else
+    when t is K.End then raise (error E.ExpressionAtEnd nowhere 0 0) else
     raise (error E.Expression t.place 0 t.kind))
 
 -- parse_field_access_or_index
@@ -225,13 +225,13 @@ parse_field_access_or_index = parse_atom >>? λ e. loop (Suffixes e) done
 unfoldable pub suffixes_turn : Fallible Node → Act (Ans Node)
 suffixes_turn e =
     peek λ t.
-    if t is K.Dot then
+    when t is K.Dot then
     (next λ op. next λ n.
-    if n is K.End then panic else
-    if n is K.Identifier then loop (Suffixes (wrap T.FieldAccess op.place n.text e)) done else
+    when n is K.End then panic else
+    when n is K.Identifier then loop (Suffixes (wrap T.FieldAccess op.place n.text e)) done else
     (let x = error E.Identifier n.place 0 0 in make x (good e.item (e.errors ++ (x ∷ []))))) else
-    if t is K.DotStar then (next λ op. loop (Suffixes (wrap T.PointerDereference op.place [] e)) done) else
-    if t is K.LBracket then
+    when t is K.DotStar then (next λ op. loop (Suffixes (wrap T.PointerDereference op.place [] e)) done) else
+    when t is K.LBracket then
     (next λ op. parse_expression >>? λ i. expect K.RBracket >>? λ _.
     loop (Suffixes (binary T.Index [] op.place e i)) done) else
     done (ok e)
@@ -239,7 +239,7 @@ suffixes_turn e =
 unfoldable pub parse_sizeof : Act (Ans Node)
 parse_sizeof =
     peek λ t.
-    if t is K.KwSizeof then
+    when t is K.KwSizeof then
     (next λ op. expect K.LParen >>? λ _. parse_type >>? λ ty. expect K.RParen >>? λ _.
     good (node ty.item.recs T.Sizeof op.place [] []) ty.errors) else
     parse_field_access_or_index
@@ -249,7 +249,7 @@ unfoldable pub parse_call : Act (Ans Node)
 parse_call =
     parse_sizeof >>? λ e.
     peek λ t.
-    if t is K.LParen then
+    when t is K.LParen then
     (parse_list Arguments >>= λ i.
     good (node (e.item.recs ++ i.recs) T.Call e.item.place (two i.count ∷ []) []) e.errors) else
     done (ok e)
@@ -260,10 +260,10 @@ prefix tag = next λ _. parse_unary >>? λ e. done (ok (wrap tag e.item.place []
 unfoldable pub unary_rule : Act (Ans Node)
 unary_rule =
     peek λ t.
-    if t is K.Ampersand then prefix T.PointerTake else
-    if t is K.Star then prefix T.PointerDereference else
-    if t is K.Tilde then prefix T.BitwiseNot else
-    if t is K.Bang then prefix T.BooleanNot else
+    when t is K.Ampersand then prefix T.PointerTake else
+    when t is K.Star then prefix T.PointerDereference else
+    when t is K.Tilde then prefix T.BitwiseNot else
+    when t is K.Bang then prefix T.BooleanNot else
     parse_call
 
 unfoldable pub parse_cast : Act (Ans Node)
@@ -272,7 +272,7 @@ parse_cast = parse_unary >>? λ e. loop (Casts e) done
 unfoldable pub casts_turn : Fallible Node → Act (Ans Node)
 casts_turn e =
     peek λ t.
-    if t is K.KwAs then (next λ op. parse_type >>? λ ty. loop (Casts (binary T.Cast [] op.place e ty)) done) else
+    when t is K.KwAs then (next λ op. parse_type >>? λ ty. loop (Casts (binary T.Cast [] op.place e ty)) done) else
     done (ok e)
 
 -- the kind of an operator's token, and its position in the Rust's enum
@@ -294,7 +294,7 @@ mapping Mul = on K.Star 2 ∷ []
 -- if the token is one of the operators, continues with its number
 abbrev pub find : {A : Type 0} → Tok → List Op → (ℕ → Act A) → Act A → Act A
 find t [] found other = other
-find t (o ∷ os) found other = if t is o.kind then found o.op else find t os found other
+find t (o ∷ os) found other = when t is o.kind then found o.op else find t os found other
 
 unfoldable pub parse_mul : Act (Ans Node)
 parse_mul = parse_cast >>? λ e. loop (Operators Mul e) done
@@ -346,7 +346,7 @@ unfoldable pub expression_rule : Act (Ans Node)
 expression_rule =
     parse_comparison >>? λ e.
     peek λ t.
-    if t is K.DoubleAmpersand then
+    when t is K.DoubleAmpersand then
     (next λ op. parse_comparison >>? λ r. done (ok (binary T.BooleanAnd [] op.place e r))) else
     done (ok e)
 
@@ -356,11 +356,11 @@ unfoldable pub parse_compound : Act (Ans Node)
 parse_compound =
     expect K.Hash >>? λ _.
     peek λ t.
-    if t is K.End then raise (error E.CompoundAtEnd nowhere 0 0) else
-    if t is K.LBracket then
+    when t is K.End then raise (error E.CompoundAtEnd nowhere 0 0) else
+    when t is K.LBracket then
     (parse_list ArrayValues >>= λ i.
     good (node i.recs T.CompoundArray t.place (two i.count ∷ []) []) i.errors) else
-    if t is K.LBrace then
+    when t is K.LBrace then
     (parse_list StructValues >>= λ i.
     good (node i.recs T.CompoundStruct t.place (two i.count ∷ []) []) i.errors) else
     raise (error E.Compound t.place 0 t.kind)
@@ -373,9 +373,9 @@ unfoldable pub parse_var_like_declaration : Act (Ans Typed)
 parse_var_like_declaration =
     parse_typed_identifier >>? λ x.
     peek λ t.
-    if t is K.Equals then
+    when t is K.Equals then
     (next λ _. parse_expression >>? λ e. declared x (bare e.item.recs T.AssignedValue []) e.errors) else
-    if t is K.LArrow then
+    when t is K.LArrow then
     (next λ _. parse_compound >>? λ c. declared x (bare c.item.recs T.CompoundValue []) c.errors) else
     declared x (bare [] T.NoValue []) []
 
@@ -399,14 +399,14 @@ parse_body = expect K.LBrace >>= λ a. statements a
 unfoldable pub body_turn : Items → Act Items
 body_turn i =
     peek λ t.
-    if t is K.RBrace then (next λ _. done i) else
-    if t is K.End then (let e = error E.BodyAtEnd nowhere 0 0 in make e (done (with_error i e))) else
+    when t is K.RBrace then (next λ _. done i) else
+    when t is K.End then (let e = error E.BodyAtEnd nowhere 0 0 in make e (done (with_error i e))) else
     call Statement λ a. loop (Body (integrate i a)) done
 
 unfoldable pub parse_return : Place → Act (Ans Node)
 parse_return p =
     peek λ t.
-    if t is K.Semicolon then (next λ _. good (node [] T.Return p (byte 0 ∷ []) []) []) else
+    when t is K.Semicolon then (next λ _. good (node [] T.Return p (byte 0 ∷ []) []) []) else
     (parse_expression >>? λ e. expect K.Semicolon >>? λ _.
     good (node e.item.recs T.Return p (byte 1 ∷ []) []) e.errors)
 
@@ -415,7 +415,7 @@ parse_if p =
     parse_expression >>? λ c.
     parse_statement >>? λ a.
     peek λ t.
-    if t is K.KwElse then
+    when t is K.KwElse then
     (next λ _. parse_statement >>? λ b.
     good (node (c.item.recs ++ a.item.recs ++ b.item.recs) T.If p (byte 3 ∷ []) [])
     (c.errors ++ a.errors ++ b.errors)) else
@@ -425,10 +425,10 @@ parse_if p =
 unfoldable pub after_expression : Place → Node → Act (Ans Node)
 after_expression p e =
     peek λ t.
-    if t is K.Equals then
+    when t is K.Equals then
     (next λ _. parse_expression >>? λ v. expect K.Semicolon >>? λ _.
     good (node (e.recs ++ v.item.recs) T.Assignment p [] []) v.errors) else
-    if t is K.LArrow then
+    when t is K.LArrow then
     (next λ _. parse_compound >>? λ v. expect K.Semicolon >>? λ _.
     good (node (e.recs ++ v.item.recs) T.CompoundAssignment p [] []) v.errors) else
     (expect K.Semicolon >>? λ _. good (node e.recs T.Expression p [] []) [])
@@ -441,23 +441,23 @@ is_empty (e ∷ es) = false
 unfoldable pub expression_statement : Place → Act (Ans Node)
 expression_statement p =
     parse_expression >>? λ e.
-    if is_empty e.errors then after_expression p e.item else
+    when is_empty e.errors then after_expression p e.item else
     done (ok (wrap T.Expression p [] e))
 
 unfoldable pub statement_rule : Act (Ans Node)
 statement_rule =
     peek λ t.
-    if t is K.KwReturn then (next λ _. parse_return t.place) else
-    if t is K.KwVar then (next λ _. declaration T.VariableDeclaration t.place) else
-    if t is K.LBrace then
+    when t is K.KwReturn then (next λ _. parse_return t.place) else
+    when t is K.KwVar then (next λ _. declaration T.VariableDeclaration t.place) else
+    when t is K.LBrace then
     (parse_body >>= λ i. good (node i.recs T.Block t.place (two i.count ∷ []) []) i.errors) else
-    if t is K.KwLoop then (next λ _. parse_statement >>? λ b. done (ok (wrap T.Loop t.place [] b))) else
-    if t is K.KwWhile then
+    when t is K.KwLoop then (next λ _. parse_statement >>? λ b. done (ok (wrap T.Loop t.place [] b))) else
+    when t is K.KwWhile then
     (next λ _. parse_expression >>? λ c. parse_statement >>? λ b. done (ok (binary T.While [] t.place c b))) else
-    if t is K.KwBreak then (next λ _. expect K.Semicolon >>? λ _. good (node [] T.Break t.place [] []) []) else
-    if t is K.KwIf then (next λ _. parse_if t.place) else
-    if t is K.InlineAssemblyFragment then (next λ _. good (node [] T.InlineAssembly t.place [] t.text) []) else
-    if t is K.End then raise (error E.StatementAtEnd nowhere 0 0) else
+    when t is K.KwBreak then (next λ _. expect K.Semicolon >>? λ _. good (node [] T.Break t.place [] []) []) else
+    when t is K.KwIf then (next λ _. parse_if t.place) else
+    when t is K.InlineAssemblyFragment then (next λ _. good (node [] T.InlineAssembly t.place [] t.text) []) else
+    when t is K.End then raise (error E.StatementAtEnd nowhere 0 0) else
     expression_statement t.place
 
 -- ---- the items of a module
@@ -465,7 +465,7 @@ statement_rule =
 -- errors are reported in this order: body, return type, parameters
 unfoldable pub function_body : Place → ℕ → Tok → Items → Fallible Node → Act (Ans Node)
 function_body p external name ps r =
-    if leb 1 external then
+    when leb 1 external then
     (expect K.Semicolon >>? λ _.
     good (node (ps.recs ++ r.item.recs) T.FunctionDefinition p (byte 1 ∷ two ps.count ∷ []) name.text)
     (r.errors ++ ps.errors)) else
@@ -481,28 +481,28 @@ function p external =
     expect_identifier >>? λ name.
     parse_list Parameters >>= λ ps.
     peek λ t.
-    if t is K.RArrow then (next λ _. parse_type >>? λ r. function_body p external name.item ps r) else
+    when t is K.RArrow then (next λ _. parse_type >>? λ r. function_body p external name.item ps r) else
     function_body p external name.item ps (record { item = node [] T.Void p [] []; errors = [] })
 
 unfoldable pub parse_function_definition : Act (Ans Node)
 parse_function_definition =
     peek λ t.
-    if t is K.KwExtern then (next λ _. function t.place 1) else
+    when t is K.KwExtern then (next λ _. function t.place 1) else
     function t.place 0
 
 unfoldable pub modifiers_turn : Words → Act Words
 modifiers_turn w =
     peek λ t.
-    if t is K.KwDistinct then (next λ _. loop (Modifiers (record { distinct = 1; internal = w.internal })) done) else
-    if t is K.KwInternal then (next λ _. loop (Modifiers (record { distinct = w.distinct; internal = 2 })) done) else
+    when t is K.KwDistinct then (next λ _. loop (Modifiers (record { distinct = 1; internal = w.internal })) done) else
+    when t is K.KwInternal then (next λ _. loop (Modifiers (record { distinct = w.distinct; internal = 2 })) done) else
     done w
 
 -- an alias after `type`
 unfoldable pub alias_rule : ℕ → Place → Act (Ans Node)
 alias_rule words p =
     next λ n.
-    if n is K.End then panic else
-    if not (n is K.Identifier) then raise (error E.NameAfterType n.place 0 0) else
+    when n is K.End then panic else
+    when not (n is K.Identifier) then raise (error E.NameAfterType n.place 0 0) else
     (expect K.Equals >>? λ _.
     parse_type >>? λ ty.
     expect K.Semicolon >>? λ _.
@@ -519,8 +519,8 @@ parse_type_alias =
 unfoldable pub path_rule : Place → Act (Ans Node)
 path_rule p =
     next λ n.
-    if n is K.End then panic else
-    if not (n is K.String) then raise (error E.PathAfterUse n.place 0 0) else
+    when n is K.End then panic else
+    when not (n is K.String) then raise (error E.PathAfterUse n.place 0 0) else
     (expect K.Semicolon >>? λ _.
     good (node [] T.Use p [] n.text) [])
 
@@ -533,17 +533,17 @@ parse_top_level_var_declaration = peek λ t. expect K.KwVar >>? λ _. declaratio
 unfoldable pub parse_top_level_item : Act (Ans Node)
 parse_top_level_item =
     peek λ t.
-    if t is K.KwFn || t is K.KwExtern then parse_function_definition else
-    if t is K.KwType || t is K.KwDistinct || t is K.KwInternal then parse_type_alias else
-    if t is K.KwUse then parse_use else
-    if t is K.KwVar then parse_top_level_var_declaration else
-    if t is K.InlineAssemblyFragment then (next λ t. good (node [] T.TopLevelAssembly t.place [] t.text) []) else
+    when t is K.KwFn || t is K.KwExtern then parse_function_definition else
+    when t is K.KwType || t is K.KwDistinct || t is K.KwInternal then parse_type_alias else
+    when t is K.KwUse then parse_use else
+    when t is K.KwVar then parse_top_level_var_declaration else
+    when t is K.InlineAssemblyFragment then (next λ t. good (node [] T.TopLevelAssembly t.place [] t.text) []) else
     (next λ t. raise (error E.TopLevel t.place 0 t.kind))
 
 unfoldable pub module_turn : Items → Act Items
 module_turn i =
     peek λ t.
-    if t is K.End then done i else
+    when t is K.End then done i else
     (parse_top_level_item >>= λ a. loop (Module (integrate i a)) done)
 
 -- ---- the whole parser

@@ -103,7 +103,7 @@ module _ {w x : List ℕ} {n d : ℕ} {o r f : List ℕ} {s : State} {t : Token}
 -- the arguments and the record of a call, if `(` follows
 abbrev pub call_on : Fallible Node → Act (Ans Node)
 call_on e =
-    A.peek λ t. A.if◌then◌else◌ (t is K.LParen) (P.parse_list Arguments >>= λ i. P.good
+    A.peek λ t. A.when◌then◌else◌ (t is K.LParen) (P.parse_list Arguments >>= λ i. P.good
     (P.node (e.item.recs ++ i.recs) 0x24 e.item.place (two i.count ∷ []) []) e.errors)
     (done (ok e))
 

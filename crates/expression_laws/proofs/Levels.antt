@@ -34,7 +34,7 @@ use Rattle.expression_laws.proofs.Joins.{then_asked, goes_none, goes_joined, goe
 
 abbrev pub and_on : Fallible Node → Act (Ans Node)
 and_on e =
-    A.peek λ t. A.if◌then◌else◌ (t is K.DoubleAmpersand)
+    A.peek λ t. A.when◌then◌else◌ (t is K.DoubleAmpersand)
     (next λ op. P.parse_comparison >>? λ r. done (ok (P.binary 0x2C [] op.place e r))) (done (ok e))
 
 abbrev compared : Fallible Node → ℕ → Act (Ans Node)

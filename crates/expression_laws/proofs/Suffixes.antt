@@ -44,8 +44,8 @@ past_two w x n at next rd = past w x n next (past w x n at rd)
 -- the continuation after the dot, whose place is p
 abbrev dotted : Place → Fallible Node → Tok → Act (Ans Node)
 dotted p e n =
-    Act.if◌then◌else◌ (n is K.End) Act.panic
-    (Act.if◌then◌else◌ (n is K.Identifier) (suffixes_on (P.wrap 0x29 p n.text e))
+    Act.when◌then◌else◌ (n is K.End) Act.panic
+    (Act.when◌then◌else◌ (n is K.Identifier) (suffixes_on (P.wrap 0x29 p n.text e))
     (Act.make (P.error 4 n.place 0 0) (P.good e.item (e.errors ++ (P.error 4 n.place 0 0 ∷ [])))))
 
 dot_step : {w : List ℕ} {n : ℕ} {t : Token} (d : ℕ) (f : List ℕ) (s : State) → Seen w n s.at t → t.kind ≡ 34

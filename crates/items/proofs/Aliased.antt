@@ -14,7 +14,7 @@ use Rattle.definition.specs.Fallible.{Err, Fallible, Ans}
 use Rattle.definition.specs.Kind as K
 use Rattle.definition.specs.Token.{Tok, next_token, ◌is◌}
 use Rattle.definition.specs.Act as A
-use Rattle.definition.specs.Act.{Act, done, loop, Loop, Left, Modifiers, next, panic, if◌then◌else◌, Node, Consumed, plain, St, Res, after, or_return, run, ◌>>=◌, ◌>>?◌}
+use Rattle.definition.specs.Act.{Act, done, loop, Loop, Left, Modifiers, next, panic, when◌then◌else◌, Node, Consumed, plain, St, Res, after, or_return, run, ◌>>=◌, ◌>>?◌}
 use Rattle.definition.specs.Parser as P
 use Rattle.definition.specs.Go.{go}
 use Rattle.definition.specs.Places.{unpack_place}
@@ -116,7 +116,7 @@ module _ {w x : List ℕ} {n d k : ℕ} {o r f r1 f1 : List ℕ} {s : State} {a 
 -- ---- the token that names the construct: the end is refused, another token is an error
 
 abbrev by : ℕ → ℕ → (Tok → Act (Ans Node)) → Act (Ans Node)
-by k e m = next λ n. if◌then◌else◌ (n is K.End) panic (if◌then◌else◌ (not (n is k)) (P.raise (P.error e n.place 0 0)) (m n))
+by k e m = next λ n. when◌then◌else◌ (n is K.End) panic (when◌then◌else◌ (not (n is k)) (P.raise (P.error e n.place 0 0)) (m n))
 
 module _ (d k number : ℕ) (m : Tok → Act (Ans Node)) {w x : List ℕ} {n : ℕ} {o r f : List ℕ} {s : State}
     {t : Token} (q : Asked w x n o r f s) (u : Seen w n s.at t) where

@@ -12,7 +12,7 @@ use Rattle.definition.specs.Fallible.{Err, Fallible, Ans, ok, fatal}
 use Rattle.definition.specs.Kind as K
 use Rattle.definition.specs.Token.{Tok, next_token, ◌is◌}
 use Rattle.definition.specs.Act as A
-use Rattle.definition.specs.Act.{Act, Items, Node, peek, next, if◌then◌else◌, plain, St, Res, gives, refused, after, or_return, advance, run, ◌>>=◌, ◌>>?◌}
+use Rattle.definition.specs.Act.{Act, Items, Node, peek, next, when◌then◌else◌, plain, St, Res, gives, refused, after, or_return, advance, run, ◌>>=◌, ◌>>?◌}
 use Rattle.definition.specs.Parser as P
 use Rattle.definition.specs.Parser.{parse}
 use Rattle.definition.specs.Go.{go}
@@ -255,7 +255,7 @@ void_at p = record { item = P.node [] 0x11 p [] []; errors = [] }
 -- the continuation after the parameters
 abbrev returning : Place → ℕ → Tok → Items → Act (Ans Node)
 returning p external name ps =
-    peek λ t. if◌then◌else◌ (t is K.RArrow)
+    peek λ t. when◌then◌else◌ (t is K.RArrow)
     (next λ _. P.parse_type >>? λ r. P.function_body p external name ps r)
     (P.function_body p external name ps (void_at p))
 
@@ -282,10 +282,10 @@ module _ (d : ℕ) (p : Place) (external : ℕ) (name : Tok) where
 
   -- with a return type or without
   arrowed : (ps : Items) (S : St) (t : Bool)
-      → go d (if◌then◌else◌ t (next λ _. P.parse_type >>? λ r. P.function_body p external name ps r)
+      → go d (when◌then◌else◌ t (next λ _. P.parse_type >>? λ r. P.function_body p external name ps r)
       (P.function_body p external name ps (void_at p))) S
       ≡ after
-      (go d (if◌then◌else◌ t (next λ _. P.parse_type) (P.good (P.node [] 0x11 p [] []) []) >>? λ r. as_answer
+      (go d (when◌then◌else◌ t (next λ _. P.parse_type) (P.good (P.node [] 0x11 p [] []) []) >>? λ r. as_answer
       (signed ps r)) S) (λ z S. go d (or_return (function_on p external name) z) S)
   unfolding go run ◌>>=◌
   arrowed ps S true = typed_body ps (parse d A.Type' (advance (λ _. plain) S))

@@ -7,14 +7,14 @@ use Rattle.definition.specs.Fallible.{Fallible, Ans}
 use Rattle.definition.specs.Kind as K
 use Rattle.definition.specs.Token.{Tok, ◌is◌}
 use Rattle.definition.specs.Act as A
-use Rattle.definition.specs.Act.{Items, Node, Act, done, peek, next, loop, if◌then◌else◌, ◌>>=◌, ◌>>?◌}
+use Rattle.definition.specs.Act.{Items, Node, Act, done, peek, next, loop, when◌then◌else◌, ◌>>=◌, ◌>>?◌}
 use Rattle.definition.specs.Parser as P
 unfoldable pub use Rattle.definition.specs.Parser.{alias_rule, path_rule}
 use Rattle.expression_laws.specs.Post.{as_answer}
 
 -- the return type of a function at the place p
 abbrev pub return_rule : Place → Act (Ans Node)
-return_rule p = peek λ t. if t is K.RArrow then (next λ _. P.parse_type) else P.good (P.node [] Tag.Void p [] []) []
+return_rule p = peek λ t. when t is K.RArrow then (next λ _. P.parse_type) else P.good (P.node [] Tag.Void p [] []) []
 
 -- the parameters and the return type: the records in reading order, the errors of the type first
 abbrev pub signed : Items → Fallible Node → Items
@@ -29,7 +29,7 @@ signature_rule p =
 -- the body, and the record of the function
 abbrev pub function_on : Place → ℕ → Tok → Fallible Items → Act (Ans Node)
 function_on p external name x =
-    if leb 1 external then
+    when leb 1 external then
     (P.expect K.Semicolon >>? λ _.
     P.good (P.node x.item.recs Tag.FunctionDefinition p (byte 1 ∷ two x.item.count ∷ []) name.text) x.errors) else
     (P.parse_body >>= λ b.

@@ -8,7 +8,7 @@ use lib.ListN.{length, take, length-append}
 use lib.Seq.{length-take-le}
 use Rattle.definition.specs.Source.{Place}
 use Rattle.definition.specs.Fallible.{Err, Fallible, Ans, ok}
-use Rattle.definition.specs.Act.{Act, done, if◌then◌else◌, Node, Consumed, plain, St, gives, or_return, run, ◌>>?◌}
+use Rattle.definition.specs.Act.{Act, done, when◌then◌else◌, Node, Consumed, plain, St, gives, or_return, run, ◌>>?◌}
 use Rattle.definition.specs.Parser as P
 use Rattle.definition.specs.Go.{go}
 use Rattle.definition.specs.Places.{unpack_place}
@@ -191,7 +191,7 @@ is_none (e ∷ es) h = absurd (omega arith)
 
 -- the continuation after the expression
 abbrev on : Place → Fallible Node → Act (Ans Node)
-on p e = if◌then◌else◌ (P.is_empty e.errors) (P.after_expression p e.item) (done (ok (P.wrap 0x41 p [] e)))
+on p e = when◌then◌else◌ (P.is_empty e.errors) (P.after_expression p e.item) (done (ok (P.wrap 0x41 p [] e)))
 
 module _ {w x : List ℕ} {n d : ℕ} {o r f o1 r1 f1 : List ℕ} {s : State} {a : Answer} (q : Asked w x n o r f s)
     (B : Reads node w x n d P.parse_expression o r f s o1 r1 f1 a) where

@@ -12,7 +12,7 @@ use Rattle.definition.specs.Node.{two}
 use Rattle.definition.specs.Fallible.{Err, Fallible, Ans}
 use Rattle.definition.specs.Token.{next_token}
 use Rattle.definition.specs.Act as A
-use Rattle.definition.specs.Act.{Act, Node, peek, if◌then◌else◌, plain, Consumed, Res, after, or_return, run, ◌>>?◌}
+use Rattle.definition.specs.Act.{Act, Node, peek, when◌then◌else◌, plain, Consumed, Res, after, or_return, run, ◌>>?◌}
 use Rattle.definition.specs.Parser as P
 use Rattle.definition.specs.Go.{go}
 use Rattle.definition.specs.Places.{unpack_place}
@@ -79,9 +79,9 @@ module _ {w x : List ℕ} {n d : ℕ} {o r f o1 r1 f1 o2 : List ℕ} {s : State}
 abbrev pub hashed : Act (Ans Node)
 hashed =
     peek λ t.
-    if◌then◌else◌ (eqb t.kind 0) (P.raise (P.error 18 nowhere 0 0))
-    (if◌then◌else◌ (eqb t.kind 43) (values_rule A.ArrayValues 0x30 t.place)
-    (if◌then◌else◌ (eqb t.kind 39) (values_rule A.StructValues 0x31 t.place)
+    when◌then◌else◌ (eqb t.kind 0) (P.raise (P.error 18 nowhere 0 0))
+    (when◌then◌else◌ (eqb t.kind 43) (values_rule A.ArrayValues 0x30 t.place)
+    (when◌then◌else◌ (eqb t.kind 39) (values_rule A.StructValues 0x31 t.place)
     (P.raise (P.error 19 t.place 0 t.kind))))
 
 module _ {w x : List ℕ} {n d : ℕ} {o r f r1 f1 : List ℕ} {s : State} {a : Answer}

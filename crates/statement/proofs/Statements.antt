@@ -12,7 +12,7 @@ use Rattle.definition.specs.Node.{byte, two, recs_bytes}
 use Rattle.definition.specs.Fallible.{Err, Fallible, Ans, ok, fatal}
 use Rattle.definition.specs.Kind as K
 use Rattle.definition.specs.Token.{Tok, next_token, ◌is◌}
-use Rattle.definition.specs.Act.{Act, done, peek, next, if◌then◌else◌, Node, Consumed, plain, St, Res, gives, refused, after, or_return, run, advance, ◌>>=◌, ◌>>?◌}
+use Rattle.definition.specs.Act.{Act, done, peek, next, when◌then◌else◌, Node, Consumed, plain, St, Res, gives, refused, after, or_return, run, advance, ◌>>=◌, ◌>>?◌}
 use Rattle.definition.specs.Parser as P
 use Rattle.definition.specs.Go.{go}
 use Rattle.definition.specs.Places.{unpack_place}
@@ -208,14 +208,14 @@ joins {T} {E} {w} {x} {n} {o} {r} {f} {c} {q} d y v = record { told = one c.stat
 -- `else` and its statement, if it follows; then the record
 abbrev pub else_on : Place → Fallible Node → Act (Ans Node)
 else_on p e =
-    peek λ t. if◌then◌else◌ (t is K.KwElse) (next λ _. P.parse_statement >>? λ b. P.good
+    peek λ t. when◌then◌else◌ (t is K.KwElse) (next λ _. P.parse_statement >>? λ b. P.good
     (P.node (e.item.recs ++ b.item.recs) 0x49 p (byte 3 ∷ []) []) (e.errors ++ b.errors))
     (P.good (P.node e.item.recs 0x49 p (byte 2 ∷ []) []) e.errors)
 
 abbrev if_parts : Place → Fallible Node → Fallible Node → Act (Ans Node)
 if_parts p c a =
     peek λ t.
-    if◌then◌else◌ (t is K.KwElse)
+    when◌then◌else◌ (t is K.KwElse)
     (next λ _. P.parse_statement >>? λ b. P.good
     (P.node (c.item.recs ++ a.item.recs ++ b.item.recs) 0x49 p (byte 3 ∷ []) [])
     (c.errors ++ a.errors ++ b.errors))

@@ -7,7 +7,7 @@ use Rattle.definition.specs.Fallible.{Fallible, Ans}
 use Rattle.definition.specs.Kind as K
 use Rattle.definition.specs.Token.{◌is◌}
 use Rattle.definition.specs.Act as A
-use Rattle.definition.specs.Act.{Node, Act, peek, next, if◌then◌else◌, ◌>>=◌, ◌>>?◌}
+use Rattle.definition.specs.Act.{Node, Act, peek, next, when◌then◌else◌, ◌>>=◌, ◌>>?◌}
 use Rattle.definition.specs.Parser as P
 
 -- the values of a compound, and its record
@@ -18,8 +18,8 @@ values_rule k tag p = P.parse_list k >>= λ i. P.good (P.node i.recs tag p (two 
 abbrev pub value_on : Fallible P.Typed → Act (Ans P.Typed)
 value_on x =
     peek λ t.
-    if t is K.Equals then (next λ _. P.parse_expression >>? λ e. P.declared x (P.bare e.item.recs Tag.AssignedValue []) e.errors) else
-    if t is K.LArrow then (next λ _. P.parse_compound >>? λ c. P.declared x (P.bare c.item.recs Tag.CompoundValue []) c.errors) else
+    when t is K.Equals then (next λ _. P.parse_expression >>? λ e. P.declared x (P.bare e.item.recs Tag.AssignedValue []) e.errors) else
+    when t is K.LArrow then (next λ _. P.parse_compound >>? λ c. P.declared x (P.bare c.item.recs Tag.CompoundValue []) c.errors) else
     P.declared x (P.bare [] Tag.NoValue []) []
 
 -- a condition and the statement it guards, without a record of their own
