@@ -1,4 +1,4 @@
-use Rattle.std.proofs.Common.{arith, ◌≡◌, ◌≤◌, length}
+use Rattle.std.proofs.Common.{arith}
 use Rattle.delta_null.proofs.Fits.{file_fits, file_length}
 use Rattle.delta_null.proofs.main.Goals as goal
 
