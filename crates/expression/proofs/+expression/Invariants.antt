@@ -85,31 +85,42 @@ abbrev pub decreases-unary : goal.decreases-unary
 decreases-unary l = 32 * (l.n - l.st.at) + 10
 
 abbrev pub invariant-access-loop-a : goal.invariant-access-loop-a
-invariant-access-loop-a l = GoesTurned suffixes_on l.tokens l.text l.n l.nesting l.st.pos l.st.reported l.initial.file l.initial.reported l.initial.full l.initial.a l.file l.reported l.full l.a
+invariant-access-loop-a l =
+    GoesTurned suffixes_on l.tokens l.text l.n l.nesting l.st.pos l.st.reported l.initial.file
+    l.initial.reported l.initial.full l.initial.a l.file l.reported l.full l.a
 
 abbrev pub decreases-access-loop-a : goal.decreases-access-loop-a
 decreases-access-loop-a l = l.n - l.a.state.at
 
 abbrev pub invariant-bit_or-loop-k : goal.invariant-bit_or-loop-k
-invariant-bit_or-loop-k l = Levelled l.tokens l.text l.n l.nesting l.st l.initial.file l.initial.reported l.initial.full l.initial.a l.file l.reported l.full l.a l.k
+invariant-bit_or-loop-k l =
+    Levelled l.tokens l.text l.n l.nesting l.st l.initial.file l.initial.reported l.initial.full l.initial.a
+    l.file l.reported l.full l.a l.k
 
 abbrev pub decreases-bit_or-loop-k : goal.decreases-bit_or-loop-k
 decreases-bit_or-loop-k l = 6 - l.k
 
 abbrev pub invariant-cast-loop-a : goal.invariant-cast-loop-a
-invariant-cast-loop-a l = GoesTurned casts_on l.tokens l.text l.n l.nesting l.st.pos l.st.reported l.initial.file l.initial.reported l.initial.full l.initial.a l.file l.reported l.full l.a
+invariant-cast-loop-a l =
+    GoesTurned casts_on l.tokens l.text l.n l.nesting l.st.pos l.st.reported l.initial.file l.initial.reported
+    l.initial.full l.initial.a l.file l.reported l.full l.a
 
 abbrev pub decreases-cast-loop-a : goal.decreases-cast-loop-a
 decreases-cast-loop-a l = l.n - l.a.state.at
 
 abbrev pub invariant-list-loop-what : goal.invariant-list-loop-what
-invariant-list-loop-what l = ItemsTurned (LoopOn (listed_on (listed_of l.what)) l.tokens l.text l.n l.nesting) l.tokens l.text l.n l.initial.count l.initial.file l.initial.reported l.initial.full l.initial.s l.count l.file l.reported l.full l.s
+invariant-list-loop-what l =
+    ItemsTurned (LoopOn (listed_on (listed_of l.what)) l.tokens l.text l.n l.nesting) l.tokens l.text l.n
+    l.initial.count l.initial.file l.initial.reported l.initial.full l.initial.s l.count l.file l.reported
+    l.full l.s
 
 abbrev pub decreases-list-loop-what : goal.decreases-list-loop-what
 decreases-list-loop-what l = l.n - l.s.at
 
 abbrev pub invariant-operators-loop-a : goal.invariant-operators-loop-a
-invariant-operators-loop-a l = GoesTurned (operators_on (level_of l.level)) l.tokens l.text l.n l.nesting l.from.pos l.from.reported l.initial.file l.initial.reported l.initial.full l.initial.a l.file l.reported l.full l.a
+invariant-operators-loop-a l =
+    GoesTurned (operators_on (level_of l.level)) l.tokens l.text l.n l.nesting l.from.pos l.from.reported
+    l.initial.file l.initial.reported l.initial.full l.initial.a l.file l.reported l.full l.a
 
 abbrev pub decreases-operators-loop-a : goal.decreases-operators-loop-a
 decreases-operators-loop-a l = l.n - l.a.state.at

@@ -32,7 +32,9 @@ abbrev pub decreases-while_statement : goal.decreases-while_statement
 decreases-while_statement l = 32 * (l.n - l.st.at) + 2
 
 abbrev pub invariant-body_rest-loop-st : goal.invariant-body_rest-loop-st
-invariant-body_rest-loop-st l = ItemsTurned (LoopOn statements_on l.tokens l.text l.n l.nesting) l.tokens l.text l.n l.initial.count l.initial.file l.initial.reported l.initial.full l.initial.st l.count l.file l.reported l.full l.st
+invariant-body_rest-loop-st l =
+    ItemsTurned (LoopOn statements_on l.tokens l.text l.n l.nesting) l.tokens l.text l.n l.initial.count
+    l.initial.file l.initial.reported l.initial.full l.initial.st l.count l.file l.reported l.full l.st
 
 abbrev pub decreases-body_rest-loop-st : goal.decreases-body_rest-loop-st
 decreases-body_rest-loop-st l = l.n - l.st.at

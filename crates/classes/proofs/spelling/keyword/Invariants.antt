@@ -6,7 +6,9 @@ use Rattle.classes.proofs.Choices.{Searching}
 use Rattle.classes.proofs.spelling.keyword.Given as goal
 
 abbrev pub invariant-loop-i : goal.invariant-loop-i
-invariant-loop-i l = Searching (λ k. Z.same l.w (take (8 * k + get_or l.lengths k 0 - 8 * k) (drop (8 * k) l.spelled))) (λ k. 4 + k) 18
+invariant-loop-i l =
+    Searching (λ k. Z.same l.w (take (8 * k + get_or l.lengths k 0 - 8 * k) (drop (8 * k) l.spelled))) (λ k. 4 +
+    k) 18
     (Z.keyword l.w) l.i × (l.i ≤ 18) × (length l.spelled ≡ 144) × (length l.lengths ≡ 18)
     × ((k : ℕ) → get_or l.lengths k 0 ≤ 8)
 

@@ -7,7 +7,8 @@ use Rattle.classes.proofs.Choices.{Searching}
 use Rattle.classes.proofs.spelling.symbol.Given as goal
 
 abbrev pub invariant-loop-i : goal.invariant-loop-i
-invariant-loop-i l = Searching (λ k. eqb l.c (get_or l.spelled k 0)) (λ k. get_or l.kinds k 0) 22 (Z.symbol l.c) l.i × (l.i ≤ 22)
+invariant-loop-i l =
+    Searching (λ k. eqb l.c (get_or l.spelled k 0)) (λ k. get_or l.kinds k 0) 22 (Z.symbol l.c) l.i × (l.i ≤ 22)
     × (length l.spelled ≡ 22) × (length l.kinds ≡ 22)
 
 abbrev pub decreases-loop-i : goal.decreases-loop-i

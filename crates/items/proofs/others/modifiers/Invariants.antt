@@ -4,7 +4,9 @@ use Prim.Native.Nat.{◌-◌, ◌≤◌}
 use Rattle.items.proofs.others.modifiers.Given as goal
 
 abbrev pub invariant-loop-distinct : goal.invariant-loop-distinct
-invariant-loop-distinct l = ((l.at ≤ l.n) × ((l.distinct ≤ 1) × (l.internal ≤ 2))) × ((m : AliasWords) → Modified l.tokens l.n l.distinct l.internal l.at m → Modified l.tokens l.n 0 0 l.from m)
+invariant-loop-distinct l =
+    ((l.at ≤ l.n) × ((l.distinct ≤ 1) × (l.internal ≤ 2))) × ((m : AliasWords) → Modified l.tokens l.n
+    l.distinct l.internal l.at m → Modified l.tokens l.n 0 0 l.from m)
 
 abbrev pub decreases-loop-distinct : goal.decreases-loop-distinct
 decreases-loop-distinct l = l.n - l.at
