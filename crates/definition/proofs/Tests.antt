@@ -1,6 +1,5 @@
 -- Laws about `&&`, `||`, `between`, the kind of a token, a choice by a test, predicates on all entries of a list, and
 -- tests of all entries or of all numbers below a bound. Assumes nothing.
--- The first two imports are only checked: if a definition is misread, they fail before any proof.
 use mathlib.Core.Path.{◌≡◌, refl, sym, subst}
 use mathlib.Core.Bool.{Bool, true, false, ◌&&◌, ◌||◌}
 use mathlib.Core.List.{List, [], ◌∷◌, ◌++◌}
