@@ -1,5 +1,8 @@
 -- Laws about `&&`, `||`, `between`, the kind of a token, a choice by a test, predicates on all entries of a list, and
 -- tests of all entries or of all numbers below a bound. Assumes nothing.
+-- The first two lines are only checked: if a definition is misread, they fail before any proof.
+pub use Rattle.definition.specs.Table.{holds}
+pub use Rattle.definition.proofs.Readings.{unsorted}
 use mathlib.Core.Path.{◌≡◌, refl, sym, subst}
 use mathlib.Core.Bool.{Bool, true, false, ◌&&◌, ◌||◌}
 use mathlib.Core.List.{List, [], ◌∷◌, ◌++◌}

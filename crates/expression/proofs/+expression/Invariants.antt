@@ -3,7 +3,6 @@ use Rattle.expression_laws.proofs.Turns.{GoesTurned, ItemsTurned}
 use Prim.Native.Nat.{◌-◌, ◌+◌, ◌*◌}
 use Rattle.expression_laws.proofs.Levels.{Levelled}
 use Rattle.leaves.specs.Leaves.{listed_of, level_of}
-use Rattle.definition.specs.Parser as P
 use Rattle.expression.proofs.+expression.Given as goal
 
 abbrev pub decreases-access : goal.decreases-access
