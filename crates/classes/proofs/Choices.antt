@@ -1,19 +1,21 @@
--- Laws of a choice by several tests in turn, and of a table that is searched from its first entry. Assumes nothing.
+-- Laws of a choice by several tests in turn, and of the class of a character. Assumes nothing.
 use mathlib.Core.Path.{◌≡◌, refl, sym, ap, ◌∙◌}
 use mathlib.Core.Bool.{Bool, true, false, ◌&&◌}
-use mathlib.Core.List.{List, [], ◌∷◌}
-use Prim.Native.Nat.{ℕ, zero, suc, ◌+◌, ◌<◌, ◌≤◌}
-use native.Mathlib.Numerals.{add-one}
+use Prim.Native.Nat.{ℕ, ◌<◌, ◌≤◌}
 use native.Mathlib.Omega.{arith}
-use borrow.Author.Tests.{leb-true, eqb-true, lt-ltb, le-ltb, lt-leb, ne_eqb}
+use borrow.Author.Tests.{leb-true, eqb-true, le-leb, le-ltb, lt-leb, ne_eqb}
 use lib.Dec.{eqb, leb, ltb}
-use lib.ListN.{get_or}
 use Rattle.definition.specs.Ascii.{char}
 use Rattle.definition.specs.Choice.{pick}
 use Rattle.definition.specs.Classes.{between, is_foreign, is_white, is_letter, is_digit}
+use Rattle.std.specs.Prelude.{Option, None, option_map}
 use Rattle.definition.specs.Tokenizer as Z
-use Rattle.definition.proofs.Tests.{clash, left_true, right_true, and_false, either_true, between_bounds}
+use Rattle.definition.specs.Numbers.{kind_number}
+use Rattle.definition.specs.declared.kind.Kind.{Kind}
+use Rattle.definition.proofs.Tests.{clash, and_false, either_true, between_bounds}
 use Rattle.definition.proofs.Formed.{letter_bounds}
+use Rattle.classes.specs.Found.{nonzero}
+use Rattle.classes.proofs.Found.{no_kind}
 
 -- the test holds, or it does not: v is the test as the code computed it
 pub yes : {A : Type 0} (t : Bool) {v : Bool} (a b : A) → v ≡ t → v ≡ true → a ≡ pick t a b
@@ -27,67 +29,6 @@ is t a b e = yes t a b refl e
 
 pub not : {A : Type 0} (t : Bool) (a b : A) {r : A} → t ≡ false → r ≡ b → r ≡ pick t a b
 not t a b e g = no t a b refl e g
-
--- a kind was found, or not
-pub some_kind : {r : ℕ} (n : ℕ) → r ≡ n → 0 < r → ltb 0 n ≡ true
-some_kind n e h = lt-ltb 0 n (omega (arith, e, h))
-
-pub no_kind : {r : ℕ} (n : ℕ) → r ≡ n → r ≤ 0 → ltb 0 n ≡ false
-no_kind n e h = le-ltb 0 n (omega (arith, e, h))
-
--- ---- a table
-
--- of n entries from index i on: the answer of the first whose test holds, or 0
-unfoldable pub found : (ℕ → Bool) → (ℕ → ℕ) → ℕ → ℕ → ℕ
-found t k zero i = 0
-found t k (suc n) i = pick (t i) (k i) (found t k n (suc i))
-
--- the invariant: the search from index i on finds a
-pub record Searching (t : ℕ → Bool) (k : ℕ → ℕ) (n a i : ℕ) : Type 0 where
-  pub left : ℕ
-  pub sum : i + left ≡ n
-  pub is : found t k left i ≡ a
-
-pub searching : {t : ℕ → Bool} {k : ℕ → ℕ} {n a : ℕ} → found t k n 0 ≡ a → Searching t k n a 0
-searching {n = n} e = record { left = n; sum = omega arith; is = e }
-
-module _ {t : ℕ → Bool} {k : ℕ → ℕ} {n a i : ℕ} (q : Searching t k n a i) where
-  pub search_more : i < n → t i ≡ false → Searching t k n a (i + 1)
-  unfolding found
-  search_more h e = go q.left q.sum q.is
-    where
-      go : (m : ℕ) → i + m ≡ n → found t k m i ≡ a → Searching t k n a (i + 1)
-      go zero f g = absurd (omega (arith, f, h))
-      go (suc m) f g = record { left = m; sum = omega (arith, f); is = rw add-one (rw e at g) }
-
-  pub search_found : i < n → t i ≡ true → k i ≡ a
-  unfolding found
-  search_found h e = go q.left q.sum q.is
-    where
-      go : (m : ℕ) → i + m ≡ n → found t k m i ≡ a → k i ≡ a
-      go zero f g = absurd (omega (arith, f, h))
-      go (suc m) f g = rw e at g
-
-  pub search_end : n ≤ i → 0 ≡ a
-  unfolding found
-  search_end h = go q.left q.sum q.is
-    where
-      go : (m : ℕ) → i + m ≡ n → found t k m i ≡ a → 0 ≡ a
-      go zero f g = g
-      go (suc m) f g = absurd (omega (arith, f, h))
-
--- ---- the numbers of a table are at most m
-
-unfoldable pub small : ℕ → List ℕ → Bool
-small m [] = true
-small m (x ∷ xs) = leb x m && small m xs
-
-pub at_most : (m : ℕ) (xs : List ℕ) → small m xs ≡ true → (k : ℕ) → get_or xs k 0 ≤ m
-unfolding small
-at_most m [] e zero = omega arith
-at_most m [] e (suc k) = omega arith
-at_most m (x ∷ xs) e zero = leb-true _ _ (left_true (leb x m) (small m xs) e)
-at_most m (x ∷ xs) e (suc k) = at_most m xs (right_true (leb x m) (small m xs) e) k
 
 -- ---- the class of a character, test by test
 
@@ -107,12 +48,34 @@ pub class_is : (c d : ℕ) →
 unfolding Z.class
 class_is c d = refl
 
+pub no_spelling : (n : ℕ) {o : Option Kind} → option_map kind_number o ≡ nonzero n → o ≡ None → ltb 0 n ≡ false
+no_spelling n e h = ap (ltb 0) (no_kind n e h)
+
 -- a character that is none of these has the class of the tests after them
-pub no_symbol : (c d : ℕ) {p y : ℕ} {u v w : Bool} {r : Z.Class} → v ≡ is_letter c → v ≡ false → w ≡ is_white c → w ≡ false
-    → u ≡ is_foreign c → u ≡ false → (eqb c (char "/") && eqb d (char "/")) ≡ false → p ≡ Z.pair c d → p ≤ 0 → y ≡ Z.symbol c → y ≤ 0
+pub no_symbol : (c d : ℕ) {u v w : Bool} {p y : Option Kind} {r : Z.Class} → v ≡ is_letter c → v ≡ false → w ≡ is_white c → w ≡ false
+    → u ≡ is_foreign c → u ≡ false → (eqb c (char "/") && eqb d (char "/")) ≡ false
+    → option_map kind_number p ≡ nonzero (Z.pair c d) → p ≡ None → option_map kind_number y ≡ nonzero (Z.symbol c) → y ≡ None
     → r ≡ alone c → r ≡ Z.class c d
 no_symbol c d a b e f h n g i j k l m =
-    rw (class_is, sym h ∙ n, sym e ∙ f, g, no_kind (Z.pair c d) i j, no_kind (Z.symbol c) k l, sym a ∙ b) m
+    rw (class_is, sym h ∙ n, sym e ∙ f, g, no_spelling (Z.pair c d) i j, no_spelling (Z.symbol c) k l, sym a ∙ b) m
+
+pub digit_alone : (c : ℕ) → 49 ≤ c → c ≤ 57 → Z.Digit ≡ alone c
+digit_alone c h k =
+    simp (
+      ne_eqb c 34 (λ e. omega arith),
+      ne_eqb c 45 (λ e. omega arith),
+      ne_eqb c 48 (λ e. omega arith),
+      le-leb 48 c (omega arith),
+      le-leb c 57 k,
+    )
+
+pub other_alone : (c : ℕ) → (c ≡ 34 → ⊥) → (c ≡ 45 → ⊥) → (48 ≤ c → c ≤ 57 → ⊥) → Z.Unknown ≡ alone c
+other_alone c q d n = rw (ne_eqb c 34 q, ne_eqb c 45 d, ne_eqb c 48 (λ e. n (omega arith) (omega arith)), apart (leb 48 c) (leb c 57) refl refl)
+  where
+    apart : (t u : Bool) → leb 48 c ≡ t → leb c 57 ≡ u → is_digit c ≡ false
+    apart true true e f = absurd (n (leb-true _ _ e) (leb-true _ _ f))
+    apart true false e f = rw (e, f)
+    apart false u e f = rw e
 
 -- a letter fails all tests before that for letters
 module _ (c : ℕ) (h : is_letter c ≡ true) where

@@ -1,2 +1,3 @@
 mod Choices
-mod Same
+pub mod Table
+pub mod Found

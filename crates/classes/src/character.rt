@@ -2,14 +2,16 @@
 ghost use Rattle.std.specs.Prelude.{◌≡◌};
 ghost use Rattle.definition.specs.Classes as C;
 
-// What a character begins, by its class.
+use definition::kind::Kind;
+
+// What a character begins, by its class. That of a symbol has the symbol's kind.
 #[derive(Clone, Copy)]
 pub enum Class {
     Foreign,
     White,
     Comment,
-    Pair,
-    Symbol,
+    Pair(Kind),
+    Symbol(Kind),
     Quote,
     Word,
     Dash,
@@ -22,32 +24,26 @@ pub enum Class {
 pub fn is_foreign(c: u8) -> bool
     ensures { result ≡ C.is_foreign c }
 {
-    127 < c
-}
-
-pub fn between(lo: u8, hi: u8, c: u8) -> bool
-    ensures { result ≡ C.between lo hi c }
-{
-    (lo <= c) & (c <= hi)
+    !c.is_ascii()
 }
 
 pub fn is_white(c: u8) -> bool
     ensures { result ≡ C.is_white c }
 {
-    between(9, 13, c) | (c == 32)
+    matches!(c, 9..=13 | b' ')
 }
 
 pub fn is_digit(c: u8) -> bool
     ensures { result ≡ C.is_digit c }
 {
-    between(b'0', b'9', c)
+    c.is_ascii_digit()
 }
 
 // A letter or `_`.
 pub fn is_letter(c: u8) -> bool
     ensures { result ≡ C.is_letter c }
 {
-    between(b'A', b'Z', c) | between(b'a', b'z', c) | (c == b'_')
+    matches!(c, b'A'..=b'Z' | b'a'..=b'z' | b'_')
 }
 
 // A character after the first of a word: a letter, `_` or a digit.
@@ -57,27 +53,13 @@ pub fn is_word(c: u8) -> bool
     is_letter(c) | is_digit(c)
 }
 
-pub fn is_binary(c: u8) -> bool
-    ensures { result ≡ C.is_binary c }
-{
-    between(b'0', b'1', c)
-}
-
-pub fn is_hexadecimal(c: u8) -> bool
-    ensures { result ≡ C.is_hexadecimal c }
-{
-    is_digit(c) | between(b'A', b'F', c) | between(b'a', b'f', c)
-}
-
-// A digit of base 2, 10 or 16.
+// A digit of base 2, 10 or 16. The base is the number itself, as in `u32::from_str_radix`.
 pub fn is_digit_of(base: u32, c: u8) -> bool
     ensures { result ≡ C.is_digit_of base c }
 {
-    if base == 2 {
-        return is_binary(c);
+    match base {
+        2 => matches!(c, b'0' | b'1'),
+        10 => is_digit(c),
+        _ => c.is_ascii_hexdigit(),
     }
-    if base == 10 {
-        return is_digit(c);
-    }
-    is_hexadecimal(c)
 }

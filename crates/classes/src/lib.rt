@@ -6,14 +6,15 @@ pub mod spelling;
 
 ghost use Rattle.std.specs.Prelude.{◌≡◌};
 ghost use Rattle.definition.specs.Tokenizer as Z;
-ghost use Rattle.classes.specs.Begins.{class_of};
+ghost use Rattle.classes.specs.Begins.{class_of, Carries};
 
-use character::{Class, is_digit, is_foreign, is_letter, is_white};
+use character::{Class, is_foreign, is_letter, is_white};
 use spelling::{pair, symbol};
 
 // The class of the character `c`, which `d` follows; 0 is the end. The most frequent classes are tested first.
 pub fn class(c: u8, d: u8) -> Class
-    ensures { class_of result ≡ Z.class c d }
+    ensures class { class_of result ≡ Z.class c d }
+    ensures kind { Carries result c d }
 {
     if is_letter(c) {
         return Class::Word;
@@ -27,23 +28,17 @@ pub fn class(c: u8, d: u8) -> Class
     if (c == b'/') & (d == b'/') {
         return Class::Comment;
     }
-    if 0 < pair(c, d) {
-        return Class::Pair;
+    if let Some(kind) = pair(c, d) {
+        return Class::Pair(kind);
     }
-    if 0 < symbol(c) {
-        return Class::Symbol;
+    if let Some(kind) = symbol(c) {
+        return Class::Symbol(kind);
     }
-    if c == b'"' {
-        return Class::Quote;
+    match c {
+        b'"' => Class::Quote,
+        b'-' => Class::Dash,
+        b'0' => Class::Zero,
+        b'1'..=b'9' => Class::Digit,
+        _ => Class::Unknown,
     }
-    if c == b'-' {
-        return Class::Dash;
-    }
-    if c == b'0' {
-        return Class::Zero;
-    }
-    if is_digit(c) {
-        return Class::Digit;
-    }
-    Class::Unknown
 }

@@ -1,123 +1,102 @@
-// Fixed spellings: symbols, keywords and escapes. Each function returns 0 if there is none.
-ghost use Rattle.std.specs.Prelude.{◌≡◌, ◌+◌, ◌<◌};
+// Fixed spellings: symbols, keywords and escapes. In the definition 0 says that there is none.
+ghost use Rattle.std.specs.Prelude.{◌≡◌, option_map};
 ghost use Rattle.definition.specs.Tokenizer as Z;
+ghost use Rattle.definition.specs.Numbers.{kind_number};
+ghost use Rattle.classes.specs.Found.{nonzero};
 
-use definition::kind;
+use definition::kind::Kind;
 
 // The kind of a symbol of two characters.
-pub fn pair(c: u8, d: u8) -> u32
-    ensures { result ≡ Z.pair c d }
+#[tactic(auto, unfolding(definition::specs::Tokenizer::pair, definition::specs::Choice::first))]
+pub fn pair(c: u8, d: u8) -> Option<Kind>
+    ensures { option_map kind_number result ≡ nonzero (Z.pair c d) }
 {
-    let firsts = b"<<<>>&.=";
-    let seconds = b"<-=>=&*=";
-    let kinds = [
-        kind::LEFT_SHIFT,
-        kind::L_ARROW,
-        kind::L_ANGLE_EQUALS,
-        kind::RIGHT_SHIFT,
-        kind::R_ANGLE_EQUALS,
-        kind::DOUBLE_AMPERSAND,
-        kind::DOT_STAR,
-        kind::DOUBLE_EQUALS,
-    ];
-    let mut i = 0;
-    while i < 8 {
-        if (c == firsts[i]) & (d == seconds[i]) {
-            return kinds[i];
-        }
-        i += 1;
+    match (c, d) {
+        (b'<', b'<') => Some(Kind::LeftShift),
+        (b'<', b'-') => Some(Kind::LArrow),
+        (b'<', b'=') => Some(Kind::LAngleEquals),
+        (b'>', b'>') => Some(Kind::RightShift),
+        (b'>', b'=') => Some(Kind::RAngleEquals),
+        (b'&', b'&') => Some(Kind::DoubleAmpersand),
+        (b'.', b'*') => Some(Kind::DotStar),
+        (b'=', b'=') => Some(Kind::DoubleEquals),
+        _ => None,
     }
-    0
 }
 
 // The kind of a symbol of one character.
-pub fn symbol(c: u8) -> u32
-    ensures { result ≡ Z.symbol c }
+#[tactic(auto, unfolding(definition::specs::Tokenizer::symbol, definition::specs::Choice::first))]
+pub fn symbol(c: u8) -> Option<Kind>
+    ensures { option_map kind_number result ≡ nonzero (Z.symbol c) }
 {
-    let spelled = b"{}()[]<>:;+*,&|^~!.=#/";
-    let kinds = [
-        kind::L_BRACE,
-        kind::R_BRACE,
-        kind::L_PAREN,
-        kind::R_PAREN,
-        kind::L_BRACKET,
-        kind::R_BRACKET,
-        kind::L_ANGLE,
-        kind::R_ANGLE,
-        kind::COLON,
-        kind::SEMICOLON,
-        kind::PLUS,
-        kind::STAR,
-        kind::COMMA,
-        kind::AMPERSAND,
-        kind::BAR,
-        kind::CARET,
-        kind::TILDE,
-        kind::BANG,
-        kind::DOT,
-        kind::EQUALS,
-        kind::HASH,
-        kind::FORWARD_SLASH,
-    ];
-    let mut i = 0;
-    while i < 22 {
-        if c == spelled[i] {
-            return kinds[i];
-        }
-        i += 1;
+    match c {
+        b'{' => Some(Kind::LBrace),
+        b'}' => Some(Kind::RBrace),
+        b'(' => Some(Kind::LParen),
+        b')' => Some(Kind::RParen),
+        b'[' => Some(Kind::LBracket),
+        b']' => Some(Kind::RBracket),
+        b'<' => Some(Kind::LAngle),
+        b'>' => Some(Kind::RAngle),
+        b':' => Some(Kind::Colon),
+        b';' => Some(Kind::Semicolon),
+        b'+' => Some(Kind::Plus),
+        b'*' => Some(Kind::Star),
+        b',' => Some(Kind::Comma),
+        b'&' => Some(Kind::Ampersand),
+        b'|' => Some(Kind::Bar),
+        b'^' => Some(Kind::Caret),
+        b'~' => Some(Kind::Tilde),
+        b'!' => Some(Kind::Bang),
+        b'.' => Some(Kind::Dot),
+        b'=' => Some(Kind::Equals),
+        b'#' => Some(Kind::Hash),
+        b'/' => Some(Kind::ForwardSlash),
+        _ => None,
     }
-    0
 }
 
 // The character that an escape in a string denotes.
-pub fn escape(c: u8) -> u8
-    ensures { result ≡ Z.escape c }
+pub fn escape(c: u8) -> Option<u8>
+    ensures { result ≡ nonzero (Z.escape c) }
 {
-    if c == b'r' {
-        return 13;
-    }
-    if c == b'n' {
-        return 10;
-    }
-    if c == b't' {
-        return 9;
-    }
-    0
-}
-
-pub fn same(a: &[u8], b: &[u8]) -> bool
-    ensures { result ≡ Z.same a.now b.now }
-{
-    let mut i = 0;
-    loop {
-        if a.len() <= i {
-            return b.len() <= i;
-        }
-        if b.len() <= i {
-            return false;
-        }
-        if a[i] != b[i] {
-            return false;
-        }
-        i += 1;
+    match c {
+        b'r' => Some(b'\r'),
+        b'n' => Some(b'\n'),
+        b't' => Some(b'\t'),
+        _ => None,
     }
 }
 
-// The kind of a keyword. The table lists the keywords in the order of their kinds, each in eight bytes.
-pub fn keyword(w: &[u8]) -> u32
-    ensures { result ≡ Z.keyword w.now }
+static KEYWORDS: [(&[u8], Kind); 18] = [
+    (b"fn", Kind::KwFn),
+    (b"var", Kind::KwVar),
+    (b"return", Kind::KwReturn),
+    (b"loop", Kind::KwLoop),
+    (b"while", Kind::KwWhile),
+    (b"break", Kind::KwBreak),
+    (b"if", Kind::KwIf),
+    (b"else", Kind::KwElse),
+    (b"true", Kind::KwTrue),
+    (b"false", Kind::KwFalse),
+    (b"as", Kind::KwAs),
+    (b"type", Kind::KwType),
+    (b"struct", Kind::KwStruct),
+    (b"sizeof", Kind::KwSizeof),
+    (b"use", Kind::KwUse),
+    (b"extern", Kind::KwExtern),
+    (b"distinct", Kind::KwDistinct),
+    (b"internal", Kind::KwInternal),
+];
+
+// The kind of a keyword.
+pub fn keyword(w: &[u8]) -> Option<Kind>
+    ensures { option_map kind_number result ≡ nonzero (Z.keyword w.now) }
 {
-    let spelled: &[u8] =
-        b"fn      var     return  loop    while   break   if      else    true    false   as      type    struct  sizeof  use     extern  distinctinternal";
-    let lengths: [usize; 18] = [2, 3, 6, 4, 5, 5, 2, 4, 4, 5, 2, 4, 6, 6, 3, 6, 8, 8];
-    let mut i = 0;
-    while i < 18 {
-        let start = 8 * i;
-        let end = start + lengths[i];
-        if same(w, &spelled[start..end]) {
-            return kind::KW_FN + i as u32;
+    for (spelled, kind) in &KEYWORDS {
+        if w == *spelled {
+            return Some(*kind);
         }
-        i += 1;
     }
-    0
+    None
 }

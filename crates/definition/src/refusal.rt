@@ -1,26 +1,27 @@
-// The numbers of refusals. Those of the parser are bytes.
-pub const SCRIPT_LENGTH: u32 = 1;
+// What an operation refuses.
+ghost use Rattle.definition.specs.Numbers.{RefusalNumber};
 
-pub const NOT_UTF8: u32 = 2;
+#[derive(Clone, Copy, PartialEq, Eq)]
+pub enum Refusal {
+    ScriptLength = 1,
+    NotUtf8 = 2,
+    SliceLength = 3,
+    ForeignCharacter = 4,
+    MinusAtEnd = 5,
+    Tokens = 6,
+    TokenErrors = 7,
+    BadRecord = 8,
+    NoTokens = 9,
+    Nesting = 10,
+    EndAfterWord = 11,
+    Errors = 12,
+    SentenceLength = 13,
+}
 
-pub const SLICE_LENGTH: u32 = 3;
+impl From<Refusal> for u32 {
+    ghost from_gives = { RefusalNumber };
 
-pub const FOREIGN_CHARACTER: u32 = 4;
-
-pub const MINUS_AT_END: u32 = 5;
-
-pub const TOKENS: u32 = 6;
-
-pub const TOKEN_ERRORS: u32 = 7;
-
-pub const BAD_RECORD: u32 = 8;
-
-pub const NO_TOKENS: u32 = 9;
-
-pub const NESTING: u8 = 10;
-
-pub const END_AFTER_WORD: u8 = 11;
-
-pub const ERRORS: u8 = 12;
-
-pub const SENTENCE_LENGTH: u32 = 13;
+    fn from(refusal: Refusal) -> u32 {
+        refusal as u32
+    }
+}

@@ -1,8 +1,38 @@
-// The numbers of token errors.
-pub const UNKNOWN_ESCAPE: u32 = 1;
+// The errors of the tokenizer.
+ghost use Rattle.definition.specs.Numbers.{TokenErrorNumber, TokenErrorOf};
 
-pub const UNCLOSED_STRING: u32 = 2;
+#[derive(Clone, Copy, PartialEq, Eq)]
+pub enum TokenError {
+    UnknownEscape = 1,
+    UnclosedString = 2,
+    NoAssembly = 3,
+    UnknownCharacter = 4,
+}
 
-pub const NO_ASSEMBLY: u32 = 3;
+impl From<TokenError> for u32 {
+    ghost from_gives = { TokenErrorNumber };
 
-pub const UNKNOWN_CHARACTER: u32 = 4;
+    fn from(error: TokenError) -> u32 {
+        error as u32
+    }
+}
+
+// A number that no token error has.
+#[derive(Clone, Copy, PartialEq, Eq)]
+pub struct NoTokenError(pub u32);
+
+impl TryFrom<u32> for TokenError {
+    type Error = NoTokenError;
+
+    ghost try_from_gives = { TokenErrorOf };
+
+    fn try_from(number: u32) -> Result<Self, NoTokenError> {
+        match number {
+            1 => Ok(TokenError::UnknownEscape),
+            2 => Ok(TokenError::UnclosedString),
+            3 => Ok(TokenError::NoAssembly),
+            4 => Ok(TokenError::UnknownCharacter),
+            _ => Err(NoTokenError(number)),
+        }
+    }
+}

@@ -4,46 +4,24 @@
 #![tactic(auto)]
 
 use definition::limit;
-use std::io::{Read, Stdin};
+use replay_cases::whole;
+use std::io::Read;
 
-// Whether standard input has ended: one more read does not fail and returns nothing.
-fn at_end(input: &mut Stdin) -> bool {
-    let mut b = [0u8; 1];
-    match input.read(&mut b) {
-        Ok(n) => n == 0,
-        Err(_) => false,
-    }
-}
-
-// Writes the file. Errors come last in it, so a file that is cut short can look clean: a failed write is reported.
-fn write_file(rt: &(impl Print + Eprint), file: &[u8]) {
-    if rt.write_all(file).is_err() {
-        let _ = eprintln!(rt; "delta_null: the tree file is not written whole");
-    }
-}
-
-fn write_refusal(rt: &(impl Print + Eprint), number: u32) {
-    let field = [0x7Fu8, 0, 1, (number % 256) as u8];
-    write_file(rt, &field);
+fn run(rt: &impl Print, input: &mut impl Read) -> Result<(), &'static str> {
+    // One byte more than the longest script, so that a longer input is refused and not cut.
+    let mut space = [0; limit::SCRIPT_BYTES + 1];
+    let mut file = [0; limit::FILE_BYTES];
+    let script = whole(input, &mut space).ok_or("standard input cannot be read to its end")?;
+    let written = match reader::read_script(script, &mut file) {
+        Ok(bytes) => rt.write_all(&file[..bytes]),
+        Err(refusal) => rt.write_all(&[0x7F, 0, 1, refusal as u8]),
+    };
+    // Errors come last in the file, so one that is cut short can look clean.
+    written.or(Err("the tree file is not written whole"))
 }
 
 fn main(rt: HostRuntime) {
-    // One byte more than the longest script, so that a longer input is refused and not cut.
-    let mut script = [0u8; limit::SCRIPT_BYTES + 1];
-    let mut file = [0u8; limit::FILE_BYTES];
-    let mut input = rt.stdin();
-    let n = replay_cases::read_full(&mut input, &mut script);
-    if n <= limit::SCRIPT_BYTES {
-        if !at_end(&mut input) {
-            let _ = eprintln!(rt; "delta_null: standard input cannot be read to its end");
-            return;
-        }
+    if let Err(trouble) = run(&rt, &mut rt.stdin()) {
+        let _ = eprintln!(rt; "delta_null: {trouble}");
     }
-    let w = reader::read_script(&script[..n], &mut file);
-    if w.number != 0 {
-        write_refusal(&rt, w.number);
-        return;
-    }
-    let bytes = w.bytes;
-    write_file(&rt, &file[..bytes]);
 }

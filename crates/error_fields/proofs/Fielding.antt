@@ -4,8 +4,8 @@ use mathlib.Core.List.{List, [], ◌∷◌, ◌++◌, append_assoc, append-nil}
 use Prim.Native.Nat.{ℕ, ◌+◌, ◌*◌, ◌≤◌, ◌<◌}
 use native.Mathlib.Omega.{arith}
 use native.Mathlib.Numerals.{add-one}
-use lib.ListN.{length, get_or, take, length-append}
-use lib.Seq.{take-suc}
+use lib.ListN.{length, get_or, take, length-append, length-take}
+use lib.Seq.{take-suc, get_or-take}
 use Rattle.definition.specs.Fallible.{Err, err_bytes, errs_bytes}
 use Rattle.fallible.specs.Lists.{unpack, errs}
 use Rattle.fallible.proofs.Grown.{errs_more}
@@ -64,6 +64,9 @@ module _ {f : ℕ → List Err} {o₀ : List ℕ} {pos tag count : ℕ} where
     pub fields_done : count ≤ i → Fielded o₀ pos tag (f count) o p
     fields_done g = let e : i ≡ count = omega arith in (rw e at h.is)
 
--- one more entry of a list
-pub errs_next : (l : List ℕ) (i : ℕ) → i < length l → errs l (i + 1) ≡ errs l i ++ (unpack (get_or l i 0) ∷ [])
-errs_next l i h = errs_more l l i (i + 1) (get_or l i 0) (rw add-one (take-suc l i 0 h))
+-- one more of the first n entries of a list
+pub errs_next : (l : List ℕ) (n i : ℕ) → i < length (take n l) → errs l (i + 1) ≡ errs l i ++ (unpack (get_or (take n l) i 0) ∷ [])
+errs_next l n i h =
+    let k : i < n = omega (arith, length-take n l) in
+    let m : i < length l = omega (arith, length-take n l) in
+    rw (get_or-take n l i 0 k) (errs_more l l i (i + 1) (get_or l i 0) (rw add-one (take-suc l i 0 m)))

@@ -15,16 +15,7 @@ fn error_field(file: &mut [u8], pos: usize, tag: u8, e: usize) -> usize
     requires { pos + 23 ≤ length file.old }
     ensures { Fielded (unpack e ∷ []) file pos tag result }
 {
-    let body = [
-        (e / 0x1_0000_0000_0000 % 256) as u8,
-        (e / 0x100_0000_0000 % 256) as u8,
-        (e / 0x1_0000_0000 % 256) as u8,
-        (e / 0x100_0000 % 256) as u8,
-        (e / 0x1_0000 % 256) as u8,
-        (e / 0x100 % 256) as u8,
-        (e % 256) as u8,
-    ];
-    write_bare(file, &body, pos, tag, Numbers::None, 0, 7)
+    write_bare(file, &e.to_be_bytes(), pos, tag, Numbers::None, 1, 7)
 }
 
 // Writes the fields of a list of `count` errors.
@@ -32,11 +23,9 @@ pub fn error_fields(file: &mut [u8], pos: usize, tag: u8, list: &[usize], count:
     requires { (pos + 10 * count + 13 ≤ length file.old) × (count ≤ length list.now) }
     ensures { Fielded (errs list.now count) file pos tag result }
 {
-    let mut i = 0;
     let mut p = pos;
-    while i < count {
-        p = error_field(file, p, tag, list[i]);
-        i += 1;
+    for e in &list[..count] {
+        p = error_field(file, p, tag, *e);
     }
     p
 }
@@ -46,14 +35,12 @@ pub fn token_error_fields(file: &mut [u8], pos: usize, errors: &[u32], count: us
     requires { (pos + 10 * count + 13 ≤ length file.old) × GoodErrors errors count }
     ensures { TokenFields file pos errors count result }
 {
-    let mut i = 0;
     let mut p = pos;
-    while i < count {
+    for i in 0..count {
         let k = 4 * i;
         let place = place_at(errors[k + 1], errors[k + 2]);
         let e = entry(wide(errors[k]), place, 0, 0);
         p = error_field(file, p, tag::TOKEN_ERROR, e);
-        i += 1;
     }
     p
 }

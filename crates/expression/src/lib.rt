@@ -9,130 +9,132 @@ ghost use Rattle.expression_laws.specs.Post.{operators_on};
 ghost use Rattle.steps.specs.Contract.{Asked, GoesOn, Parses, ParsesOn};
 ghost use Rattle.expression_laws.specs.Contract.{NameRoom, BareNamed, ReadsTyped, TypedOn, ReadsList};
 
-use definition::{kind, parse_error, refusal, tag};
-use fallible::{Answer, State, Status, abandon, entry, note, raise, refuse, silence};
+use definition::refusal::Refusal;
+use definition::{kind, parse_error, tag};
+use fallible::parser::{Parser, State};
+use fallible::{Stop, abandon, entry, recover};
 use leaves::{
     LEVELS, Level, Listed, arithmetic, array_size, close, closer, comma, comparison_operator,
     counted, level_at, literal, name, name_alone, opener, operator, prefix,
 };
 use node::{Numbers, write_bare};
-use steps::{and_expect, expect, expect_identifier, peek, write_node, write_text_node};
+use steps::tokens::Tokens;
+use steps::{expect, expect_after, expect_identifier, write_node, write_text_node};
 
 // parse_expression, one of the four functions whose open calls are counted: refuses where `nesting` is 0.
 #[cycle(expression)]
 pub fn expression(
-    tokens: &[u32],
-    text: &[u8],
-    n: usize,
+    tokens: Tokens,
     file: &mut [u8],
-    reported: &mut [usize],
-    full: &mut [usize],
-    st: State,
+    parser: &mut Parser,
     nesting: usize,
-) -> Answer
-    requires { Asked tokens text n file reported full st }
-    ensures { Parses P.parse_expression tokens text n file reported full st nesting result }
+) -> Result<usize, Stop>
+    requires { Asked tokens file parser }
+    ensures { Parses P.parse_expression tokens file parser nesting result }
 {
     if nesting == 0 {
-        return refuse(n, st, refusal::NESTING);
+        return Err(parser.state.refuse(tokens.count, Refusal::Nesting));
     }
-    boolean(tokens, text, n, file, reported, full, st, nesting - 1)
+    boolean(tokens, file, parser, nesting - 1)
 }
 
 // parse_boolean_combinator: comparison [`&&` comparison]
 #[cycle(expression)]
 fn boolean(
-    tokens: &[u32],
-    text: &[u8],
-    n: usize,
+    tokens: Tokens,
     file: &mut [u8],
-    reported: &mut [usize],
-    full: &mut [usize],
-    st: State,
+    parser: &mut Parser,
     nesting: usize,
-) -> Answer
-    requires { Asked tokens text n file reported full st }
-    ensures { Parses P.expression_rule tokens text n file reported full st nesting result }
+) -> Result<usize, Stop>
+    requires { Asked tokens file parser }
+    ensures { Parses P.expression_rule tokens file parser nesting result }
 {
-    let a = comparison(tokens, text, n, file, reported, full, st, nesting);
-    let status = a.status;
-    let Status::Done = status else {
+    let from = parser.state;
+    let a = comparison(tokens, file, parser, nesting);
+    let Ok(_) = a else {
         return a;
     };
-    let s = a.state;
-    let t = peek(tokens, n, s.at);
+    let before = parser.state;
+    let t = tokens.peek(before.at);
     if t.kind != kind::DOUBLE_AMPERSAND {
         return a;
     }
-    let on = State { at: t.next, ..s };
-    let b = comparison(tokens, text, n, file, reported, full, on, nesting);
-    let c = abandon(reported, b, st, s);
-    write_node(file, text, c, t.place, tag::BOOLEAN_AND, Numbers::None)
+    parser.state.at = t.next;
+    let b = comparison(tokens, file, parser, nesting);
+    let c = abandon(&mut parser.reported, &mut parser.state, b, from, before);
+    write_node(
+        file,
+        tokens.text,
+        &mut parser.state,
+        c,
+        t.place,
+        tag::BOOLEAN_AND,
+        Numbers::None,
+    )
 }
 
 // parse_comparison: bit_or [(`==` | `<` | `<=` | `>` | `>=`) bit_or]
 #[cycle(expression)]
 fn comparison(
-    tokens: &[u32],
-    text: &[u8],
-    n: usize,
+    tokens: Tokens,
     file: &mut [u8],
-    reported: &mut [usize],
-    full: &mut [usize],
-    st: State,
+    parser: &mut Parser,
     nesting: usize,
-) -> Answer
-    requires { Asked tokens text n file reported full st }
-    ensures { Parses P.parse_comparison tokens text n file reported full st nesting result }
+) -> Result<usize, Stop>
+    requires { Asked tokens file parser }
+    ensures { Parses P.parse_comparison tokens file parser nesting result }
 {
-    let a = bit_or(tokens, text, n, file, reported, full, st, nesting);
-    let status = a.status;
-    let Status::Done = status else {
+    let from = parser.state;
+    let a = bit_or(tokens, file, parser, nesting);
+    let Ok(_) = a else {
         return a;
     };
-    let s = a.state;
-    let t = peek(tokens, n, s.at);
+    let before = parser.state;
+    let t = tokens.peek(before.at);
     let op = comparison_operator(t.kind);
     if op == 0 {
         return a;
     }
-    let on = State { at: t.next, ..s };
-    let b = bit_or(tokens, text, n, file, reported, full, on, nesting);
-    let c = abandon(reported, b, st, s);
+    parser.state.at = t.next;
+    let b = bit_or(tokens, file, parser, nesting);
+    let c = abandon(&mut parser.reported, &mut parser.state, b, from, before);
     let numbers = Numbers::Byte(op - 1);
-    write_node(file, text, c, t.place, tag::COMPARISON_BIN_OP, numbers)
+    write_node(
+        file,
+        tokens.text,
+        &mut parser.state,
+        c,
+        t.place,
+        tag::COMPARISON_BIN_OP,
+        numbers,
+    )
 }
 
 // parse_bitwise_or: bit_xor {`|` bit_xor}. The six levels share their first operand, so it is parsed once; if an
 // operator of a level follows, the loop of each level continues the answer of the level below, the tightest first.
 #[cycle(expression)]
 fn bit_or(
-    tokens: &[u32],
-    text: &[u8],
-    n: usize,
+    tokens: Tokens,
     file: &mut [u8],
-    reported: &mut [usize],
-    full: &mut [usize],
-    st: State,
+    parser: &mut Parser,
     nesting: usize,
-) -> Answer
-    requires { Asked tokens text n file reported full st }
-    ensures { Parses P.parse_bitwise_or tokens text n file reported full st nesting result }
+) -> Result<usize, Stop>
+    requires { Asked tokens file parser }
+    ensures { Parses P.parse_bitwise_or tokens file parser nesting result }
 {
-    let mut a = cast(tokens, text, n, file, reported, full, st, nesting);
-    let status = a.status;
-    let Status::Done = status else {
+    let from = parser.state;
+    let mut a = cast(tokens, file, parser, nesting);
+    let Ok(_) = a else {
         return a;
     };
-    let s = a.state;
-    let t = peek(tokens, n, s.at);
+    let t = tokens.peek(parser.state.at);
     if !arithmetic(t.kind) {
         return a;
     }
     let mut k = 0;
     while k < LEVELS {
         let level = level_at(k);
-        a = operators(tokens, text, n, file, reported, full, level, a, st, nesting);
+        a = operators(tokens, file, parser, level, a, from, nesting);
         k += 1;
     }
     a
@@ -141,392 +143,316 @@ fn bit_or(
 // parse_bitwise_xor: bit_and {`^` bit_and}
 #[cycle(expression)]
 fn bit_xor(
-    tokens: &[u32],
-    text: &[u8],
-    n: usize,
+    tokens: Tokens,
     file: &mut [u8],
-    reported: &mut [usize],
-    full: &mut [usize],
-    st: State,
+    parser: &mut Parser,
     nesting: usize,
-) -> Answer
-    requires { Asked tokens text n file reported full st }
-    ensures { Parses P.parse_bitwise_xor tokens text n file reported full st nesting result }
+) -> Result<usize, Stop>
+    requires { Asked tokens file parser }
+    ensures { Parses P.parse_bitwise_xor tokens file parser nesting result }
 {
-    let a = bit_and(tokens, text, n, file, reported, full, st, nesting);
-    let level = Level::BitwiseXor;
-    operators(tokens, text, n, file, reported, full, level, a, st, nesting)
+    let from = parser.state;
+    let a = bit_and(tokens, file, parser, nesting);
+    operators(tokens, file, parser, Level::BitwiseXor, a, from, nesting)
 }
 
 // parse_bitwise_and: shift {`&` shift}
 #[cycle(expression)]
 fn bit_and(
-    tokens: &[u32],
-    text: &[u8],
-    n: usize,
+    tokens: Tokens,
     file: &mut [u8],
-    reported: &mut [usize],
-    full: &mut [usize],
-    st: State,
+    parser: &mut Parser,
     nesting: usize,
-) -> Answer
-    requires { Asked tokens text n file reported full st }
-    ensures { Parses P.parse_bitwise_and tokens text n file reported full st nesting result }
+) -> Result<usize, Stop>
+    requires { Asked tokens file parser }
+    ensures { Parses P.parse_bitwise_and tokens file parser nesting result }
 {
-    let a = shift(tokens, text, n, file, reported, full, st, nesting);
-    let level = Level::BitwiseAnd;
-    operators(tokens, text, n, file, reported, full, level, a, st, nesting)
+    let from = parser.state;
+    let a = shift(tokens, file, parser, nesting);
+    operators(tokens, file, parser, Level::BitwiseAnd, a, from, nesting)
 }
 
 // parse_bit_shift: add_sub {(`<<` | `>>`) add_sub}
 #[cycle(expression)]
 fn shift(
-    tokens: &[u32],
-    text: &[u8],
-    n: usize,
+    tokens: Tokens,
     file: &mut [u8],
-    reported: &mut [usize],
-    full: &mut [usize],
-    st: State,
+    parser: &mut Parser,
     nesting: usize,
-) -> Answer
-    requires { Asked tokens text n file reported full st }
-    ensures { Parses P.parse_bit_shift tokens text n file reported full st nesting result }
+) -> Result<usize, Stop>
+    requires { Asked tokens file parser }
+    ensures { Parses P.parse_bit_shift tokens file parser nesting result }
 {
-    let a = add_sub(tokens, text, n, file, reported, full, st, nesting);
-    let level = Level::BitShift;
-    operators(tokens, text, n, file, reported, full, level, a, st, nesting)
+    let from = parser.state;
+    let a = add_sub(tokens, file, parser, nesting);
+    operators(tokens, file, parser, Level::BitShift, a, from, nesting)
 }
 
 // parse_add_sub: mul {(`+` | `-`) mul}
 #[cycle(expression)]
 fn add_sub(
-    tokens: &[u32],
-    text: &[u8],
-    n: usize,
+    tokens: Tokens,
     file: &mut [u8],
-    reported: &mut [usize],
-    full: &mut [usize],
-    st: State,
+    parser: &mut Parser,
     nesting: usize,
-) -> Answer
-    requires { Asked tokens text n file reported full st }
-    ensures { Parses P.parse_add_sub tokens text n file reported full st nesting result }
+) -> Result<usize, Stop>
+    requires { Asked tokens file parser }
+    ensures { Parses P.parse_add_sub tokens file parser nesting result }
 {
-    let a = mul(tokens, text, n, file, reported, full, st, nesting);
-    operators(
-        tokens,
-        text,
-        n,
-        file,
-        reported,
-        full,
-        Level::AddSub,
-        a,
-        st,
-        nesting,
-    )
+    let from = parser.state;
+    let a = mul(tokens, file, parser, nesting);
+    operators(tokens, file, parser, Level::AddSub, a, from, nesting)
 }
 
 // parse_mul: cast {`*` cast}
 #[cycle(expression)]
-fn mul(
-    tokens: &[u32],
-    text: &[u8],
-    n: usize,
-    file: &mut [u8],
-    reported: &mut [usize],
-    full: &mut [usize],
-    st: State,
-    nesting: usize,
-) -> Answer
-    requires { Asked tokens text n file reported full st }
-    ensures { Parses P.parse_mul tokens text n file reported full st nesting result }
+fn mul(tokens: Tokens, file: &mut [u8], parser: &mut Parser, nesting: usize) -> Result<usize, Stop>
+    requires { Asked tokens file parser }
+    ensures { Parses P.parse_mul tokens file parser nesting result }
 {
-    let a = cast(tokens, text, n, file, reported, full, st, nesting);
-    operators(
-        tokens,
-        text,
-        n,
-        file,
-        reported,
-        full,
-        Level::Mul,
-        a,
-        st,
-        nesting,
-    )
+    let from = parser.state;
+    let a = cast(tokens, file, parser, nesting);
+    operators(tokens, file, parser, Level::Mul, a, from, nesting)
 }
 
 // Parses an operand of a level: the next tighter level, or a cast.
 #[cycle(expression)]
 fn cascade(
-    tokens: &[u32],
-    text: &[u8],
-    n: usize,
+    tokens: Tokens,
     file: &mut [u8],
-    reported: &mut [usize],
-    full: &mut [usize],
+    parser: &mut Parser,
     level: Level,
-    st: State,
     nesting: usize,
-) -> Answer
-    requires { Asked tokens text n file reported full st }
-    ensures { Parses (P.cascade (level_of level)) tokens text n file reported full st nesting result }
+) -> Result<usize, Stop>
+    requires { Asked tokens file parser }
+    ensures { Parses (P.cascade (level_of level)) tokens file parser nesting result }
 {
     match level {
-        Level::BitwiseOr => bit_xor(tokens, text, n, file, reported, full, st, nesting),
-        Level::BitwiseXor => bit_and(tokens, text, n, file, reported, full, st, nesting),
-        Level::BitwiseAnd => shift(tokens, text, n, file, reported, full, st, nesting),
-        Level::BitShift => add_sub(tokens, text, n, file, reported, full, st, nesting),
-        Level::AddSub => mul(tokens, text, n, file, reported, full, st, nesting),
-        Level::Mul => cast(tokens, text, n, file, reported, full, st, nesting),
+        Level::BitwiseOr => bit_xor(tokens, file, parser, nesting),
+        Level::BitwiseXor => bit_and(tokens, file, parser, nesting),
+        Level::BitwiseAnd => shift(tokens, file, parser, nesting),
+        Level::BitShift => add_sub(tokens, file, parser, nesting),
+        Level::AddSub => mul(tokens, file, parser, nesting),
+        Level::Mul => cast(tokens, file, parser, nesting),
     }
 }
 
-// The loop of parse_arithmetic_binop: {operator operand}, continuing the answer `first`.
+// The loop of parse_arithmetic_binop: {operator operand}, after the call `first`.
 #[cycle(expression)]
 fn operators(
-    tokens: &[u32],
-    text: &[u8],
-    n: usize,
+    tokens: Tokens,
     file: &mut [u8],
-    reported: &mut [usize],
-    full: &mut [usize],
+    parser: &mut Parser,
     level: Level,
-    first: Answer,
+    first: Result<usize, Stop>,
     from: State,
     nesting: usize,
-) -> Answer
-    requires { GoesOn tokens text n file reported full first from }
-    ensures { ParsesOn (operators_on (level_of level)) tokens text n file reported full first from nesting result }
+) -> Result<usize, Stop>
+    requires { GoesOn tokens file parser first from }
+    ensures { ParsesOn (operators_on (level_of level)) tokens file parser first from nesting result }
 {
     let mut a = first;
     loop {
-        let status = a.status;
-        let Status::Done = status else {
+        let Ok(_) = a else {
             return a;
         };
-        let s = a.state;
-        let t = peek(tokens, n, s.at);
+        let before = parser.state;
+        let t = tokens.peek(before.at);
         let op = operator(level, t.kind);
         if op == 0 {
             return a;
         }
-        let on = State { at: t.next, ..s };
-        let b = cascade(tokens, text, n, file, reported, full, level, on, nesting);
-        let c = abandon(reported, b, from, s);
+        parser.state.at = t.next;
+        let b = cascade(tokens, file, parser, level, nesting);
+        let c = abandon(&mut parser.reported, &mut parser.state, b, from, before);
         let numbers = Numbers::Byte(op - 1);
-        a = write_node(file, text, c, t.place, tag::ARITHMETIC_BIN_OP, numbers);
+        a = write_node(
+            file,
+            tokens.text,
+            &mut parser.state,
+            c,
+            t.place,
+            tag::ARITHMETIC_BIN_OP,
+            numbers,
+        );
     }
 }
 
 // parse_cast: unary {`as` type}
 #[cycle(expression)]
-fn cast(
-    tokens: &[u32],
-    text: &[u8],
-    n: usize,
-    file: &mut [u8],
-    reported: &mut [usize],
-    full: &mut [usize],
-    st: State,
-    nesting: usize,
-) -> Answer
-    requires { Asked tokens text n file reported full st }
-    ensures { Parses P.parse_cast tokens text n file reported full st nesting result }
+fn cast(tokens: Tokens, file: &mut [u8], parser: &mut Parser, nesting: usize) -> Result<usize, Stop>
+    requires { Asked tokens file parser }
+    ensures { Parses P.parse_cast tokens file parser nesting result }
 {
-    let mut a = operand(tokens, text, n, file, reported, full, st, nesting);
+    let from = parser.state;
+    let mut a = operand(tokens, file, parser, nesting);
     loop {
-        let status = a.status;
-        let Status::Done = status else {
+        let Ok(_) = a else {
             return a;
         };
-        let s = a.state;
-        let t = peek(tokens, n, s.at);
+        let before = parser.state;
+        let t = tokens.peek(before.at);
         if t.kind != kind::KW_AS {
             return a;
         }
-        let on = State { at: t.next, ..s };
-        let b = ty(tokens, text, n, file, reported, full, on, nesting);
-        let c = abandon(reported, b, st, s);
-        a = write_node(file, text, c, t.place, tag::CAST, Numbers::None);
+        parser.state.at = t.next;
+        let b = ty(tokens, file, parser, nesting);
+        let c = abandon(&mut parser.reported, &mut parser.state, b, from, before);
+        a = write_node(
+            file,
+            tokens.text,
+            &mut parser.state,
+            c,
+            t.place,
+            tag::CAST,
+            Numbers::None,
+        );
     }
 }
 
 // unary, with a short cut: a name with no suffix and no call, the most common operand, is written at once.
 #[cycle(expression)]
 fn operand(
-    tokens: &[u32],
-    text: &[u8],
-    n: usize,
+    tokens: Tokens,
     file: &mut [u8],
-    reported: &mut [usize],
-    full: &mut [usize],
-    st: State,
+    parser: &mut Parser,
     nesting: usize,
-) -> Answer
-    requires { Asked tokens text n file reported full st }
-    ensures { Parses P.parse_unary tokens text n file reported full st nesting result }
+) -> Result<usize, Stop>
+    requires { Asked tokens file parser }
+    ensures { Parses P.parse_unary tokens file parser nesting result }
 {
-    let t = peek(tokens, n, st.at);
-    let u = peek(tokens, n, t.next);
+    let t = tokens.peek(parser.state.at);
+    let u = tokens.peek(t.next);
     if (nesting == 0) | !name_alone(t.kind, u.kind) {
-        return unary(tokens, text, n, file, reported, full, st, nesting);
+        return unary(tokens, file, parser, nesting);
     }
-    name(file, text, st, t)
+    Ok(name(file, tokens.text, &mut parser.state, t))
 }
 
 // parse_unary: (`&` | `*` | `~` | `!`) unary | call. Open calls are counted.
 #[cycle(expression)]
 fn unary(
-    tokens: &[u32],
-    text: &[u8],
-    n: usize,
+    tokens: Tokens,
     file: &mut [u8],
-    reported: &mut [usize],
-    full: &mut [usize],
-    st: State,
+    parser: &mut Parser,
     nesting: usize,
-) -> Answer
-    requires { Asked tokens text n file reported full st }
-    ensures { Parses P.parse_unary tokens text n file reported full st nesting result }
+) -> Result<usize, Stop>
+    requires { Asked tokens file parser }
+    ensures { Parses P.parse_unary tokens file parser nesting result }
 {
     if nesting == 0 {
-        return refuse(n, st, refusal::NESTING);
+        return Err(parser.state.refuse(tokens.count, Refusal::Nesting));
     }
-    let t = peek(tokens, n, st.at);
+    let t = tokens.peek(parser.state.at);
     let tag = prefix(t.kind);
     if tag == 0 {
-        return call(tokens, text, n, file, reported, full, st, nesting - 1);
+        return call(tokens, file, parser, nesting - 1);
     }
-    let on = State { at: t.next, ..st };
-    let a = unary(tokens, text, n, file, reported, full, on, nesting - 1);
-    write_node(file, text, a, a.place, tag, Numbers::None)
+    parser.state.at = t.next;
+    let place = unary(tokens, file, parser, nesting - 1)?;
+    write_node(
+        file,
+        tokens.text,
+        &mut parser.state,
+        Ok(place),
+        place,
+        tag,
+        Numbers::None,
+    )
 }
 
 // parse_call: sizeof [arguments]. Errors in the arguments are not reported.
 #[cycle(expression)]
-fn call(
-    tokens: &[u32],
-    text: &[u8],
-    n: usize,
-    file: &mut [u8],
-    reported: &mut [usize],
-    full: &mut [usize],
-    st: State,
-    nesting: usize,
-) -> Answer
-    requires { Asked tokens text n file reported full st }
-    ensures { Parses P.parse_call tokens text n file reported full st nesting result }
+fn call(tokens: Tokens, file: &mut [u8], parser: &mut Parser, nesting: usize) -> Result<usize, Stop>
+    requires { Asked tokens file parser }
+    ensures { Parses P.parse_call tokens file parser nesting result }
 {
-    let a = sizeof(tokens, text, n, file, reported, full, st, nesting);
-    let status = a.status;
-    let Status::Done = status else {
-        return a;
-    };
-    let s = a.state;
-    let t = peek(tokens, n, s.at);
+    let place = sizeof(tokens, file, parser, nesting)?;
+    let reported = parser.state.reported;
+    let t = tokens.peek(parser.state.at);
     if t.kind != kind::L_PAREN {
-        return a;
+        return Ok(place);
     }
-    let b = list(
-        tokens,
-        text,
-        n,
+    let b = list(tokens, file, parser, Listed::Arguments, nesting);
+    parser.state.reported = reported;
+    let count = b?;
+    write_node(
         file,
-        reported,
-        full,
-        Listed::Arguments,
-        s,
-        nesting,
-    );
-    let c = silence(b, s.reported);
-    write_node(file, text, c, a.place, tag::CALL, Numbers::Two(b.count))
+        tokens.text,
+        &mut parser.state,
+        Ok(place),
+        place,
+        tag::CALL,
+        Numbers::Two(count),
+    )
 }
 
 // parse_sizeof: `sizeof` `(` type `)` | field_access_or_index
 #[cycle(expression)]
 fn sizeof(
-    tokens: &[u32],
-    text: &[u8],
-    n: usize,
+    tokens: Tokens,
     file: &mut [u8],
-    reported: &mut [usize],
-    full: &mut [usize],
-    st: State,
+    parser: &mut Parser,
     nesting: usize,
-) -> Answer
-    requires { Asked tokens text n file reported full st }
-    ensures { Parses P.parse_sizeof tokens text n file reported full st nesting result }
+) -> Result<usize, Stop>
+    requires { Asked tokens file parser }
+    ensures { Parses P.parse_sizeof tokens file parser nesting result }
 {
-    let t = peek(tokens, n, st.at);
+    let from = parser.state;
+    let t = tokens.peek(from.at);
     if t.kind != kind::KW_SIZEOF {
-        return access(tokens, text, n, file, reported, full, st, nesting);
+        return access(tokens, file, parser, nesting);
     }
-    let on = State { at: t.next, ..st };
-    let a = expect(tokens, n, reported, full, on, kind::L_PAREN);
-    let status = a.status;
-    let Status::Done = status else {
-        return a;
-    };
-    let s = a.state;
-    let b = ty(tokens, text, n, file, reported, full, s, nesting);
-    let c = and_expect(tokens, n, reported, full, b, kind::R_PAREN, st);
-    write_node(file, text, c, t.place, tag::SIZEOF, Numbers::None)
+    parser.state.at = t.next;
+    expect(tokens, parser, kind::L_PAREN)?;
+    let b = ty(tokens, file, parser, nesting);
+    let c = expect_after(tokens, parser, b, kind::R_PAREN, from);
+    write_node(
+        file,
+        tokens.text,
+        &mut parser.state,
+        c,
+        t.place,
+        tag::SIZEOF,
+        Numbers::None,
+    )
 }
 
 // parse_field_access_or_index: atom {`.` name | `.*` | `[` expression `]`}
 #[cycle(expression)]
 fn access(
-    tokens: &[u32],
-    text: &[u8],
-    n: usize,
+    tokens: Tokens,
     file: &mut [u8],
-    reported: &mut [usize],
-    full: &mut [usize],
-    st: State,
+    parser: &mut Parser,
     nesting: usize,
-) -> Answer
-    requires { Asked tokens text n file reported full st }
-    ensures { Parses P.parse_field_access_or_index tokens text n file reported full st nesting result }
+) -> Result<usize, Stop>
+    requires { Asked tokens file parser }
+    ensures { Parses P.parse_field_access_or_index tokens file parser nesting result }
 {
-    let mut a = atom(tokens, text, n, file, reported, full, st, nesting);
+    let from = parser.state;
+    let mut a = atom(tokens, file, parser, nesting);
     loop {
-        let status = a.status;
-        let Status::Done = status else {
+        let Ok(_) = a else {
             return a;
         };
-        let s = a.state;
-        let t = peek(tokens, n, s.at);
+        let before = parser.state;
+        let t = tokens.peek(before.at);
         if t.kind == kind::DOT {
-            let u = peek(tokens, n, t.next);
-            let on = State { at: u.next, ..s };
+            let u = tokens.peek(t.next);
             if u.kind == kind::END {
-                return refuse(n, s, refusal::END_AFTER_WORD);
+                return Err(parser.state.refuse(tokens.count, Refusal::EndAfterWord));
             }
+            parser.state.at = u.next;
             if u.kind != kind::IDENTIFIER {
                 let error = entry(parse_error::IDENTIFIER, u.place, 0, 0);
-                let b = note(n, reported, full, on, error);
-                let h = b.status;
-                let e = b.state;
-                return Answer {
-                    status: h,
-                    state: e,
-                    place: a.place,
-                    count: a.count,
-                };
+                parser.note(tokens.count, error)?;
+                return a;
             }
-            let c = Answer {
-                status,
-                state: on,
-                place: a.place,
-                count: a.count,
-            };
             a = write_text_node(
                 file,
-                text,
-                c,
+                tokens.text,
+                &mut parser.state,
+                a,
                 t.place,
                 tag::FIELD_ACCESS,
                 Numbers::None,
@@ -535,18 +461,13 @@ fn access(
             );
             continue;
         }
-        let on = State { at: t.next, ..s };
         if t.kind == kind::DOT_STAR {
-            let c = Answer {
-                status,
-                state: on,
-                place: a.place,
-                count: a.count,
-            };
+            parser.state.at = t.next;
             a = write_node(
                 file,
-                text,
-                c,
+                tokens.text,
+                &mut parser.state,
+                a,
                 t.place,
                 tag::POINTER_DEREFERENCE,
                 Numbers::None,
@@ -556,74 +477,68 @@ fn access(
         if t.kind != kind::L_BRACKET {
             return a;
         }
-        let b = expression(tokens, text, n, file, reported, full, on, nesting);
-        let c = abandon(reported, b, st, s);
-        let d = and_expect(tokens, n, reported, full, c, kind::R_BRACKET, st);
-        a = write_node(file, text, d, t.place, tag::INDEX, Numbers::None);
+        parser.state.at = t.next;
+        let b = expression(tokens, file, parser, nesting);
+        let c = abandon(&mut parser.reported, &mut parser.state, b, from, before);
+        let d = expect_after(tokens, parser, c, kind::R_BRACKET, from);
+        a = write_node(
+            file,
+            tokens.text,
+            &mut parser.state,
+            d,
+            t.place,
+            tag::INDEX,
+            Numbers::None,
+        );
     }
 }
 
 // parse_atom: literal | `(` expression `)`
 #[cycle(expression)]
-fn atom(
-    tokens: &[u32],
-    text: &[u8],
-    n: usize,
-    file: &mut [u8],
-    reported: &mut [usize],
-    full: &mut [usize],
-    st: State,
-    nesting: usize,
-) -> Answer
-    requires { Asked tokens text n file reported full st }
-    ensures { Parses P.parse_atom tokens text n file reported full st nesting result }
+fn atom(tokens: Tokens, file: &mut [u8], parser: &mut Parser, nesting: usize) -> Result<usize, Stop>
+    requires { Asked tokens file parser }
+    ensures { Parses P.parse_atom tokens file parser nesting result }
 {
-    let t = peek(tokens, n, st.at);
+    let t = tokens.peek(parser.state.at);
     if t.kind != kind::L_PAREN {
-        return literal(tokens, text, n, file, reported, full, st);
+        return literal(tokens, file, parser);
     }
-    let on = State { at: t.next, ..st };
-    let a = expression(tokens, text, n, file, reported, full, on, nesting);
-    close(tokens, n, reported, full, a)
+    parser.state.at = t.next;
+    let a = expression(tokens, file, parser, nesting);
+    close(tokens, parser, a)
 }
 
 // ---- names
 
-// Writes a record without a place after the answer `a`, with the name at index `at`, or `<?>` if none is there.
+// Writes a record without a place after the call `called`, unless it stopped, with the name at index `at`, or `<?>` if
+// none is there.
 fn bare_name(
-    tokens: &[u32],
-    text: &[u8],
-    n: usize,
+    tokens: Tokens,
     file: &mut [u8],
-    a: Answer,
+    state: &mut State,
+    called: Result<usize, Stop>,
     tag: u8,
     at: usize,
-) -> Answer
-    requires { NameRoom tokens text n file a at }
-    ensures { BareNamed tokens text n file a tag at result }
+) -> Result<usize, Stop>
+    requires { NameRoom tokens file state called at }
+    ensures { BareNamed tokens file state called tag at result }
 {
-    let status = a.status;
-    let Status::Done = status else {
-        return a;
-    };
-    let s = a.state;
-    let t = peek(tokens, n, at);
+    called?;
+    let t = tokens.peek(at);
     if t.kind == kind::IDENTIFIER {
-        let pos = write_bare(file, text, s.pos, tag, Numbers::None, t.start, t.len);
-        return Answer {
-            status,
-            state: State { pos, ..s },
-            place: 0,
-            count: 0,
-        };
+        state.pos = write_bare(
+            file,
+            tokens.text,
+            state.pos,
+            tag,
+            Numbers::None,
+            t.start,
+            t.len,
+        );
+        return Ok(0);
     }
-    let pos = write_bare(file, b"<?>", s.pos, tag, Numbers::None, 0, 3);
-    Answer {
-        status,
-        state: State { pos, ..s },
-        place: 0,
-        count: 0,
-    }
+    state.pos = write_bare(file, b"<?>", state.pos, tag, Numbers::None, 0, 3);
+    Ok(0)
 }
 
 // ---- types
@@ -631,34 +546,26 @@ fn bare_name(
 // parse_type: name | `*` type | `[` array | `struct` fields. Open calls are counted.
 #[cycle(expression)]
 pub fn ty(
-    tokens: &[u32],
-    text: &[u8],
-    n: usize,
+    tokens: Tokens,
     file: &mut [u8],
-    reported: &mut [usize],
-    full: &mut [usize],
-    st: State,
+    parser: &mut Parser,
     nesting: usize,
-) -> Answer
-    requires { Asked tokens text n file reported full st }
-    ensures { Parses P.parse_type tokens text n file reported full st nesting result }
+) -> Result<usize, Stop>
+    requires { Asked tokens file parser }
+    ensures { Parses P.parse_type tokens file parser nesting result }
 {
     if nesting == 0 {
-        return refuse(n, st, refusal::NESTING);
+        return Err(parser.state.refuse(tokens.count, Refusal::Nesting));
     }
-    let t = peek(tokens, n, st.at);
-    let on = State { at: t.next, ..st };
+    let reported = parser.state.reported;
+    let t = tokens.peek(parser.state.at);
+    parser.state.at = t.next;
     if t.kind == kind::IDENTIFIER {
-        let a = Answer {
-            status: Status::Done,
-            state: on,
-            place: t.place,
-            count: 0,
-        };
         return write_text_node(
             file,
-            text,
-            a,
+            tokens.text,
+            &mut parser.state,
+            Ok(t.place),
             t.place,
             tag::NAME,
             Numbers::None,
@@ -667,134 +574,128 @@ pub fn ty(
         );
     }
     if t.kind == kind::STAR {
-        let a = ty(tokens, text, n, file, reported, full, on, nesting - 1);
-        return write_node(file, text, a, t.place, tag::POINTER, Numbers::None);
-    }
-    if t.kind == kind::L_BRACKET {
-        return array(
-            tokens,
-            text,
-            n,
+        let a = ty(tokens, file, parser, nesting - 1);
+        return write_node(
             file,
-            reported,
-            full,
+            tokens.text,
+            &mut parser.state,
+            a,
             t.place,
-            on,
-            nesting - 1,
+            tag::POINTER,
+            Numbers::None,
         );
     }
+    if t.kind == kind::L_BRACKET {
+        return array(tokens, file, parser, t.place, nesting - 1);
+    }
     if t.kind == kind::KW_STRUCT {
-        let what = Listed::StructFields;
-        let a = list(tokens, text, n, file, reported, full, what, on, nesting - 1);
-        let b = silence(a, st.reported);
-        return write_node(file, text, b, t.place, tag::STRUCT, Numbers::Two(a.count));
+        let a = list(tokens, file, parser, Listed::StructFields, nesting - 1);
+        parser.state.reported = reported;
+        let count = a?;
+        let numbers = Numbers::Two(count);
+        return write_node(
+            file,
+            tokens.text,
+            &mut parser.state,
+            Ok(t.place),
+            t.place,
+            tag::STRUCT,
+            numbers,
+        );
     }
     if t.kind == kind::END {
         let error = entry(parse_error::TYPE_AT_END, 0, 0, 0);
-        return raise(n, reported, full, on, error);
+        return Err(parser.raise(tokens.count, error));
     }
     let error = entry(parse_error::TYPE, t.place, 0, t.kind);
-    raise(n, reported, full, on, error)
+    Err(parser.raise(tokens.count, error))
 }
 
 // Parses what follows the `[` of an array type: size `]` type. Errors in the size are at `place`.
 #[cycle(expression)]
 fn array(
-    tokens: &[u32],
-    text: &[u8],
-    n: usize,
+    tokens: Tokens,
     file: &mut [u8],
-    reported: &mut [usize],
-    full: &mut [usize],
+    parser: &mut Parser,
     place: usize,
-    st: State,
     nesting: usize,
-) -> Answer
-    requires { Asked tokens text n file reported full st × (place < 0x100000000) }
-    ensures { Parses (P.parse_array_type (unpack_place place)) tokens text n file reported full st nesting result }
+) -> Result<usize, Stop>
+    requires { Asked tokens file parser × (place < 0x100000000) }
+    ensures { Parses (P.parse_array_type (unpack_place place)) tokens file parser nesting result }
 {
-    let t = peek(tokens, n, st.at);
-    let on = State { at: t.next, ..st };
+    let t = tokens.peek(parser.state.at);
+    parser.state.at = t.next;
     if t.kind != kind::INTEGER {
         let error = entry(parse_error::ARRAY_SIZE, place, 0, 0);
-        return raise(n, reported, full, on, error);
+        return Err(parser.raise(tokens.count, error));
     }
-    let size = array_size(text, t.start, t.len, t.base);
+    let size = array_size(tokens.text, t.start, t.len, t.base);
     if !size.fits {
         let error = entry(parse_error::ARRAY_SIZE_POSITIVE, place, 0, 0);
-        return raise(n, reported, full, on, error);
+        return Err(parser.raise(tokens.count, error));
     }
-    let a = expect(tokens, n, reported, full, on, kind::R_BRACKET);
-    let status = a.status;
-    let Status::Done = status else {
-        return a;
-    };
-    let s = a.state;
-    let b = ty(tokens, text, n, file, reported, full, s, nesting);
+    expect(tokens, parser, kind::R_BRACKET)?;
+    let b = ty(tokens, file, parser, nesting);
     let numbers = Numbers::Eight(size.number);
-    write_node(file, text, b, place, tag::ARRAY, numbers)
+    write_node(
+        file,
+        tokens.text,
+        &mut parser.state,
+        b,
+        place,
+        tag::ARRAY,
+        numbers,
+    )
 }
 
 // Parses what follows the name of a typed identifier: `:` type,
 // in a construct that began in the state `from`.
 #[cycle(expression)]
 fn typed(
-    tokens: &[u32],
-    text: &[u8],
-    n: usize,
+    tokens: Tokens,
     file: &mut [u8],
-    reported: &mut [usize],
-    full: &mut [usize],
+    parser: &mut Parser,
     from: State,
-    st: State,
     nesting: usize,
-) -> Answer
-    requires { Asked tokens text n file reported full st × ((from.pos ≡ st.pos) × (from.reported ≤ st.reported)) }
-    ensures { TypedOn tokens text n file reported full from st nesting result }
+) -> Result<usize, Stop>
+    requires { Asked tokens file parser × ((from.pos ≡ parser.now.state.pos) × (from.reported ≤ parser.now.state.reported)) }
+    ensures { TypedOn tokens file parser from nesting result }
 {
-    let a = expect(tokens, n, reported, full, st, kind::COLON);
-    let b = abandon(reported, a, from, st);
-    let status = b.status;
-    let Status::Done = status else {
+    let before = parser.state;
+    let a = expect(tokens, parser, kind::COLON);
+    let b = abandon(&mut parser.reported, &mut parser.state, a, from, before);
+    let Ok(_) = b else {
         return b;
     };
-    let s = b.state;
-    let c = ty(tokens, text, n, file, reported, full, s, nesting);
-    abandon(reported, c, from, s)
+    let between = parser.state;
+    let c = ty(tokens, file, parser, nesting);
+    abandon(&mut parser.reported, &mut parser.state, c, from, between)
 }
 
 // parse_typed_identifier: name `:` type. The caller takes the name from the first token.
 #[cycle(expression)]
 pub fn typed_name(
-    tokens: &[u32],
-    text: &[u8],
-    n: usize,
+    tokens: Tokens,
     file: &mut [u8],
-    reported: &mut [usize],
-    full: &mut [usize],
-    st: State,
+    parser: &mut Parser,
     nesting: usize,
-) -> Answer
-    requires { Asked tokens text n file reported full st }
-    ensures { ReadsTyped tokens text n file reported full st nesting result }
+) -> Result<usize, Stop>
+    requires { Asked tokens file parser }
+    ensures { ReadsTyped tokens file parser nesting result }
 {
-    let t = peek(tokens, n, st.at);
-    let on = State { at: t.next, ..st };
+    let from = parser.state;
+    let t = tokens.peek(from.at);
+    parser.state.at = t.next;
     if t.kind == kind::IDENTIFIER {
-        return typed(tokens, text, n, file, reported, full, st, on, nesting);
+        return typed(tokens, file, parser, from, nesting);
     }
     if t.kind == kind::END {
         let error = entry(parse_error::END_OF_FILE, 0, 0, 0);
-        return raise(n, reported, full, on, error);
+        return Err(parser.raise(tokens.count, error));
     }
     let error = entry(parse_error::IDENTIFIER, t.place, 0, 0);
-    let b = note(n, reported, full, on, error);
-    let status = b.status;
-    let Status::Done = status else {
-        return b;
-    };
-    let s = b.state;
-    typed(tokens, text, n, file, reported, full, st, s, nesting)
+    parser.note(tokens.count, error)?;
+    typed(tokens, file, parser, from, nesting)
 }
 
 // ---- lists
@@ -802,51 +703,44 @@ pub fn typed_name(
 // A parameter, or a field of a struct type: typed_name and its record.
 #[cycle(expression)]
 fn named(
-    tokens: &[u32],
-    text: &[u8],
-    n: usize,
+    tokens: Tokens,
     file: &mut [u8],
-    reported: &mut [usize],
-    full: &mut [usize],
-    st: State,
+    parser: &mut Parser,
     nesting: usize,
-) -> Answer
-    requires { Asked tokens text n file reported full st }
-    ensures { Parses P.parse_named_type tokens text n file reported full st nesting result }
+) -> Result<usize, Stop>
+    requires { Asked tokens file parser }
+    ensures { Parses P.parse_named_type tokens file parser nesting result }
 {
-    let a = typed_name(tokens, text, n, file, reported, full, st, nesting);
-    bare_name(tokens, text, n, file, a, tag::NAMED_TYPE, st.at)
+    let at = parser.state.at;
+    let a = typed_name(tokens, file, parser, nesting);
+    bare_name(tokens, file, &mut parser.state, a, tag::NAMED_TYPE, at)
 }
 
 // parse_compound_struct_field: name `=` expression
 #[cycle(expression)]
 fn field(
-    tokens: &[u32],
-    text: &[u8],
-    n: usize,
+    tokens: Tokens,
     file: &mut [u8],
-    reported: &mut [usize],
-    full: &mut [usize],
-    st: State,
+    parser: &mut Parser,
     nesting: usize,
-) -> Answer
-    requires { Asked tokens text n file reported full st }
-    ensures { Parses P.parse_compound_struct_field tokens text n file reported full st nesting result }
+) -> Result<usize, Stop>
+    requires { Asked tokens file parser }
+    ensures { Parses P.parse_compound_struct_field tokens file parser nesting result }
 {
-    let t = peek(tokens, n, st.at);
-    let a = expect_identifier(tokens, n, reported, full, st);
-    let b = and_expect(tokens, n, reported, full, a, kind::EQUALS, st);
-    let status = b.status;
-    let Status::Done = status else {
+    let from = parser.state;
+    let t = tokens.peek(from.at);
+    let a = expect_identifier(tokens, parser);
+    let b = expect_after(tokens, parser, a, kind::EQUALS, from);
+    let Ok(place) = b else {
         return b;
     };
-    let s = b.state;
-    let c = expression(tokens, text, n, file, reported, full, s, nesting);
+    let c = expression(tokens, file, parser, nesting);
     write_text_node(
         file,
-        text,
+        tokens.text,
+        &mut parser.state,
         c,
-        b.place,
+        place,
         tag::COMPOUND_FIELD,
         Numbers::None,
         t.start,
@@ -857,87 +751,53 @@ fn field(
 // Parses one item of a list.
 #[cycle(expression)]
 fn item(
-    tokens: &[u32],
-    text: &[u8],
-    n: usize,
+    tokens: Tokens,
     file: &mut [u8],
-    reported: &mut [usize],
-    full: &mut [usize],
+    parser: &mut Parser,
     what: Listed,
-    st: State,
     nesting: usize,
-) -> Answer
-    requires { Asked tokens text n file reported full st }
-    ensures { Parses (P.item (listed_of what)) tokens text n file reported full st nesting result }
+) -> Result<usize, Stop>
+    requires { Asked tokens file parser }
+    ensures { Parses (P.item (listed_of what)) tokens file parser nesting result }
 {
     match what {
-        Listed::Parameters => named(tokens, text, n, file, reported, full, st, nesting),
-        Listed::Arguments => expression(tokens, text, n, file, reported, full, st, nesting),
-        Listed::StructFields => named(tokens, text, n, file, reported, full, st, nesting),
-        Listed::ArrayValues => expression(tokens, text, n, file, reported, full, st, nesting),
-        Listed::StructValues => field(tokens, text, n, file, reported, full, st, nesting),
+        Listed::Parameters => named(tokens, file, parser, nesting),
+        Listed::Arguments => expression(tokens, file, parser, nesting),
+        Listed::StructFields => named(tokens, file, parser, nesting),
+        Listed::ArrayValues => expression(tokens, file, parser, nesting),
+        Listed::StructValues => field(tokens, file, parser, nesting),
     }
 }
 
-// parse_bounded_list_of: opener {item [`,`]} closer. Never fatal; `count` of the answer is that of the items.
+// parse_bounded_list_of: opener {item [`,`]} closer. Never fatal; gives the count of the items.
 #[cycle(expression)]
 pub fn list(
-    tokens: &[u32],
-    text: &[u8],
-    n: usize,
+    tokens: Tokens,
     file: &mut [u8],
-    reported: &mut [usize],
-    full: &mut [usize],
+    parser: &mut Parser,
     what: Listed,
-    st: State,
     nesting: usize,
-) -> Answer
-    requires { Asked tokens text n file reported full st }
-    ensures { ReadsList (listed_of what) tokens text n file reported full st nesting result }
+) -> Result<usize, Refusal>
+    requires { Asked tokens file parser }
+    ensures { ReadsList (listed_of what) tokens file parser nesting result }
 {
-    let open = opener(what);
-    let a = expect(tokens, n, reported, full, st, open);
-    let status = a.status;
-    if let Status::Refused(_) = status {
-        return a;
-    }
+    recover(expect(tokens, parser, opener(what)))?;
     let close = closer(what);
     let mut count = 0;
-    let mut s = a.state;
     loop {
-        let t = peek(tokens, n, s.at);
+        let t = tokens.peek(parser.state.at);
         if t.kind == kind::END {
             let error = entry(parse_error::LIST_AT_END, 0, 0, 0);
-            let b = note(n, reported, full, s, error);
-            let h = b.status;
-            let e = b.state;
-            return Answer {
-                status: h,
-                state: e,
-                place: 0,
-                count,
-            };
+            parser.note(tokens.count, error)?;
+            return Ok(count);
         }
         if t.kind == close {
-            return Answer {
-                status: Status::Done,
-                state: State { at: t.next, ..s },
-                place: 0,
-                count,
-            };
+            parser.state.at = t.next;
+            return Ok(count);
         }
-        let b = item(tokens, text, n, file, reported, full, what, s, nesting);
-        let h = b.status;
-        let e = b.state;
-        if let Status::Refused(_) = h {
-            return b;
-        }
-        let c = comma(tokens, n, reported, full, e, close);
-        let g = c.status;
-        let Status::Done = g else {
-            return c;
-        };
-        count = counted(h, count);
-        s = c.state;
+        let b = item(tokens, file, parser, what, nesting);
+        let parsed = recover(b)?;
+        comma(tokens, parser, close)?;
+        count = counted(parsed, count);
     }
 }

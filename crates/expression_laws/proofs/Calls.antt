@@ -18,19 +18,17 @@ use Rattle.definition.specs.Parser as P
 use Rattle.definition.specs.Go.{go}
 use Rattle.definition.proofs.Flat.{go_bind}
 use Rattle.fallible.proofs.Grown.{errs_length}
-use Rattle.fallible.specs.declared.State.{State}
-use Rattle.fallible.specs.declared.Status.{Status}
-use Rattle.fallible.specs.declared.Status.TheVariants.{Done, Fatal, Refused}
-use Rattle.fallible.specs.declared.Answer.{Answer}
+use Rattle.fallible.specs.declared.parser.State.{State}
+use Rattle.fallible.specs.Answer.{Status, Done, Fatal, Refused, Answer}
 use Rattle.fallible.specs.Lists.{errs}
 use Rattle.fallible.specs.Answers.{silent}
 use Rattle.node.specs.Put.{rec_of, size_of, Room}
 use Rattle.node.specs.declared.Numbers.TheVariants.{None, Two}
 use Rattle.node.specs.declared.Record.{Record}
-use Rattle.steps.specs.declared.Token.{Token}
+use Rattle.steps.specs.declared.tokens.Token.{Token}
 use Rattle.steps.specs.Tokens.{rest, budget, Seen}
 use Rattle.steps.specs.Shows.{st_of, Asked, Moved, View, Good, Bad, ShowsOf, Shows, Reads, Goes, GoesOn, node, items, token, Expects, Follows, Expected, NodeWritten}
-use Rattle.steps.proofs.Tokens.{present_before, yes, no, fore, adv}
+use Rattle.steps.proofs.Records.{present_before, yes, no, fore, adv}
 use Rattle.steps.proofs.Moves.{asks_moved, fore_moved, moved_trans}
 use Rattle.steps.proofs.Answers.{Stopped, say, good_of, stops, follows, wrapped, writes_node, tree_join, errs_join}
 use Rattle.steps.proofs.Constructs.{down}
@@ -167,18 +165,6 @@ module _ {w x : List ℕ} {n d i j : ℕ} {o r f : List ℕ} {a : Answer} {t : T
           (drops d B.never (errs_length r a.state.reported (omega arith)) B.moved.reported (B.is g.read))));
     }
 
-  -- the same with the answer that `silence` gives
-  pub call_done : {o1 r1 f1 o2 : List ℕ} {b c y : Answer} → t.kind ≡ 41
-      → ReadsList w x n d Arguments o r f a.state o1 r1 f1 b → c ≡ silent b a.state.reported
-      → NodeWritten x o1 c
-      (record { tag = 0x24; place = a.place; numbers = Two b.count; start = 0; len = 0 })
-      o2 y
-      → Goes node node w x n d call_on i j o r f a o2 r1 f1 y
-  call_done {o1} {o2 = o2} {b = b} {c = c} {y = y} h B C F =
-      call_found h B (subst (λ (k : Answer). NodeWritten x o1 k
-      (record { tag = 0x24; place = a.place; numbers = Two b.count; start = 0; len = 0 })
-      o2 y) C F)
-
 -- what the list requires: a later token, and room for the record after it
 pub call_later : {w x : List ℕ} {n d : ℕ} {m : Act (Ans Node)} {o r f o1 r1 f1 : List ℕ} {s : State} {a : Answer} {t : Token}
     → Asked w x n o r f s → Reads node w x n d m o r f s o1 r1 f1 a → Seen w n a.state.at t → t.kind ≡ 41
@@ -186,10 +172,9 @@ pub call_later : {w x : List ℕ} {n d : ℕ} {m : Act (Ans Node)} {o r f o1 r1 
 call_later {n = n} {s = s} q B u h =
     omega (arith, B.on, present_before n s.at (omega (arith, B.moved.at, u.on, u.end, h)))
 
-pub call_room : {w x : List ℕ} {n i j i' j' k : ℕ} {o r f o1 : List ℕ} {s t : State} {b c : Answer} → Asked w x n o r f s
-    → Moved w n i j s t → Moved w n i' j' t b.state → c ≡ silent b k → length o1 ≡ length o
-    → Room o1 x c.state.pos (16 + 0) 0 0
-call_room q u v e l = rw e (record { room = omega (arith, q.room, u.room, v.room); part = omega arith })
+pub call_room : {w x : List ℕ} {n i j i' j' : ℕ} {o r f o1 : List ℕ} {s t u : State} → Asked w x n o r f s
+    → Moved w n i j s t → Moved w n i' j' t u → length o1 ≡ length o → Room o1 x u.pos (16 + 0) 0 0
+call_room q u v l = record { room = omega (arith, q.room, u.room, v.room); part = omega arith }
 
 -- ---- `sizeof`
 

@@ -13,16 +13,15 @@ use Rattle.definition.specs.Act.{Act, done, Node, Consumed, Res, gives, after, o
 use Rattle.definition.specs.Go.{go}
 use Rattle.definition.proofs.Flat.{go_bind}
 use Rattle.fallible.proofs.Grown.{errs_length}
-use Rattle.fallible.specs.declared.State.{State}
-use Rattle.fallible.specs.declared.Status.TheVariants.{Done}
-use Rattle.fallible.specs.declared.Answer.{Answer}
+use Rattle.fallible.specs.declared.parser.State.{State}
+use Rattle.fallible.specs.Answer.{Done, Answer}
 use Rattle.fallible.specs.Answers.{Abandoned, Cuts}
 use Rattle.node.specs.Put.{rec_of, size_of, Room}
 use Rattle.node.specs.declared.Record.{Record}
-use Rattle.steps.specs.declared.Token.{Token}
+use Rattle.steps.specs.declared.tokens.Token.{Token}
 use Rattle.steps.specs.Tokens.{budget, Seen}
 use Rattle.steps.specs.Shows.{st_of, Asked, Moved, View, Good, Shows, Reads, Goes, GoesOn, node, NodeWritten}
-use Rattle.steps.proofs.Tokens.{fore}
+use Rattle.steps.proofs.Records.{fore}
 use Rattle.steps.proofs.Moves.{asked_moved, moved_trans}
 use Rattle.steps.proofs.Answers.{Stopped, say, good_of, is_good, stops, follows, abandons, wrapped, writes_node}
 use Rattle.steps.proofs.Constructs.{seam, then_goes}
@@ -163,7 +162,7 @@ module _ {A : Type 0} {K : View A} {w x : List ℕ} {n d i j : ℕ} {o r f o1 r1
 module _ {A : Type 0} {K : View A} {w x : List ℕ} {n d i j : ℕ} {o r f o1 r1 f1 : List ℕ} {a b : Answer}
     {t : Token} {m : Act (Ans A)} (q : GoesOn w x n o r f a i j) (u : Seen w n a.state.at t)
     (B : Reads K w x n d m o r f (fore a.state t) o1 r1 f1 b) where
-  pub join_cuts : length r1 ≡ length r → Cuts r1 b i j a.state.reported
+  pub join_cuts : length r1 ≡ length r → Cuts r1 b.state i j a.state.reported
   join_cuts e =
       record {
         pos = omega (arith, q.pos, B.moved.pos);

@@ -15,16 +15,15 @@ use Rattle.definition.specs.Act.{Act, done, Operators, Casts, Node, plain, St, r
 use Rattle.definition.specs.Parser as P
 use Rattle.definition.specs.Go.{go}
 use Rattle.definition.proofs.Flat.{go_loop}
-use Rattle.fallible.specs.declared.Status.TheVariants.{Done}
-use Rattle.fallible.specs.declared.State.{State}
-use Rattle.fallible.specs.declared.Answer.{Answer}
+use Rattle.fallible.specs.declared.parser.State.{State}
+use Rattle.fallible.specs.Answer.{Done, Answer}
 use Rattle.fallible.specs.Answers.{Abandoned}
 use Rattle.node.specs.declared.Numbers.TheVariants.{None, Byte}
-use Rattle.steps.specs.declared.Token.{Token}
+use Rattle.steps.specs.declared.tokens.Token.{Token}
 use Rattle.steps.specs.Tokens.{rest, Seen}
 use Rattle.steps.specs.Shows.{st_of, Asked, Reads, Goes, GoesOn, node, NodeWritten}
 pub use Rattle.steps.specs.Shows.{untexted as at-operator}
-use Rattle.steps.proofs.Tokens.{yes, no, fore, adv}
+use Rattle.steps.proofs.Records.{yes, no, fore, adv}
 use Rattle.leaves.specs.Leaves.{level_at, Operator}
 use Rattle.expression_laws.specs.Post.{operators_on, levels_at, casts_on}
 use Rattle.expression_laws.proofs.Types.{past}

@@ -12,16 +12,14 @@ use Rattle.definition.specs.Act.{Node, Items, ListOf, Act, done, make, loop, pla
 use Rattle.definition.specs.Parser as P
 use Rattle.definition.specs.Go.{go}
 use Rattle.definition.proofs.Flat.{go_loop, go_bind}
-use Rattle.fallible.specs.declared.State.{State}
-use Rattle.fallible.specs.declared.Status.{Status}
-use Rattle.fallible.specs.declared.Status.TheVariants.{Done, Fatal, Refused}
-use Rattle.fallible.specs.declared.Answer.{Answer}
+use Rattle.fallible.specs.declared.parser.State.{State}
+use Rattle.fallible.specs.Answer.{Status, Done, Fatal, Refused, Answer}
 use Rattle.fallible.specs.Lists.{unpack, error_at, errs}
 use Rattle.fallible.specs.Answers.{noted, Raised}
-use Rattle.steps.specs.declared.Token.{Token}
+use Rattle.steps.specs.declared.tokens.Token.{Token}
 use Rattle.steps.specs.Tokens.{rest, Seen}
 use Rattle.steps.specs.Shows.{st_of, Asks, Asked, ShowsOf, Shows, node, token, items, Reads, Expects}
-use Rattle.steps.proofs.Tokens.{yes, no, fore, adv}
+use Rattle.steps.proofs.Records.{yes, no, fore, adv}
 use Rattle.steps.proofs.Moves.{asks_moved, asked_moved}
 use Rattle.steps.proofs.Answers.{Stopped, say, errs_join}
 use Rattle.leaves.specs.declared.Listed.{Listed}

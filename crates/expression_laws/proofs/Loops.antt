@@ -10,18 +10,16 @@ use Rattle.definition.specs.Act.{Act, Items, Node, done, make, Consumed, Res, gi
 use Rattle.definition.specs.Parser as P
 use Rattle.definition.specs.Go.{go}
 use Rattle.definition.proofs.Flat.{go_bind}
-use Rattle.fallible.specs.declared.State.{State}
-use Rattle.fallible.specs.declared.Status.{Status}
-use Rattle.fallible.specs.declared.Status.TheVariants.{Done, Fatal, Refused}
-use Rattle.fallible.specs.declared.Answer.{Answer}
+use Rattle.fallible.specs.declared.parser.State.{State}
+use Rattle.fallible.specs.Answer.{Status, Done, Fatal, Refused, Answer}
 use Rattle.fallible.specs.Lists.{unpack, errs}
 use Rattle.fallible.specs.Answers.{noted, Raised}
-use Rattle.steps.specs.declared.Token.{Token}
+use Rattle.steps.specs.declared.tokens.Token.{Token}
 use Rattle.steps.specs.Tokens.{Seen}
 use Rattle.steps.specs.Shows.{st_of, Asked, View, ShowsOf, Shows, Reads, node, items}
-use Rattle.steps.proofs.Tokens.{fore}
+use Rattle.steps.proofs.Records.{fore}
 use Rattle.steps.proofs.Moves.{fore_moved, making_moved, asked_moved}
-use Rattle.steps.proofs.Answers.{say, tree_join, errs_join}
+use Rattle.steps.proofs.Answers.{alike, say, tree_join, errs_join}
 use Rattle.leaves.specs.Leaves.{count_of, Counted}
 use Rattle.leaves.proofs.Errors.{made_so, makes, makes_none}
 use Rattle.leaves.proofs.Atoms.{Ended, Alive}
@@ -190,3 +188,14 @@ pub loop_asked : {w x : List ℕ} {n d count k : ℕ} {m : Act (Ans Node)} {o r 
     → length r1 ≡ length r → length f1 ≡ length f
     → Asked w x n o1 r1 f1 b.state × (k ≤ b.state.at)
 loop_asked q v m0 u c lo lr lf = (asked_moved q.0 u.moved lo lr lf, omega (arith, q.1, v.present, m0, u.on, c.high))
+
+-- only the status and the state of an answer that is not done matter
+pub loop_alike : {on : Items → Act Items} {w x : List ℕ} {n d count : ℕ} {o r f o' r' f' : List ℕ} {s : State} {y z : Answer}
+    → z.status ≡ y.status → z.state ≡ y.state → (z.status ≡ Done → (z.place ≡ y.place) × (z.count ≡ y.count))
+    → LoopOn on w x n d count o r f s o' r' f' y → LoopOn on w x n d count o r f s o' r' f' z
+loop_alike hs ht hn u =
+    record {
+      moved = rw ht u.moved;
+      never = λ k. u.never (sym hs ∙ k);
+      is = λ rd T E i p q r. alike hs ht hn (u.is rd T E i p q r);
+    }

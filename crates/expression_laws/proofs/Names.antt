@@ -16,20 +16,18 @@ use Rattle.definition.specs.Go.{go}
 use Rattle.definition.proofs.Flat.{go_bind}
 use Rattle.node.specs.Put.{Room, Wrote, bare_of, bare_size}
 use Rattle.node.specs.declared.Numbers.TheVariants.{None}
-use Rattle.fallible.specs.declared.State.{State}
-use Rattle.fallible.specs.declared.Status.{Status}
-use Rattle.fallible.specs.declared.Status.TheVariants.{Done, Fatal, Refused}
-use Rattle.fallible.specs.declared.Answer.{Answer}
+use Rattle.fallible.specs.declared.parser.State.{State}
+use Rattle.fallible.specs.Answer.{Status, Done, Fatal, Refused, done_of, Answer}
 use Rattle.fallible.specs.Lists.{unpack, error_at, errs}
 use Rattle.fallible.specs.Answers.{refused_at, one_more, raised, noted, Raised, AbandonedOf, Abandoned, Cuts}
 use Rattle.fallible.proofs.Grown.{errs_length}
-use Rattle.steps.specs.declared.Token.{Token}
+use Rattle.steps.specs.declared.tokens.Token.{Token}
 use Rattle.steps.specs.Tokens.{rest, budget, Parts, Seen}
-use Rattle.steps.specs.Shows.{st_of, Asks, Asked, Moved, View, Good, ShowsOf, Shows, done_of, node, typed, token, Reads, Expects, NodeWritten, Follows, Followed, ExpectedOf, Expected}
-use Rattle.steps.proofs.Tokens.{yes, no, fore, adv}
+use Rattle.steps.specs.Shows.{st_of, Asks, Asked, Moved, View, Good, ShowsOf, Shows, node, typed, token, Reads, Expects, NodeWritten, Follows, Followed, ExpectedOf, Expected}
+use Rattle.steps.proofs.Records.{yes, no, fore, adv}
 use Rattle.steps.proofs.Moves.{spent, refused_moved, asks_fore, asks_moved, fore_moved, making_moved, moved_trans, asked_moved, abandoned_moved}
 use Rattle.steps.proofs.OneToken.{making_pos}
-use Rattle.steps.proofs.Answers.{Stopped, say, good_of, not_done, done_le, stops, follows, abandons, wrote, wrapped, raise_same}
+use Rattle.steps.proofs.Answers.{alike, Stopped, say, good_of, not_done, done_le, stops, follows, abandons, wrote, wrapped, raise_same}
 use Rattle.leaves.proofs.Errors.{made_so, makes, makes_none, raise_reads}
 use Rattle.expression_laws.specs.Post.{name_of, NameRoom, BareNamedOf, BareNamed, ReadsTyped, TypedOn}
 use Rattle.expression_laws.proofs.Types.{moved_onward, past, paid, record_reads, shown_from}
@@ -389,7 +387,7 @@ expected_there {w} {x} {n} {k} {i} {j} {r} {f} {r'} {f'} {a} {y} v z = one a.sta
         → (F.c ≡ F.b) × (r' ≡ F.between) → Met w x n k r f a r' f' y
     on e F zc h =
         let zb : F.b.status ≡ Done = ap (λ (b : Answer). b.status) (sym h.0) ∙ zc in
-        let st : y.state ≡ F.b.state = ap (λ (b : Answer). b.state) F.is ∙ ap (λ (b : Answer). b.state) h.0 in
+        let st : y.state ≡ F.b.state = F.state ∙ ap (λ (b : Answer). b.state) h.0 in
         let g : (d : ℕ) (rd : List Consumed) → Good (token (next_token (rest w x n a.state.at))) (take a.state.pos []) (errs r a.state.reported) [] [] w x n [] F.between f' F.b (go d (P.expect k) (st_of w x n f rd a.state)) =
         λ d rd. good_of zb (F.expects.is x plain d rd []) in
         record {
@@ -397,7 +395,7 @@ expected_there {w} {x} {n} {k} {i} {j} {r} {f} {r'} {f'} {a} {y} v z = one a.sta
           pos = rw st F.expects.pos;
           reported = rw st (F.expects.kept zb).0;
           kept = rw (st, h.1) (F.expects.kept zb).1;
-          place = rw F.is;
+          place = (F.numbers z).0;
           item = λ d rd. record { item = (g d rd).item; errors = (g d rd).errors };
           read = λ d rd. (g d rd).read;
           is =
@@ -407,22 +405,9 @@ expected_there {w} {x} {n} {k} {i} {j} {r} {f} {r'} {f'} {a} {y} v z = one a.sta
         }
 
     one : (h : Status) → a.status ≡ h → ExpectedOf h w n k i j r f a r' f' y → Met w x n k r f a r' f' y
-    one Done e F = let zc : F.c.status ≡ Done = ap (λ (b : Answer). b.status) (sym F.is) ∙ z in on e F zc (kept_done F.abandoned zc)
+    one Done e F = let zc : F.c.status ≡ Done = sym F.status ∙ z in on e F zc (kept_done F.abandoned zc)
     one Fatal e m = absurd (never e m.0 (λ u. let c : ◌≡◌ {A = ℕ} 0 1 = cc in omega arith))
     one (Refused p) e m = absurd (never e m.0 (λ u. let c : ◌≡◌ {A = ℕ} 0 1 = cc in omega arith))
-
--- the place of a fatal or refused answer does not matter
-relined : {A : Type 0} {K : View A} {T : List ℕ} {E : List Err} {w x : List ℕ} {n l m : ℕ} {o r f : List ℕ}
-    {a : Answer} {q : Res (Ans A)}
-    → Stopped a → Shows K T E [] [] w x n o r f a q
-    → Shows K T E [] [] w x n o r f (record { status = a.status; state = a.state; place = l; count = m }) q
-relined {A} {K} {T} {E} {w} {x} {n} {l} {m} {o} {r} {f} {a} {q} nd v = record { told = one a.status nd v.told }
-  where
-    one : (h : Status) → (h ≡ Done → ⊥) → ShowsOf h K T E [] [] w x n o r f a q
-        → ShowsOf h K T E [] [] w x n o r f (record { status = a.status; state = a.state; place = l; count = m }) q
-    one Done nd g = absurd (nd refl)
-    one Fatal nd g = record { errors = g.errors; read = g.read; is = g.is; tree = g.tree; reported = g.reported }
-    one (Refused u) nd g = g
 
 -- a fatal or refused answer, or a missing token, is the answer of all that follows under `?`
 pub expected_stops : {A B : Type 0} {K : View A} {L : View B} {T : List ℕ} {E : List Err} {w x : List ℕ} {n k i j : ℕ}
@@ -438,14 +423,14 @@ expected_stops {A} {B} {K} {L} {T} {E} {w} {x} {n} {k} {i} {j} {o} {r} {f} {r'} 
         → Shows L T E [] [] w x n o r' f' y (after q (λ z S. go d (or_return (λ e. P.expect k >>? on e) z) S))
     one Done e F =
         let g = good_of e u in
-        let nc : Stopped F.c = rw F.is at nd in
+        let nc : Stopped F.c = λ k. nd (F.status ∙ k) in
         say (follows d (λ e. P.expect k >>? on e) g.is
         ∙ go_bind d (P.expect k) (or_return (on (record { item = g.item; errors = g.errors }))) _)
-        (rw F.is (relined nc (stops d (on (record { item = g.item; errors = g.errors })) _ nc
+        (alike F.status F.state (λ k. absurd (nd k)) (stops d (on (record { item = g.item; errors = g.errors })) _ nc
         (abandons {T = T} {E = E} g.tree g.reported li lj
         (errs_length r a.state.reported (omega (arith, p.asks))) F.abandoned
         (omega (arith, p.pos, F.expects.moved.pos))
-        (omega (arith, p.reported, F.expects.moved.reported)) (F.expects.is x plain d g.read o)))))
+        (omega (arith, p.reported, F.expects.moved.reported)) (F.expects.is x plain d g.read o))))
     one Fatal e m = let na : Stopped a = rw m.0 at nd in rw (m.0, m.1.0, m.1.1) (stops d (λ e. P.expect k >>? on e) q na u)
     one (Refused c) e m = let na : Stopped a = rw m.0 at nd in rw (m.0, m.1.0, m.1.1) (stops d (λ e. P.expect k >>? on e) q na u)
 
@@ -530,9 +515,9 @@ module _ {w x : List ℕ} {n : ℕ} {o r f r1 f1 : List ℕ} {s : State} {t : To
 -- ---- what their calls require
 
 -- what `?` requires
-pub cuts_moved : {w : List ℕ} {n i j : ℕ} {r f r1 : List ℕ} {s : State} {a : Answer} → Asks w n r f s
-    → Moved w n s.pos s.reported s a.state → i ≤ s.pos → j ≤ s.reported → length r1 ≡ length r
-    → Cuts r1 a i j s.reported
+pub cuts_moved : {w : List ℕ} {n i j : ℕ} {r f r1 : List ℕ} {s t : State} → Asks w n r f s
+    → Moved w n s.pos s.reported s t → i ≤ s.pos → j ≤ s.reported → length r1 ≡ length r
+    → Cuts r1 t i j s.reported
 cuts_moved q m hi hj l =
     record {
       pos = omega (arith, m.pos);
@@ -544,7 +529,7 @@ cuts_moved q m hi hj l =
 module _ {w x : List ℕ} {n j : ℕ} {o r f r1 f1 : List ℕ} {s : State} {a : Answer}
     (q : Asked w x n o r f s × (j ≤ s.reported))
     (e : Expects w n (λ role. P.expect_as role 49) r f s r1 f1 a) where
-  pub colon_cuts : length r1 ≡ length r → Cuts r1 a s.pos j s.reported
+  pub colon_cuts : length r1 ≡ length r → Cuts r1 a.state s.pos j s.reported
   colon_cuts l = cuts_moved q.0.asks e.moved (omega arith) q.1 l
 
   module _ {r2 : List ℕ} {b : Answer} (v : Abandoned r1 a s.pos j s.reported r2 b) where
@@ -553,7 +538,7 @@ module _ {w x : List ℕ} {n j : ℕ} {o r f r1 f1 : List ℕ} {s : State} {a : 
 
     pub type_cuts : {d : ℕ} {o3 r3 f3 : List ℕ} {c : Answer} → Reads node w x n d P.parse_type o r2 f1 b.state o3 r3 f3 c
         → length r2 ≡ length r → length f1 ≡ length f → length r3 ≡ length r2
-        → Cuts r3 c s.pos j b.state.reported
+        → Cuts r3 c.state s.pos j b.state.reported
     type_cuts u l k g = cuts_moved (type_asked l k).asks u.moved v.low v.first g
 
 -- after an error is noted

@@ -8,9 +8,9 @@ use lib.Dec.{eqb}
 use lib.ListN.{length}
 use borrow.Author.Tests.{eqb-false, not-false}
 use Rattle.definition.specs.Parser as P
-use Rattle.fallible.specs.declared.State.{State}
-use Rattle.fallible.specs.declared.Answer.{Answer}
-use Rattle.steps.specs.declared.Token.{Token}
+use Rattle.fallible.specs.declared.parser.State.{State}
+use Rattle.fallible.specs.Answer.{Answer}
+use Rattle.steps.specs.declared.tokens.Token.{Token}
 use Rattle.steps.specs.Tokens.{Seen}
 use Rattle.steps.specs.Shows.{Asked, Reads, node, NodeWritten}
 use Rattle.leaves.specs.Leaves.{there, identifier, is_name_alone}

@@ -15,18 +15,17 @@ use Rattle.definition.specs.Parser as P
 use Rattle.definition.specs.Go.{go}
 use Rattle.definition.proofs.Flat.{go_bind, go_loop}
 use Rattle.fallible.proofs.Grown.{errs_length}
-use Rattle.fallible.specs.declared.State.{State}
-use Rattle.fallible.specs.declared.Status.TheVariants.{Done}
-use Rattle.fallible.specs.declared.Answer.{Answer}
+use Rattle.fallible.specs.declared.parser.State.{State}
+use Rattle.fallible.specs.Answer.{Done, Answer}
 use Rattle.fallible.specs.Lists.{errs, unpack, error_at}
 use Rattle.fallible.specs.Answers.{refused_at, noted, Raised, Abandoned}
 use Rattle.node.specs.Put.{rec_of}
 use Rattle.node.specs.declared.Numbers.TheVariants.{None}
 use Rattle.node.specs.declared.Record.{Record}
-use Rattle.steps.specs.declared.Token.{Token}
+use Rattle.steps.specs.declared.tokens.Token.{Token}
 use Rattle.steps.specs.Tokens.{rest, budget, Seen}
 use Rattle.steps.specs.Shows.{st_of, Asks, Moved, Shows, Reads, Goes, GoesOn, node, Follows, Expected, NodeWritten}
-use Rattle.steps.proofs.Tokens.{yes, no, fore, adv}
+use Rattle.steps.proofs.Records.{yes, no, fore, adv}
 use Rattle.steps.proofs.Moves.{asks_fore, fore_moved, refused_moved, making_moved, moved_trans, asks_moved}
 use Rattle.steps.proofs.Answers.{say, good_of, is_good, follows, abandons, wrapped, writes_node, errs_join}
 use Rattle.steps.proofs.Constructs.{seam}

@@ -6,8 +6,8 @@ use native.Mathlib.Omega.{arith}
 use lib.ListN.{length}
 use Rattle.definition.specs.Fallible.{Fallible, Ans}
 use Rattle.definition.specs.Act.{Act, Node}
-use Rattle.fallible.specs.declared.State.{State}
-use Rattle.fallible.specs.declared.Answer.{Answer}
+use Rattle.fallible.specs.declared.parser.State.{State}
+use Rattle.fallible.specs.Answer.{Answer}
 use Rattle.steps.specs.Shows.{Asked, Goes, GoesOn, node}
 
 -- a predicate on the three slices at exit and the answer

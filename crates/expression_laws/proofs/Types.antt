@@ -21,17 +21,15 @@ use Rattle.definition.proofs.Flat.{go_bind}
 use Rattle.node.specs.Put.{Room, rec_of, size_of}
 use Rattle.node.specs.declared.Record.{Record}
 use Rattle.node.specs.declared.Numbers.TheVariants.{None, Two, Eight}
-use Rattle.fallible.specs.declared.State.{State}
-use Rattle.fallible.specs.declared.Status.{Status}
-use Rattle.fallible.specs.declared.Status.TheVariants.{Done, Fatal, Refused}
-use Rattle.fallible.specs.declared.Answer.{Answer}
+use Rattle.fallible.specs.declared.parser.State.{State}
+use Rattle.fallible.specs.Answer.{Status, Done, Fatal, Refused, Answer}
 use Rattle.fallible.specs.Lists.{unpack, error_at, errs}
 use Rattle.fallible.specs.Answers.{refused_at, raised, Raised, silent}
 use Rattle.fallible.proofs.Grown.{errs_length}
-use Rattle.steps.specs.declared.Token.{Token}
+use Rattle.steps.specs.declared.tokens.Token.{Token}
 use Rattle.steps.specs.Tokens.{rest, budget, present, Held, Seen}
 use Rattle.steps.specs.Shows.{st_of, Asked, Moved, View, Good, ShowsOf, Shows, node, items, Reads, Expects, NodeWritten, texted, untexted}
-use Rattle.steps.proofs.Tokens.{rest_cons, rest_nil, budget_cons, budget_nil, yes, no, fore, adv}
+use Rattle.steps.proofs.Records.{rest_cons, rest_nil, budget_cons, budget_nil, yes, no, fore, adv}
 use Rattle.steps.proofs.Moves.{fore_moved, asked_seen, asked_moved}
 use Rattle.steps.proofs.Answers.{Stopped, say, good_of, stops, follows, errs_take, wrapped, writes_node, raise_same}
 use Rattle.steps.proofs.Constructs.{deep, down, seam}
@@ -249,16 +247,15 @@ module _ {w x : List ℕ} {n d : ℕ} {o r f : List ℕ} {s : State} (q : Asked 
           abbrev struct_on : Fallible Items → Act (Ans Node)
           struct_on e = wrapped items [] [] 20 (λ _. (next_token (rest w x n s.at)).place) (λ i. two i.count ∷ []) [] e
 
-          pub type_struct : {o1 r1 f1 o2 : List ℕ} {a b y : Answer} → t.kind ≡ 16
-              → ReadsList w x n (d - 1) StructFields o r f (fore s t) o1 r1 f1 a → b ≡ silent a s.reported
-              → NodeWritten x o1 b (untexted t.place 20 (Two a.count)) o2 y
+          pub type_struct : {o1 r1 f1 o2 : List ℕ} {a y : Answer} → t.kind ≡ 16
+              → ReadsList w x n (d - 1) StructFields o r f (fore s t) o1 r1 f1 a
+              → NodeWritten x o1 (silent a s.reported) (untexted t.place 20 (Two a.count)) o2 y
               → Reads node w x n d P.parse_type o r f s o2 r1 f1 y
           unfolding go run P.type_rule
-          type_struct {o1} {r1} {f1} {o2} {a} {b} {y} z u e F =
-              let G : NodeWritten x o1 (silent a s.reported) (untexted t.place 20 (Two a.count)) o2 y = rw e at F in
+          type_struct {o1} {r1} {f1} {o2} {a} {y} z u F =
               let mv = moved_onward (fore_moved q.asks v) u.moved in
               down Type' nz
-              (record_reads {K = items} (next_token (rest w x n s.at)).place (λ i. two i.count ∷ []) [] G (record { at = mv.at; end = mv.end; pos = mv.pos; room = mv.room; reported = omega arith; less = omega arith; full = mv.full; few = mv.few }) (omega (arith, v.present, v.on, u.moved.at)) (omega arith) (λ i h. rw (v.place, h))
+              (record_reads {K = items} (next_token (rest w x n s.at)).place (λ i. two i.count ∷ []) [] F (record { at = mv.at; end = mv.end; pos = mv.pos; room = mv.room; reported = omega arith; less = omega arith; full = mv.full; few = mv.few }) (omega (arith, v.present, v.on, u.moved.at)) (omega arith) (λ i h. rw (v.place, h))
               (λ rd. after (go (d - 1) (P.parse_list StructFields >>= as_answer)
               (st_of w x n f (past w x n s.at rd) (fore s t)))
               (λ z S. go (d - 1) (or_return (λ y. P.good y.item []) z) S))
@@ -383,10 +380,10 @@ module _ {w x : List ℕ} {n : ℕ} {o r f : List ℕ} {s : State} (q : Asked w 
         → Room o1 x b.state.pos (16 + 0) 0 0
     star_room u l = room_moved (moved_onward (fore_moved q.asks v) u.moved) l
 
-    pub struct_room : {d j : ℕ} {o1 r1 f1 : List ℕ} {a b : Answer}
-        → ReadsList w x n d StructFields o r f (fore s t) o1 r1 f1 a → b ≡ silent a j → length o1 ≡ length o
-        → Room o1 x b.state.pos (16 + 0) 0 0
-    struct_room u e l = rw e (room_moved (moved_onward (fore_moved q.asks v) u.moved) l)
+    pub struct_room : {d : ℕ} {o1 r1 f1 : List ℕ} {a : Answer}
+        → ReadsList w x n d StructFields o r f (fore s t) o1 r1 f1 a → length o1 ≡ length o
+        → Room o1 x a.state.pos (16 + 0) 0 0
+    struct_room u l = room_moved (moved_onward (fore_moved q.asks v) u.moved) l
 
     pub array_asked : Asked w x n o r f (fore s t) × (t.place < 0x100000000)
     array_asked = (asked_seen q v, v.places)

@@ -1,35 +1,56 @@
 -- The records of Post, stated over the parameters of the functions. Assumes nothing.
-use Rattle.std.specs.Prelude.{ℕ}
-use Rattle.definition.specs.Slices.{Slice, MutSlice, Lent, MutLent, at_entry, old, new}
+use Rattle.std.specs.Prelude.{ℕ, Result}
+use Rattle.std.specs.Borrow.{MutBor}
+use Rattle.definition.specs.Slices.{MutSlice, MutLent, old, new}
 use Rattle.definition.specs.Act as A
 use Rattle.definition.specs.Act.{Items, Act}
-use Rattle.fallible.specs.declared.State.{State}
-use Rattle.fallible.specs.declared.Answer.{Answer}
+use Rattle.definition.specs.declared.refusal.Refusal.{Refusal}
+use Rattle.fallible.specs.declared.Stop.{Stop}
+use Rattle.fallible.specs.declared.parser.State.{State}
+use Rattle.fallible.specs.Answer.{node_answer, list_answer}
+use Rattle.steps.specs.declared.tokens.Tokens.{Tokens}
+use Rattle.steps.specs.Contract.{LentTokens, MutParser}
 use Rattle.expression_laws.specs.Post as G
+use denote.Triple.Both.{Both}
 
-abbrev pub NameRoom : Slice → Slice → ℕ → MutSlice → Answer → ℕ → Type 0
-NameRoom tokens text n file a at = G.NameRoom tokens.now text.now n file.now a at
+abbrev pub NameRoom : Tokens → MutSlice → MutBor State → Result ℕ Stop → ℕ → Type 0
+NameRoom tokens file state called at =
+    G.NameRoom tokens.records.now tokens.text.now tokens.count file.now (node_answer called state.now) at
 
-abbrev pub BareNamed : Lent → Lent → ℕ → MutLent → Answer → ℕ → ℕ → Answer → Type 0
-BareNamed tokens text n file a tag at r =
-    G.BareNamed (at_entry tokens) (at_entry text) n (old file) a tag at (new file) r
+abbrev pub BareNamed : LentTokens → MutLent → Both (MutBor State) (MutBor State) → Result ℕ Stop → ℕ → ℕ → Result ℕ Stop → Type 0
+BareNamed tokens file state called tag at r =
+    let t = tokens.entry in
+    G.BareNamed t.records.now t.text.now t.count (old file) (node_answer called state.entry.now) tag at (new file)
+    (node_answer r state.exit.now)
 
-abbrev pub ReadsTyped : Lent → Lent → ℕ → MutLent → MutLent → MutLent → State → ℕ → Answer → Type 0
-ReadsTyped tokens text n file reported full st nesting r =
-    G.ReadsTyped (at_entry tokens) (at_entry text) n nesting (old file) (old reported) (old full) st
-    (new file) (new reported) (new full) r
+abbrev pub ReadsTyped : LentTokens → MutLent → MutParser → ℕ → Result ℕ Stop → Type 0
+ReadsTyped tokens file parser nesting r =
+    let t = tokens.entry in
+    let p = parser.entry.now in
+    let q = parser.exit.now in
+    G.ReadsTyped t.records.now t.text.now t.count nesting (old file) p.reported p.full p.state (new file)
+    q.reported q.full (node_answer r q.state)
 
-abbrev pub TypedOn : Lent → Lent → ℕ → MutLent → MutLent → MutLent → State → State → ℕ → Answer → Type 0
-TypedOn tokens text n file reported full from st nesting r =
-    G.TypedOn (at_entry tokens) (at_entry text) n nesting from.reported (old file) (old reported) (old full) st
-    (new file) (new reported) (new full) r
+abbrev pub TypedOn : LentTokens → MutLent → MutParser → State → ℕ → Result ℕ Stop → Type 0
+TypedOn tokens file parser from nesting r =
+    let t = tokens.entry in
+    let p = parser.entry.now in
+    let q = parser.exit.now in
+    G.TypedOn t.records.now t.text.now t.count nesting from.reported (old file) p.reported p.full p.state
+    (new file) q.reported q.full (node_answer r q.state)
 
-abbrev pub ReadsList : A.Listed → Lent → Lent → ℕ → MutLent → MutLent → MutLent → State → ℕ → Answer → Type 0
-ReadsList k tokens text n file reported full st nesting r =
-    G.ReadsList (at_entry tokens) (at_entry text) n nesting k (old file) (old reported) (old full) st
-    (new file) (new reported) (new full) r
+abbrev pub ReadsList : A.Listed → LentTokens → MutLent → MutParser → ℕ → Result ℕ Refusal → Type 0
+ReadsList k tokens file parser nesting r =
+    let t = tokens.entry in
+    let p = parser.entry.now in
+    let q = parser.exit.now in
+    G.ReadsList t.records.now t.text.now t.count nesting k (old file) p.reported p.full p.state (new file)
+    q.reported q.full (list_answer r q.state)
 
-abbrev pub LoopOn : (Items → Act Items) → ℕ → Lent → Lent → ℕ → MutLent → MutLent → MutLent → State → ℕ → Answer → Type 0
-LoopOn on count tokens text n file reported full st nesting r =
-    G.LoopOn on (at_entry tokens) (at_entry text) n nesting count (old file) (old reported) (old full) st
-    (new file) (new reported) (new full) r
+abbrev pub LoopOn : (Items → Act Items) → ℕ → LentTokens → MutLent → MutParser → ℕ → Result ℕ Refusal → Type 0
+LoopOn on count tokens file parser nesting r =
+    let t = tokens.entry in
+    let p = parser.entry.now in
+    let q = parser.exit.now in
+    G.LoopOn on t.records.now t.text.now t.count nesting count (old file) p.reported p.full p.state (new file)
+    q.reported q.full (list_answer r q.state)

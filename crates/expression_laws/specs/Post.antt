@@ -12,14 +12,12 @@ use Rattle.definition.specs.Parser as P
 use Rattle.definition.specs.Go.{go}
 use Rattle.node.specs.Put.{Wrote, bare_of}
 use Rattle.node.specs.declared.Numbers.TheVariants.{None}
-use Rattle.fallible.specs.declared.State.{State}
-use Rattle.fallible.specs.declared.Status.{Status}
-use Rattle.fallible.specs.declared.Status.TheVariants.{Done, Fatal, Refused}
-use Rattle.fallible.specs.declared.Answer.{Answer}
+use Rattle.fallible.specs.declared.parser.State.{State}
+use Rattle.fallible.specs.Answer.{Status, Done, Fatal, Refused, done_of, Answer}
 use Rattle.fallible.specs.Lists.{errs}
 use Rattle.steps.specs.Tokens.{rest, budget, present, Held, Parts}
 use Rattle.leaves.specs.Leaves.{level_at}
-use Rattle.steps.specs.Shows.{st_of, Moved, Shows, done_of, typed, items}
+use Rattle.steps.specs.Shows.{st_of, Moved, Shows, typed, items}
 
 -- ---- loops after an operand
 

@@ -1,10 +1,8 @@
 -- What the functions on answers ensure. Assumes nothing.
 use Rattle.std.specs.Prelude.{◌≡◌, List, [], ◌∷◌, ◌++◌, ℕ, ◌+◌, ◌-◌, ◌<◌, ◌≤◌, ltb, length, take, drop}
 use Rattle.definition.specs.Choice.{pick}
-use Rattle.fallible.specs.declared.State.{State}
-use Rattle.fallible.specs.declared.Status.{Status}
-use Rattle.fallible.specs.declared.Status.TheVariants.{Done, Fatal, Refused}
-use Rattle.fallible.specs.declared.Answer.{Answer}
+use Rattle.fallible.specs.declared.parser.State.{State}
+use Rattle.fallible.specs.Answer.{Status, Done, Fatal, Refused, Answer}
 use Rattle.fallible.specs.Lists.{unpack, errs}
 
 -- a refusal: moves to the end of the n tokens
@@ -55,11 +53,11 @@ pub record Abandoned (r : List ℕ) (a : Answer) (i j k : ℕ) (r' : List ℕ) (
   pub is : AbandonedOf a.status r a i j k r' a'
 
 -- what `abandon` requires
-pub record Cuts (r : List ℕ) (a : Answer) (i j k : ℕ) : Type 0 where
-  pub pos : i ≤ a.state.pos
+pub record Cuts (r : List ℕ) (s : State) (i j k : ℕ) : Type 0 where
+  pub pos : i ≤ s.pos
   pub order : j ≤ k
-  pub own : k ≤ a.state.reported
-  pub within : a.state.reported ≤ length r
+  pub own : k ≤ s.reported
+  pub within : s.reported ≤ length r
 
 -- ---- dropping errors
 

@@ -20,17 +20,16 @@ use Rattle.definition.specs.Go.{go}
 use Rattle.definition.specs.Places.{unpack_place}
 use Rattle.definition.proofs.Flat.{go_bind, go_loop}
 use Rattle.fallible.proofs.Grown.{errs_length}
-use Rattle.fallible.specs.declared.State.{State}
-use Rattle.fallible.specs.declared.Status.TheVariants.{Done}
-use Rattle.fallible.specs.declared.Answer.{Answer}
+use Rattle.fallible.specs.declared.parser.State.{State}
+use Rattle.fallible.specs.Answer.{Done, Answer}
 use Rattle.fallible.specs.Lists.{unpack, error_at, errs}
 use Rattle.fallible.specs.Answers.{refused_at, raised, Raised}
 use Rattle.node.specs.Put.{Room}
 use Rattle.node.specs.declared.Numbers.TheVariants.{None, Byte}
-use Rattle.steps.specs.declared.Token.{Token}
+use Rattle.steps.specs.declared.tokens.Token.{Token}
 use Rattle.steps.specs.Tokens.{rest, budget, present, Seen}
 use Rattle.steps.specs.Shows.{st_of, Asked, Moved, Good, Reads, node, token, Expects, Expected, Follows, NodeWritten}
-use Rattle.steps.proofs.Tokens.{present_within, yes, no, fore, adv}
+use Rattle.steps.proofs.Records.{present_within, yes, no, fore, adv}
 use Rattle.steps.proofs.Moves.{refused_moved, asks_moved, fore_moved, moved_trans}
 use Rattle.steps.proofs.Answers.{Stopped, say, good_of, stops, follows, wrapped, raise_same}
 use Rattle.steps.proofs.Following.{expecting, expects_after}

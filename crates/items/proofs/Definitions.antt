@@ -19,18 +19,17 @@ use Rattle.definition.specs.Go.{go}
 use Rattle.definition.specs.Places.{unpack_place}
 use Rattle.definition.proofs.Flat.{go_bind}
 use Rattle.fallible.proofs.Grown.{errs_length}
-use Rattle.fallible.specs.declared.State.{State}
-use Rattle.fallible.specs.declared.Status.TheVariants.{Done}
-use Rattle.fallible.specs.declared.Answer.{Answer}
+use Rattle.fallible.specs.declared.parser.State.{State}
+use Rattle.fallible.specs.Answer.{Done, done_of, Answer}
 use Rattle.fallible.specs.Lists.{errs}
 use Rattle.fallible.specs.Orders.{Exchanged}
 use Rattle.node.specs.Put.{Room}
 use Rattle.node.specs.declared.Numbers.TheVariants.{Two, ByteTwo}
-use Rattle.steps.specs.declared.Token.{Token}
+use Rattle.steps.specs.declared.tokens.Token.{Token}
 use Rattle.steps.specs.Tokens.{rest, budget, Seen}
-use Rattle.steps.specs.Shows.{st_of, Asked, Moved, Good, Shows, Reads, done_of, node, token, items, Expects, Follows, Expected, NodeWritten}
-use Rattle.steps.proofs.Tokens.{yes, no, fore, adv}
-use Rattle.steps.proofs.Answers.{Stopped, say, good_of, is_good, stops, follows, wrapped, writes_node}
+use Rattle.steps.specs.Shows.{st_of, Asked, Moved, Good, Shows, Reads, node, token, items, Expects, Follows, Expected, NodeWritten}
+use Rattle.steps.proofs.Records.{yes, no, fore, adv}
+use Rattle.steps.proofs.Answers.{Stopped, say, good_of, is_good, stops, follows, wrapped, writes_done, writes_node}
 use Rattle.steps.proofs.Following.{expects_after}
 use Rattle.expression_laws.specs.Post.{as_answer}
 use Rattle.expression_laws.proofs.Names.{text_length}
@@ -90,8 +89,8 @@ module _ {w x : List ℕ} {n name i j : ℕ} {o r f : List ℕ} {a : Answer} (q 
           is = λ T E p li lj v.
               say (outside_seam d (unpack_place place) (next_token (rest w x n name)) p
               ∙ expect_seam d plain 50 (outside (unpack_place place) (next_token (rest w x n name))) p)
-              (writes_node d (λ _. unpack_place place) (λ i. byte 1 ∷ two i.count ∷ [])
-              (next_token (rest w x n name)).text F (λ k h. rw (h, expected_count X, u.text))
+              (writes_done d (λ _. unpack_place place) (λ i. byte 1 ∷ two i.count ∷ [])
+              (next_token (rest w x n name)).text F (λ z k h. rw (h, expected_count X z, u.text))
               (expects_after external_follows X plain d li lj v));
         }
 
@@ -129,8 +128,8 @@ records_seam d p name e b S =
 
 module _ {w x : List ℕ} {n d name i j : ℕ} {o r f : List ℕ} {a : Answer} (q : FunctionAsked w x n o r f name a i j) where
   -- a fatal or refused signature is returned; so is a refused body
-  pub whole_stops : {p : Place} → Stopped a → FunctionOn w x n d 0 p name i j o r f a o r f a
-  whole_stops {p} nd = record {
+  pub whole_stops : {k : ℕ} {p : Place} → Stopped a → FunctionOn w x n d k p name i j o r f a o r f a
+  whole_stops {k} {p} nd = record {
     moved =
         record {
           at = omega arith;
@@ -142,7 +141,7 @@ module _ {w x : List ℕ} {n d name i j : ℕ} {o r f : List ℕ} {a : Answer} (
           full = omega arith;
           few = q.asked.asks.few;
         };
-    is = λ T E h li lj v. stops d (function_on p 0 (next_token (rest w x n name))) h nd v;
+    is = λ T E h li lj v. stops d (function_on p k (next_token (rest w x n name))) h nd v;
   }
 
   module _ {o1 r1 f1 : List ℕ} {b : Answer} (z : a.status ≡ Done) (B : ReadsBody w x n d o r f a.state o1 r1 f1 b) where

@@ -10,16 +10,14 @@ use Rattle.definition.specs.Fallible.{Err, Fallible, Ans}
 use Rattle.definition.specs.Act.{Act, Items, St, Res, gives, refused, after, or_return, run, ◌>>=◌}
 use Rattle.definition.specs.Go.{go}
 use Rattle.definition.proofs.Flat.{go_bind}
-use Rattle.fallible.specs.declared.Status.{Status}
-use Rattle.fallible.specs.declared.Status.TheVariants.{Done, Fatal, Refused}
-use Rattle.fallible.specs.declared.Answer.{Answer}
+use Rattle.fallible.specs.Answer.{Status, Done, Fatal, Refused, done_of, Answer}
 use Rattle.fallible.specs.Lists.{errs}
 use Rattle.fallible.specs.Answers.{AbandonedOf, Abandoned}
 use Rattle.fallible.specs.Orders.{Exchanged}
 use Rattle.fallible.proofs.Exchanges.{exchange_errs}
 use Rattle.steps.specs.Tokens.{budget, present}
-use Rattle.steps.proofs.Tokens.{budget_nil, present_before}
-use Rattle.steps.specs.Shows.{done_of, ExpectedOf, Expected}
+use Rattle.steps.proofs.Records.{budget_nil, present_before}
+use Rattle.steps.specs.Shows.{ExpectedOf, Expected}
 use Rattle.steps.proofs.Answers.{errs_take}
 use Rattle.expression_laws.specs.Post.{as_answer}
 
@@ -49,11 +47,11 @@ still {r} {r'} {i} {j} {k} {b} {c} v z = one b.status v.is
 
 -- `expect` after an answer keeps its count
 pub expected_count : {w : List ℕ} {n k i j : ℕ} {r f r' f' : List ℕ} {a y : Answer} → Expected w n k i j r f a r' f' y
-    → y.count ≡ a.count
-expected_count {w} {n} {k} {i} {j} {r} {f} {r'} {f'} {a} {y} v = one a.status v.is
+    → y.status ≡ Done → y.count ≡ a.count
+expected_count {w} {n} {k} {i} {j} {r} {f} {r'} {f'} {a} {y} v z = one a.status v.is
   where
     one : (h : Status) → ExpectedOf h w n k i j r f a r' f' y → y.count ≡ a.count
-    one Done m = rw m.is
+    one Done m = (m.numbers z).1
     one Fatal m = rw m.0
     one (Refused u) m = rw m.0
 

@@ -15,17 +15,16 @@ use Rattle.definition.specs.Go.{go}
 use Rattle.definition.specs.Places.{unpack_place}
 use Rattle.definition.proofs.Flat.{go_bind}
 use Rattle.fallible.proofs.Grown.{errs_length}
-use Rattle.fallible.specs.declared.State.{State}
-use Rattle.fallible.specs.declared.Status.TheVariants.{Done}
-use Rattle.fallible.specs.declared.Answer.{Answer}
+use Rattle.fallible.specs.declared.parser.State.{State}
+use Rattle.fallible.specs.Answer.{Done, Answer}
 use Rattle.fallible.specs.Lists.{errs}
 use Rattle.fallible.specs.Answers.{Abandoned, Cuts}
 use Rattle.fallible.specs.Orders.{Exchanged}
 use Rattle.node.specs.declared.Numbers.TheVariants.{None}
-use Rattle.steps.specs.declared.Token.{Token}
+use Rattle.steps.specs.declared.tokens.Token.{Token}
 use Rattle.steps.specs.Tokens.{budget, Seen}
 use Rattle.steps.specs.Shows.{st_of, Asked, Moved, Good, Shows, Reads, node, items, NodeWritten}
-use Rattle.steps.proofs.Tokens.{yes, no, fore, adv}
+use Rattle.steps.proofs.Records.{yes, no, fore, adv}
 use Rattle.steps.proofs.Answers.{Stopped, say, good_of, is_good, stops, follows, abandons, writes_node}
 use Rattle.expression_laws.specs.Post.{as_answer, ReadsList}
 use Rattle.expression_laws.proofs.Types.{past}
@@ -128,7 +127,7 @@ module _ {w x : List ℕ} {n d : ℕ} {p : Place} {o r f o1 r1 f1 : List ℕ} {s
 
   module _ {o2 r2 f2 : List ℕ} {b : Answer} (lr : length r1 ≡ length r) (R : ReadsType w x n d p o1 r1 f1 a.state o2 r2 f2 b) where
     -- what `abandon` requires
-    pub signature_cuts : length r2 ≡ length r1 → Cuts r2 b s.pos s.reported a.state.reported
+    pub signature_cuts : length r2 ≡ length r1 → Cuts r2 b.state s.pos s.reported a.state.reported
     signature_cuts l =
         record {
           pos = omega (arith, R.moved.pos, B.moved.pos);

@@ -1,26 +1,43 @@
 -- The records of Items, stated over the parameters of the functions. Assumes nothing.
-use Rattle.std.specs.Prelude.{ℕ}
-use Rattle.definition.specs.Slices.{Slice, MutSlice, Lent, MutLent, at_entry, old, new}
+use Rattle.std.specs.Prelude.{ℕ, Result, Ok}
+use Rattle.std.specs.Borrow.{MutBor}
+use Rattle.definition.specs.Slices.{MutSlice, MutLent, old, new}
 use Rattle.definition.specs.Source.{Place}
-use Rattle.fallible.specs.declared.State.{State}
-use Rattle.fallible.specs.declared.Answer.{Answer}
+use Rattle.fallible.specs.declared.Stop.{Stop}
+use Rattle.fallible.specs.declared.parser.State.{State}
+use Rattle.fallible.specs.declared.parser.Parser.{Parser}
+use Rattle.fallible.specs.Answer.{node_answer, count_answer}
+use Rattle.steps.specs.declared.tokens.Tokens.{Tokens}
+use Rattle.steps.specs.Contract.{LentTokens, MutParser}
 use Rattle.items.specs.Items as I
 
-abbrev pub ReadsType : Place → Lent → Lent → ℕ → MutLent → MutLent → MutLent → State → ℕ → Answer → Type 0
-ReadsType p tokens text n file reported full st nesting r =
-    I.ReadsType (at_entry tokens) (at_entry text) n nesting p (old file) (old reported) (old full) st
-    (new file) (new reported) (new full) r
+abbrev pub ReadsType : Place → LentTokens → MutLent → MutParser → ℕ → Result ℕ Stop → Type 0
+ReadsType place tokens file parser nesting r =
+    let t = tokens.entry in
+    let p = parser.entry.now in
+    let q = parser.exit.now in
+    I.ReadsType t.records.now t.text.now t.count nesting place (old file) p.reported p.full p.state (new file)
+    q.reported q.full (node_answer r q.state)
 
-abbrev pub ReadsSignature : Place → Lent → Lent → ℕ → MutLent → MutLent → MutLent → State → ℕ → Answer → Type 0
-ReadsSignature p tokens text n file reported full st nesting r =
-    I.ReadsSignature (at_entry tokens) (at_entry text) n nesting p (old file) (old reported) (old full) st
-    (new file) (new reported) (new full) r
+abbrev pub ReadsSignature : Place → LentTokens → MutLent → MutParser → ℕ → Result ℕ Stop → Type 0
+ReadsSignature place tokens file parser nesting r =
+    let t = tokens.entry in
+    let p = parser.entry.now in
+    let q = parser.exit.now in
+    I.ReadsSignature t.records.now t.text.now t.count nesting place (old file) p.reported p.full p.state (new file)
+    q.reported q.full (count_answer r q.state)
 
-abbrev pub FunctionAsked : Slice → Slice → ℕ → MutSlice → MutSlice → MutSlice → ℕ → Answer → State → Type 0
-FunctionAsked tokens text n file reported full name a from =
-    I.FunctionAsked tokens.now text.now n file.now reported.now full.now name a from.pos from.reported
+-- after a signature with `count` parameters
+abbrev pub FunctionAsked : Tokens → MutSlice → MutBor Parser → ℕ → ℕ → State → Type 0
+FunctionAsked tokens file parser name count from =
+    let p = parser.now in
+    I.FunctionAsked tokens.records.now tokens.text.now tokens.count file.now p.reported p.full name
+    (count_answer (Ok count) p.state) from.pos from.reported
 
-abbrev pub FunctionOn : ℕ → Place → Lent → Lent → ℕ → MutLent → MutLent → MutLent → ℕ → Answer → State → ℕ → Answer → Type 0
-FunctionOn external p tokens text n file reported full name a from nesting r =
-    I.FunctionOn (at_entry tokens) (at_entry text) n nesting external p name from.pos from.reported (old file)
-    (old reported) (old full) a (new file) (new reported) (new full) r
+abbrev pub FunctionOn : ℕ → Place → LentTokens → MutLent → MutParser → ℕ → ℕ → State → ℕ → Result ℕ Stop → Type 0
+FunctionOn external place tokens file parser name count from nesting r =
+    let t = tokens.entry in
+    let p = parser.entry.now in
+    let q = parser.exit.now in
+    I.FunctionOn t.records.now t.text.now t.count nesting external place name from.pos from.reported (old file)
+    p.reported p.full (count_answer (Ok count) p.state) (new file) q.reported q.full (node_answer r q.state)

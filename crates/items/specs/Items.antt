@@ -7,9 +7,8 @@ use Rattle.definition.specs.Act as A
 use Rattle.definition.specs.Act.{Items, done, loop, Consumed, begin, Res, gives, after, or_return, ◌>>=◌}
 use Rattle.definition.specs.Parser as P
 use Rattle.definition.specs.Go.{go}
-use Rattle.fallible.specs.declared.State.{State}
-use Rattle.fallible.specs.declared.Status.TheVariants.{Fatal}
-use Rattle.fallible.specs.declared.Answer.{Answer}
+use Rattle.fallible.specs.declared.parser.State.{State}
+use Rattle.fallible.specs.Answer.{Fatal, Answer}
 use Rattle.fallible.specs.Lists.{errs}
 use Rattle.steps.specs.Tokens.{rest, budget}
 use Rattle.steps.specs.Shows.{st_of, Asked, Moved, Shows, node, items}

@@ -8,106 +8,90 @@ ghost use Rattle.items.specs.Contract.{ReadsType, ReadsSignature, FunctionAsked,
 
 use definition::{kind, tag};
 use expression::{list, ty};
-use fallible::{Answer, State, Status, abandon, exchange};
+use fallible::parser::{Parser, State};
+use fallible::{Stop, abandon, exchange};
 use leaves::Listed;
 use node::Numbers;
 use statement::body;
-use steps::{and_expect, expect, expect_identifier, peek, write_node, write_text_node};
+use steps::tokens::Tokens;
+use steps::{expect, expect_after, expect_identifier, write_node, write_text_node};
 
 // [`->` type]. Without an arrow the type is void, at `place`.
 fn return_type(
-    tokens: &[u32],
-    text: &[u8],
-    n: usize,
+    tokens: Tokens,
     file: &mut [u8],
-    reported: &mut [usize],
-    full: &mut [usize],
+    parser: &mut Parser,
     place: usize,
-    st: State,
     nesting: usize,
-) -> Answer
-    requires { Asked tokens text n file reported full st }
-    ensures { ReadsType (unpack_place place) tokens text n file reported full st nesting result }
+) -> Result<usize, Stop>
+    requires { Asked tokens file parser }
+    ensures { ReadsType (unpack_place place) tokens file parser nesting result }
 {
-    let t = peek(tokens, n, st.at);
+    let t = tokens.peek(parser.state.at);
     if t.kind == kind::R_ARROW {
-        let on = State { at: t.next, ..st };
-        return ty(tokens, text, n, file, reported, full, on, nesting);
+        parser.state.at = t.next;
+        return ty(tokens, file, parser, nesting);
     }
-    let a = Answer {
-        status: Status::Done,
-        state: st,
+    write_node(
+        file,
+        tokens.text,
+        &mut parser.state,
+        Ok(place),
         place,
-        count: 0,
-    };
-    write_node(file, text, a, place, tag::VOID, Numbers::None)
+        tag::VOID,
+        Numbers::None,
+    )
 }
 
-// parameters return_type. `count` of the answer is that of the parameters. Errors of the type are reported before
-// those of the parameters; a fatal type drops the latter.
+// parameters return_type. Gives the count of the parameters. Errors of the type are reported before those of the
+// parameters; a fatal type drops the latter.
 fn signature(
-    tokens: &[u32],
-    text: &[u8],
-    n: usize,
+    tokens: Tokens,
     file: &mut [u8],
-    reported: &mut [usize],
-    full: &mut [usize],
+    parser: &mut Parser,
     place: usize,
-    st: State,
     nesting: usize,
-) -> Answer
-    requires { Asked tokens text n file reported full st }
-    ensures { ReadsSignature (unpack_place place) tokens text n file reported full st nesting result }
+) -> Result<usize, Stop>
+    requires { Asked tokens file parser }
+    ensures { ReadsSignature (unpack_place place) tokens file parser nesting result }
 {
-    let what = Listed::Parameters;
-    let a = list(tokens, text, n, file, reported, full, what, st, nesting);
-    let status = a.status;
-    let Status::Done = status else {
-        return a;
-    };
-    let s = a.state;
-    let b = return_type(tokens, text, n, file, reported, full, place, s, nesting);
-    let c = abandon(reported, b, st, s);
-    let h = c.status;
-    let Status::Done = h else {
-        return c;
-    };
-    let e = c.state;
-    exchange(reported, st.reported, s.reported, e.reported);
-    Answer {
-        status: h,
-        state: e,
-        place: 0,
-        count: a.count,
-    }
+    let from = parser.state;
+    let count = list(tokens, file, parser, Listed::Parameters, nesting)?;
+    let before = parser.state;
+    let b = return_type(tokens, file, parser, place, nesting);
+    abandon(&mut parser.reported, &mut parser.state, b, from, before)?;
+    exchange(
+        &mut parser.reported,
+        from.reported,
+        before.reported,
+        parser.state.reported,
+    );
+    Ok(count)
 }
 
 // Parses the `;` after the signature of an external function that began in the state `from`; its name is at `name`.
 fn external_function(
-    tokens: &[u32],
-    text: &[u8],
-    n: usize,
+    tokens: Tokens,
     file: &mut [u8],
-    reported: &mut [usize],
-    full: &mut [usize],
+    parser: &mut Parser,
     place: usize,
     name: usize,
-    a: Answer,
+    count: usize,
     from: State,
-) -> Answer
-    requires { FunctionAsked tokens text n file reported full name a from }
-    ensures { (d : ℕ) → FunctionOn 1 (unpack_place place) tokens text n file reported full name a from d result }
+) -> Result<usize, Stop>
+    requires { FunctionAsked tokens file parser name count from }
+    ensures { (d : ℕ) → FunctionOn 1 (unpack_place place) tokens file parser name count from d result }
 {
-    let t = peek(tokens, n, name);
-    let b = and_expect(tokens, n, reported, full, a, kind::SEMICOLON, from);
-    let numbers = Numbers::ByteTwo(1, a.count);
+    let t = tokens.peek(name);
+    let b = expect_after(tokens, parser, Ok(count), kind::SEMICOLON, from);
     write_text_node(
         file,
-        text,
+        tokens.text,
+        &mut parser.state,
         b,
         place,
         tag::FUNCTION_DEFINITION,
-        numbers,
+        Numbers::ByteTwo(1, count),
         t.start,
         t.len,
     )
@@ -115,43 +99,45 @@ fn external_function(
 
 // Parses the body of a function and writes its record. Errors of the body are reported before those of the signature.
 fn whole_function(
-    tokens: &[u32],
-    text: &[u8],
-    n: usize,
+    tokens: Tokens,
     file: &mut [u8],
-    reported: &mut [usize],
-    full: &mut [usize],
+    parser: &mut Parser,
     place: usize,
     name: usize,
-    a: Answer,
+    count: usize,
     from: State,
     nesting: usize,
-) -> Answer
-    requires { FunctionAsked tokens text n file reported full name a from }
-    ensures { FunctionOn 0 (unpack_place place) tokens text n file reported full name a from nesting result }
+) -> Result<usize, Stop>
+    requires { FunctionAsked tokens file parser name count from }
+    ensures { FunctionOn 0 (unpack_place place) tokens file parser name count from nesting result }
 {
-    let status = a.status;
-    let Status::Done = status else {
-        return a;
-    };
-    let s = a.state;
-    let b = body(tokens, text, n, file, reported, full, s, nesting);
-    let h = b.status;
-    let Status::Done = h else {
-        return b;
-    };
-    let e = b.state;
-    exchange(reported, from.reported, s.reported, e.reported);
-    let c = write_node(file, text, b, place, tag::BLOCK, Numbers::Two(b.count));
-    let t = peek(tokens, n, name);
-    let numbers = Numbers::ByteTwo(0, a.count);
+    let signed = parser.state;
+    let statements = body(tokens, file, parser, nesting)?;
+    exchange(
+        &mut parser.reported,
+        from.reported,
+        signed.reported,
+        parser.state.reported,
+    );
+    let numbers = Numbers::Two(statements);
+    let c = write_node(
+        file,
+        tokens.text,
+        &mut parser.state,
+        Ok(place),
+        place,
+        tag::BLOCK,
+        numbers,
+    );
+    let t = tokens.peek(name);
     write_text_node(
         file,
-        text,
+        tokens.text,
+        &mut parser.state,
         c,
         place,
         tag::FUNCTION_DEFINITION,
-        numbers,
+        Numbers::ByteTwo(0, count),
         t.start,
         t.len,
     )
@@ -159,63 +145,41 @@ fn whole_function(
 
 // `fn` name signature (`;` | body), `;` where the function is external.
 fn function(
-    tokens: &[u32],
-    text: &[u8],
-    n: usize,
+    tokens: Tokens,
     file: &mut [u8],
-    reported: &mut [usize],
-    full: &mut [usize],
+    parser: &mut Parser,
     external: bool,
     place: usize,
-    st: State,
     nesting: usize,
-) -> Answer
-    requires { Asked tokens text n file reported full st }
-    ensures { Parses (P.function (unpack_place place) (flag external)) tokens text n file reported full st nesting result }
+) -> Result<usize, Stop>
+    requires { Asked tokens file parser }
+    ensures { Parses (P.function (unpack_place place) (flag external)) tokens file parser nesting result }
 {
-    let a = expect(tokens, n, reported, full, st, kind::KW_FN);
-    let status = a.status;
-    let Status::Done = status else {
-        return a;
-    };
-    let s = a.state;
-    let b = expect_identifier(tokens, n, reported, full, s);
-    let h = b.status;
-    let Status::Done = h else {
-        return b;
-    };
-    let e = b.state;
-    let c = signature(tokens, text, n, file, reported, full, place, e, nesting);
+    let from = parser.state;
+    expect(tokens, parser, kind::KW_FN)?;
+    let name = parser.state.at;
+    expect_identifier(tokens, parser)?;
+    let count = signature(tokens, file, parser, place, nesting)?;
     if external {
-        return external_function(tokens, text, n, file, reported, full, place, s.at, c, st);
+        return external_function(tokens, file, parser, place, name, count, from);
     }
-    whole_function(
-        tokens, text, n, file, reported, full, place, s.at, c, st, nesting,
-    )
+    whole_function(tokens, file, parser, place, name, count, from, nesting)
 }
 
 // parse_function_definition: [`extern`] function
 pub fn function_definition(
-    tokens: &[u32],
-    text: &[u8],
-    n: usize,
+    tokens: Tokens,
     file: &mut [u8],
-    reported: &mut [usize],
-    full: &mut [usize],
-    st: State,
+    parser: &mut Parser,
     nesting: usize,
-) -> Answer
-    requires { Asked tokens text n file reported full st }
-    ensures { Parses P.parse_function_definition tokens text n file reported full st nesting result }
+) -> Result<usize, Stop>
+    requires { Asked tokens file parser }
+    ensures { Parses P.parse_function_definition tokens file parser nesting result }
 {
-    let t = peek(tokens, n, st.at);
+    let t = tokens.peek(parser.state.at);
     if t.kind == kind::KW_EXTERN {
-        let on = State { at: t.next, ..st };
-        return function(
-            tokens, text, n, file, reported, full, true, t.place, on, nesting,
-        );
+        parser.state.at = t.next;
+        return function(tokens, file, parser, true, t.place, nesting);
     }
-    function(
-        tokens, text, n, file, reported, full, false, t.place, st, nesting,
-    )
+    function(tokens, file, parser, false, t.place, nesting)
 }

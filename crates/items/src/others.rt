@@ -7,12 +7,15 @@ ghost use Rattle.items.specs.Items.{Modified};
 ghost use Rattle.items.specs.Rules.{alias_rule, path_rule};
 ghost use Rattle.steps.specs.Contract.{Asked, Parses};
 
-use definition::{kind, parse_error, refusal, tag};
+use definition::refusal::Refusal;
+use definition::{kind, parse_error, tag};
 use expression::ty;
-use fallible::{Answer, State, Status, entry, raise, refuse};
+use fallible::parser::Parser;
+use fallible::{Stop, entry};
 use node::Numbers;
 use statement::declarations::declaration;
-use steps::{and_expect, expect, peek, write_text_node};
+use steps::tokens::Tokens;
+use steps::{expect, expect_after, write_text_node};
 
 // The modifiers before `type`, 1 for `distinct` plus 2 for `internal`, and the index of the token after them.
 #[derive(Clone, Copy)]
@@ -22,15 +25,15 @@ struct AliasWords {
 }
 
 // Parses {`distinct` | `internal`}, from the token at index `from` on.
-fn modifiers(tokens: &[u32], n: usize, from: usize) -> AliasWords
-    requires { Held tokens.now n × (from ≤ n) }
-    ensures { Modified tokens.now n 0 0 from result }
+fn modifiers(tokens: Tokens, from: usize) -> AliasWords
+    requires { Held tokens.records.now tokens.count × (from ≤ tokens.count) }
+    ensures { Modified tokens.entry.records.now tokens.entry.count 0 0 from result }
 {
     let mut distinct = 0;
     let mut internal = 0;
     let mut at = from;
     loop {
-        let t = peek(tokens, n, at);
+        let t = tokens.peek(at);
         if t.kind == kind::KW_DISTINCT {
             distinct = 1;
             at = t.next;
@@ -50,41 +53,34 @@ fn modifiers(tokens: &[u32], n: usize, from: usize) -> AliasWords
 
 // Parses an alias after `type`: name `=` type `;`. Refuses the end in place of the name.
 fn alias(
-    tokens: &[u32],
-    text: &[u8],
-    n: usize,
+    tokens: Tokens,
     file: &mut [u8],
-    reported: &mut [usize],
-    full: &mut [usize],
+    parser: &mut Parser,
     words: u8,
     place: usize,
-    st: State,
     nesting: usize,
-) -> Answer
-    requires { Asked tokens text n file reported full st }
-    ensures { Parses (alias_rule words (unpack_place place)) tokens text n file reported full st nesting result }
+) -> Result<usize, Stop>
+    requires { Asked tokens file parser }
+    ensures { Parses (alias_rule words (unpack_place place)) tokens file parser nesting result }
 {
-    let t = peek(tokens, n, st.at);
-    let on = State { at: t.next, ..st };
+    let from = parser.state;
+    let t = tokens.peek(from.at);
     if t.kind == kind::END {
-        return refuse(n, st, refusal::END_AFTER_WORD);
+        return Err(parser.state.refuse(tokens.count, Refusal::EndAfterWord));
     }
+    parser.state.at = t.next;
     if t.kind != kind::IDENTIFIER {
         let error = entry(parse_error::NAME_AFTER_TYPE, t.place, 0, 0);
-        return raise(n, reported, full, on, error);
+        return Err(parser.raise(tokens.count, error));
     }
-    let a = expect(tokens, n, reported, full, on, kind::EQUALS);
-    let status = a.status;
-    let Status::Done = status else {
-        return a;
-    };
-    let s = a.state;
-    let b = ty(tokens, text, n, file, reported, full, s, nesting);
-    let c = and_expect(tokens, n, reported, full, b, kind::SEMICOLON, st);
+    expect(tokens, parser, kind::EQUALS)?;
+    let b = ty(tokens, file, parser, nesting);
+    let c = expect_after(tokens, parser, b, kind::SEMICOLON, from);
     let numbers = Numbers::Byte(words);
     write_text_node(
         file,
-        text,
+        tokens.text,
+        &mut parser.state,
         c,
         place,
         tag::TYPE_ALIAS,
@@ -96,60 +92,41 @@ fn alias(
 
 // parse_type_alias: modifiers `type` alias
 pub fn type_alias(
-    tokens: &[u32],
-    text: &[u8],
-    n: usize,
+    tokens: Tokens,
     file: &mut [u8],
-    reported: &mut [usize],
-    full: &mut [usize],
-    st: State,
+    parser: &mut Parser,
     nesting: usize,
-) -> Answer
-    requires { Asked tokens text n file reported full st }
-    ensures { Parses P.parse_type_alias tokens text n file reported full st nesting result }
+) -> Result<usize, Stop>
+    requires { Asked tokens file parser }
+    ensures { Parses P.parse_type_alias tokens file parser nesting result }
 {
-    let at = st.at;
-    let t = peek(tokens, n, at);
-    let m = modifiers(tokens, n, at);
-    let on = State { at: m.next, ..st };
-    let a = expect(tokens, n, reported, full, on, kind::KW_TYPE);
-    let status = a.status;
-    let Status::Done = status else {
-        return a;
-    };
-    let s = a.state;
-    alias(
-        tokens, text, n, file, reported, full, m.words, t.place, s, nesting,
-    )
+    let at = parser.state.at;
+    let t = tokens.peek(at);
+    let m = modifiers(tokens, at);
+    parser.state.at = m.next;
+    expect(tokens, parser, kind::KW_TYPE)?;
+    alias(tokens, file, parser, m.words, t.place, nesting)
 }
 
 // Parses what follows `use`: string `;`. Refuses the end in place of the string.
-fn path(
-    tokens: &[u32],
-    text: &[u8],
-    n: usize,
-    file: &mut [u8],
-    reported: &mut [usize],
-    full: &mut [usize],
-    place: usize,
-    st: State,
-) -> Answer
-    requires { Asked tokens text n file reported full st }
-    ensures { (d : ℕ) → Parses (path_rule (unpack_place place)) tokens text n file reported full st d result }
+fn path(tokens: Tokens, file: &mut [u8], parser: &mut Parser, place: usize) -> Result<usize, Stop>
+    requires { Asked tokens file parser }
+    ensures { (d : ℕ) → Parses (path_rule (unpack_place place)) tokens file parser d result }
 {
-    let t = peek(tokens, n, st.at);
-    let on = State { at: t.next, ..st };
+    let t = tokens.peek(parser.state.at);
     if t.kind == kind::END {
-        return refuse(n, st, refusal::END_AFTER_WORD);
+        return Err(parser.state.refuse(tokens.count, Refusal::EndAfterWord));
     }
+    parser.state.at = t.next;
     if t.kind != kind::STRING {
         let error = entry(parse_error::PATH_AFTER_USE, t.place, 0, 0);
-        return raise(n, reported, full, on, error);
+        return Err(parser.raise(tokens.count, error));
     }
-    let a = expect(tokens, n, reported, full, on, kind::SEMICOLON);
+    let a = expect(tokens, parser, kind::SEMICOLON);
     write_text_node(
         file,
-        text,
+        tokens.text,
+        &mut parser.state,
         a,
         place,
         tag::USE,
@@ -160,51 +137,33 @@ fn path(
 }
 
 // parse_use: `use` path
-pub fn use_path(
-    tokens: &[u32],
-    text: &[u8],
-    n: usize,
-    file: &mut [u8],
-    reported: &mut [usize],
-    full: &mut [usize],
-    st: State,
-) -> Answer
-    requires { Asked tokens text n file reported full st }
-    ensures { (d : ℕ) → Parses P.parse_use tokens text n file reported full st d result }
+pub fn use_path(tokens: Tokens, file: &mut [u8], parser: &mut Parser) -> Result<usize, Stop>
+    requires { Asked tokens file parser }
+    ensures { (d : ℕ) → Parses P.parse_use tokens file parser d result }
 {
-    let t = peek(tokens, n, st.at);
-    let a = expect(tokens, n, reported, full, st, kind::KW_USE);
-    let status = a.status;
-    let Status::Done = status else {
-        return a;
-    };
-    let s = a.state;
-    path(tokens, text, n, file, reported, full, t.place, s)
+    let t = tokens.peek(parser.state.at);
+    expect(tokens, parser, kind::KW_USE)?;
+    path(tokens, file, parser, t.place)
 }
 
 // parse_top_level_var_declaration: `var` declaration
 pub fn top_level_var_declaration(
-    tokens: &[u32],
-    text: &[u8],
-    n: usize,
+    tokens: Tokens,
     file: &mut [u8],
-    reported: &mut [usize],
-    full: &mut [usize],
-    st: State,
+    parser: &mut Parser,
     nesting: usize,
-) -> Answer
-    requires { Asked tokens text n file reported full st }
-    ensures { Parses P.parse_top_level_var_declaration tokens text n file reported full st nesting result }
+) -> Result<usize, Stop>
+    requires { Asked tokens file parser }
+    ensures { Parses P.parse_top_level_var_declaration tokens file parser nesting result }
 {
-    let t = peek(tokens, n, st.at);
-    let a = expect(tokens, n, reported, full, st, kind::KW_VAR);
-    let status = a.status;
-    let Status::Done = status else {
-        return a;
-    };
-    let s = a.state;
-    let tag = tag::TOP_LEVEL_VARIABLE;
+    let t = tokens.peek(parser.state.at);
+    expect(tokens, parser, kind::KW_VAR)?;
     declaration(
-        tokens, text, n, file, reported, full, tag, t.place, s, nesting,
+        tokens,
+        file,
+        parser,
+        tag::TOP_LEVEL_VARIABLE,
+        t.place,
+        nesting,
     )
 }

@@ -14,16 +14,14 @@ use Rattle.definition.specs.Go.{go}
 use Rattle.node.specs.Put.{rec_of, size_of}
 use Rattle.node.specs.declared.Record.{Record}
 use Rattle.node.specs.declared.Numbers.TheVariants.{None, Byte}
-use Rattle.fallible.specs.declared.State.{State}
-use Rattle.fallible.specs.declared.Status.{Status}
-use Rattle.fallible.specs.declared.Status.TheVariants.{Done, Fatal, Refused}
-use Rattle.fallible.specs.declared.Answer.{Answer}
+use Rattle.fallible.specs.declared.parser.State.{State}
+use Rattle.fallible.specs.Answer.{Status, Done, Fatal, Refused, Answer}
 use Rattle.fallible.specs.Lists.{unpack, error_at, errs}
 use Rattle.fallible.specs.Answers.{raised, Raised}
-use Rattle.steps.specs.declared.Token.{Token}
+use Rattle.steps.specs.declared.tokens.Token.{Token}
 use Rattle.steps.specs.Tokens.{rest, budget, Seen}
 use Rattle.steps.specs.Shows.{st_of, Asks, node, token, Reads, Expects, NodeWritten, texted, untexted}
-use Rattle.steps.proofs.Tokens.{yes, no, fore, adv}
+use Rattle.steps.proofs.Records.{yes, no, fore, adv}
 use Rattle.steps.proofs.Moves.{stays}
 use Rattle.steps.proofs.Answers.{say, writes_node, raise_same}
 use Rattle.leaves.specs.Leaves.{there, identifier, Literal, ClosingOf, ClosedOf, Closed}

@@ -12,17 +12,15 @@ use Rattle.definition.specs.Fallible.{Err, Ans}
 use Rattle.definition.specs.Act.{Act, make, Role, Consumed, refused, now_read, run}
 use Rattle.definition.specs.Parser as P
 use Rattle.definition.specs.Go.{go}
-use Rattle.fallible.specs.declared.State.{State}
-use Rattle.fallible.specs.declared.Status.{Status}
-use Rattle.fallible.specs.declared.Status.TheVariants.{Fatal}
-use Rattle.fallible.specs.declared.Answer.{Answer}
+use Rattle.fallible.specs.declared.parser.State.{State}
+use Rattle.fallible.specs.Answer.{Status, Fatal, Answer}
 use Rattle.fallible.specs.Lists.{unpack, errs}
 use Rattle.fallible.specs.Answers.{refused_at, one_more, making, raised, Raised}
 use Rattle.fallible.proofs.Grown.{errs_length}
-use Rattle.steps.specs.declared.Token.{Token}
+use Rattle.steps.specs.declared.tokens.Token.{Token}
 use Rattle.steps.specs.Tokens.{rest, Seen}
 use Rattle.steps.specs.Shows.{st_of, Asks, View, Reads}
-use Rattle.steps.proofs.Tokens.{fore}
+use Rattle.steps.proofs.Records.{fore}
 use Rattle.steps.proofs.Moves.{asks_fore, fore_moved, making_moved, moved_trans}
 use Rattle.steps.proofs.Answers.{say, raise_shows}
 

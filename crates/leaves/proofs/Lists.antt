@@ -7,16 +7,14 @@ use Rattle.definition.specs.Fallible.{Err}
 use Rattle.definition.specs.Act.{Items, Listed, done, make, loop, ListOf, plain, Consumed, St, now_read, run}
 use Rattle.definition.specs.Parser as P
 use Rattle.definition.specs.Go.{go}
-use Rattle.fallible.specs.declared.State.{State}
-use Rattle.fallible.specs.declared.Status.{Status}
-use Rattle.fallible.specs.declared.Status.TheVariants.{Done}
-use Rattle.fallible.specs.declared.Answer.{Answer}
+use Rattle.fallible.specs.declared.parser.State.{State}
+use Rattle.fallible.specs.Answer.{Status, Done, Answer}
 use Rattle.fallible.specs.Lists.{unpack, error_at}
 use Rattle.fallible.specs.Answers.{noted, Raised}
-use Rattle.steps.specs.declared.Token.{Token}
+use Rattle.steps.specs.declared.tokens.Token.{Token}
 use Rattle.steps.specs.Tokens.{rest, Seen}
 use Rattle.steps.specs.Shows.{st_of, Asks, Moved}
-use Rattle.steps.proofs.Tokens.{yes, no, fore, adv}
+use Rattle.steps.proofs.Records.{yes, no, fore, adv}
 use Rattle.steps.proofs.Moves.{stays, asks_fore, fore_moved, making_moved, moved_trans}
 use Rattle.leaves.specs.Leaves.{Counted, CommasOf, Commas}
 use Rattle.leaves.proofs.Errors.{made_so, makes, makes_none}

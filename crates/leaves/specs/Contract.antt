@@ -1,17 +1,44 @@
 -- The records of Leaves, stated over the parameters of the functions. Assumes nothing.
-use Rattle.std.specs.Prelude.{ℕ}
-use Rattle.definition.specs.Slices.{Slice, MutSlice, Lent, MutLent, at_entry, old, new}
-use Rattle.fallible.specs.declared.State.{State}
-use Rattle.fallible.specs.declared.Answer.{Answer}
+use Rattle.std.specs.Prelude.{ℕ, Result, Option, Ok, ⊤}
+use Rattle.std.specs.Borrow.{MutBor}
+use Rattle.definition.specs.Slices.{MutSlice, Lent, MutLent, at_entry, old, new}
+use Rattle.node.specs.declared.Record.{Record}
+use Rattle.definition.specs.declared.refusal.Refusal.{Refusal}
+use Rattle.fallible.specs.declared.Stop.{Stop}
+use Rattle.fallible.specs.declared.parser.State.{State}
+use Rattle.fallible.specs.declared.parser.Parser.{Parser}
+use Rattle.fallible.specs.Answer.{item_status, node_answer, told}
+use Rattle.steps.specs.declared.tokens.Token.{Token}
+use Rattle.steps.specs.declared.tokens.Tokens.{Tokens}
+use Rattle.steps.specs.Shows as S
+use Rattle.steps.specs.Contract.{LentTokens, MutParser}
 use Rattle.leaves.specs.Leaves as L
+use denote.Triple.Both.{Both}
 
-abbrev pub Literal : Slice → Slice → ℕ → MutSlice → MutSlice → MutSlice → State → Type 0
-Literal tokens text n file reported full st = L.Literal tokens.now text.now n file.now reported.now full.now st
+abbrev pub Literal : Tokens → MutSlice → MutBor Parser → Type 0
+Literal tokens file parser =
+    L.Literal tokens.records.now tokens.text.now tokens.count file.now parser.now.reported parser.now.full
+    parser.now.state
 
-abbrev pub Commas : ℕ → Lent → ℕ → MutLent → MutLent → State → Answer → Type 0
-Commas close tokens n reported full st r =
-    L.Commas (at_entry tokens) n (old reported) (old full) st close (new reported) (new full) r
+abbrev pub Counted : Option ℕ → ℕ → ℕ → Type 0
+Counted item count r = L.Counted (item_status item) count r
 
-abbrev pub Closed : Lent → ℕ → MutLent → MutLent → Answer → Answer → Type 0
-Closed tokens n reported full a r =
-    L.Closed (at_entry tokens) n (old reported) (old full) a (new reported) (new full) r
+abbrev pub Commas : ℕ → LentTokens → MutParser → Result ⊤ Refusal → Type 0
+Commas close tokens parser r =
+    let p = parser.entry.now in
+    let q = parser.exit.now in
+    L.Commas tokens.entry.records.now tokens.entry.count p.reported p.full p.state close q.reported q.full
+    (told r q.state)
+
+abbrev pub Closed : LentTokens → MutParser → Result ℕ Stop → Result ℕ Stop → Type 0
+Closed tokens parser called r =
+    let p = parser.entry.now in
+    let q = parser.exit.now in
+    L.Closed tokens.entry.records.now tokens.entry.count p.reported p.full (node_answer called p.state)
+    q.reported q.full (node_answer r q.state)
+
+-- the token t is consumed and its record is written
+abbrev pub WritesNode : Record → MutLent → Lent → Token → Both (MutBor State) (MutBor State) → ℕ → Type 0
+WritesNode v file text t state r =
+    S.NodeWritten (at_entry text) (old file) (L.there state.entry.now t) v (new file)
+    (node_answer (Ok r) state.exit.now)

@@ -6,14 +6,17 @@ ghost use Rattle.definition.specs.Parser as P;
 ghost use Rattle.definition.specs.Token.{digit};
 ghost use Rattle.node.specs.Contract.{Room};
 ghost use Rattle.steps.specs.Shows.{texted};
-ghost use Rattle.leaves.specs.Leaves.{is_arithmetic, listed_of, Counted, Valued, level_of, level_at, Operator, Prefix, there, identifier, is_name_alone};
-ghost use Rattle.steps.specs.Contract.{Asks, Parses, WritesNode};
-ghost use Rattle.leaves.specs.Contract.{Literal, Commas, Closed};
+ghost use Rattle.leaves.specs.Leaves.{is_arithmetic, listed_of, Valued, level_of, level_at, Operator, Prefix, identifier, is_name_alone};
+ghost use Rattle.steps.specs.Contract.{Asks, Parses};
+ghost use Rattle.leaves.specs.Contract.{Counted, Literal, Commas, Closed, WritesNode};
 
+use definition::refusal::Refusal;
 use definition::{kind, parse_error, tag};
-use fallible::{Answer, State, Status, entry, note, raise};
+use fallible::parser::{Parser, State};
+use fallible::{Stop, entry, recover};
 use node::{Numbers, Record, write_record};
-use steps::{Token, expect, peek};
+use steps::expect;
+use steps::tokens::{Token, Tokens};
 
 // The kinds of lists that parse_bounded_list_of parses.
 #[derive(Clone, Copy)]
@@ -63,57 +66,35 @@ pub fn closer(what: Listed) -> u32
 }
 
 // Counts an item: one more if it was parsed.
-pub fn counted(status: Status, count: usize) -> usize
+pub fn counted(item: Option<usize>, count: usize) -> usize
     requires { count < 65536 }
-    ensures { Counted status count result }
+    ensures { Counted item count result }
 {
-    match status {
-        Status::Done => count + 1,
-        Status::Fatal => count,
-        Status::Refused(_) => count,
+    match item {
+        Some(_) => count + 1,
+        None => count,
     }
 }
 
 // Parses the separator after a list item: a comma; the closer or the end is left; another token is an error.
-pub fn comma(
-    tokens: &[u32],
-    n: usize,
-    reported: &mut [usize],
-    full: &mut [usize],
-    st: State,
-    close: u32,
-) -> Answer
-    requires { Asks tokens n reported full st }
-    ensures { Commas close tokens n reported full st result }
+pub fn comma(tokens: Tokens, parser: &mut Parser, close: u32) -> Result<(), Refusal>
+    requires { Asks tokens parser }
+    ensures { Commas close tokens parser result }
 {
-    let t = peek(tokens, n, st.at);
-    let on = State { at: t.next, ..st };
+    let t = tokens.peek(parser.state.at);
     if t.kind == kind::COMMA {
-        return Answer {
-            status: Status::Done,
-            state: on,
-            place: 0,
-            count: 0,
-        };
+        parser.state.at = t.next;
+        return Ok(());
     }
     if t.kind == close {
-        return Answer {
-            status: Status::Done,
-            state: st,
-            place: 0,
-            count: 0,
-        };
+        return Ok(());
     }
     if t.kind == kind::END {
-        return Answer {
-            status: Status::Done,
-            state: st,
-            place: 0,
-            count: 0,
-        };
+        return Ok(());
     }
+    parser.state.at = t.next;
     let error = entry(parse_error::IN_LIST, t.place, 0, t.kind);
-    note(n, reported, full, on, error)
+    parser.note(tokens.count, error)
 }
 
 // The value of a digit of any base.
@@ -270,9 +251,16 @@ pub fn prefix(k: u32) -> u8
 }
 
 // Consumes the token `t` and writes its record.
-pub fn leaf(file: &mut [u8], text: &[u8], st: State, t: Token, tag: u8, numbers: Numbers) -> Answer
-    requires { Room file text st.pos (16 + t.len) t.start t.len }
-    ensures { WritesNode (texted t.place tag numbers t.start t.len) file text (there st t) result }
+pub fn leaf(
+    file: &mut [u8],
+    text: &[u8],
+    state: &mut State,
+    t: Token,
+    tag: u8,
+    numbers: Numbers,
+) -> usize
+    requires { Room file text state.old.pos (16 + t.len) t.start t.len }
+    ensures { WritesNode (texted t.place tag numbers t.start t.len) file text t state result }
 {
     let v = Record {
         tag,
@@ -281,25 +269,17 @@ pub fn leaf(file: &mut [u8], text: &[u8], st: State, t: Token, tag: u8, numbers:
         start: t.start,
         len: t.len,
     };
-    let pos = write_record(file, text, st.pos, v);
-    Answer {
-        status: Status::Done,
-        state: State {
-            at: t.next,
-            pos,
-            ..st
-        },
-        place: t.place,
-        count: 0,
-    }
+    state.at = t.next;
+    state.pos = write_record(file, text, state.pos, v);
+    t.place
 }
 
 // Consumes an identifier and writes its record.
-pub fn name(file: &mut [u8], text: &[u8], st: State, t: Token) -> Answer
-    requires { Room file text st.pos (16 + t.len) t.start t.len }
-    ensures { WritesNode (identifier t) file text (there st t) result }
+pub fn name(file: &mut [u8], text: &[u8], state: &mut State, t: Token) -> usize
+    requires { Room file text state.old.pos (16 + t.len) t.start t.len }
+    ensures { WritesNode (identifier t) file text t state result }
 {
-    leaf(file, text, st, t, tag::IDENTIFIER, Numbers::None)
+    leaf(file, text, state, t, tag::IDENTIFIER, Numbers::None)
 }
 
 // Whether the kind `k` is an identifier and `next`, the kind after it, neither a suffix nor the `(` of a call.
@@ -314,28 +294,28 @@ pub fn name_alone(k: u32, next: u32) -> bool
 }
 
 // parse_atom without its group: integer | identifier | string | `true` | `false`
-pub fn literal(
-    tokens: &[u32],
-    text: &[u8],
-    n: usize,
-    file: &mut [u8],
-    reported: &mut [usize],
-    full: &mut [usize],
-    st: State,
-) -> Answer
-    requires { Literal tokens text n file reported full st }
-    ensures { (d : ℕ) → Parses P.parse_atom tokens text n file reported full st d result }
+pub fn literal(tokens: Tokens, file: &mut [u8], parser: &mut Parser) -> Result<usize, Stop>
+    requires { Literal tokens file parser }
+    ensures { (d : ℕ) → Parses P.parse_atom tokens file parser d result }
 {
-    let t = peek(tokens, n, st.at);
+    let t = tokens.peek(parser.state.at);
+    let state = &mut parser.state;
     if t.kind == kind::INTEGER {
         let base = (t.base % 256) as u8;
-        return leaf(file, text, st, t, tag::INTEGER, Numbers::Byte(base));
+        return Ok(leaf(
+            file,
+            tokens.text,
+            state,
+            t,
+            tag::INTEGER,
+            Numbers::Byte(base),
+        ));
     }
     if t.kind == kind::IDENTIFIER {
-        return name(file, text, st, t);
+        return Ok(name(file, tokens.text, state, t));
     }
     if t.kind == kind::STRING {
-        return leaf(file, text, st, t, tag::STRING, Numbers::None);
+        return Ok(leaf(file, tokens.text, state, t, tag::STRING, Numbers::None));
     }
     let bare = Token {
         start: 0,
@@ -343,46 +323,44 @@ pub fn literal(
         ..t
     };
     if t.kind == kind::KW_TRUE {
-        return leaf(file, text, st, bare, tag::BOOLEAN, Numbers::Byte(1));
+        return Ok(leaf(
+            file,
+            tokens.text,
+            state,
+            bare,
+            tag::BOOLEAN,
+            Numbers::Byte(1),
+        ));
     }
     if t.kind == kind::KW_FALSE {
-        return leaf(file, text, st, bare, tag::BOOLEAN, Numbers::Byte(0));
+        return Ok(leaf(
+            file,
+            tokens.text,
+            state,
+            bare,
+            tag::BOOLEAN,
+            Numbers::Byte(0),
+        ));
     }
-    let on = State { at: t.next, ..st };
+    parser.state.at = t.next;
     if t.kind == kind::END {
         let error = entry(parse_error::EXPRESSION_AT_END, 0, 0, 0);
-        return raise(n, reported, full, on, error);
+        return Err(parser.raise(tokens.count, error));
     }
     let error = entry(parse_error::EXPRESSION, t.place, 0, t.kind);
-    raise(n, reported, full, on, error)
+    Err(parser.raise(tokens.count, error))
 }
 
-// Parses the `)` of a group. Keeps the item and errors of `a`, also if it is fatal, and adds the errors of the `)`.
+// Parses the `)` of a group. Keeps the item and errors of `called`, also if it is fatal, and adds the errors of the `)`.
 pub fn close(
-    tokens: &[u32],
-    n: usize,
-    reported: &mut [usize],
-    full: &mut [usize],
-    a: Answer,
-) -> Answer
-    requires { Asks tokens n reported full a.state }
-    ensures { Closed tokens n reported full a result }
+    tokens: Tokens,
+    parser: &mut Parser,
+    called: Result<usize, Stop>,
+) -> Result<usize, Stop>
+    requires { Asks tokens parser }
+    ensures { Closed tokens parser called result }
 {
-    let status = a.status;
-    if let Status::Refused(_) = status {
-        return a;
-    }
-    let s = a.state;
-    let b = expect(tokens, n, reported, full, s, kind::R_PAREN);
-    let h = b.status;
-    if let Status::Refused(_) = h {
-        return b;
-    }
-    let e = b.state;
-    Answer {
-        status,
-        state: e,
-        place: a.place,
-        count: a.count,
-    }
+    recover(called)?;
+    recover(expect(tokens, parser, kind::R_PAREN))?;
+    called
 }

@@ -13,8 +13,5 @@ Room file text pos k start len = P.Room file.now text.now pos k start len
 abbrev pub part : Lent → ℕ → ℕ → List ℕ
 part text start len = take len (drop start (at_entry text))
 
-abbrev pub Grew : List ℕ → ℕ → MutLent → ℕ → ℕ → Type 0
-Grew bs k file pos r = P.Grew (old file) pos bs k (new file) r
-
 abbrev pub Wrote : Rec → ℕ → MutLent → ℕ → ℕ → Type 0
 Wrote v k file pos r = P.Wrote (old file) pos v k (new file) r

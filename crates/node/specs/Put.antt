@@ -1,17 +1,11 @@
 -- What writing to the file slice ensures. Assumes nothing.
-use Rattle.std.specs.Prelude.{◌≡◌, List, [], ◌∷◌, ◌++◌, ℕ, ◌+◌, ◌/◌, ◌%◌, ◌≤◌, length, take, drop}
+use Rattle.std.specs.Prelude.{◌≡◌, List, [], ◌∷◌, ◌++◌, ℕ, ◌+◌, ◌≤◌, length, take, drop}
 use Rattle.std.proofs.Math.Option.{none, some}
 use Rattle.definition.specs.Places.{unpack_place}
-use Rattle.definition.specs.Node.{Num, byte, two, eight, Rec, u16, rec_bytes}
+use Rattle.definition.specs.Node.{Num, byte, two, eight, Rec, rec_bytes}
 use Rattle.node.specs.declared.Numbers.{Numbers}
 use Rattle.node.specs.declared.Numbers.TheVariants.{None, Byte, Two, Eight, ByteTwo}
 use Rattle.node.specs.declared.Record.{Record}
-
--- the bytes bs, of length k, are written from p to q
-pub record Grew (o : List ℕ) (p : ℕ) (bs : List ℕ) (k : ℕ) (o' : List ℕ) (q : ℕ) : Type 0 where
-  pub end : q ≡ p + k
-  pub size : length bs ≡ k
-  pub is : take q o' ≡ take p o ++ bs
 
 -- room for k bytes at p, and a part within the text
 pub record Room (o x : List ℕ) (p k start len : ℕ) : Type 0 where
@@ -33,10 +27,6 @@ width_of (Two n) = 2
 width_of (Eight n) = 8
 width_of (ByteTwo b n) = 3
 
--- the start of a record: its tag, the length of its body, its place
-abbrev pub placed : ℕ → ℕ → ℕ → List ℕ
-placed tag size place = tag ∷ (u16 size ++ (u16 (place / 65536) ++ u16 (place % 65536)))
-
 -- a record as the definition has it, and its length in bytes
 abbrev pub rec_of : List ℕ → Record → Rec
 rec_of x r = record { tag = r.tag; place = some (unpack_place r.place); numbers = nums_of r.numbers; text = take r.len (drop r.start x) }
@@ -54,11 +44,3 @@ bare_size numbers len = 3 + width_of numbers + len
 pub record Wrote (o : List ℕ) (p : ℕ) (r : Rec) (k : ℕ) (o' : List ℕ) (q : ℕ) : Type 0 where
   pub end : q ≡ p + k
   pub is : take q o' ≡ take p o ++ rec_bytes r
-
--- the invariant of copying a part of the text: i bytes are copied
-pub record Copying (o₀ x : List ℕ) (p start len : ℕ) (o : List ℕ) (i : ℕ) : Type 0 where
-  pub room : p + len ≤ length o₀
-  pub part : start + len ≤ length x
-  pub upto : i ≤ len
-  pub same : length o ≡ length o₀
-  pub is : take (p + i) o ≡ take p o₀ ++ take i (drop start x)

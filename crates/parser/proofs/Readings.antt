@@ -8,9 +8,13 @@ use native.Mathlib.Omega.{arith}
 use lib.Dec.{ltb}
 use lib.ListN.{length, take}
 use borrow.Author.Tests.{lt-ltb, le-ltb}
+use Rattle.std.specs.Prelude.{Result, Ok, Err}
+use Rattle.definition.specs.declared.refusal.Refusal.{Refusal}
+use Rattle.definition.specs.Numbers.{refusal_number}
 use Rattle.definition.specs.Source.{is_some}
 use Rattle.definition.specs.Node.{recs_bytes}
-use Rattle.definition.specs.Fallible.{Err, Fallible, Ans, ok, fatal}
+use Rattle.definition.specs.Fallible as F
+use Rattle.definition.specs.Fallible.{Fallible, Ans, ok, fatal}
 use Rattle.definition.specs.Token.{Tok}
 use Rattle.definition.specs.Operations as O
 use Rattle.definition.specs.Operations.{filled, file_bytes}
@@ -19,24 +23,21 @@ use Rattle.definition.specs.Parser as P
 use Rattle.definition.specs.Parser.{parse_module}
 use Rattle.definition.specs.Go.{go}
 use Rattle.definition.proofs.Flat.{go_bind, go_module}
-use Rattle.fallible.specs.declared.Status.{Status}
-use Rattle.fallible.specs.declared.Status.TheVariants.{Done, Fatal, Refused}
-use Rattle.fallible.specs.declared.Answer.{Answer}
+use Rattle.fallible.specs.Answer.{Status, Done, Fatal, Refused, Answer}
 use Rattle.fallible.specs.Lists.{errs}
 use Rattle.slices.specs.Cleared.{Cleared}
 use Rattle.slices.proofs.Clearing.{cleared_filled}
 use Rattle.steps.specs.Tokens.{rest}
 use Rattle.steps.specs.Shows.{st_of, Asked, ShowsOf, items}
-use Rattle.steps.proofs.Tokens.{rest_cons, rest_nil}
+use Rattle.steps.proofs.Records.{rest_cons, rest_nil}
 use Rattle.steps.proofs.Answers.{good_of}
-use Rattle.leaves.proofs.Atoms.{Ended, Alive, if_alive}
+use Rattle.leaves.proofs.Atoms.{Alive, if_alive}
 use Rattle.expression_laws.specs.Post.{as_answer}
 use Rattle.validate.specs.Tested.{Tested}
 use Rattle.validate.proofs.Accepted.{There, there, absent, tested}
 use Rattle.items.specs.Rules.{items_on}
 use Rattle.items.specs.Items.{ReadsModule}
-use Rattle.parser.specs.declared.Written.{Written}
-use Rattle.parser.specs.Answer.{refusal_of, refusal_number, answer, tree_file, RestRoom, RestWritten, ReadValidated}
+use Rattle.parser.specs.Answer.{answer, tree_file, RestRoom, RestWritten, ReadValidated}
 
 -- ---- the answer of `module`
 
@@ -48,7 +49,7 @@ item_of (gives (ok y) S) = y.item
 item_of (gives (fatal es) S) = P.no_items []
 item_of (refused n) = P.no_items []
 
-errors_in : Res (Ans Items) → List Err
+errors_in : Res (Ans Items) → List F.Err
 errors_in (gives (ok y) S) = y.errors
 errors_in (gives (fatal es) S) = es
 errors_in (refused n) = []
@@ -107,20 +108,12 @@ module _ {w x : List ℕ} {n : ℕ} {o r f : List ℕ} {a : Answer} (B : ReadsMo
         count = g.holds;
       }
 
-  refused_with : (k : ℕ) → a.status ≡ Refused k → parse_module (rest w x n 0) ≡ refused k
+  pub refused_with : (k : ℕ) → a.status ≡ Refused k → parse_module (rest w x n 0) ≡ refused k
   refused_with k z =
       refuses 96 (parse_module (rest w x n 0)) k (parsed
       ∙ subst (λ (h : Status). ShowsOf h items [] [] [] [] w x n o r f a
       (go 96 (items_on (P.no_items []) >>= as_answer) (begin (rest w x n 0)))) z
       B.is.told)
-
-  pub refused_of : Ended a → parse_module (rest w x n 0) ≡ refused (refusal_number a.status)
-  refused_of e = one a.status refl e
-    where
-      one : (h : Status) → a.status ≡ h → (m : ℕ) × (h ≡ Refused m) → parse_module (rest w x n 0) ≡ refused (refusal_number h)
-      one Done z e = absurd (let y : Done ≡ Refused e.0 = e.1 in cc)
-      one Fatal z e = absurd (let y : Fatal ≡ Refused e.0 = e.1 in cc)
-      one (Refused k) z e = refused_with k z
 
   pub done_of_module : Alive a → a.status ≡ Done
   done_of_module l = one a.status refl l
@@ -136,11 +129,11 @@ module _ {w x : List ℕ} {n : ℕ} {o r f : List ℕ} {a : Answer} (B : ReadsMo
 -- ---- the definition's answer for at least one token
 
 -- the outcome of a parse
-outcome : List Err → Res Items → O.Outcome
+outcome : List F.Err → Res Items → O.Outcome
 outcome es (gives i S) = O.file (file_bytes es i S.full)
 outcome es (refused n) = O.refused n
 
-opened : (o : List ℕ) (ts : List Tok) (es : List Err) → 0 < length ts → O.read_validated o ts es ≡ O.written o (outcome es (parse_module ts))
+opened : (o : List ℕ) (ts : List Tok) (es : List F.Err) → 0 < length ts → O.read_validated o ts es ≡ O.written o (outcome es (parse_module ts))
 unfolding O.read_tokens outcome
 opened o [] es h = absurd (omega arith)
 opened o (t ∷ ts) es h = one (parse_module (t ∷ ts))
@@ -152,7 +145,7 @@ opened o (t ∷ ts) es h = one (parse_module (t ∷ ts))
     one (gives i S) = refl
     one (refused n) = refl
 
-written_of : (o : List ℕ) (ts : List Tok) (es : List Err) (i : Items) (S : St) → 0 < length ts
+written_of : (o : List ℕ) (ts : List Tok) (es : List F.Err) (i : Items) (S : St) → 0 < length ts
     → parse_module ts ≡ gives i S
     → O.read_validated o ts es
     ≡ record {
@@ -163,7 +156,7 @@ written_of : (o : List ℕ) (ts : List Tok) (es : List Err) (i : Items) (S : St)
 unfolding outcome
 written_of o ts es i S h e = opened o ts es h ∙ ap (λ (r : Res Items). O.written o (outcome es r)) e
 
-none_of : (o : List ℕ) (ts : List Tok) (es : List Err) (n : ℕ) → 0 < length ts → parse_module ts ≡ refused n
+none_of : (o : List ℕ) (ts : List Tok) (es : List F.Err) (n : ℕ) → 0 < length ts → parse_module ts ≡ refused n
     → O.read_validated o ts es ≡ record { number = n; bytes = 0; file = filled (length o) [] }
 unfolding outcome
 none_of o ts es n h e = opened o ts es h ∙ ap (λ (r : Res Items). O.written o (outcome es r)) e
@@ -172,7 +165,7 @@ some_tokens : (w x : List ℕ) (n : ℕ) → 0 < n → 0 < length (rest w x n 0)
 some_tokens w x n h = rw (rest_cons w x n 0 h) (omega arith)
 
 -- files of equal parts are equal
-same_file : {A A' : List ℕ} {c c' : ℕ} {r r' f f' : List Err} (es : List Err) → A ≡ A' → c ≡ c' → r ≡ r' → f ≡ f'
+same_file : {A A' : List ℕ} {c c' : ℕ} {r r' f f' : List F.Err} (es : List F.Err) → A ≡ A' → c ≡ c' → r ≡ r' → f ≡ f'
     → tree_file A c es r f ≡ tree_file A' c' es r' f'
 same_file es p q s t = rw (p, q, s, t)
 
@@ -212,25 +205,24 @@ module _ (T : List ℕ) (n : ℕ) (E : List ℕ) (m : ℕ) (X : List ℕ) (g : i
     fulls = omega (arith, B.few, lf);
   }
 
-module _ (T : List ℕ) (n : ℕ) (E : List ℕ) (m : ℕ) (X o : List ℕ) {o1 r1 f1 : List ℕ} {a : Answer}
+module _ (T : List ℕ) (n : ℕ) (E : List ℕ) (k : ℕ) (X o : List ℕ) {o1 r1 f1 : List ℕ} {a : Answer}
     (B : ReadsModule T X n 96 o1 r1 f1 a) (some_n : 0 < n) (l : length o1 ≡ length o) where
-  pub read_refused : {o2 : List ℕ} {k : ℕ} {y : Written} → Ended a → Cleared o1 0 o2 → k ≡ refusal_number a.status
-      → y ≡ refusal_of k → ReadValidated T n E m X o o2 y
-  read_refused {o2} {k} {y} z C u v h e =
-      let t = tested T n E m X h e in
-      let p : parse_module h.tokens ≡ refused k = ap parse_module (sym t.tokens) ∙ refused_of B z ∙ ap
-      (λ (i : ℕ). refused i) (sym u) in
+  pub read_refused : {o2 : List ℕ} (m : Refusal) → a.status ≡ Refused (refusal_number m) → Cleared o1 0 o2
+      → ReadValidated T n E k X o o2 (Err m)
+  read_refused {o2} m z C h e =
+      let t = tested T n E k X h e in
+      let p : parse_module h.tokens ≡ refused (refusal_number m) = ap parse_module (sym t.tokens) ∙ refused_with B _ z in
       let s : 0 < length h.tokens = subst (λ (ts : List Tok). 0 < length ts) t.tokens (some_tokens T X n some_n) in
-      rw v (ap (λ (f : List ℕ). answer (refusal_of k) f) (cleared_filled o 0 [] C refl l (omega arith))
-      ∙ sym (none_of o h.tokens h.errors k s p))
+      ap (λ (f : List ℕ). answer (Err m) f) (cleared_filled o 0 [] C refl l (omega arith))
+      ∙ sym (none_of o h.tokens h.errors (refusal_number m) s p)
 
-  pub read_done : {o2 : List ℕ} {b : ℕ} → Alive a
-      → RestWritten o1 a.state.pos a.count E m r1 a.state.reported f1 a.state.full o2 b
-      → ReadValidated T n E m X o o2 (record { number = 0; bytes = b })
+  pub read_done : {o2 : List ℕ} {b : ℕ} → a.status ≡ Done
+      → RestWritten o1 a.state.pos a.count E k r1 a.state.reported f1 a.state.full o2 b
+      → ReadValidated T n E k X o o2 (Ok b)
   unfolding file_bytes
   read_done {o2} {b} z C h e =
-      let t = tested T n E m X h e in
-      let g = tree_of B (done_of_module B z) in
+      let t = tested T n E k X h e in
+      let g = tree_of B z in
       let p : parse_module h.tokens ≡ gives g.tree g.state = ap parse_module (sym t.tokens) ∙ g.is in
       let s : 0 < length h.tokens = subst (λ (ts : List Tok). 0 < length ts) t.tokens (some_tokens T X n some_n) in
       let ws : tree_file (take a.state.pos o1) a.count h.errors (errs r1 a.state.reported) (errs f1 a.state.full) ≡ file_bytes h.errors g.tree g.state.full =
@@ -238,7 +230,7 @@ module _ (T : List ℕ) (n : ℕ) (E : List ℕ) (m : ℕ) (X o : List ℕ) {o1 
       let bytes : b ≡ length (file_bytes h.errors g.tree g.state.full) = C.end h.errors t.errors ∙ ap length ws in
       let file : o2 ≡ filled (length o) (file_bytes h.errors g.tree g.state.full) = C.is h.errors
       t.errors ∙ ap (λ (v : List ℕ). filled (length o1) v) ws ∙ ap
-      (λ (k : ℕ). filled k (file_bytes h.errors g.tree g.state.full)) l in
+      (λ (i : ℕ). filled i (file_bytes h.errors g.tree g.state.full)) l in
       rw (bytes, file) (sym (written_of o h.tokens h.errors g.tree g.state s p))
 
 -- ---- `read`
@@ -262,18 +254,18 @@ module _ (T : List ℕ) (n : ℕ) (E : List ℕ) (m : ℕ) (X o : List ℕ) wher
       one false none = refl
       one false (some h) = refl
 
-  pub read_short : {r : Written} → length o < 65536 → r ≡ refusal_of 3 → answer r o ≡ O.read T n E m X o
+  pub read_short : length o < 65536 → answer (Err Refusal.SliceLength) o ≡ O.read T n E m X o
   unfolding tested_by
-  read_short h e = rw e (sym (read_is ∙ ap (λ (b : Bool). tested_by b (O.validate T n E m X) o) (lt-ltb (length o) 65536 h)))
+  read_short h = sym (read_is ∙ ap (λ (b : Bool). tested_by b (O.validate T n E m X) o) (lt-ltb (length o) 65536 h))
 
   module _ (h : 65536 ≤ length o) where
     -- the file slice is long enough
     read_long : O.read T n E m X o ≡ tested_by false (O.validate T n E m X) o
     read_long = read_is ∙ ap (λ (b : Bool). tested_by b (O.validate T n E m X) o) (le-ltb (length o) 65536 h)
 
-    pub read_bad : {r : Written} → is_some (O.validate T n E m X) ≡ false → r ≡ refusal_of 8 → answer r o ≡ O.read T n E m X o
+    pub read_bad : is_some (O.validate T n E m X) ≡ false → answer (Err Refusal.BadRecord) o ≡ O.read T n E m X o
     unfolding tested_by
-    read_bad g e = rw e (sym (read_long ∙ ap (λ (x : Option O.Validated). tested_by false x o) (absent (O.validate T n E m X) g)))
+    read_bad g = sym (read_long ∙ ap (λ (x : Option O.Validated). tested_by false x o) (absent (O.validate T n E m X) g))
 
     -- for valid records it is what the definition reads of their tokens and errors
     pub read_accepted : {v : O.Validated} → O.validate T n E m X ≡ some v → O.read T n E m X o ≡ O.read_validated o v.tokens v.errors
@@ -281,11 +273,11 @@ module _ (T : List ℕ) (n : ℕ) (E : List ℕ) (m : ℕ) (X o : List ℕ) wher
     read_accepted e = read_long ∙ ap (λ (x : Option O.Validated). tested_by false x o) e
 
     module _ (g : is_some (O.validate T n E m X) ≡ true) where
-      pub read_good : {r : Written} {o' : List ℕ} → ReadValidated T n E m X o o' r → answer r o' ≡ O.read T n E m X o
-      read_good R = let t = there (O.validate T n E m X) g in R t.value t.is ∙ sym (read_accepted t.is)
+      pub read_good : (r : Result ℕ Refusal) (o' : List ℕ) → ReadValidated T n E m X o o' r → answer r o' ≡ O.read T n E m X o
+      read_good r o' R = let t = there (O.validate T n E m X) g in R t.value t.is ∙ sym (read_accepted t.is)
 
-      pub read_none : {r : Written} → n ≡ 0 → r ≡ refusal_of 9 → answer r o ≡ O.read T n E m X o
-      read_none z e =
-          read_good (λ v y. let k : v.tokens ≡ [] = sym (tested T n E m X v y).tokens ∙ rest_nil T X n 0
+      pub read_none : n ≡ 0 → answer (Err Refusal.NoTokens) o ≡ O.read T n E m X o
+      read_none z =
+          read_good (Err Refusal.NoTokens) o (λ v y. let k : v.tokens ≡ [] = sym (tested T n E m X v y).tokens ∙ rest_nil T X n 0
           (omega (arith, z)) in
-          rw (e, k))
+          rw k)

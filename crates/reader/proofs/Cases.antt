@@ -1,6 +1,5 @@
 -- The whole operation: one law for each return. Assumes nothing.
 use mathlib.Core.Path.{◌≡◌, refl, sym, ap, ◌∙◌}
-use mathlib.Core.Logic.{inl, inr}
 use mathlib.Core.Bool.{Bool, true, false}
 use mathlib.Core.Option.{Option, none, some}
 use mathlib.Core.List.{List, [], ◌∷◌, ◌++◌}
@@ -17,13 +16,15 @@ use Rattle.definition.specs.Tokenizer.{tokenize}
 use Rattle.definition.specs.Operations as O
 use Rattle.definition.specs.Operations.{validate, kept, written, read_tokens, read_tokenised, whole}
 use Rattle.definition.proofs.ReadBack.{read_back}
+use Rattle.definition.specs.Numbers.{refusal_number}
+use Rattle.definition.specs.declared.refusal.Refusal.{Refusal}
 use Rattle.source.specs.Place.{Stands, rest, origin}
 use Rattle.token_records.specs.declared.State.{State}
 use Rattle.slices.specs.Cleared.{Cleared}
 use Rattle.slices.proofs.Clearing.{cleared_filled}
-use Rattle.tokenizer.specs.Run.{Done, Ran}
-use Rattle.tokenizer.proofs.Answer.{no_characters, the_characters, within_limit, ran_done}
-use Rattle.parser.specs.declared.Written.{Written}
+use Rattle.tokenizer.specs.Run.{Done, NotDone}
+use Rattle.tokenizer.proofs.Answer.{no_characters, the_characters, within_limit}
+use Rattle.std.specs.Prelude.{Result, Err}
 use Rattle.parser.specs.Answer.{answer, ReadValidated}
 
 -- ---- the definition by its tests
@@ -50,25 +51,25 @@ whole_is s o = one (ltb 16384 (length s)) (characters s) (ltb (length o) 65536)
 -- ---- the tests
 
 module _ (s o : List ℕ) where
-  pub whole_long : 16384 < length s → kept 1 o ≡ whole s o
+  pub whole_long : 16384 < length s → answer (Err Refusal.ScriptLength) o ≡ whole s o
   unfolding whole
   whole_long h = rw (lt-ltb 16384 (length s) h, whole, O.whole_within)
 
   module _ (h : length s ≤ 16384) where
-    pub whole_foreign : {v : Bool} → v ≡ utf8 s → v ≡ false → kept 2 o ≡ whole s o
+    pub whole_foreign : {v : Bool} → v ≡ utf8 s → v ≡ false → answer (Err Refusal.NotUtf8) o ≡ whole s o
     unfolding whole
     whole_foreign e n =
         rw (le-ltb 16384 (length s) h, no_characters s (sym e ∙ n), whole, O.whole_within)
 
-    pub whole_short : Stands s origin → length o < 65536 → kept 3 o ≡ whole s o
+    pub whole_short : Stands s origin → length o < 65536 → answer (Err Refusal.SliceLength) o ≡ whole s o
     unfolding whole
     whole_short z l =
         rw (le-ltb 16384 (length s) h, the_characters s z, lt-ltb (length o) 65536 l, whole, O.whole_within)
 
 -- ---- after the tests
 
-pub cleared_is : {o o' : List ℕ} (k : ℕ) → Cleared o 0 o' → answer (record { number = k; bytes = 0 }) o' ≡ written o (O.refused k)
-cleared_is {o} k c = ap (λ (v : List ℕ). answer (record { number = k; bytes = 0 }) v) (cleared_filled o 0 [] c refl refl (omega arith))
+pub cleared_is : {o o' : List ℕ} (m : Refusal) → Cleared o 0 o' → answer (Err m) o' ≡ written o (O.refused (refusal_number m))
+cleared_is {o} m c = ap (λ (v : List ℕ). answer (Err m) v) (cleared_filled o 0 [] c refl refl (omega arith))
 
 -- a slice is its first words and the rest
 before_rest : (n : ℕ) (T ws : List ℕ) → take n T ≡ ws → T ≡ ws ++ drop n T
@@ -98,35 +99,27 @@ module _ (s o : List ℕ) (q : Stands s origin × (length s ≤ 16384) × (65536
       rw (le-ltb 16384 (length s) q.1, the_characters s q.0, le-ltb (length o) 65536 q.2, whole, O.whole_within)
       (ap (λ (t : Z.Tokens). written o (read_tokenised t)) (sym (within_limit (rest s origin) ∙ e)))
 
-  module _ {T E X : List ℕ} {f : State} (g : Ran 2048 (rest s origin) T E X f) where
-    pub whole_stopped : (f.refusal ≡ 0 → ⊥) → written o (O.refused f.refusal) ≡ whole s o
-    whole_stopped n = go g
+  pub whole_stopped : {x : Refusal} → NotDone 2048 (rest s origin) x → written o (O.refused (refusal_number x)) ≡ whole s o
+  whole_stopped d = runs d.is
+
+  module _ {T E X : List ℕ} {f : State} (d : Done 2048 (rest s origin) T E X f) where
+    pub whole_validated : is_some (validate T f.tokens E f.errors X) ≡ true
+    whole_validated = ap is_some (validated_back s q.0 q.1 d)
+
+    pub whole_none : f.tokens ≡ 0 → written o (O.refused 9) ≡ whole s o
+    unfolding read_tokens
+    whole_none k = go d.ts (omega (arith, d.holds.tokens)) (runs d.is)
       where
-        go : Ran 2048 (rest s origin) T E X f → written o (O.refused f.refusal) ≡ whole s o
-        go (inl d) = absurd (n d.few.refusal)
-        go (inr d) = runs d.is
+        go : (ts : List Tok) → length ts ≡ 0 → written o (read_tokens ts d.es) ≡ whole s o → written o (O.refused 9) ≡ whole s o
+        go [] m e = e
+        go (t ∷ ts) m e = absurd (omega arith)
 
-    module _ (n : f.refusal ≡ 0) where
-      d : Done 2048 (rest s origin) T E X f
-      d = ran_done g n
-
-      pub whole_validated : is_some (validate T f.tokens E f.errors X) ≡ true
-      whole_validated = ap is_some (validated_back s q.0 q.1 d)
-
-      pub whole_none : f.tokens ≡ 0 → written o (O.refused 9) ≡ whole s o
-      unfolding read_tokens
-      whole_none k = go d.ts (omega (arith, d.holds.tokens)) (runs d.is)
-        where
-          go : (ts : List Tok) → length ts ≡ 0 → written o (read_tokens ts d.es) ≡ whole s o → written o (O.refused 9) ≡ whole s o
-          go [] m e = e
-          go (t ∷ ts) m e = absurd (omega arith)
-
-      pub whole_read : {o' : List ℕ} {w : Written} → (f.tokens ≡ 0 → ⊥) → ReadValidated T f.tokens E f.errors X o o' w
-          → answer w o' ≡ whole s o
-      unfolding read_tokens
-      whole_read {o'} {w} k r = go d.ts (λ m. k (d.holds.tokens ∙ m)) (r _ (validated_back s q.0 q.1 d)) (runs d.is)
-        where
-          go : (ts : List Tok) → (length ts ≡ 0 → ⊥) → answer w o' ≡ O.read_validated o ts d.es
-              → written o (read_tokens ts d.es) ≡ whole s o → answer w o' ≡ whole s o
-          go [] m e p = absurd (m refl)
-          go (t ∷ ts) m e p = e ∙ p
+    pub whole_read : (o' : List ℕ) (w : Result ℕ Refusal) → (f.tokens ≡ 0 → ⊥) → ReadValidated T f.tokens E f.errors X o o' w
+        → answer w o' ≡ whole s o
+    unfolding read_tokens
+    whole_read o' w k r = go d.ts (λ m. k (d.holds.tokens ∙ m)) (r _ (validated_back s q.0 q.1 d)) (runs d.is)
+      where
+        go : (ts : List Tok) → (length ts ≡ 0 → ⊥) → answer w o' ≡ O.read_validated o ts d.es
+            → written o (read_tokens ts d.es) ≡ whole s o → answer w o' ≡ whole s o
+        go [] m e p = absurd (m refl)
+        go (t ∷ ts) m e p = e ∙ p

@@ -1,6 +1,5 @@
 -- The laws of `sentence`: what is found in a script, and the sentence at a position. Assumes nothing.
-use mathlib.Core.Path.{◌≡◌, refl, sym, ap, ◌∙◌, subst}
-use mathlib.Core.Logic.{inl, inr}
+use mathlib.Core.Path.{◌≡◌, refl, sym, ap, ◌∙◌}
 use mathlib.Core.Bool.{Bool, true, false}
 use mathlib.Core.Option.{Option, none, some}
 use mathlib.Core.List.{List, [], ◌∷◌, map}
@@ -10,8 +9,8 @@ use native.Mathlib.Omega.{arith}
 use borrow.Author.Tests.{lt-ltb, le-ltb, ne_eqb}
 use lib.ListN.{length, get_or, take, get_elem?}
 use Rattle.definition.specs.Tag as Tag
-use Rattle.definition.specs.Source.{Place, same_place, Ch, characters, is_some, utf8}
-use Rattle.definition.specs.Fallible.{Err}
+use Rattle.definition.specs.Source.{Ch, is_some, utf8}
+use Rattle.definition.specs.Fallible as F
 use Rattle.definition.specs.Token.{Tok}
 use Rattle.definition.specs.Tokenizer as Z
 use Rattle.definition.specs.Tokenizer.{tokenize}
@@ -20,64 +19,46 @@ use Rattle.definition.specs.Act.{Items, Res}
 use Rattle.definition.specs.Parser.{parse_module}
 use Rattle.definition.specs.Records.{errors_of, error_at, error_of}
 use Rattle.definition.specs.Operations as O
-use Rattle.definition.specs.Operations.{filled, kept, written, read_tokens}
+use Rattle.definition.specs.Operations.{filled, kept, written}
 use Rattle.definition.specs.Sentence as S
-use Rattle.definition.specs.Sentence.{token_at, Found, sentence_at, said}
-use Rattle.definition.proofs.Tests.{All}
-use Rattle.definition.proofs.Tokens.{Good}
-use Rattle.definition.proofs.Refusals.{read_refuses}
+use Rattle.definition.specs.Sentence.{Found, sentence_at, said}
 use Rattle.definition.proofs.Validated.{errors_many}
-use Rattle.definition.proofs.Examined.{examined, found_made}
 use Rattle.definition.proofs.Lengths.{sentence_at_short}
+use Rattle.definition.specs.Numbers as N
+use Rattle.definition.specs.declared.refusal.Refusal.{Refusal}
 use Rattle.source.specs.Place as P
 use Rattle.source.specs.Place.{Stands, origin}
-use Rattle.source.proofs.Laws.{stands_start}
 use Rattle.token_records.specs.declared.State.{State}
-use Rattle.fallible.specs.declared.Answer.{Answer}
+use Rattle.fallible.specs.Answer as W
+use Rattle.fallible.specs.Answer.{Answer}
 use Rattle.fallible.specs.Lists.{unpack, errs}
 use Rattle.fallible.proofs.Grown.{errs_length}
 use Rattle.error_fields.proofs.Records.{listed, listed_is}
 use Rattle.steps.specs.Tokens.{rest}
-use Rattle.leaves.proofs.Atoms.{Ended, Alive}
 use Rattle.slices.specs.Cleared.{Cleared}
 use Rattle.slices.proofs.Clearing.{cleared_filled}
 use Rattle.validate.specs.Tested.{Tested}
 use Rattle.validate.proofs.Accepted.{tested}
-use Rattle.tokenizer.specs.Run.{Done, Ran}
-use Rattle.tokenizer.proofs.Answer.{no_characters, the_characters, within_limit, ran_done}
+use Rattle.tokenizer.specs.Run.{Done, NotDone}
+use Rattle.tokenizer.proofs.Answer.{no_characters, the_characters, within_limit}
 use Rattle.items.specs.Items.{ReadsModule}
-use Rattle.parser.specs.Answer.{answer, refusal_number}
-use Rattle.parser.proofs.Readings.{Tree, tree_of, refused_of, done_of_module}
+use Rattle.std.specs.Prelude.{Ok, Err}
+use Rattle.parser.specs.Answer.{answer}
+use Rattle.parser.proofs.Readings.{Tree, tree_of, refused_with}
 use Rattle.sentences.specs.Said.{Short, Said}
-use Rattle.sentences.specs.Spelling.{Quotes}
 use Rattle.sentences.specs.Messages as M
-use Rattle.reader.specs.declared.sentence.Examined.{Examined}
-use Rattle.reader.specs.Found.{or_none, found_of, Holds, Examines, list_sentence}
+use Rattle.reader.specs.Found.{Counts, or_none, found_of, Holds, sentence_in}
 use Rattle.reader.proofs.Cases.{validated_back}
 
 -- ---- what is found
 
--- the text of the token at any place can be quoted
-quotes : (text : List ℕ) → utf8 text ≡ true → length text ≤ 16384 → Quotes text
-quotes text u h = record { stands = stands_start text origin u refl refl refl; short = h }
-
-quoted_at : (p : Place) (ts : List Tok) → All Good ts → Quotes (token_at p ts).text
-unfolding token_at utf8 characters
-quoted_at p [] g = quotes [] refl (omega arith)
-quoted_at p (t ∷ ts) g = one (same_place p t.place) (quoted_at p ts g.1)
-  where
-    one : (b : Bool) → Quotes (token_at p ts).text
-        → Quotes (elim b as (λ _. Tok) [ true ↦ t | false ↦ token_at p ts ]).text
-    one true h = quotes t.text g.0.formed.utf8 g.0.short
-    one false h = h
-
 -- the result of parsing
-abbrev result : List Ch → List Tok → List Err → Res Items → S.Examined
+abbrev result : List Ch → List Tok → List F.Err → Res Items → S.Examined
 result cs ts es (A.gives i st) =
     S.found (record { chars = cs; toks = ts; token_errors = es; reported = i.errors; full = st.full })
 result cs ts es (A.refused n) = S.refused n
 
-parsed_by : (cs : List Ch) (ts : List Tok) (es : List Err) (q : Res Items) → (length ts ≡ 0 → ⊥) → parse_module ts ≡ q
+parsed_by : (cs : List Ch) (ts : List Tok) (es : List F.Err) (q : Res Items) → (length ts ≡ 0 → ⊥) → parse_module ts ≡ q
     → S.parsed cs (Z.tokens ts es) ≡ result cs ts es q
 unfolding S.parsed
 parsed_by cs [] es q n e = absurd (n refl)
@@ -92,21 +73,10 @@ parsed_by cs (t ∷ ts) es q n e = one (parse_module (t ∷ ts)) ∙ ap (result 
     one (A.gives i st) = refl
     one (A.refused n) = refl
 
-same_found : (cs : List Ch) (ts : List Tok) {es es' rs rs' fs fs' : List Err} → es ≡ es' → rs ≡ rs' → fs ≡ fs'
+same_found : (cs : List Ch) (ts : List Tok) {es es' rs rs' fs fs' : List F.Err} → es ≡ es' → rs ≡ rs' → fs ≡ fs'
     → S.found (record { chars = cs; toks = ts; token_errors = es; reported = rs; full = fs })
     ≡ S.found (record { chars = cs; toks = ts; token_errors = es'; reported = rs'; full = fs' })
 same_found cs ts p q r = rw (p, q, r)
-
--- the parser refuses with 10 to 12
-parse_refuses : (ts : List Tok) (n : ℕ) → (length ts ≡ 0 → ⊥) → parse_module ts ≡ A.refused n → n < 10 → ⊥
-unfolding read_tokens
-parse_refuses [] n z e h = z refl
-parse_refuses (t ∷ ts) n z e h = omega (
-  arith,
-  h,
-  (read_refuses t ts [] n
-      (rw (read_tokens, O.read_tokens_within, e))).0,
-)
 
 -- the definition after its tests
 module _ (s : List ℕ) (z : Stands s origin) (h : length s ≤ 16384) where
@@ -114,112 +84,84 @@ module _ (s : List ℕ) (z : Stands s origin) (h : length s ≤ 16384) where
   unfolding S.examine
   examine_by = rw (S.examine, le-ltb 16384 (length s) h, the_characters s z)
 
-  module _ {T E X : List ℕ} {f : State} (g : Ran 2048 (P.rest s origin) T E X f) where
-    -- refused by the tokenizer
-    pub examine_stopped : (f.refusal ≡ 0 → ⊥) → S.examine s ≡ S.refused f.refusal
+  -- refused by the tokenizer
+  pub examine_stopped : {x : Refusal} → NotDone 2048 (P.rest s origin) x → S.examine s ≡ S.refused (N.refusal_number x)
+  unfolding S.parsed
+  examine_stopped d = examine_by ∙ ap (S.parsed (P.rest s origin)) (within_limit (P.rest s origin) ∙ d.is)
+
+  module _ {T E X : List ℕ} {f : State} (d : Done 2048 (P.rest s origin) T E X f) where
+    abbrev v : O.Validated
+    v = record { tokens = d.ts; errors = d.es }
+
+    valid : O.validate T f.tokens E f.errors X ≡ some v
+    valid = validated_back s z h d
+
+    records : Tested T f.tokens E f.errors X v
+    records = tested T f.tokens E f.errors X v valid
+
+    pub examine_valid : is_some (O.validate T f.tokens E f.errors X) ≡ true
+    examine_valid = ap is_some valid
+
+    tokenized : S.examine s ≡ S.parsed (P.rest s origin) (Z.tokens (rest T X f.tokens 0) d.es)
+    tokenized =
+        examine_by ∙ ap (S.parsed (P.rest s origin)) (within_limit (P.rest s origin) ∙ d.is
+        ∙ ap (λ (ts : List Tok). Z.tokens ts d.es) (sym records.tokens))
+
+    pub examine_none : f.tokens ≡ 0 → S.examine s ≡ S.refused 9
     unfolding S.parsed
-    examine_stopped n = go g
+    examine_none k = go (rest T X f.tokens 0) (ap length records.tokens ∙ sym d.holds.tokens
+        ∙ k) tokenized
       where
-        go : Ran 2048 (P.rest s origin) T E X f → S.examine s ≡ S.refused f.refusal
-        go (inl d) = absurd (n d.few.refusal)
-        go (inr d) = examine_by ∙ ap (S.parsed (P.rest s origin)) (within_limit (P.rest s origin) ∙ d.is)
+        go : (ts : List Tok) → length ts ≡ 0 → S.examine s ≡ S.parsed (P.rest s origin) (Z.tokens ts d.es)
+            → S.examine s ≡ S.refused 9
+        go [] m e = e
+        go (t ∷ ts) m e = absurd (omega arith)
 
-    module _ (n : f.refusal ≡ 0) where
-      abbrev d : Done 2048 (P.rest s origin) T E X f
-      d = ran_done g n
+    module _ (k : f.tokens ≡ 0 → ⊥) where
+      -- by the reading of the tokens
+      reading : (q : Res Items) → parse_module (rest T X f.tokens 0) ≡ q
+          → S.examine s ≡ result (P.rest s origin) (rest T X f.tokens 0) d.es q
+      reading q e =
+          tokenized ∙ parsed_by (P.rest s origin) (rest T X f.tokens 0) d.es q
+          (λ m. k (d.holds.tokens ∙ sym (ap length records.tokens) ∙ m)) e
 
-      abbrev v : O.Validated
-      v = record { tokens = d.ts; errors = d.es }
+      module _ {o r l : List ℕ} {a : Answer} (B : ReadsModule T X f.tokens 96 o r l a) where
+        pub examine_refused : (m : Refusal) → a.status ≡ W.Refused (N.refusal_number m) → S.examine s ≡ S.refused (N.refusal_number m)
+        examine_refused m x = reading (A.refused (N.refusal_number m)) (refused_with B _ x)
 
-      valid : O.validate T f.tokens E f.errors X ≡ some v
-      valid = validated_back s z h d
+        module _ (x : a.status ≡ W.Done) where
+          outcome : Tree B
+          outcome = tree_of B x
 
-      records : Tested T f.tokens E f.errors X v
-      records = tested T f.tokens E f.errors X v valid
+          -- the counts
+          abbrev pub counts : Counts
+          counts = record {
+            tokens = f.tokens;
+            errors = f.errors;
+            reported = a.state.reported;
+            full = a.state.full;
+          }
 
-      pub examine_valid : is_some (O.validate T f.tokens E f.errors X) ≡ true
-      examine_valid = ap is_some valid
+          examine_found : S.examine s ≡ S.found (found_of s T E X r l counts)
+          examine_found =
+              reading (A.gives outcome.tree outcome.state) outcome.is
+              ∙ same_found (P.rest s origin) (rest T X f.tokens 0) (ap or_none (sym records.errors))
+              (sym outcome.reported) outcome.full
 
-      tokenized : S.examine s ≡ S.parsed (P.rest s origin) (Z.tokens (rest T X f.tokens 0) d.es)
-      tokenized =
-          examine_by ∙ ap (S.parsed (P.rest s origin)) (within_limit (P.rest s origin) ∙ d.is
-          ∙ ap (λ (ts : List Tok). Z.tokens ts d.es) (sym records.tokens))
-
-      pub examine_none : f.tokens ≡ 0 → S.examine s ≡ S.refused 9
-      unfolding S.parsed
-      examine_none k = go (rest T X f.tokens 0) (ap length records.tokens ∙ sym d.holds.tokens
-          ∙ k) tokenized
-        where
-          go : (ts : List Tok) → length ts ≡ 0 → S.examine s ≡ S.parsed (P.rest s origin) (Z.tokens ts d.es)
-              → S.examine s ≡ S.refused 9
-          go [] m e = e
-          go (t ∷ ts) m e = absurd (omega arith)
-
-      module _ (k : f.tokens ≡ 0 → ⊥) where
-        -- by the reading of the tokens
-        reading : (q : Res Items) → parse_module (rest T X f.tokens 0) ≡ q
-            → S.examine s ≡ result (P.rest s origin) (rest T X f.tokens 0) d.es q
-        reading q e =
-            tokenized ∙ parsed_by (P.rest s origin) (rest T X f.tokens 0) d.es q
-            (λ m. k (d.holds.tokens ∙ sym (ap length records.tokens) ∙ m)) e
-
-        module _ {o r l : List ℕ} {a : Answer} (B : ReadsModule T X f.tokens 96 o r l a) where
-          pub examine_refused : Ended a → S.examine s ≡ S.refused (refusal_number a.status)
-          examine_refused x = reading (A.refused (refusal_number a.status)) (refused_of B x)
-
-          -- a refusal of the parser is not 0
-          pub refusal_above : Ended a → refusal_number a.status ≡ 0 → ⊥
-          refusal_above x e =
-              parse_refuses (rest T X f.tokens 0) 0
-              (λ m. k (d.holds.tokens ∙ sym (ap length records.tokens) ∙ m))
-              (refused_of B x ∙ ap (λ (n : ℕ). A.refused n) e) (omega arith)
-
-          module _ (x : Alive a) where
-            outcome : Tree B
-            outcome = tree_of B (done_of_module B x)
-
-            -- the counts
-            abbrev pub counts : Examined
-            counts = record {
-              number = 0;
-              tokens = f.tokens;
-              errors = f.errors;
-              reported = a.state.reported;
-              full = a.state.full;
-            }
-
-            examine_found : S.examine s ≡ S.found (found_of s T E X r l counts)
-            examine_found =
-                reading (A.gives outcome.tree outcome.state) outcome.is
-                ∙ same_found (P.rest s origin) (rest T X f.tokens 0) (ap or_none (sym records.errors))
-                (sym outcome.reported) outcome.full
-
-            pub examine_holds : 256 ≤ length r → 256 ≤ length l → Holds s T E X r l counts
-            examine_holds lr ll =
-                record {
-                  is = examine_found;
-                  script = record { stands = z; short = h };
-                  tokens = record {
-                    held = records.held;
-                    parts = records.parts;
-                    quoted = λ p. quoted_at p _ (found_made (examined s _ examine_found)).good;
-                  };
-                  words = records.words;
-                  valid = rw records.errors;
-                  reps = omega (arith, B.reported, B.few, lr);
-                  fulls = omega (arith, B.few, ll);
-                }
-
--- ---- the answers of `examine`
-
-module _ {s T E X r f : List ℕ} {y : Examined} where
-  pub stopped : {n : ℕ} → (n ≡ 0 → ⊥) → y ≡ record { number = n; tokens = 0; errors = 0; reported = 0; full = 0 }
-      → S.examine s ≡ S.refused n → Examines s T E X r f y
-  stopped h e i = subst (λ (x : Examined). Examines s T E X r f x) (sym e)
-      (record { refused = λ _. i; found = λ z. absurd (h z) })
-
-  pub accepted : y.number ≡ 0 → Holds s T E X r f y → Examines s T E X r f y
-  accepted e h = record { refused = λ n. absurd (n e); found = λ _. h }
+          pub examine_holds : 256 ≤ length r → 256 ≤ length l → Holds s T E X r l counts
+          examine_holds lr ll =
+              record {
+                is = examine_found;
+                script = record { stands = z; short = h };
+                tokens = record {
+                  held = records.held;
+                  parts = records.parts;
+                };
+                words = records.words;
+                valid = rw records.errors;
+                reps = omega (arith, B.reported, B.few, lr);
+                fulls = omega (arith, B.few, ll);
+              }
 
 -- ---- the entry at a position
 
@@ -237,13 +179,13 @@ packed_at (x ∷ l) (suc k) (suc i) h m = packed_at l k i (omega (arith, h)) (om
 
 -- of a list of k packed errors
 module _ (w x : List ℕ) (n : ℕ) (l : List ℕ) {k i : ℕ} (m : k ≤ length l) where
-  pub list_past : k ≤ i → [] ≡ list_sentence w x n l k i
+  pub list_past : k ≤ i → [] ≡ sentence_in w x n l k i
   unfolding errs
-  list_past h = rw (list_sentence, past_end (errs l k) i (omega (arith, h, errs_length l k m)))
+  list_past h = rw (sentence_in, past_end (errs l k) i (omega (arith, h, errs_length l k m)))
 
-  pub list_at : i < k → M.parser_sentence w x n (get_or l i 0) ≡ list_sentence w x n l k i
+  pub list_at : i < k → M.parser_sentence w x n (get_or l i 0) ≡ sentence_in w x n l k i
   unfolding errs
-  list_at h = rw (list_sentence, packed_at l k i h m)
+  list_at h = rw (sentence_in, packed_at l k i h m)
 
 -- of the token errors
 listed_at : (E : List ℕ) (m j i : ℕ) → i < m → get_elem? (listed E j m) i ≡ some (error_of (error_at E (j + i)))
@@ -254,15 +196,15 @@ listed_at E (suc m) j (suc i) h = let e : j + suc i ≡ suc j + i = omega arith 
     (listed_at E m (suc j) i (omega (arith, h)))
 
 -- the sentence of a token error, if there is one
-abbrev pub token_said : List ℕ → Option Err → List ℕ
+abbrev pub token_said : List ℕ → Option F.Err → List ℕ
 token_said s o = elim o [ none ↦ [] | some e ↦ S.token_sentence (S.token_meaning (P.rest s origin) e) ]
 
 module _ (s E : List ℕ) (m i : ℕ) (v : is_some (errors_of E 0 m) ≡ true) where
   -- the entry is that of the list of records
-  entry_is : {o : Option Err} → get_elem? (listed E 0 m) i ≡ o → token_said s o
+  entry_is : {o : Option F.Err} → get_elem? (listed E 0 m) i ≡ o → token_said s o
       ≡ token_said s (get_elem? (or_none (errors_of E 0 m)) i)
   entry_is e =
-      sym (ap (λ (x : Option (List Err)). token_said s (get_elem? (or_none x) i)) (listed_is E 0 m v) ∙ ap
+      sym (ap (λ (x : Option (List F.Err)). token_said s (get_elem? (or_none x) i)) (listed_is E 0 m v) ∙ ap
       (token_said s) e)
 
   token_past : m ≤ i → [] ≡ token_said s (get_elem? (or_none (errors_of E 0 m)) i)
@@ -275,7 +217,7 @@ module _ (s E : List ℕ) (m i : ℕ) (v : is_some (errors_of E 0 m) ≡ true) w
 -- ---- the list
 
 -- the sentence of an error of the parser, if there is one
-abbrev pub parser_said : List Tok → Option Err → List ℕ
+abbrev pub parser_said : List Tok → Option F.Err → List ℕ
 parser_said ts o = elim o [ none ↦ [] | some e ↦ S.parser_sentence (S.parser_meaning ts e) ]
 
 module _ (f : Found) {list : ℕ} (i : ℕ) where
@@ -304,7 +246,7 @@ module _ (f : Found) {list : ℕ} (i : ℕ) where
 
 -- ---- the sentence of `say_entry`
 
-module _ {s T E X r f : List ℕ} {y : Examined} (q : Holds s T E X r f y) (list i : ℕ) where
+module _ {s T E X r f : List ℕ} {y : Counts} (q : Holds s T E X r f y) (list i : ℕ) where
   -- each sentence is short enough to be counted
   pub found_short : Short (sentence_at (found_of s T E X r f y) list i) 0
   found_short = omega (arith, sentence_at_short s _ q.is list i)
@@ -317,11 +259,11 @@ module _ {s T E X r f : List ℕ} {y : Examined} (q : Holds s T E X r f y) (list
   token_one h k = token_entry s E y.errors i q.valid k ∙ in_tokens _ i h
 
   pub reported_one : list ≡ Tag.ReportedError
-      → list_sentence T X y.tokens r y.reported i ≡ sentence_at (found_of s T E X r f y) list i
+      → sentence_in T X y.tokens r y.reported i ≡ sentence_at (found_of s T E X r f y) list i
   reported_one h = in_reported (found_of s T E X r f y) i h
 
   pub full_one : list ≡ Tag.FullError
-      → list_sentence T X y.tokens f y.full i ≡ sentence_at (found_of s T E X r f y) list i
+      → sentence_in T X y.tokens f y.full i ≡ sentence_at (found_of s T E X r f y) list i
   full_one h = in_full (found_of s T E X r f y) i h
 
   pub no_list : (list ≡ Tag.TokenError → ⊥) → (list ≡ Tag.ReportedError → ⊥) → (list ≡ Tag.FullError → ⊥)
@@ -337,18 +279,18 @@ said_long : (o bs : List ℕ) → length bs ≤ length o → written o (O.file b
 said_long o bs h = rw (said, le-ltb (length o) (length bs) h)
 
 module _ (s : List ℕ) (list i : ℕ) (o : List ℕ) where
-  pub sentence_long : 16384 < length s → kept 1 o ≡ S.sentence s list i o
+  pub sentence_long : 16384 < length s → answer (Err Refusal.ScriptLength) o ≡ S.sentence s list i o
   unfolding S.sentence S.examine
   sentence_long h = rw (S.sentence, S.examine, lt-ltb 16384 (length s) h)
 
-  pub sentence_foreign : {v : Bool} → length s ≤ 16384 → v ≡ utf8 s → v ≡ false → kept 2 o ≡ S.sentence s list i o
+  pub sentence_foreign : {v : Bool} → length s ≤ 16384 → v ≡ utf8 s → v ≡ false → answer (Err Refusal.NotUtf8) o ≡ S.sentence s list i o
   unfolding S.sentence S.examine
   sentence_foreign h e n =
       rw (S.sentence, S.examine, le-ltb 16384 (length s) h, no_characters s (sym e ∙ n))
 
-  pub sentence_stopped : {n : ℕ} → S.examine s ≡ S.refused n → kept n o ≡ S.sentence s list i o
+  pub sentence_stopped : (m : Refusal) → S.examine s ≡ S.refused (N.refusal_number m) → answer (Err m) o ≡ S.sentence s list i o
   unfolding S.sentence
-  sentence_stopped e = rw (S.sentence, e)
+  sentence_stopped m e = rw (S.sentence, e)
 
   module _ (f : Found) (e : S.examine s ≡ S.found f) where
     sentence_said : said o (sentence_at f list i) ≡ S.sentence s list i o
@@ -357,12 +299,12 @@ module _ (s : List ℕ) (list i : ℕ) (o : List ℕ) where
 
     -- measured on the slice u
     pub sentence_short : {u u' : List ℕ} {m : ℕ} → Said (sentence_at f list i) u 0 u' m → length o < m
-        → kept 13 o ≡ S.sentence s list i o
+        → answer (Err Refusal.SentenceLength) o ≡ S.sentence s list i o
     sentence_short w h = said_short o (sentence_at f list i) (omega (arith, h, w.end)) ∙ sentence_said
 
     pub sentence_done : {u u' o1 o2 : List ℕ} {m k : ℕ} → Said (sentence_at f list i) u 0 u' m → m ≤ length o
         → Said (sentence_at f list i) o 0 o1 k → Cleared o1 k o2
-        → answer (record { number = 0; bytes = k }) o2 ≡ S.sentence s list i o
+        → answer (Ok k) o2 ≡ S.sentence s list i o
     sentence_done {o1 = o1} {o2} {k = k} w h t c =
         let l : k ≤ length o = omega (arith, h, w.end, t.end) in
         let file : o2 ≡ filled (length o) (sentence_at f list i) =

@@ -15,7 +15,8 @@ use Rattle.definition.specs.Operations as O
 use Rattle.definition.specs.Operations.{written, read_tokenised, whole}
 use Rattle.definition.specs.Table as T
 use Rattle.definition.specs.Table.{Row, answered, table, holds}
-use Rattle.parser.specs.declared.Written.{Written}
+use Rattle.std.specs.Prelude.{Result}
+use Rattle.definition.specs.declared.refusal.Refusal.{Refusal}
 use Rattle.parser.specs.Answer.{answer}
 use Rattle.reader.proofs.Cases.{whole_by, whole_is}
 
@@ -44,7 +45,7 @@ anywhere s o p h g =
 
 -- each answer of `read_script` has the number and the bytes of the row
 abbrev pub Holds : Row → Type 0
-Holds x = (o o' : List ℕ) (r : Written) → 65536 ≤ length o → answer r o' ≡ whole x.script o → T.file (answer r o') ≡ x.file
+Holds x = (o o' : List ℕ) (r : Result ℕ Refusal) → 65536 ≤ length o → answer r o' ≡ whole x.script o → T.file (answer r o') ≡ x.file
 
 -- all rows hold
 pub data Each : List Row → Type 0 where

@@ -3,33 +3,36 @@
 
 pub mod sentence;
 
-ghost use Rattle.std.specs.Prelude.{◌≡◌, ◌≤◌, length};
+ghost use Rattle.std.specs.Prelude.{◌≡◌, [], ◌≤◌, length};
+ghost use Rattle.definition.specs.Numbers.{refusal_number};
 ghost use Rattle.definition.specs.Operations as O;
 ghost use Rattle.source.specs.Place.{Stands, origin};
 ghost use Rattle.tokenizer.specs.Contract.{RunAsks, Ran};
 ghost use Rattle.parser.specs.Answer.{answer};
 ghost use Rattle.reader.specs.OneTree.{OneTree};
 
-use definition::{limit, refusal};
-use parser::{Written, read_tokens};
-use slices::clear_bytes;
+use definition::limit;
+use definition::refusal::Refusal;
+use parser::read_tokens;
+use slices::fill_from;
 use source::valid;
+use steps::tokens::Tokens;
 use token_records::State;
 use tokenizer::run;
 
 // A refusal after the first three tests: clears the file.
-fn cleared(number: u32, file: &mut [u8]) -> Written
-    ensures { answer result file.new ≡ O.written file.old (O.refused number) }
+fn cleared(refusal: Refusal, file: &mut [u8]) -> Result<usize, Refusal>
+    ensures { answer result file.new ≡ O.written file.old (O.refused (refusal_number refusal)) }
 {
-    clear_bytes(file, 0);
-    Written { number, bytes: 0 }
+    fill_from(file, 0, 0);
+    Err(refusal)
 }
 
-// A script that was read: the answer, and the state in which the tokenizer ended.
+// A script that was read: the answer, and the state in which the tokenizer ended, or what it refused.
 #[derive(Clone, Copy)]
 pub struct ScriptRead {
-    pub written: Written,
-    pub state: State,
+    pub written: Result<usize, Refusal>,
+    pub state: Result<State, Refusal>,
 }
 
 // Tokenises a valid script into lent slices, and reads its tokens into the file. The records stay in the slices; they
@@ -46,20 +49,28 @@ pub fn read_into(
         × (answer result.written file.new ≡ O.whole script.now file.old) }
 {
     let state = run(limit::TOKENS, script, tokens, errors, text);
-    if state.refusal != 0 {
-        let written = cleared(state.refusal, file);
+    let found = match state {
+        Ok(found) => found,
+        Err(refusal) => {
+            let written = cleared(refusal, file);
+            return ScriptRead { written, state };
+        }
+    };
+    if found.tokens == 0 {
+        let written = cleared(Refusal::NoTokens, file);
         return ScriptRead { written, state };
     }
-    if state.tokens == 0 {
-        let written = cleared(refusal::NO_TOKENS, file);
-        return ScriptRead { written, state };
-    }
-    let written = read_tokens(tokens, state.tokens, errors, state.errors, text, file);
+    let tokens = Tokens {
+        records: tokens,
+        count: found.tokens,
+        text,
+    };
+    let written = read_tokens(tokens, errors, found.errors, file);
     ScriptRead { written, state }
 }
 
 // The whole operation after its tests, with token slices of its own.
-fn read_valid(script: &[u8], file: &mut [u8]) -> Written
+fn read_valid(script: &[u8], file: &mut [u8]) -> Result<usize, Refusal>
     requires { Stands script.now origin × (length script.now ≤ 16384) × (65536 ≤ length file.old) }
     ensures { answer result file.new ≡ O.whole script.now file.old }
 {
@@ -70,46 +81,52 @@ fn read_valid(script: &[u8], file: &mut [u8]) -> Written
     r.written
 }
 
-// The whole operation: tokenises a script, parses it, and writes its tree file.
-pub fn read_script(script: &[u8], file: &mut [u8]) -> Written
+// The whole operation: tokenises a script, parses it, and writes its tree file. Gives the count of file bytes.
+pub fn read_script(script: &[u8], file: &mut [u8]) -> Result<usize, Refusal>
     ensures { answer result file.new ≡ O.whole script.now file.old }
 {
     if limit::SCRIPT_BYTES < script.len() {
-        return Written {
-            number: refusal::SCRIPT_LENGTH,
-            bytes: 0,
-        };
+        return Err(Refusal::ScriptLength);
     }
     if !valid(script) {
-        return Written {
-            number: refusal::NOT_UTF8,
-            bytes: 0,
-        };
+        return Err(Refusal::NotUtf8);
     }
     if file.len() < limit::FILE_BYTES {
-        return Written {
-            number: refusal::SLICE_LENGTH,
-            bytes: 0,
-        };
+        return Err(Refusal::SliceLength);
     }
     read_valid(script, file)
 }
 
-// The form that the entry for C takes: returns the number, and stores the count of file bytes to `bytes`.
+// The form that the entries for C take: stores a count of bytes to `bytes`, 0 for a refusal, and returns the number of
+// the refusal or 0.
+fn number_and_bytes(written: Result<usize, Refusal>, bytes: &mut usize) -> u32
+    ensures { record { number = result; bytes = bytes.new; file = [] } ≡ answer written [] }
+{
+    match written {
+        Ok(count) => {
+            *bytes = count;
+            0
+        }
+        Err(refusal) => {
+            *bytes = 0;
+            u32::from(refusal)
+        }
+    }
+}
+
+// `read_script` in the form for C.
 pub fn dn_read(script: &[u8], file: &mut [u8], bytes: &mut usize) -> u32
     ensures { record { number = result; bytes = bytes.new; file = file.new }
         ≡ O.whole script.now file.old }
 {
-    let w = read_script(script, file);
-    *bytes = w.bytes;
-    w.number
+    number_and_bytes(read_script(script, file), bytes)
 }
 
 // The results for two scripts.
 #[derive(Clone, Copy)]
 pub struct TwoAnswers {
-    first: Written,
-    second: Written,
+    first: Result<usize, Refusal>,
+    second: Result<usize, Refusal>,
 }
 
 // Demand 3 (docs/FORMAT.md, Two scripts with one tree) about the code itself: reads two scripts, each to a file

@@ -3,183 +3,114 @@ ghost use Rattle.std.specs.Prelude.{◌≡◌, ◌≤◌, length};
 ghost use Rattle.definition.specs.Sentence as S;
 ghost use Rattle.source.specs.Place.{Stands, origin};
 ghost use Rattle.sentences.specs.Said.{Short};
-ghost use Rattle.sentences.specs.Messages.{Tokens};
 ghost use Rattle.sentences.specs.Contract.{Said};
 ghost use Rattle.parser.specs.Answer.{answer};
-ghost use Rattle.reader.specs.Found.{found_of, Holds, ExamineAsks, ExaminesLent, list_sentence};
+ghost use Rattle.reader.specs.Found.{Held, found_in, ExamineAsks, ExaminesLent, list_sentence};
 
-use definition::{limit, refusal, tag};
-use fallible::{State, Status};
+use crate::number_and_bytes;
+use definition::refusal::Refusal;
+use definition::{limit, tag};
+use fallible::parser::Parser;
 use items::module;
-use parser::{Written, number_of};
 use sentences::{say_parser_error, say_token_error};
-use slices::clear_bytes;
+use slices::fill_from;
 use source::valid;
+use steps::tokens::Tokens;
+use token_records::State;
 use tokenizer::run;
 
-// What was found in a script: the number of the refusal or 0, and the counts of tokens and of each list.
-#[derive(Clone, Copy)]
-struct Examined {
-    number: u32,
-    tokens: usize,
-    errors: usize,
-    reported: usize,
-    full: usize,
-}
-
-fn refused(number: u32) -> Examined
-    ensures { result ≡ record { number = number; tokens = 0; errors = 0; reported = 0; full = 0 } }
-{
-    Examined {
-        number,
-        tokens: 0,
-        errors: 0,
-        reported: 0,
-        full: 0,
-    }
-}
-
-// Tokenises and parses a valid script into lent slices, as the whole operation does; the tree goes to `file`.
+// Tokenises and parses a valid script into lent slices and a new parser, as the whole operation does; the tree goes to
+// `file`. Gives the state in which the tokenizer ended.
 fn examine(
     script: &[u8],
     tokens: &mut [u32],
     errors: &mut [u32],
     text: &mut [u8],
     file: &mut [u8],
-    reported: &mut [usize],
-    full: &mut [usize],
-) -> Examined
-    requires { ExamineAsks script tokens errors text file reported full }
-    ensures { ExaminesLent script tokens errors text reported full result }
+    parser: &mut Parser,
+) -> Result<State, Refusal>
+    requires { ExamineAsks script tokens errors text file parser }
+    ensures { ExaminesLent script tokens errors text parser result }
 {
-    let found = run(limit::TOKENS, script, tokens, errors, text);
-    if found.refusal != 0 {
-        return refused(found.refusal);
-    }
+    let found = run(limit::TOKENS, script, tokens, errors, text)?;
     if found.tokens == 0 {
-        return refused(refusal::NO_TOKENS);
+        return Err(Refusal::NoTokens);
     }
-    let from = State {
-        at: 0,
-        pos: 0,
-        reported: 0,
-        full: 0,
-    };
-    let a = module(
-        tokens,
+    let tokens = Tokens {
+        records: tokens,
+        count: found.tokens,
         text,
-        found.tokens,
-        file,
-        reported,
-        full,
-        from,
-        limit::NESTING,
-    );
-    let status = a.status;
-    if let Status::Refused(_) = status {
-        return refused(number_of(status));
-    }
-    let s = a.state;
-    Examined {
-        number: 0,
-        tokens: found.tokens,
-        errors: found.errors,
-        reported: s.reported,
-        full: s.full,
-    }
+    };
+    module(tokens, file, parser, limit::NESTING)?;
+    Ok(found)
 }
 
-// Writes the sentence of the entry of a list of `count` errors at a position; nothing past its end.
-fn say_at(
-    out: &mut [u8],
-    tokens: &[u32],
-    n: usize,
-    text: &[u8],
-    list: &[usize],
-    count: usize,
-    position: usize,
-) -> usize
-    requires { Tokens tokens.now text.now n × (count ≤ length list.now)
-        × Short (list_sentence tokens.now text.now n list.now count position) 0 }
-    ensures { Said (list_sentence tokens.now text.now n
-        list.now count position) out 0 result }
-{
-    if count <= position {
-        return 0;
-    }
-    say_parser_error(out, tokens, n, text, list[position])
+// What was found in a script: its tokens, its token errors, and the parser's errors.
+#[derive(Drop)]
+struct Found<'a> {
+    script: &'a [u8],
+    tokens: Tokens<'a>,
+    errors: &'a [u32],
+    error_count: usize,
+    parser: &'a Parser,
 }
 
-// Writes the sentence at a position of a list, and returns its length.
-fn say_entry(
-    out: &mut [u8],
-    script: &[u8],
-    tokens: &[u32],
-    errors: &[u32],
-    text: &[u8],
-    reported: &[usize],
-    full: &[usize],
-    x: Examined,
-    list: u32,
-    position: usize,
-) -> usize
-    requires { Holds script.now tokens.now errors.now text.now reported.now full.now x }
-    ensures { Said (S.sentence_at (found_of script.now tokens.now errors.now
-        text.now reported.now full.now x) list position) out 0 result }
-{
-    if list == tag::TOKEN_ERROR as u32 {
-        if x.errors <= position {
+impl<'a> Found<'a> {
+    // Writes the sentence of the entry of a list of `count` errors at a position; nothing past its end.
+    fn say_at(&self, out: &mut [u8], list: &[usize], count: usize, position: usize) -> usize
+        requires { Held self.now × (count ≤ length list.now)
+            × Short (list_sentence self.now.tokens list.now count position) 0 }
+        ensures { Said (list_sentence self.now.tokens list.now count position) out 0 result }
+    {
+        if count <= position {
             return 0;
         }
-        return say_token_error(out, script, errors, position);
+        say_parser_error(out, self.tokens, list[position])
     }
-    if list == tag::REPORTED_ERROR as u32 {
-        return say_at(out, tokens, x.tokens, text, reported, x.reported, position);
-    }
-    if list == tag::FULL_ERROR as u32 {
-        return say_at(out, tokens, x.tokens, text, full, x.full, position);
-    }
-    0
-}
 
-// Measures the sentence on `spare`, which nobody reads, and writes it if `out` has room for it.
-fn write_sentence(
-    out: &mut [u8],
-    spare: &mut [u8],
-    script: &[u8],
-    tokens: &[u32],
-    errors: &[u32],
-    text: &[u8],
-    reported: &[usize],
-    full: &[usize],
-    x: Examined,
-    list: u32,
-    position: usize,
-) -> Written
-    requires { Holds script.now tokens.now errors.now text.now reported.now full.now x }
-    ensures { answer result out.new ≡ S.sentence script.now list position out.old }
-{
-    let bytes = say_entry(
-        spare, script, tokens, errors, text, reported, full, x, list, position,
-    );
-    if out.len() < bytes {
-        return Written {
-            number: refusal::SENTENCE_LENGTH,
-            bytes: 0,
-        };
+    // Writes the sentence at a position of a list, which C names by its tag, and returns its length.
+    fn say(&self, out: &mut [u8], list: u32, position: usize) -> usize
+        requires { Held self.now }
+        ensures { Said (S.sentence_at (found_in self.now) list position) out 0 result }
+    {
+        let state = self.parser.state;
+        if list == tag::TOKEN_ERROR as u32 {
+            if self.error_count <= position {
+                return 0;
+            }
+            return say_token_error(out, self.script, self.errors, position);
+        }
+        if list == tag::REPORTED_ERROR as u32 {
+            return self.say_at(out, &self.parser.reported, state.reported, position);
+        }
+        if list == tag::FULL_ERROR as u32 {
+            return self.say_at(out, &self.parser.full, state.full, position);
+        }
+        0
     }
-    let end = say_entry(
-        out, script, tokens, errors, text, reported, full, x, list, position,
-    );
-    clear_bytes(out, end);
-    Written {
-        number: 0,
-        bytes: end,
+
+    // Measures the sentence, and writes it if `out` has room for it. Gives the count of its bytes.
+    fn write(&self, out: &mut [u8], list: u32, position: usize) -> Result<usize, Refusal>
+        requires { Held self.now }
+        ensures { answer result out.new ≡ S.sentence self.now.script.now list position out.old }
+    {
+        let bytes = self.say(&mut [], list, position);
+        if out.len() < bytes {
+            return Err(Refusal::SentenceLength);
+        }
+        let end = self.say(out, list, position);
+        fill_from(out, end, 0);
+        Ok(end)
     }
 }
 
 // The operation after its tests, with slices of its own.
-fn sentence_of_valid(script: &[u8], list: u32, position: usize, out: &mut [u8]) -> Written
+fn sentence_of_valid(
+    script: &[u8],
+    list: u32,
+    position: usize,
+    out: &mut [u8],
+) -> Result<usize, Refusal>
     requires { Stands script.now origin × (length script.now ≤ 16384) }
     ensures { answer result out.new ≡ S.sentence script.now list position out.old }
 {
@@ -187,49 +118,43 @@ fn sentence_of_valid(script: &[u8], list: u32, position: usize, out: &mut [u8]) 
     let mut errors: [u32; limit::ERROR_WORDS] = [0; limit::ERROR_WORDS];
     let mut text: [u8; limit::TEXT_BYTES] = [0; limit::TEXT_BYTES];
     let mut file: [u8; limit::FILE_BYTES] = [0; limit::FILE_BYTES];
-    let mut reported: [usize; limit::ERRORS + 1] = [0; limit::ERRORS + 1];
-    let mut full: [usize; limit::ERRORS + 1] = [0; limit::ERRORS + 1];
-    let x = examine(
+    let mut parser = Parser::new();
+    let state = examine(
         script,
         &mut tokens,
         &mut errors,
         &mut text,
         &mut file,
-        &mut reported,
-        &mut full,
-    );
-    if x.number != 0 {
-        return Written {
-            number: x.number,
-            bytes: 0,
-        };
-    }
-    let mut spare: [u8; 1] = [0; 1];
-    write_sentence(
-        out, &mut spare, script, &tokens, &errors, &text, &reported, &full, x, list, position,
-    )
+        &mut parser,
+    )?;
+    let found = Found {
+        script,
+        tokens: Tokens {
+            records: &tokens,
+            count: state.tokens,
+            text: &text,
+        },
+        errors: &errors,
+        error_count: state.errors,
+        parser: &parser,
+    };
+    found.write(out, list, position)
 }
 
-// Writes the sentence of the error at a position, from 0, of the list with the tag `list`.
-pub fn sentence(script: &[u8], list: u32, position: usize, out: &mut [u8]) -> Written
+// Writes the sentence of the error at a position, from 0, of the list with the tag `list`. Gives the count of its bytes.
+pub fn sentence(script: &[u8], list: u32, position: usize, out: &mut [u8]) -> Result<usize, Refusal>
     ensures { answer result out.new ≡ S.sentence script.now list position out.old }
 {
     if limit::SCRIPT_BYTES < script.len() {
-        return Written {
-            number: refusal::SCRIPT_LENGTH,
-            bytes: 0,
-        };
+        return Err(Refusal::ScriptLength);
     }
     if !valid(script) {
-        return Written {
-            number: refusal::NOT_UTF8,
-            bytes: 0,
-        };
+        return Err(Refusal::NotUtf8);
     }
     sentence_of_valid(script, list, position, out)
 }
 
-// The form that the entry for C takes: returns the number, and stores the count of the sentence's bytes to `bytes`.
+// `sentence` in the form for C.
 pub fn dn_sentence(
     script: &[u8],
     list: u32,
@@ -240,7 +165,5 @@ pub fn dn_sentence(
     ensures { record { number = result; bytes = bytes.new; file = out.new }
         ≡ S.sentence script.now list position out.old }
 {
-    let w = sentence(script, list, position, out);
-    *bytes = w.bytes;
-    w.number
+    number_and_bytes(sentence(script, list, position, out), bytes)
 }

@@ -3,121 +3,37 @@
 // differs.
 #![tactic(auto)]
 
-use replay_cases::{Counts, Found, long, three, wide};
+use replay_cases::{FILLER, agrees_with, holds, number, part};
 use std::io::Stdin;
-
-// The bytes of the file slice before each call.
-const FILLER: u8 = 165;
 
 // The most bytes of a script and of a file slice in a list: more than a script may have, or a file needs.
 const SCRIPT: usize = 20000;
 
 const FILE: usize = 70000;
 
-// The header of a case: the lengths of the script and the file slice, and the expected result without the tree file.
-#[derive(Clone, Copy)]
-struct Opening {
-    script_bytes: usize,
-    file_bytes: usize,
-    number: u32,
-    bytes: usize,
-}
-
-fn opened(b: &[u8; 10]) -> Opening {
-    Opening {
-        script_bytes: long(three(b[0], b[1], b[2])),
-        file_bytes: long(three(b[3], b[4], b[5])),
-        number: wide(b[6]),
-        bytes: long(three(b[7], b[8], b[9])),
-    }
-}
-
-// The bytes that the file slice should have after the tree file: refusals 1 to 3 leave it untouched.
+// The byte of the file slice after the tree file: refusals 1 to 3, which a list has as numbers, leave the slice
+// untouched.
 fn rest(number: u32) -> u8 {
-    if (number == 1) | (number == 2) | (number == 3) {
-        FILLER
-    } else {
-        0
-    }
+    if matches!(number, 1..=3) { FILLER } else { 0 }
 }
 
-// Whether the whole operation gives the result of a case; `expected` is the file slice at exit.
-fn file_agrees(script: &[u8], file: &mut [u8], expected: &[u8], o: Opening) -> bool {
-    let got = reader::read_script(script, file);
-    if got.number != o.number {
-        return false;
-    }
-    if got.bytes != o.bytes {
-        return false;
-    }
-    &*file == expected
-}
-
-// The same, with the script and the slices cut to their lengths.
-fn parts_agree(script: &[u8], file: &mut [u8], expected: &[u8], o: Opening) -> bool {
-    let from = 0;
-    let script_bytes = o.script_bytes;
-    if script.len() < script_bytes {
-        return false;
-    }
-    let file_bytes = o.file_bytes;
-    if file.len() < file_bytes {
-        return false;
-    }
-    if expected.len() < file_bytes {
-        return false;
-    }
-    file_agrees(
-        &script[from..script_bytes],
-        &mut file[from..file_bytes],
-        &expected[from..file_bytes],
-        o,
-    )
-}
-
-// Reads the script and the tree file of a case, and compares the results.
-fn script_agrees(input: &mut Stdin, o: Opening) -> bool {
-    let mut script = [0u8; SCRIPT];
+// Whether the whole operation gives the result of a case.
+fn agrees(mut header: &[u8], list: &mut Stdin) -> Option<bool> {
+    let mut script = [0; SCRIPT];
     let mut file = [FILLER; FILE];
-    let mut expected = [rest(o.number); FILE];
-    if !replay_cases::fill(input, &mut script, o.script_bytes) {
-        return false;
-    }
-    if !replay_cases::fill(input, &mut expected, o.bytes) {
-        return false;
-    }
-    parts_agree(&script, &mut file, &expected, o)
-}
-
-fn case(input: &mut Stdin) -> Found {
-    let mut b = [0u8; 10];
-    let got = replay_cases::read_full(input, &mut b);
-    if got == 0 {
-        return Found::End;
-    }
-    if got != 10 {
-        return Found::Differs;
-    }
-    replay_cases::compared(script_agrees(input, opened(&b)))
-}
-
-// More than the cases of any list.
-const MOST: u64 = 1000000000;
-
-fn all_cases(input: &mut Stdin) -> Counts {
-    let mut counts = replay_cases::none();
-    for turn in 0..MOST {
-        let found = case(input);
-        if replay_cases::is_end(found) {
-            return counts;
-        }
-        counts = replay_cases::counted(counts, found);
-    }
-    counts
+    let mut tree = [0; FILE];
+    let script_bytes = number(&mut header, 3)?;
+    let file_bytes = number(&mut header, 3)?;
+    let refusal = number(&mut header, 1)?;
+    let tree_bytes = number(&mut header, 3)?;
+    let script = part(list, &mut script, script_bytes as usize)?;
+    let tree = part(list, &mut tree, tree_bytes as usize)?;
+    let file = file.get_mut(..file_bytes as usize)?;
+    let got = reader::read_script(script, file);
+    Some(agrees_with(got.map_err(u32::from), refusal, tree) && holds(file, tree, rest(refusal)))
 }
 
 fn main(rt: HostRuntime) {
-    let mut input = rt.stdin();
-    let counts = all_cases(&mut input);
-    let _ = replay_cases::print(&rt, counts);
+    // The exit status is always 0.
+    let _ = replay_cases::replay(&rt, &mut rt.stdin(), &mut [0; 10], agrees);
 }

@@ -8,16 +8,19 @@ use native.Mathlib.Omega.{arith}
 use borrow.Author.Tests.{eq-eqb, ne_eqb}
 use lib.ListN.{length, get_or, take, drop, length-append, length-take}
 use lib.Seq.{drop-cons, length-take-le}
+use Rattle.std.specs.Prelude.{Option, Some, None}
 use Rattle.definition.specs.Source.{Ch, lead}
-use Rattle.definition.specs.Classes.{is_white, is_word, is_digit_of}
+use Rattle.definition.specs.Classes.{is_white, is_digit_of}
 use Rattle.definition.specs.Tokenizer.{Span, ahead, comment, digits, assembly}
 use Rattle.definition.specs.Tokenizer as Z
+use Rattle.classes.specs.Found.{nonzero}
+use Rattle.classes.proofs.Found.{no_byte}
 use Rattle.slices.specs.Written.{Wrote}
 use Rattle.slices.proofs.Writing.{wrote_none}
 use Rattle.source.specs.declared.Cursor.{Cursor}
 use Rattle.source.specs.Place.{Stands, Stepped, rest, char, more, along_line}
 use Rattle.source.proofs.Laws.{rest_head, rest_end, along_law}
-use Rattle.scan.specs.Scan.{Passes, Passed, Asks, Spanned, letters, blanks, QuotedAs}
+use Rattle.scan.specs.Scan.{Passes, Passed, Asks, Spanned, span_while, blanks, QuotedAs}
 
 -- ---- looking and skipping
 
@@ -141,6 +144,16 @@ pub record Spanning (F : List Ch → Span) (s : List ℕ) (c₀ : Cursor) (x₀ 
 abbrev pub empty : List Ch → Span
 empty cs = record { text = []; rest = cs }
 
+pub asks_along : {s : List ℕ} {c d : Cursor} {x x' : List ℕ} {n m : ℕ} → Asks s c x n → c.at < length s
+    → (48 ≤ get_or s c.at 0) × (get_or s c.at 0 < 128) → d ≡ along_line c → Wrote x n (get_or s c.at 0 ∷ []) x' m → Asks s d x' m
+asks_along a h i e w =
+    record {
+      stands = (along_law a.stands h (omega arith) (λ z. omega arith) e).stands;
+      small = a.small;
+      room = omega (arith, ap (λ (y : Cursor). y.at) e, w.count, a.room);
+      wide = omega (arith, w.size, a.wide);
+    }
+
 pub spanning_start : {F : List Ch → Span} {s : List ℕ} {c : Cursor} {x : List ℕ} {n : ℕ} → Asks s c x n → Spanning F s c x n c x n
 spanning_start p = record { asks = p; on = refl; same = refl; size = refl; forward = omega arith; shorter = omega arith; began = p.room }
 
@@ -169,7 +182,7 @@ module _ {F : List Ch → Span} {s : List ℕ} {c₀ : Cursor} {x₀ : List ℕ}
         began = q.began;
       }
 
-  -- one more character of a word or a number
+  -- one more character of one byte
   pub spanning_along : {d : Cursor} {x' : List ℕ} {m : ℕ} → c.at < length s → (48 ≤ get_or s c.at 0) × (get_or s c.at 0 < 128)
       → d ≡ along_line c → ((cs : List Ch) → F (char s c ∷ cs) ≡ ahead (get_or s c.at 0 ∷ []) (F cs))
       → Wrote x n (get_or s c.at 0 ∷ []) x' m → Spanning F s c₀ x₀ n₀ d x' m
@@ -218,29 +231,22 @@ module _ {F : List Ch → Span} {s : List ℕ} {c₀ : Cursor} {x₀ : List ℕ}
       (ap F (rest_head q.asks.stands h) ∙ e _ ∙ ap empty (sym (rest_head q.asks.stands h)))
 
 -- the same for the scans that write
-pub digits_none : (b : ℕ) → digits b [] ≡ empty []
-unfolding digits
-digits_none b = refl
+pub while_none : (holds : ℕ → Bool) → span_while holds [] ≡ empty []
+unfolding span_while
+while_none holds = refl
 
-pub digits_go : (b : ℕ) (c : Ch) (cs : List Ch) → is_digit_of b c.byte ≡ true → digits b (c ∷ cs) ≡ ahead (c.byte ∷ []) (digits b cs)
-unfolding digits
-digits_go b c cs h = rw (h, digits)
+pub while_go : (holds : ℕ → Bool) (c : Ch) (cs : List Ch) → holds c.byte ≡ true → span_while holds (c ∷ cs) ≡ ahead (c.byte ∷ []) (span_while holds cs)
+unfolding span_while
+while_go holds c cs h = rw (h, span_while)
 
-pub digits_stop : (b : ℕ) (c : Ch) (cs : List Ch) → is_digit_of b c.byte ≡ false → digits b (c ∷ cs) ≡ empty (c ∷ cs)
-unfolding digits
-digits_stop b c cs h = rw (h, digits)
+pub while_stop : (holds : ℕ → Bool) (c : Ch) (cs : List Ch) → holds c.byte ≡ false → span_while holds (c ∷ cs) ≡ empty (c ∷ cs)
+unfolding span_while
+while_stop holds c cs h = rw (h, span_while)
 
-pub letters_none : letters [] ≡ empty []
-unfolding letters
-letters_none = refl
-
-pub letters_go : (c : Ch) (cs : List Ch) → is_word c.byte ≡ true → letters (c ∷ cs) ≡ ahead (c.byte ∷ []) (letters cs)
-unfolding letters
-letters_go c cs h = rw (h, letters)
-
-pub letters_stop : (c : Ch) (cs : List Ch) → is_word c.byte ≡ false → letters (c ∷ cs) ≡ empty (c ∷ cs)
-unfolding letters
-letters_stop c cs h = rw (h, letters)
+pub digits_while : (b : ℕ) (cs : List Ch) → span_while (is_digit_of b) cs ≡ digits b cs
+unfolding span_while digits
+digits_while b [] = refl
+digits_while b (c ∷ cs) = ap (λ (s : Span). elim (is_digit_of b c.byte) as (λ _. Span) [ true ↦ ahead (c.byte ∷ []) s | false ↦ empty (c ∷ cs) ]) (digits_while b cs)
 
 pub asm_none : assembly [] ≡ empty []
 unfolding assembly
@@ -328,14 +334,17 @@ quoted_escape : (c : Ch) (cs : List Ch) (k : ℕ) → k ≡ Z.escape c.byte → 
 unfolding Z.quoted
 quoted_escape c cs k e = ap (escape_turn cs) (sym e)
 
-quoted_known : (c : Ch) (cs : List Ch) (k : ℕ) → k ≡ Z.escape c.byte → (k ≡ 0 → ⊥)
+quoted_known : (c : Ch) (cs : List Ch) (k : ℕ) → Some k ≡ nonzero (Z.escape c.byte)
     → Z.quoted true (c ∷ cs) ≡ Z.quoted_ahead (k ∷ []) (Z.quoted false cs)
-quoted_known c cs zero e n = absurd (n refl)
-quoted_known c cs (suc k) e n = quoted_escape c cs (suc k) e
+quoted_known c cs k e = go (Z.escape c.byte) refl e
+  where
+    go : (n : ℕ) → n ≡ Z.escape c.byte → Some k ≡ nonzero n → Z.quoted true (c ∷ cs) ≡ Z.quoted_ahead (k ∷ []) (Z.quoted false cs)
+    go zero f g = cc
+    go (suc n) f g = let h : suc n ≡ k = cc in rw (sym h) (quoted_escape c cs (suc n) f)
 
-quoted_unknown : (c : Ch) (cs : List Ch) (k : ℕ) → k ≡ Z.escape c.byte → k ≡ 0
+quoted_unknown : (c : Ch) (cs : List Ch) → None ≡ nonzero (Z.escape c.byte)
     → Z.quoted true (c ∷ cs) ≡ Z.one_unknown (Z.quoted false cs)
-quoted_unknown c cs k e n = quoted_escape c cs k e ∙ ap (escape_turn cs) n
+quoted_unknown c cs e = quoted_escape c cs 0 (sym (no_byte _ e refl))
 
 abbrev cut : List Ch → Z.Quoted
 cut cs = record { text = []; unknown = 0; closed = false; rest = cs }
@@ -391,17 +400,19 @@ module _ {s : List ℕ} {c₀ : Cursor} {x₀ : List ℕ} {n₀ : ℕ} {c : Curs
     slash : Q s c ≡ Z.quoted true (rest s d)
     slash = ap (Z.quoted false) st.chars ∙ quoted_slash _ _ b
 
-    pub quoting_known : {e : Cursor} {x' : List ℕ} {m k : ℕ} → Stepped s d e → k ≡ Z.escape (get_or s d.at 0) → (k ≡ 0 → ⊥)
-        → Wrote x n (k ∷ []) x' m → Quoting s c₀ x₀ n₀ e x' m u
+    pub quoting_known : {e : Cursor} {x' : List ℕ} {m k : ℕ} {o : Option ℕ} → Stepped s d e
+        → o ≡ nonzero (Z.escape (get_or s d.at 0)) → o ≡ Some k → Wrote x n (k ∷ []) x' m
+        → Quoting s c₀ x₀ n₀ e x' m u
     quoting_known {e} {k = k} tt' h z w =
         quoting_more tt'.stands (omega (arith, st.wide, tt'.wide))
         (omega (arith, ap length st.chars, ap length tt'.chars))
-        (ahead_steps (k ∷ []) _ (slash ∙ ap (Z.quoted true) tt'.chars ∙ quoted_known _ _ k h z)) w
+        (ahead_steps (k ∷ []) _ (slash ∙ ap (Z.quoted true) tt'.chars ∙ quoted_known _ _ k (sym z ∙ h))) w
         (omega (arith, w.count, st.wide, tt'.wide, q.asks.room)) (omega arith) (omega arith)
 
-    pub quoting_unknown : {e : Cursor} {k : ℕ} → Stepped s d e → k ≡ Z.escape (get_or s d.at 0) → k ≡ 0 → Quoting s c₀ x₀ n₀ e x n (u + 1)
-    quoting_unknown {e} {k} tt' h z =
-        let f : Q s c ≡ Z.one_unknown (Q s e) = slash ∙ ap (Z.quoted true) tt'.chars ∙ quoted_unknown _ _ k h z in
+    pub quoting_unknown : {e : Cursor} {o : Option ℕ} → Stepped s d e → o ≡ nonzero (Z.escape (get_or s d.at 0)) → o ≡ None
+        → Quoting s c₀ x₀ n₀ e x n (u + 1)
+    quoting_unknown {e} tt' h z =
+        let f : Q s c ≡ Z.one_unknown (Q s e) = slash ∙ ap (Z.quoted true) tt'.chars ∙ quoted_unknown _ _ (sym z ∙ h) in
         quoting_more tt'.stands (omega (arith, st.wide, tt'.wide)) (omega (arith, ap length st.chars, ap length tt'.chars))
         (record {
           text = ap (λ (v : Z.Quoted). v.text) f;
@@ -413,7 +424,7 @@ module _ {s : List ℕ} {c₀ : Cursor} {x₀ : List ℕ} {n₀ : ℕ} {c : Curs
 
   quoting_done : {d : Cursor} {k v : ℕ} {o : Bool} → Stands s d → c.at ≤ d.at → length (rest s d) ≤ length (rest s c)
       → Q s c ≡ record { text = []; unknown = k; closed = o; rest = rest s d } → v ≡ u + k → v ≤ d.at
-      → QuotedAs s c₀ x₀ n₀ (Q s c₀) x (record { cursor = d; n = n; unknown = v; closed = o })
+      → QuotedAs s c₀ x₀ n₀ (Q s c₀) x (record { end = record { cursor = d; n = n }; unknown = v; closed = o })
   quoting_done {d} z h l e f b =
       let p : take n x ≡ take n₀ x₀ ++ (Q s c₀).text = sym (append-nil (take n x)) ∙ ap
       (λ (y : Z.Quoted). take n x ++ y.text) (sym e) ∙ q.on in
@@ -441,19 +452,19 @@ module _ {s : List ℕ} {c₀ : Cursor} {x₀ : List ℕ} {n₀ : ℕ} {c : Curs
 
   -- the string ends at its quote, at the end, or at the end after a backslash
   pub quoting_close : {d : Cursor} → Stepped s c d → get_or s c.at 0 ≡ 34
-      → QuotedAs s c₀ x₀ n₀ (Q s c₀) x (record { cursor = d; n = n; unknown = u; closed = true })
+      → QuotedAs s c₀ x₀ n₀ (Q s c₀) x (record { end = record { cursor = d; n = n }; unknown = u; closed = true })
   quoting_close st b =
       quoting_done st.stands (omega (arith, st.wide)) (omega (arith, ap length st.chars))
       (ap (Z.quoted false) st.chars ∙ quoted_close _ _ b) (omega arith) (omega (arith, q.few, st.wide))
 
-  pub quoting_out : length s ≤ c.at → QuotedAs s c₀ x₀ n₀ (Q s c₀) x (record { cursor = c; n = n; unknown = u; closed = false })
+  pub quoting_out : length s ≤ c.at → QuotedAs s c₀ x₀ n₀ (Q s c₀) x (record { end = record { cursor = c; n = n }; unknown = u; closed = false })
   quoting_out h =
       quoting_done q.asks.stands (omega arith) (omega arith)
       (ap (Z.quoted false) (rest_end s c h) ∙ quoted_none ∙ ap cut (sym (rest_end s c h))) (omega arith)
       q.few
 
   pub quoting_slash_out : {d : Cursor} → Stepped s c d → get_or s c.at 0 ≡ 92 → length s ≤ d.at
-      → QuotedAs s c₀ x₀ n₀ (Q s c₀) x (record { cursor = d; n = n; unknown = u + 1; closed = false })
+      → QuotedAs s c₀ x₀ n₀ (Q s c₀) x (record { end = record { cursor = d; n = n }; unknown = u + 1; closed = false })
   quoting_slash_out {d} st b h =
       quoting_done st.stands (omega (arith, st.wide)) (omega (arith, ap length st.chars))
       (slash st b ∙ ap (Z.quoted true) (rest_end s d h) ∙ quoted_slash_none ∙ ap cut_one (sym (rest_end s d h)))

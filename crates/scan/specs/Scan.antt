@@ -1,5 +1,5 @@
 -- What the scanning functions ensure, in the terms of the definition. Assumes nothing.
-use Rattle.std.specs.Prelude.{◌≡◌, true, false, List, [], ◌∷◌, ℕ, ◌≤◌, length}
+use Rattle.std.specs.Prelude.{◌≡◌, Bool, true, false, ◌<◌, List, [], ◌∷◌, ℕ, ◌≤◌, length}
 use Rattle.definition.specs.Source.{Ch}
 use Rattle.definition.specs.Classes.{is_word, is_white}
 use Rattle.definition.specs.Tokenizer.{Span, ahead}
@@ -33,19 +33,27 @@ pub record Spanned (s : List ℕ) (c : Cursor) (x : List ℕ) (n : ℕ) (d : Spa
   pub wrote : Wrote x n d.text x' r.n
   pub room : r.n ≤ r.cursor.at
 
+-- the answers of a test for bytes are those of `holds`
+abbrev pub Tells : (ℕ → Bool → Type 0) → (ℕ → Bool) → Type 0
+Tells answers holds = (b : ℕ) → (r : Bool) → b < 256 → answers b r → r ≡ holds b
+
+-- the first bytes of the characters for which a test holds, up to another character
+unfoldable pub span_while : (ℕ → Bool) → List Ch → Span
+span_while holds [] = record { text = []; rest = [] }
+span_while holds (c ∷ cs) = elim (holds c.byte) [ true ↦ ahead (c.byte ∷ []) (span_while holds cs) | false ↦ record { text = []; rest = c ∷ cs } ]
+
 -- the letters and digits of a word, up to another character, also one above 127
-unfoldable pub letters : List Ch → Span
-letters [] = record { text = []; rest = [] }
-letters (c ∷ cs) = elim (is_word c.byte) [ true ↦ ahead (c.byte ∷ []) (letters cs) | false ↦ record { text = []; rest = c ∷ cs } ]
+abbrev pub letters : List Ch → Span
+letters cs = span_while is_word cs
 
 unfoldable pub blanks : List Ch → List Ch
 blanks [] = []
 blanks (c ∷ cs) = elim (is_white c.byte) [ true ↦ blanks cs | false ↦ c ∷ cs ]
 
 pub record QuotedAs (s : List ℕ) (c : Cursor) (x : List ℕ) (n : ℕ) (q : Z.Quoted) (x' : List ℕ) (r : Body) : Type 0 where
-  pub passed : Passed s c q.rest r.cursor
-  pub wrote : Wrote x n q.text x' r.n
+  pub passed : Passed s c q.rest r.end.cursor
+  pub wrote : Wrote x n q.text x' r.end.n
   pub unknown : r.unknown ≡ q.unknown
   pub closed : r.closed ≡ q.closed
-  pub few : r.unknown ≤ r.cursor.at
-  pub room : r.n ≤ r.cursor.at
+  pub few : r.unknown ≤ r.end.cursor.at
+  pub room : r.end.n ≤ r.end.cursor.at

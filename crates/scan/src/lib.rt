@@ -1,15 +1,15 @@
 // Scans white space, comments, words, digits, assembly and strings from a cursor on. Some scans write the text.
 #![tactic(auto)]
 
-ghost use Rattle.std.specs.Prelude.{false, ◌≡◌, ◌+◌};
+ghost use Rattle.std.specs.Prelude.{ℕ, Bool, false, true, ◌≡◌, ◌+◌, ◌<◌, ◌≤◌};
 ghost use Rattle.definition.specs.Tokenizer as Z;
 ghost use Rattle.source.specs.Place.{Stands, rest};
-ghost use Rattle.scan.specs.Scan.{letters, blanks};
+ghost use Rattle.scan.specs.Scan.{Tells, span_while, letters, blanks};
 ghost use Rattle.scan.specs.Contract.{Passes, Asks, Passed, Spanned, QuotedAs};
 
 use classes::character::{is_digit_of, is_white, is_word};
 use classes::spelling::escape;
-use slices::{copy, put8};
+use slices::{put, put_all};
 use source::{Cursor, along, step};
 
 // ---- looking and skipping
@@ -19,11 +19,7 @@ pub fn look(s: &[u8], c: Cursor) -> u8
     requires { Stands s.now c }
     ensures { result ≡ Z.look (rest s.now c) }
 {
-    let at = c.at;
-    if s.len() <= at {
-        return 0;
-    }
-    s[at]
+    if c.at < s.len() { s[c.at] } else { 0 }
 }
 
 // Steps over the character at `c`, if there is one.
@@ -31,14 +27,10 @@ pub fn skip(s: &[u8], c: Cursor) -> Cursor
     requires { Passes s c }
     ensures { Passed Z.drop_one s c result }
 {
-    let at = c.at;
-    if s.len() <= at {
-        return c;
-    }
-    step(s, c)
+    if c.at < s.len() { step(s, c) } else { c }
 }
 
-// ---- scans that write nothing
+// ---- scans that write nothing. A cursor steps by characters and keeps their places, which no iterator over bytes does.
 
 // Skips a comment with the newline that ends it, or to the end.
 pub fn comment(s: &[u8], from: Cursor) -> Cursor
@@ -46,18 +38,14 @@ pub fn comment(s: &[u8], from: Cursor) -> Cursor
     ensures { Passed Z.comment s from result }
 {
     let mut c = from;
-    loop {
-        let at = c.at;
-        if s.len() <= at {
-            return c;
+    while c.at < s.len() {
+        let next = step(s, c);
+        if s[c.at] == b'\n' {
+            return next;
         }
-        let b = s[at];
-        let d = step(s, c);
-        if b == b'\n' {
-            return d;
-        }
-        c = d;
+        c = next;
     }
+    c
 }
 
 // Skips white space.
@@ -66,17 +54,10 @@ pub fn white(s: &[u8], from: Cursor) -> Cursor
     ensures { Passed blanks s from result }
 {
     let mut c = from;
-    loop {
-        let at = c.at;
-        if s.len() <= at {
-            return c;
-        }
-        if is_white(s[at]) {
-            c = step(s, c);
-        } else {
-            return c;
-        }
+    while c.at < s.len() && is_white(s[c.at]) {
+        c = step(s, c);
     }
+    c
 }
 
 // ---- scans that write
@@ -88,26 +69,34 @@ pub struct Scan {
     pub n: usize,
 }
 
+// Scans the characters for which a test holds. It may hold for digits, letters and those between them alone.
+fn scan_while<F: Fn(u8) -> bool>(
+    s: &[u8],
+    from: Cursor,
+    test: F,
+    text: &mut [u8],
+    start: usize,
+) -> Scan
+    requires asks { Asks s from text start }
+    requires callable { F.IsAlwaysCallable test }
+    requires plain { (b : ℕ) → b < 256 → F.post test b true → (48 ≤ b) × (b < 128) }
+    ensures { (holds : ℕ → Bool) → Tells (F.post test) holds → Spanned (span_while holds) s from text start result }
+{
+    let mut c = from;
+    let mut n = start;
+    while c.at < s.len() && test(s[c.at]) {
+        n = put(text, n, s[c.at]);
+        c = along(c);
+    }
+    Scan { cursor: c, n }
+}
+
 // Scans the digits of a base.
 pub fn digits(s: &[u8], from: Cursor, base: u32, text: &mut [u8], start: usize) -> Scan
     requires { Asks s from text start }
     ensures { Spanned (Z.digits base) s from text start result }
 {
-    let mut c = from;
-    let mut n = start;
-    loop {
-        let at = c.at;
-        if s.len() <= at {
-            return Scan { cursor: c, n };
-        }
-        let b = s[at];
-        if is_digit_of(base, b) {
-            n = put8(text, n, b);
-            c = along(c);
-        } else {
-            return Scan { cursor: c, n };
-        }
-    }
+    scan_while(s, from, |b| is_digit_of(base, b), text, start)
 }
 
 // Scans the letters and digits of a word.
@@ -115,21 +104,7 @@ pub fn word(s: &[u8], from: Cursor, text: &mut [u8], start: usize) -> Scan
     requires { Asks s from text start }
     ensures { Spanned letters s from text start result }
 {
-    let mut c = from;
-    let mut n = start;
-    loop {
-        let at = c.at;
-        if s.len() <= at {
-            return Scan { cursor: c, n };
-        }
-        let b = s[at];
-        if is_word(b) {
-            n = put8(text, n, b);
-            c = along(c);
-        } else {
-            return Scan { cursor: c, n };
-        }
-    }
+    scan_while(s, from, is_word, text, start)
 }
 
 // Scans inline assembly up to `}`, which is consumed, or the end.
@@ -139,28 +114,23 @@ pub fn assembly(s: &[u8], from: Cursor, text: &mut [u8], start: usize) -> Scan
 {
     let mut c = from;
     let mut n = start;
-    loop {
-        let at = c.at;
-        if s.len() <= at {
-            return Scan { cursor: c, n };
+    while c.at < s.len() {
+        let next = step(s, c);
+        if s[c.at] == b'}' {
+            return Scan { cursor: next, n };
         }
-        let b = s[at];
-        let d = step(s, c);
-        if b == b'}' {
-            return Scan { cursor: d, n };
-        }
-        n = copy(s, at, d.at, text, n);
-        c = d;
+        n = put_all(text, n, &s[c.at..next.at]);
+        c = next;
     }
+    Scan { cursor: c, n }
 }
 
 // ---- strings
 
-// Where a string's scan stopped, the offset after its text, the count of unknown escapes, whether a quote closed it.
+// The scan of a string, the count of unknown escapes, and whether a quote closed it.
 #[derive(Clone, Copy)]
 pub struct Body {
-    pub cursor: Cursor,
-    pub n: usize,
+    pub end: Scan,
     pub unknown: usize,
     pub closed: bool,
 }
@@ -173,46 +143,38 @@ pub fn quoted(s: &[u8], from: Cursor, text: &mut [u8], start: usize) -> Body
     let mut c = from;
     let mut n = start;
     let mut unknown = 0;
-    loop {
-        let at = c.at;
-        if s.len() <= at {
-            return Body {
-                cursor: c,
-                n,
-                unknown,
-                closed: false,
-            };
-        }
-        let b = s[at];
-        let d = step(s, c);
+    while c.at < s.len() {
+        let b = s[c.at];
+        let next = step(s, c);
         if b == b'"' {
             return Body {
-                cursor: d,
-                n,
+                end: Scan { cursor: next, n },
                 unknown,
                 closed: true,
             };
         }
-        let e = d.at;
         if b != b'\\' {
-            n = copy(s, at, e, text, n);
-            c = d;
+            n = put_all(text, n, &s[c.at..next.at]);
+            c = next;
             continue;
         }
-        if s.len() <= e {
+        if s.len() <= next.at {
             return Body {
-                cursor: d,
-                n,
+                end: Scan { cursor: next, n },
                 unknown: unknown + 1,
                 closed: false,
             };
         }
-        let k = escape(s[e]);
-        c = step(s, d);
-        if k == 0 {
+        c = step(s, next);
+        let Some(escaped) = escape(s[next.at]) else {
             unknown += 1;
             continue;
-        }
-        n = put8(text, n, k);
+        };
+        n = put(text, n, escaped);
+    }
+    Body {
+        end: Scan { cursor: c, n },
+        unknown,
+        closed: false,
     }
 }

@@ -1,4 +1,4 @@
 pub mod Saying
-pub mod Lines
+pub mod Tables
 pub mod Spelled
 pub mod Messages

@@ -1,79 +1,35 @@
 -- Messages, and the token or the character that an error names. Assumes nothing.
 use mathlib.Core.Path.{◌≡◌, refl, sym, ap, ◌∙◌, subst}
 use mathlib.Core.Bool.{Bool, true, false, ◌&&◌}
-use mathlib.Core.List.{List, [], ◌∷◌, map}
+use mathlib.Core.List.{List, [], ◌∷◌}
 use Prim.Native.Nat.{ℕ, suc, ◌+◌, ◌*◌, ◌-◌, ◌<◌, ◌≤◌}
 use native.Mathlib.Omega.{arith}
 use borrow.Author.Tests.{eqb-true, eq-eqb, ne_eqb}
-use lib.Dec.{eqb}
 use lib.ListN.{length, get_or, take, drop}
+use lib.Seq.{drop-cons}
+use native.Mathlib.Numerals.{add-one}
 use Rattle.definition.specs.Kind as K
 use Rattle.definition.specs.TokenError as TokenError
 use Rattle.definition.specs.Source.{Place, place_at, same_place, lead}
 use Rattle.definition.specs.Places.{unpack_place}
 use Rattle.definition.specs.Fallible.{Err}
-use Rattle.definition.specs.Token.{Tok, tok, end_token, next_token, tail}
+use Rattle.definition.specs.Token.{Tok, next_token, tail}
 use Rattle.definition.specs.Records as R
-use Rattle.definition.specs.Records.{has_text, error_of}
+use Rattle.definition.specs.Records.{error_of}
 use Rattle.definition.specs.Sentence as S
-use Rattle.definition.specs.Sentence.{kind_name, spelled, Part, compose, token_messages, parser_messages, token_sentence, parser_sentence, token_at, character_at, character_of, token_got}
-use Rattle.definition.proofs.Tests.{never_both}
+use Rattle.definition.specs.Sentence.{token_sentence, parser_sentence, token_at, character_at, character_of, token_got}
 use Rattle.definition.proofs.Shown.{same_self}
 use Rattle.source.specs.Place as P
 use Rattle.source.specs.Place.{Stands, Stepped, origin, more}
 use Rattle.source.specs.declared.Cursor.{Cursor}
 use Rattle.source.proofs.Laws.{rest_head, rest_end}
 use Rattle.fallible.specs.Lists.{unpack, error_at}
-use Rattle.steps.specs.declared.Token.{Token}
+use Rattle.steps.specs.declared.tokens.Token.{Token}
 use Rattle.steps.specs.Tokens.{Parts, Seen, present, rest}
-use Rattle.steps.proofs.Tokens.{rest_nil}
-use Rattle.sentences.specs.Lines.{line}
-use Rattle.sentences.specs.Spelling.{Quotes, QuotesOf}
-use Rattle.sentences.specs.Messages.{spoken_byte, spoken, Decodes, Tokens, first_bytes, StandsAt, NamesPart}
+use Rattle.steps.proofs.Records.{rest_nil}
+use Rattle.sentences.specs.Spelling.{Quotes}
+use Rattle.sentences.specs.Messages.{Decodes, first_bytes, StandsAt, Names}
 use Rattle.sentences.specs.Messages as M
-use Rattle.sentences.specs.declared.Part as D
-use Rattle.sentences.proofs.Lines.{lines, line_of_lines, get_d_map}
-use Rattle.sentences.proofs.Spelled.{take_next}
-
--- ---- a byte of a message
-
-module _ (m : S.Meaning) {b : ℕ} where
-  pub spoken_expected : b ≡ 69 → kind_name m.expected ≡ spoken_byte m b
-  spoken_expected e = rw (eq-eqb b 69 e)
-
-  module _ (ne : b ≡ 69 → ⊥) where
-    pub spoken_got : b ≡ 71 → spelled m.got m.text m.base ≡ spoken_byte m b
-    spoken_got e = rw (ne_eqb b 69 ne, eq-eqb b 71 e)
-
-    module _ (ng : b ≡ 71 → ⊥) where
-      pub spoken_character : b ≡ 67 → m.text ≡ spoken_byte m b
-      spoken_character e = rw (ne_eqb b 69 ne, ne_eqb b 71 ng, eq-eqb b 67 e)
-
-      pub spoken_itself : (b ≡ 67 → ⊥) → b ∷ [] ≡ spoken_byte m b
-      spoken_itself nc = rw (ne_eqb b 69 ne, ne_eqb b 71 ng, ne_eqb b 67 nc)
-
--- ---- a table of messages
-
--- the lines of the table are the messages
-abbrev pub Says : List ℕ → List (List Part) → Type 0
-Says table messages = (m : S.Meaning) → map (spoken m) (lines table) ≡ map (compose m) messages
-
-spoken_line : (table : List ℕ) (messages : List (List Part)) → Says table messages
-    → (m : S.Meaning) (n : ℕ) → spoken m (line n table) ≡ compose m (get_or messages n [])
-unfolding spoken compose
-spoken_line table messages h m n =
-    ap (spoken m) (line_of_lines n table) ∙ sym (get_d_map (spoken m) [] refl (lines table) n)
-    ∙ ap (λ (x : List (List ℕ)). get_or x n []) (h m) ∙ get_d_map (compose m) [] refl messages n
-
-pub spoken_parser : (table : List ℕ) → Says table parser_messages → (m : S.Meaning)
-    → spoken m (line m.number table) ≡ parser_sentence m
-unfolding parser_sentence
-spoken_parser table h m = spoken_line table parser_messages h m m.number
-
-pub spoken_token : (table : List ℕ) → Says table token_messages → (m : S.Meaning) → spoken m (line m.number table)
-    ≡ token_sentence m
-unfolding token_sentence
-spoken_token table h m = spoken_line table token_messages h m m.number
 
 -- ---- the token at a place
 
@@ -167,19 +123,6 @@ module _ {w : List ℕ} {n : ℕ} (place : ℕ) {got : ℕ} {t : Token} where
   unfolding token_got
   got_some z f x p = rw (token_got, ne_eqb got K.End z) (f x p)
 
--- its text can be quoted, if its kind has one
-pub got_quoted : {w x : List ℕ} {n : ℕ} → Tokens w x n → (e : Err) (text : List ℕ) → (token_got (rest w x n 0) e).text
-    ≡ text
-    → QuotesOf e.got text
-unfolding token_got
-got_quoted {w} {x} {n} q e text d h = subst Quotes (sym (one (eqb e.got K.End) refl) ∙ d) (q.quoted e.place)
-  where
-    one : (b : Bool) → eqb e.got K.End ≡ b
-        → (elim b as (λ _. Tok) [ true ↦ end_token | false ↦ token_at e.place (rest w x n 0) ]).text
-        ≡ (token_at e.place (rest w x n 0)).text
-    one true z = never_both h (ap has_text (eqb-true e.got K.End z))
-    one false z = refl
-
 -- ---- the character at a place
 
 -- the invariant: the character is among those from the cursor on
@@ -221,15 +164,9 @@ abbrev named : ℕ → ℕ → ℕ → Err
 named number line column = record { number = number; place = place_at line column; expected = 0; got = 0 }
 
 module _ (s : List ℕ) (number line column : ℕ) where
-  pub names_none : (number ≡ TokenError.UnknownCharacter → ⊥)
-      → NamesPart s (named number line column) (record { start = 0; end = 0 })
+  pub names_none : (number ≡ TokenError.UnknownCharacter → ⊥) → Names s (named number line column) []
   unfolding character_of
-  names_none h = record {
-    low = omega arith;
-    high = omega arith;
-    is = rw
-        (character_of, ne_eqb number TokenError.UnknownCharacter h);
-  }
+  names_none h = rw (character_of, ne_eqb number TokenError.UnknownCharacter h)
 
   module _ {c : Cursor} (e : number ≡ TokenError.UnknownCharacter) (q : StandsAt s (place_at line column) c) where
     -- the character at its place
@@ -237,71 +174,36 @@ module _ (s : List ℕ) (number line column : ℕ) where
     unfolding character_of
     character_is = rw (character_of, eq-eqb number TokenError.UnknownCharacter e) q.is
 
-    pub names_end : length s ≤ c.at → NamesPart s (named number line column) (record { start = c.at; end = c.at })
-    names_end h =
-        let z : c.at - c.at ≡ 0 = omega arith in
-        record {
-          low = omega arith;
-          high = q.stands.inside;
-          is = character_is ∙ ap first_bytes (rest_end s c h) ∙ rw z;
-        }
+    pub names_end : length s ≤ c.at → Names s (named number line column) []
+    names_end h = sym (character_is ∙ ap first_bytes (rest_end s c h))
 
     pub names_part : {d : Cursor} → c.at < length s → Stepped s c d
-        → NamesPart s (named number line column) (record { start = c.at; end = d.at })
+        → Names s (named number line column) (take (d.at - c.at) (drop c.at s))
     names_part {d} h t =
         let z : d.at - c.at ≡ suc (more (lead (get_or s c.at 0))) = omega (arith, t.wide) in
-        record {
-          low = omega (arith, t.wide);
-          high = t.stands.inside;
-          is = character_is ∙ ap first_bytes t.chars
-              ∙ rw z (sym (take_next s c.at (c.at + 1) (more (lead (get_or s c.at 0))) h refl));
-        }
+        rw (z, drop-cons s c.at 0 h, ← add-one c.at) (sym (character_is ∙ ap first_bytes t.chars))
 
 -- ---- the sentences
 
 -- the part of the text slice from the start of a token's text to its end
-pub text_part : {x : List ℕ} {u : Tok} {t : Token} → Decodes x u t → u.text
-    ≡ take (t.start + t.len - t.start) (drop t.start x)
+text_part : {x : List ℕ} {u : Tok} {t : Token} → Decodes x u t → u.text ≡ take (t.start + t.len - t.start) (drop t.start x)
 text_part {t = t} d = let z : t.start + t.len - t.start ≡ t.len = omega arith in rw z d.text
 
--- as the code composes it: from the parts of a packed error, and the token got
-pub parser_says : (table w x : List ℕ) (n e : ℕ) {t : Token} → Says table parser_messages
-    → Decodes x (token_got (rest w x n 0) (unpack e)) t
-    → spoken (record {
+-- what the code says of a packed error and the token got
+pub parser_says : (w x : List ℕ) (n e : ℕ) {t : Token} → Decodes x (token_got (rest w x n 0) (unpack e)) t
+    → parser_sentence (record {
       number = (unpack e).number;
       expected = (unpack e).expected;
       got = (unpack e).got;
       text = take (t.start + t.len - t.start) (drop t.start x);
       base = t.base;
-    }) (line (unpack e).number table)
+    })
     ≡ M.parser_sentence w x n e
 unfolding S.parser_meaning
-parser_says table w x n e {t} h d =
-    spoken_parser table h _
-    ∙ ap parser_sentence (ap (λ (v : Tok). record {
-      number = (unpack e).number;
-      expected = (unpack e).expected;
-      got = (unpack e).got;
-      text = v.text;
-      base = v.base;
-    }) (decoded d))
-  where
-    decoded : {u : Tok} → Decodes x u t
-        → tok u.kind u.place (take (t.start + t.len - t.start) (drop t.start x)) t.base ≡ u
-    decoded d = rw (sym (text_part d), sym d.base)
+parser_says w x n e d = rw (sym (text_part d), sym d.base)
 
-pub token_says : (table s E : List ℕ) (i : ℕ) {p : D.Part} → Says table token_messages
-    → NamesPart s (error_of (R.error_at E i)) p
-    → spoken (record {
-      number = get_or E (4 * i) 0;
-      expected = 0;
-      got = 0;
-      text = take (p.end - p.start) (drop p.start s);
-      base = 0;
-    }) (line (get_or E (4 * i) 0) table)
+pub token_says : (s E : List ℕ) (i : ℕ) {text : List ℕ} → Names s (error_of (R.error_at E i)) text
+    → token_sentence (record { number = get_or E (4 * i) 0; expected = 0; got = 0; text = text; base = 0 })
     ≡ M.token_sentence s E i
 unfolding S.token_meaning
-token_says table s E i h d =
-    spoken_token table h _
-    ∙ ap (λ (x : List ℕ). token_sentence
-    (record { number = get_or E (4 * i) 0; expected = 0; got = 0; text = x; base = 0 })) (sym d.is)
+token_says s E i h = rw h

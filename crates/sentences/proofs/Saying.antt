@@ -1,22 +1,16 @@
 -- Parts of a sentence written one after the other. Assumes nothing.
 use mathlib.Core.Path.{◌≡◌, refl, sym, ap, ◌∙◌, subst}
 use mathlib.Core.List.{List, [], ◌∷◌, ◌++◌, append_assoc, append-nil}
-use Prim.Native.Nat.{ℕ, suc, ◌+◌, ◌<◌, ◌≤◌}
-use native.Mathlib.Numerals.{add-one}
+use Prim.Native.Nat.{ℕ, ◌+◌, ◌<◌, ◌≤◌}
 use native.Mathlib.Omega.{arith}
-use lib.ListN.{length, get_or, take, drop, length-append, drop_of_length-le}
-use lib.Seq.{drop-cons}
-use Rattle.slices.specs.Written.{Wrote}
+use lib.ListN.{length, get_or, take, length-append}
+use lib.Seq.{take_all}
+use Rattle.std.proofs.lemmas.List.{take_more}
+use Rattle.std.proofs.lemmas.List.Concat.{flat_map-append}
+use Rattle.std.specs.List.{flat_map}
 use Rattle.sentences.specs.Said.{Short, Said}
-
--- ---- one part
-
-pub said_wrote : {bs o o' : List ℕ} {n m : ℕ} → Wrote o n bs o' m → Said bs o n o' m
-said_wrote w = record { end = w.count; is = λ _. w.put; size = w.size }
-
--- a byte that the slice has no room for
-pub said_beyond : {b n : ℕ} {o : List ℕ} → length o ≤ n → Said (b ∷ []) o n o (n + 1)
-said_beyond h = record { end = refl; is = λ k. absurd (omega (arith, h, k)); size = refl }
+use Rattle.sentences.specs.Contract.{Told}
+use Rattle.sentences.specs.declared.write.Sentence.{Sentence}
 
 pub said_none : {o : List ℕ} {n : ℕ} → Said [] o n o n
 said_none {o} {n} = record { end = omega arith; is = λ _. sym (append-nil (take n o)); size = refl }
@@ -27,9 +21,7 @@ said_same {o = o} {o'} {n} {m} s e = subst (λ (x : List ℕ). Said x o n o' m) 
 pub short_same : {bs cs : List ℕ} {n : ℕ} → Short cs n → bs ≡ cs → Short bs n
 short_same {n = n} h e = subst (λ (x : List ℕ). Short x n) (sym e) h
 
--- ---- a part after another
-
-pub said_then : {a b o o' o'' : List ℕ} {n m k : ℕ} → Said a o n o' m → Said b o' m o'' k → Said (a ++ b) o n o'' k
+said_then : {a b o o' o'' : List ℕ} {n m k : ℕ} → Said a o n o' m → Said b o' m o'' k → Said (a ++ b) o n o'' k
 said_then {a} {b} {o} {o'} {o''} {n} {m} {k} s t =
     record {
       end = omega (arith, s.end, t.end, length-append a b);
@@ -38,67 +30,38 @@ said_then {a} {b} {o} {o'} {o''} {n} {m} {k} s t =
       size = t.size ∙ s.size;
     }
 
-pub short_first : (a b : List ℕ) {n : ℕ} → Short (a ++ b) n → Short a n
-short_first a b h = omega (arith, h, length-append a b)
+-- ---- by a sentence
 
-pub short_then : (a b : List ℕ) {o o' : List ℕ} {n m : ℕ} → Short (a ++ b) n → Said a o n o' m → Short b m
-short_then a b h s = omega (arith, h, s.end, length-append a b)
+pub told_none : {w : Sentence} → Told [] w w
+told_none = record { said = λ _. said_none; same = refl }
 
--- ---- a loop
+pub told_same : {bs cs : List ℕ} {w r : Sentence} → Told bs w r → bs ≡ cs → Told cs w r
+told_same {w = w} {r = r} t e = subst (λ (x : List ℕ). Told x w r) e t
 
--- of the bytes bs, to be written from n on, `left` are left
-pub record Saying (bs o : List ℕ) (n : ℕ) (o' : List ℕ) (m : ℕ) (left : List ℕ) : Type 0 where
-  pub done : List ℕ
-  pub said : Said done o n o' m
-  pub whole : done ++ left ≡ bs
+pub told_then : {a b : List ℕ} {w v r : Sentence} → Told a w v → Told b v r → Told (a ++ b) w r
+told_then {a} {b} s t =
+    record {
+      said = λ h.
+          let l : length (a ++ b) ≡ length a + length b = length-append a b in
+          let p = s.said (omega (arith, h, l)) in
+          said_then p (t.said (omega (arith, h, l, p.end)));
+      same = t.same ∙ s.same;
+    }
 
-pub saying_start : {bs o : List ℕ} {n : ℕ} → Saying bs o n o n bs
-saying_start = record { done = []; said = said_none; whole = refl }
+-- ---- one after the other
 
-module _ {bs o : List ℕ} {n : ℕ} {o' : List ℕ} {m : ℕ} where
-  pub saying_short : (a left : List ℕ) → Saying bs o n o' m (a ++ left) → Short bs n → Short a m
-  saying_short a left q h =
-      omega (arith, h, q.said.end, ap length q.whole, length-append q.done (a ++ left), length-append a left)
+module _ {A : Type 0} (f : A → List ℕ) (xs : List A) where
+  pub told_each : {i j : ℕ} {x : A} {w v r : Sentence} → Told (flat_map f (take i xs)) w v → i < length xs → x ≡ get_or xs i x → j ≡ i + 1
+      → Told (f x) v r → Told (flat_map f (take j xs)) w r
+  told_each {i} {j} {x} q h e k t =
+      told_same (told_then q t)
+      (rw (k, take_more xs i x h, ← e) (sym (flat_map-append f (take i xs) (x ∷ []) ∙ ap (λ (y : List ℕ). flat_map f (take i xs) ++ y) (append-nil (f x)))))
 
-  pub saying_more : (a left : List ℕ) {o'' : List ℕ} {k : ℕ} → Saying bs o n o' m (a ++ left) → Said a o' m o'' k
-      → Saying bs o n o'' k left
-  saying_more a left q s =
-      record { done = q.done ++ a; said = said_then q.said s; whole = append_assoc q.done a left ∙ q.whole }
+  pub told_all : {i : ℕ} {w r : Sentence} → Told (flat_map f (take i xs)) w r → length xs ≤ i → Told (flat_map f xs) w r
+  told_all {i} q h = told_same q (ap (flat_map f) (take_all i xs h))
 
-  pub saying_end : {left : List ℕ} → Saying bs o n o' m left → left ≡ [] → Said bs o n o' m
-  saying_end q e = said_same q.said (sym (append-nil q.done) ∙ ap (λ (x : List ℕ). q.done ++ x) (sym e)
-      ∙ q.whole)
+-- ---- the sentence
 
-  pub saying_same : {a b : List ℕ} → Saying bs o n o' m a → a ≡ b → Saying bs o n o' m b
-  saying_same q e = subst (λ (x : List ℕ). Saying bs o n o' m x) e q
-
--- ---- what each byte of a list stands for, one after the other
-
--- F gives for a list what f gives for each of its bytes
-module _ (f : ℕ → List ℕ) (F : List ℕ → List ℕ) (nil : F [] ≡ [])
-    (cons : (b : ℕ) (bs : List ℕ) → F (b ∷ bs) ≡ f b ++ F bs)
-    {bs o : List ℕ} {n : ℕ} {o' : List ℕ} {m i : ℕ} (q : Saying (F bs) o n o' m (F (drop i bs))) where
-  byte_left : i < length bs → Saying (F bs) o n o' m (f (get_or bs i 0) ++ F (drop (suc i) bs))
-  byte_left h = saying_same q (ap F (drop-cons bs i 0 h) ∙ cons (get_or bs i 0) (drop (suc i) bs))
-
-  pub each_short : i < length bs → Short (F bs) n → Short (f (get_or bs i 0)) m
-  each_short h s = saying_short (f (get_or bs i 0)) (F (drop (suc i) bs)) (byte_left h) s
-
-  pub each_more : {o'' : List ℕ} {k : ℕ} → i < length bs → Said (f (get_or bs i 0)) o' m o'' k
-      → Saying (F bs) o n o'' k (F (drop (i + 1) bs))
-  each_more h s = rw (add-one i) (saying_more (f (get_or bs i 0)) (F (drop (suc i) bs)) (byte_left h) s)
-
-  pub each_end : length bs ≤ i → Said (F bs) o n o' m
-  each_end h = saying_end q (ap F (drop_of_length-le bs h) ∙ nil)
-
--- the bytes themselves
-module _ {bs o : List ℕ} {n : ℕ} {o' : List ℕ} {m i : ℕ} (q : Saying bs o n o' m (drop i bs)) where
-  pub saying_all_short : i < length bs → Short bs n → Short (get_or bs i 0 ∷ []) m
-  saying_all_short = each_short (λ b. b ∷ []) (λ xs. xs) refl (λ b xs. refl) q
-
-  pub saying_all_more : {o'' : List ℕ} {k : ℕ} → i < length bs → Said (get_or bs i 0 ∷ []) o' m o'' k
-      → Saying bs o n o'' k (drop (i + 1) bs)
-  saying_all_more = each_more (λ b. b ∷ []) (λ xs. xs) refl (λ b xs. refl) q
-
-  pub saying_all_end : length bs ≤ i → Said bs o n o' m
-  saying_all_end = each_end (λ b. b ∷ []) (λ xs. xs) refl (λ b xs. refl) q
+-- it can be counted
+pub told_short : {bs cs : List ℕ} {w r : Sentence} → Told bs w r → bs ≡ cs → Short cs w.at → Said cs w.out.now w.at r.out.now r.at
+told_short t e h = said_same (t.said (omega (arith, h, ap length e))) e

@@ -1,8 +1,7 @@
--- Messages as lines of a table, in which E stands for the kind expected, G for the token got, C for the character; and
--- what finding the token or the character of an error ensures. Assumes nothing.
-use Rattle.std.specs.Prelude.{◌≡◌, List, [], ◌∷◌, ◌++◌, ℕ, ◌+◌, ◌-◌, ◌≤◌, eqb, length, take, drop}
-use Rattle.definition.specs.Ascii.{char}
-use Rattle.definition.specs.Choice.{pick}
+-- What a message says; and what finding the token or the character of an error ensures. Assumes nothing.
+use Rattle.std.specs.Prelude.{◌≡◌, List, [], ◌∷◌, ℕ, zero, suc, ◌+◌, ◌≤◌, length, take, drop}
+use Rattle.std.specs.List.{flat_map}
+use Rattle.std.specs.Borrow.{Bor}
 use Rattle.definition.specs.Source.{Place, Ch}
 use Rattle.definition.specs.Fallible.{Err}
 use Rattle.definition.specs.Token.{Tok}
@@ -12,28 +11,33 @@ use Rattle.source.specs.Place as P
 use Rattle.source.specs.Place.{Stands, origin}
 use Rattle.source.specs.declared.Cursor.{Cursor}
 use Rattle.fallible.specs.Lists.{unpack}
-use Rattle.steps.specs.declared.Token.{Token}
+use Rattle.steps.specs.declared.tokens.Token.{Token}
 use Rattle.steps.specs.Tokens.{Held, Parts, rest}
-use Rattle.sentences.specs.declared.Meaning.{Meaning}
-use Rattle.sentences.specs.declared.Part.{Part}
-use Rattle.sentences.specs.Spelling.{Quotes}
+use Rattle.sentences.specs.declared.message.Meaning.{Meaning}
+use Rattle.sentences.specs.declared.message.Part.{Part}
+use Rattle.sentences.specs.declared.message.Part.TheVariants.{Words, Expected, Got, Character}
 
 -- ---- messages
 
--- the meaning that is passed, with the text
-abbrev pub meaning_of : Meaning → List ℕ → S.Meaning
-meaning_of m text =
-    record { number = m.number; expected = m.expected; got = m.got; text = text; base = m.base }
+-- the meaning that is passed
+abbrev pub meaning_of : Meaning → S.Meaning
+meaning_of m = record { number = m.number; expected = m.expected; got = m.got; text = m.text.now; base = m.base }
 
--- what a byte of a message stands for
-abbrev pub spoken_byte : S.Meaning → ℕ → List ℕ
-spoken_byte m b =
-    pick (eqb b (char "E")) (S.kind_name m.expected)
-    (pick (eqb b (char "G")) (S.spelled m.got m.text m.base) (pick (eqb b (char "C")) m.text (b ∷ [])))
+-- what a part of a message stands for
+abbrev pub spoken_part : S.Meaning → Part → List ℕ
+spoken_part m (Words w) = w.now
+spoken_part m Expected = S.kind_name m.expected
+spoken_part m Got = S.spelled m.got m.text m.base
+spoken_part m Character = m.text
 
-unfoldable pub spoken : S.Meaning → List ℕ → List ℕ
-spoken m [] = []
-spoken m (b ∷ bs) = spoken_byte m b ++ spoken m bs
+abbrev pub spoken : S.Meaning → List Part → List ℕ
+spoken m parts = flat_map (spoken_part m) parts
+
+-- what a table has at an index; nothing past its end
+unfoldable pub entry : {A : Type 0} → List (Bor (List A)) → ℕ → List A
+entry [] i = []
+entry (t ∷ ts) zero = t.now
+entry (t ∷ ts) (suc i) = entry ts i
 
 -- ---- an error of the parser
 
@@ -51,11 +55,10 @@ pub record Decodes (x : List ℕ) (u : Tok) (t : Token) : Type 0 where
 abbrev pub parser_sentence : List ℕ → List ℕ → ℕ → ℕ → List ℕ
 parser_sentence w x n e = S.parser_sentence (S.parser_meaning (rest w x n 0) (unpack e))
 
--- what it requires: n tokens, each with a text that can be quoted
-pub record Tokens (w x : List ℕ) (n : ℕ) : Type 0 where
+-- what it requires: n tokens, with their texts
+pub record Quotable (w x : List ℕ) (n : ℕ) : Type 0 where
   pub held : Held w n
   pub parts : Parts w x n
-  pub quoted : (p : Place) → Quotes (S.token_at p (rest w x n 0)).text
 
 -- ---- an error of the tokenizer
 
@@ -69,11 +72,9 @@ pub record StandsAt (s : List ℕ) (p : Place) (c : Cursor) : Type 0 where
   pub stands : Stands s c
   pub is : S.character_at p (P.rest s origin) ≡ first_bytes (P.rest s c)
 
--- the part of the script is the character that an error names
-pub record NamesPart (s : List ℕ) (e : Err) (p : Part) : Type 0 where
-  pub low : p.start ≤ p.end
-  pub high : p.end ≤ length s
-  pub is : S.character_of (P.rest s origin) e ≡ take (p.end - p.start) (drop p.start s)
+-- the bytes are the character of the script that an error names
+abbrev pub Names : List ℕ → Err → List ℕ → Type 0
+Names s e bs = bs ≡ S.character_of (P.rest s origin) e
 
 -- the sentence of error record i
 abbrev pub token_sentence : List ℕ → List ℕ → ℕ → List ℕ

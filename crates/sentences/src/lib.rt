@@ -1,6 +1,7 @@
 // Complaints in words: writes the sentence of an error, composed as the messages of tokenizer.rs and parser.rs are.
 #![tactic(auto)]
 
+mod message;
 mod spelling;
 mod write;
 
@@ -11,81 +12,29 @@ ghost use Rattle.definition.specs.Sentence as S;
 ghost use Rattle.fallible.specs.Lists as L;
 ghost use Rattle.steps.specs.Tokens.{Held, Parts, rest};
 ghost use Rattle.sentences.specs.Said.{Short};
-ghost use Rattle.sentences.specs.Lines.{line};
-ghost use Rattle.sentences.specs.Spelling.{Quotes, QuotesOf};
-ghost use Rattle.sentences.specs.Messages.{meaning_of, spoken_byte, spoken, Decodes, Tokens, StandsAt, NamesPart};
+ghost use Rattle.sentences.specs.Spelling.{Quotes};
+ghost use Rattle.sentences.specs.Messages.{Decodes, Quotable, StandsAt, Names};
 ghost use Rattle.sentences.specs.Messages.{parser_sentence, token_sentence};
 ghost use Rattle.sentences.specs.Contract.{Said};
 
-use definition::{kind, token_error};
+use definition::kind;
+use definition::token_error::TokenError;
+use message::{Meaning, say_parser_message, say_token_message};
 use source::{Cursor, step};
-use spelling::{say_name, say_token};
-use steps::{Token, peek};
-use write::{line_at, line_end, say, say_all};
-
-// ---- messages
-
-// What a sentence says of an error, but for the text.
-#[derive(Clone, Copy)]
-pub struct Meaning {
-    pub number: u32,
-    pub expected: u32,
-    pub got: u32,
-    pub base: usize,
-}
-
-// Writes a byte of a message, where E stands for the kind expected, G for the token got, C for the character.
-fn say_part(out: &mut [u8], at: usize, b: u8, m: Meaning, text: &[u8]) -> usize
-    requires { QuotesOf m.got text.now × Short (spoken_byte (meaning_of m text.now) b) at }
-    ensures { Said (spoken_byte (meaning_of m text.now) b) out at result }
-{
-    if b == b'E' {
-        return say_name(out, at, m.expected);
-    }
-    if b == b'G' {
-        return say_token(out, at, m.got, text, m.base);
-    }
-    if b == b'C' {
-        return say_all(out, at, text);
-    }
-    say(out, at, b)
-}
-
-fn say_message(out: &mut [u8], message: &[u8], m: Meaning, text: &[u8]) -> usize
-    requires { QuotesOf m.got text.now × Short (spoken (meaning_of m text.now) message.now) 0 }
-    ensures { Said (spoken (meaning_of m text.now) message.now) out 0 result }
-{
-    let mut n = 0;
-    let mut i = 0;
-    while i < message.len() {
-        n = say_part(out, n, message[i], m, text);
-        i += 1;
-    }
-    n
-}
-
-// Writes the message at the line of a table that the number names.
-fn say_sentence(out: &mut [u8], table: &[u8], m: Meaning, text: &[u8]) -> usize
-    requires { QuotesOf m.got text.now
-        × Short (spoken (meaning_of m text.now) (line m.number table.now)) 0 }
-    ensures { Said (spoken (meaning_of m text.now) (line m.number table.now)) out 0 result }
-{
-    let start = line_at(table, m.number as usize);
-    let end = line_end(table, start);
-    say_message(out, &table[start..end], m, text)
-}
+use steps::tokens::{Token, Tokens};
+use write::Sentence;
 
 // ---- an error of the parser
 
 // The token at a place; the end if there is none.
-fn token_at(tokens: &[u32], n: usize, place: usize) -> Token
-    requires { Held tokens.now n }
-    ensures { (x : List ℕ) → Parts tokens.now x n
-        → Decodes x (S.token_at (unpack_place place) (rest tokens.now x n 0)) result }
+fn token_at(tokens: Tokens, place: usize) -> Token
+    requires { Held tokens.records.now tokens.count }
+    ensures { (x : List ℕ) → Parts tokens.entry.records.now x tokens.entry.count
+        → Decodes x (S.token_at (unpack_place place) (rest tokens.entry.records.now x tokens.entry.count 0)) result }
 {
     let mut i = 0;
     loop {
-        let t = peek(tokens, n, i);
+        let t = tokens.peek(i);
         if t.kind == kind::END {
             return t;
         }
@@ -97,55 +46,35 @@ fn token_at(tokens: &[u32], n: usize, place: usize) -> Token
 }
 
 // The token that an error got; the end if it got none.
-fn token_got(tokens: &[u32], n: usize, place: usize, got: u32) -> Token
-    requires { Held tokens.now n }
-    ensures { (x : List ℕ) → Parts tokens.now x n
-        → Decodes x (S.token_got (rest tokens.now x n 0) (L.error_at 0 place 0 got)) result }
+fn token_got(tokens: Tokens, place: usize, got: u32) -> Token
+    requires { Held tokens.records.now tokens.count }
+    ensures { (x : List ℕ) → Parts tokens.entry.records.now x tokens.entry.count
+        → Decodes x (S.token_got (rest tokens.entry.records.now x tokens.entry.count 0) (L.error_at 0 place 0 got)) result }
 {
     if got == kind::END {
-        return peek(tokens, n, n);
+        return tokens.peek(tokens.count);
     }
-    token_at(tokens, n, place)
+    token_at(tokens, place)
 }
 
 // Writes the sentence of an error that is packed into one number, as `fallible::entry` packs it.
-pub fn say_parser_error(out: &mut [u8], tokens: &[u32], n: usize, text: &[u8], e: usize) -> usize
-    requires { Tokens tokens.now text.now n × Short (parser_sentence tokens.now text.now n e) 0 }
-    ensures { Said (parser_sentence tokens.now text.now n e) out 0 result }
+pub fn say_parser_error(out: &mut [u8], tokens: Tokens, e: usize) -> usize
+    requires { Quotable tokens.records.now tokens.text.now tokens.count
+        × Short (parser_sentence tokens.records.now tokens.text.now tokens.count e) 0 }
+    ensures { Said (parser_sentence tokens.entry.records.now tokens.entry.text.now tokens.entry.count e) out 0 result }
 {
-    let messages: &[u8] = b"\n\
-        unexpected token at top-level: G\n\
-        expected E, got G\n\
-        expected E, got end of file\n\
-        expected identifier\n\
-        unexpected end-of-file\n\
-        expected statement, got end of file\n\
-        expected expression, got G\n\
-        expected expression, got end of file\n\
-        expected array size\n\
-        array size must be a positive integer\n\
-        expected type, got G\n\
-        expected type, got end of file\n\
-        expected } before end of file\n\
-        unexpected end-of-file while parsing list\n\
-        unexpected token G in list\n\
-        expected identifier after `type`\n\
-        expected string after `use`\n\
-        expected start of compound, got end of file\n\
-        unexpected token for compound literal G\n";
-    let number = (e / 0x1_0000_0000_0000 % 256) as u32;
-    let expected = (e / 256 % 256) as u32;
     let got = (e % 256) as u32;
-    let t = token_got(tokens, n, e / 0x1_0000 % 0x1_0000_0000, got);
+    let t = token_got(tokens, e / 0x1_0000 % 0x1_0000_0000, got);
     let m = Meaning {
-        number,
-        expected,
+        number: (e / 0x1_0000_0000_0000 % 256) as u32,
+        expected: (e / 256 % 256) as u32,
         got,
+        text: &tokens.text[t.start..t.start + t.len],
         base: t.base,
     };
-    let start = t.start;
-    let end = start + t.len;
-    say_sentence(out, messages, m, &text[start..end])
+    let mut sentence = Sentence { out, at: 0 };
+    say_parser_message(&mut sentence, &m);
+    sentence.at
 }
 
 // ---- an error of the tokenizer
@@ -155,14 +84,9 @@ fn cursor_at(s: &[u8], line: u32, column: u32) -> Cursor
     requires { Quotes s.now }
     ensures { StandsAt s.now (place_at line column) result }
 {
-    let mut c = Cursor {
-        at: 0,
-        line: 1,
-        column: 1,
-    };
+    let mut c = Cursor::START;
     loop {
-        let at = c.at;
-        if s.len() <= at {
+        if s.len() <= c.at {
             return c;
         }
         if (line == c.line) & (column == c.column) {
@@ -172,29 +96,20 @@ fn cursor_at(s: &[u8], line: u32, column: u32) -> Cursor
     }
 }
 
-// A part of a slice: its first offset and the one after it.
-#[derive(Clone, Copy)]
-struct Part {
-    start: usize,
-    end: usize,
-}
-
 // The character that a token error names; empty if it names none.
-fn character_of(s: &[u8], number: u32, line: u32, column: u32) -> Part
+fn character_of(s: &[u8], number: u32, line: u32, column: u32) -> &[u8]
     requires { Quotes s.now }
-    ensures { NamesPart s.now
-        (record { number = number; place = place_at line column; expected = 0; got = 0 }) result }
+    ensures { Names s.now (record { number = number; place = place_at line column; expected = 0; got = 0 }) result.now }
 {
-    if number != token_error::UNKNOWN_CHARACTER {
-        return Part { start: 0, end: 0 };
+    if number != TokenError::UnknownCharacter as u32 {
+        return &[];
     }
     let c = cursor_at(s, line, column);
-    let start = c.at;
-    if s.len() <= start {
-        return Part { start, end: start };
+    if s.len() <= c.at {
+        return &[];
     }
     let d = step(s, c);
-    Part { start, end: d.at }
+    &s[c.at..d.at]
 }
 
 // Writes the sentence of error record `i`.
@@ -203,21 +118,15 @@ pub fn say_token_error(out: &mut [u8], script: &[u8], errors: &[u32], i: usize) 
         × Short (token_sentence script.now errors.now i) 0 }
     ensures { Said (token_sentence script.now errors.now i) out 0 result }
 {
-    let messages: &[u8] = b"\n\
-        unknown escape sequence\n\
-        expected closing double-quotes for string\n\
-        expected { after `asm`\n\
-        unexpected character: C\n";
-    let k = 4 * i;
-    let number = errors[k];
-    let c = character_of(script, number, errors[k + 1], errors[k + 2]);
+    let number = errors[4 * i];
     let m = Meaning {
         number,
         expected: kind::END,
         got: kind::END,
+        text: character_of(script, number, errors[4 * i + 1], errors[4 * i + 2]),
         base: 0,
     };
-    let start = c.start;
-    let end = c.end;
-    say_sentence(out, messages, m, &script[start..end])
+    let mut sentence = Sentence { out, at: 0 };
+    say_token_message(&mut sentence, &m);
+    sentence.at
 }

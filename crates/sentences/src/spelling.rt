@@ -1,38 +1,88 @@
 // The Debug spelling of a token: the name of its kind, its text in quotes, its base.
-ghost use Rattle.std.specs.Prelude.{◌≡◌, ◌+◌, ◌*◌, ◌-◌, ◌<◌, ◌≤◌};
-ghost use Rattle.definition.specs.Source.{six_more};
+ghost use Rattle.std.specs.Prelude.{◌≡◌, ◌<◌, ◌≤◌};
+ghost use Rattle.std.specs.List.{flat_map};
+ghost use Rattle.std.specs.Str.{chars};
 ghost use Rattle.definition.specs.Sentence as S;
-ghost use Rattle.source.specs.Place.{rest, origin};
-ghost use Rattle.sentences.specs.Said.{Short};
-ghost use Rattle.sentences.specs.Spelling.{Quotes, QuotesOf, letter_of, SomeBytes, code_between};
-ghost use Rattle.sentences.specs.Contract.{Said};
+ghost use Rattle.sentences.specs.Messages.{entry};
+ghost use Rattle.sentences.specs.Contract.{Told};
 
-use crate::write::{line_at, line_end, say, say_all};
+use crate::write::Sentence;
 use definition::kind;
-use source::{Cursor, step};
+use std::str::from_utf8;
 use token_records::has_text;
 
 // ---- the name of a kind
 
-pub fn say_name(out: &mut [u8], at: usize, kind: u32) -> usize
-    requires { Short (S.kind_name kind) at }
-    ensures { Said (S.kind_name kind) out at result }
+static NAMES: [&str; 55] = [
+    "",
+    "Identifier",
+    "Integer",
+    "String",
+    "KwFn",
+    "KwVar",
+    "KwReturn",
+    "KwLoop",
+    "KwWhile",
+    "KwBreak",
+    "KwIf",
+    "KwElse",
+    "KwTrue",
+    "KwFalse",
+    "KwAs",
+    "KwType",
+    "KwStruct",
+    "KwSizeof",
+    "KwUse",
+    "KwExtern",
+    "KwDistinct",
+    "KwInternal",
+    "Plus",
+    "Minus",
+    "Star",
+    "ForwardSlash",
+    "Equals",
+    "DoubleEquals",
+    "Ampersand",
+    "DoubleAmpersand",
+    "Bar",
+    "Caret",
+    "Tilde",
+    "Bang",
+    "Dot",
+    "DotStar",
+    "LeftShift",
+    "RightShift",
+    "Hash",
+    "LBrace",
+    "RBrace",
+    "LParen",
+    "RParen",
+    "LBracket",
+    "RBracket",
+    "LAngle",
+    "LAngleEquals",
+    "RAngle",
+    "RAngleEquals",
+    "Colon",
+    "Semicolon",
+    "RArrow",
+    "LArrow",
+    "Comma",
+    "InlineAssemblyFragment",
+];
+
+// The text at an index of a table; empty past its end.
+fn text_at(table: &[&'static str], i: usize) -> &'static str
+    ensures { result.now ≡ entry table.now i }
 {
-    let names: &[u8] = b"\n\
-        Identifier\nInteger\nString\n\
-        KwFn\nKwVar\nKwReturn\nKwLoop\nKwWhile\nKwBreak\nKwIf\nKwElse\nKwTrue\nKwFalse\n\
-        KwAs\nKwType\nKwStruct\nKwSizeof\nKwUse\nKwExtern\nKwDistinct\nKwInternal\n\
-        Plus\nMinus\nStar\nForwardSlash\nEquals\nDoubleEquals\nAmpersand\nDoubleAmpersand\n\
-        Bar\nCaret\nTilde\nBang\nDot\nDotStar\nLeftShift\nRightShift\nHash\n\
-        LBrace\nRBrace\nLParen\nRParen\nLBracket\nRBracket\n\
-        LAngle\nLAngleEquals\nRAngle\nRAngleEquals\n\
-        Colon\nSemicolon\nRArrow\nLArrow\nComma\nInlineAssemblyFragment\n";
-    let start = line_at(names, kind as usize);
-    let end = line_end(names, start);
-    say_all(out, at, &names[start..end])
+    table.get(i).copied().unwrap_or("")
 }
 
-// ---- numbers
+fn name(kind: u32) -> &'static str
+    ensures { result.now ≡ S.kind_name kind }
+{
+    text_at(&NAMES, kind as usize)
+}
 
 // 0 to 9, a to f.
 fn digit_char(d: usize) -> u8
@@ -45,154 +95,88 @@ fn digit_char(d: usize) -> u8
     b'a' + (d - 10) as u8
 }
 
-// Writes a number in a base, without leading zeros.
-fn say_number(out: &mut [u8], at: usize, base: usize, n: usize) -> usize
-    requires { (2 ≤ base) × (base ≤ 16) × Short (S.in_base base n) at }
-    ensures { Said (S.in_base base n) out at result }
-{
-    if n < base {
-        return say(out, at, digit_char(n));
+impl<'a> Sentence<'a> {
+    // Writes the name of a kind.
+    pub fn say_name(&mut self, kind: u32)
+        ensures { Told (S.kind_name kind) self.old self.new }
+    {
+        self.say_all(name(kind).as_bytes());
     }
-    let end = say_number(out, at, base, n / base);
-    say(out, end, digit_char(n % base))
-}
 
-// ---- quoted text
-
-// The letter after the backslash, or 0 where the character has no such form.
-fn letter(n: usize) -> u8
-    ensures { result ≡ letter_of n }
-{
-    if n == 34 {
-        return b'"';
-    }
-    if n == 92 {
-        return b'\\';
-    }
-    if n == 10 {
-        return b'n';
-    }
-    if n == 13 {
-        return b'r';
-    }
-    if n == 9 {
-        return b't';
-    }
-    0
-}
-
-// Writes the character with the number `n`.
-fn say_escaped(out: &mut [u8], at: usize, n: usize) -> usize
-    requires { Short (S.escaped n) at }
-    ensures { Said (S.escaped n) out at result }
-{
-    let l = letter(n);
-    if l != 0 {
-        let next = say(out, at, b'\\');
-        return say(out, next, l);
-    }
-    if (32 <= n) & (n <= 126) {
-        return say(out, at, n as u8);
-    }
-    let open = say_all(out, at, b"\\u{");
-    let end = say_number(out, open, 16, n);
-    say(out, end, b'}')
-}
-
-// A byte less `mark`, or 0 if it is below.
-fn less(b: u8, mark: u8) -> usize
-    ensures { (result ≡ b - mark) × (result < 256) }
-{
-    if b < mark {
-        return 0;
-    }
-    (b - mark) as usize
-}
-
-// The number `n` with six bits more.
-fn six_more(n: usize, b: u8) -> usize
-    requires { n < 0x1000000 }
-    ensures { (result ≡ six_more n b) × (result < n * 64 + 256) }
-{
-    n * 64 + less(b, 0x80)
-}
-
-// The number of the character whose bytes stand from `at` to `end`.
-fn code(s: &[u8], at: usize, end: usize) -> usize
-    requires { SomeBytes s.now at end }
-    ensures { result ≡ code_between s.now at end }
-{
-    let b = s[at];
-    let size = end - at;
-    if size == 1 {
-        return less(b, 0);
-    }
-    let x = s[at + 1];
-    if size == 2 {
-        return six_more(less(b, 0xC0), x);
-    }
-    let y = s[at + 2];
-    if size == 3 {
-        return six_more(six_more(less(b, 0xE0), x), y);
-    }
-    six_more(six_more(six_more(less(b, 0xF0), x), y), s[at + 3])
-}
-
-fn say_characters(out: &mut [u8], at: usize, text: &[u8]) -> usize
-    requires { Quotes text.now × Short (S.escaped_all (rest text.now origin)) at }
-    ensures { Said (S.escaped_all (rest text.now origin)) out at result }
-{
-    let mut n = at;
-    let mut c = Cursor {
-        at: 0,
-        line: 1,
-        column: 1,
-    };
-    loop {
-        let from = c.at;
-        if text.len() <= from {
-            return n;
+    // Writes a number in a base, without leading zeros.
+    fn say_number(&mut self, base: usize, n: usize)
+        requires { (2 ≤ base) × (base ≤ 16) }
+        ensures { Told (S.in_base base n) self.old self.new }
+    {
+        if n < base {
+            self.say(digit_char(n));
+            return;
         }
-        let d = step(text, c);
-        n = say_escaped(out, n, code(text, from, d.at));
-        c = d;
+        self.say_number(base, n / base);
+        self.say(digit_char(n % base));
     }
-}
 
-fn say_quoted(out: &mut [u8], at: usize, text: &[u8]) -> usize
-    requires { Quotes text.now × Short (S.in_quotes text.now) at }
-    ensures { Said (S.in_quotes text.now) out at result }
-{
-    let open = say(out, at, b'"');
-    let end = say_characters(out, open, text);
-    say(out, end, b'"')
-}
-
-// ---- the token
-
-// Writes the base of an Integer after its text.
-fn say_base(out: &mut [u8], at: usize, kind: u32, base: usize) -> usize
-    requires { Short (S.base_part kind base) at }
-    ensures { Said (S.base_part kind base) out at result }
-{
-    if kind != kind::INTEGER {
-        return at;
+    // Writes a character of a quoted text.
+    #[tactic(auto, using(std::proofs::lemmas::Bool::Decides::nat_tests), unfolding(definition::specs::Sentence::escaped, definition::specs::Choice::first, definition::specs::Ascii::ascii))]
+    fn say_escaped(&mut self, c: char)
+        ensures { Told (S.escaped c) self.old self.new }
+    {
+        match c {
+            '"' => self.say_all(b"\\\""),
+            '\\' => self.say_all(b"\\\\"),
+            '\n' => self.say_all(b"\\n"),
+            '\r' => self.say_all(b"\\r"),
+            '\t' => self.say_all(b"\\t"),
+            ' '..='~' => self.say(c as u8),
+            _ => {
+                self.say_all(b"\\u{");
+                self.say_number(16, c as usize);
+                self.say(b'}');
+            }
+        }
     }
-    let next = say_all(out, at, b", ");
-    say_number(out, next, 10, base)
-}
 
-// Writes the kind, and where it has a text this in parentheses.
-pub fn say_token(out: &mut [u8], at: usize, kind: u32, text: &[u8], base: usize) -> usize
-    requires { QuotesOf kind text.now × Short (S.spelled kind text.now base) at }
-    ensures { Said (S.spelled kind text.now base) out at result }
-{
-    let named = say_name(out, at, kind);
-    if !has_text(kind) {
-        return named;
+    fn say_characters(&mut self, text: &str)
+        ensures { Told (flat_map S.escaped (chars text.now)) self.old self.new }
+    {
+        for c in text.chars() {
+            self.say_escaped(c);
+        }
     }
-    let open = say(out, named, b'(');
-    let quoted = say_quoted(out, open, text);
-    let based = say_base(out, quoted, kind, base);
-    say(out, based, b')')
+
+    // Writes a text in quotes; nothing of what is not UTF-8.
+    fn say_quoted(&mut self, text: &[u8])
+        ensures { Told (S.in_quotes text.now) self.old self.new }
+    {
+        let Ok(text) = from_utf8(text) else {
+            return;
+        };
+        self.say(b'"');
+        self.say_characters(text);
+        self.say(b'"');
+    }
+
+    // Writes the base of an Integer after its text.
+    fn say_base(&mut self, kind: u32, base: usize)
+        ensures { Told (S.base_part kind base) self.old self.new }
+    {
+        if kind == kind::INTEGER {
+            self.say_all(b", ");
+            self.say_number(10, base);
+        }
+    }
+
+    // Writes the kind, and where it has a text this in parentheses.
+    pub fn say_token(&mut self, kind: u32, text: &[u8], base: usize)
+        ensures { Told (S.spelled kind text.now base) self.old self.new }
+    {
+        self.say_name(kind);
+        if !has_text(kind) {
+            return;
+        }
+        self.say(b'(');
+        self.say_quoted(text);
+        self.say_base(kind, base);
+        self.say(b')');
+    }
 }

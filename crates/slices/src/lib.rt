@@ -1,64 +1,62 @@
-// Writes to lent slices of bytes and words, and clears the rest of them.
+// Writes to lent slices, and fills the rest of them.
 #![tactic(auto)]
 
-ghost use Rattle.std.specs.Prelude.{[], ◌∷◌, ◌+◌, ◌-◌, ◌<◌, ◌≤◌, length, take, drop};
-ghost use Rattle.slices.specs.Cleared.{Cleared};
-ghost use Rattle.slices.specs.Contract.{Wrote};
+ghost use Rattle.std.specs.Prelude.{[], ◌∷◌, ◌+◌, ◌<◌, ◌≤◌, length};
+ghost use Rattle.slices.specs.Cleared.{Filled};
+ghost use Rattle.slices.specs.Written.{Wrote};
+ghost use Rattle.slices.specs.Contract.{Put};
 
-// ---- writing
-
-// Writes one byte, and returns the offset after it.
-pub fn put8(text: &mut [u8], at: usize, b: u8) -> usize
-    requires { at < length text.old }
-    ensures { Wrote (b ∷ []) text at result }
+// Writes one element, and returns the offset after it.
+pub fn put<T: Copy>(out: &mut [T], at: usize, x: T) -> usize
+    requires { at < length out.old }
+    ensures { Wrote out.old at (x ∷ []) out.new result }
 {
-    text[at] = b;
+    out[at] = x;
     at + 1
 }
 
-// Writes one word, and returns the offset after it.
-pub fn put32(words: &mut [u32], at: usize, v: u32) -> usize
-    requires { at < length words.old }
-    ensures { Wrote (v ∷ []) words at result }
+// Writes the elements of `xs`, and returns the offset after them.
+pub fn put_all<T: Copy>(out: &mut [T], at: usize, xs: &[T]) -> usize
+    requires { at + length xs.now ≤ length out.old }
+    ensures { Wrote out.old at xs.now out.new result }
 {
-    words[at] = v;
-    at + 1
+    let end = at + xs.len();
+    out[at..end].copy_from_slice(xs);
+    end
 }
 
-// Copies the bytes of `s` from `from` to `to` to the offset `at` of `text`, and returns the offset after them.
-pub fn copy(s: &[u8], from: usize, to: usize, text: &mut [u8], at: usize) -> usize
-    requires { (from ≤ to) × (to ≤ length s.now) × (at + (to - from) ≤ length text.old) }
-    ensures { Wrote (take (to - from) (drop from s.now)) text at result }
-{
-    let mut i = from;
-    let mut n = at;
-    while i < to {
-        n = put8(text, n, s[i]);
-        i += 1;
+// A slice that is written from the offset `at` on.
+#[derive(Drop)]
+pub struct Writer<'a, T> {
+    pub out: &'a mut [T],
+    pub at: usize,
+}
+
+impl<'a, T: Copy> Writer<'a, T> {
+    // Writes one element.
+    pub fn put(&mut self, x: T)
+        requires { self.old.at < length self.old.out.now }
+        ensures { Put (x ∷ []) self.old self.new }
+    {
+        self.at = put(self.out, self.at, x);
     }
-    n
-}
 
-// ---- writing zeros, from `from` to the end
-
-pub fn clear_bytes(bytes: &mut [u8], from: usize)
-    requires { from ≤ length bytes.old }
-    ensures { Cleared bytes.old from bytes.new }
-{
-    let mut i = from;
-    while i < bytes.len() {
-        bytes[i] = 0;
-        i += 1;
+    // Writes the elements of `xs`.
+    pub fn put_all(&mut self, xs: &[T])
+        requires { self.old.at + length xs.now ≤ length self.old.out.now }
+        ensures { Put xs.now self.old self.new }
+    {
+        self.at = put_all(self.out, self.at, xs);
     }
 }
 
-pub fn clear_words(words: &mut [u32], from: usize)
-    requires { from ≤ length words.old }
-    ensures { Cleared words.old from words.new }
+// Writes `x` from the offset `from` to the end. (Of a type parameter's copies the library's `fill` says nothing.)
+pub fn fill_from<T: Copy>(out: &mut [T], from: usize, x: T)
+    requires { from ≤ length out.old }
+    ensures { Filled x out.old from out.new }
 {
-    let mut i = from;
-    while i < words.len() {
-        words[i] = 0;
-        i += 1;
+    let rest = &mut out[from..];
+    for y in rest {
+        *y = x;
     }
 }

@@ -1,13 +1,12 @@
--- What the decoder does at a byte, in terms of the code: the fold of needs, and one step of a cursor.
--- Assumes nothing.
+-- One step of a cursor, in terms of the decoder. Assumes nothing.
 use mathlib.Core.Path.{◌≡◌, refl, sym, ap, ◌∙◌}
 use mathlib.Core.Bool.{Bool, true, false, ◌&&◌}
 use mathlib.Core.List.{List, [], ◌∷◌, ◌++◌, append_assoc}
 use mathlib.Core.Option.{Option, none, some}
-use Prim.Native.Nat.{ℕ, zero, suc, pred, ◌+◌, ◌-◌, ◌<◌, ◌≤◌}
-use native.Mathlib.Numerals.{add-one, sub-one}
+use Prim.Native.Nat.{ℕ, zero, suc, pred, ◌+◌, ◌<◌, ◌≤◌}
+use native.Mathlib.Numerals.{add-one}
 use native.Mathlib.Omega.{arith}
-use borrow.Author.Tests.{eqb-true, eqb-false, ltb-true, ltb-false, leb-true, leb-false, le-leb, lt-leb, lt-ltb, ne_eqb}
+use borrow.Author.Tests.{leb-true, leb-false, lt-ltb, ne_eqb}
 use lib.Dec.{eqb, ltb, leb}
 use lib.ListN.{length, get_or, take, drop, length-drop, drop_of_length-le}
 use lib.Seq.{drop-cons, drop-drop, length-take-le}
@@ -16,9 +15,8 @@ use Rattle.definition.specs.Choice.{pick, first}
 use Rattle.definition.proofs.Tests.{All}
 use Rattle.definition.proofs.Codes.{Coded}
 use Rattle.definition.proofs.Characters.{decode_coded}
-use Rattle.source.specs.declared.Need.{Need}
 use Rattle.source.specs.declared.Cursor.{Cursor}
-use Rattle.source.specs.Place.{needed, start, bad, need_of, next_need, ran_need, more, placed, at_of, or_none, rest, Stands, Stepped, char, along_line}
+use Rattle.source.specs.Place.{more, placed, at_of, or_none, rest, Stands, Stepped, char, along_line}
 
 abbrev Small : Lead → Type 0
 Small single = Unit {0}
@@ -37,17 +35,6 @@ lead_small b =
     (pick_small (eqb b 237) _ _ (omega arith) (pick_small (ltb b 240) _ _ (omega arith) (pick_small (eqb b 240) _ _ (omega arith) (pick_small (ltb b 244) _ _ (omega arith)
     (pick_small (eqb b 244) _ _ (omega arith) tt))))))))
 
--- ---- the fold of needs decides like the decoder
-
-and_some : (c : Ch) (o : Option (List Ch)) → is_some (and_then c o) ≡ is_some o
-and_some c none = refl
-and_some c (some cs) = refl
-
-ok_bad : (bs : List ℕ) → eqb (ran_need bad bs).missing 0 ≡ false
-unfolding ran_need
-ok_bad [] = refl
-ok_bad (b ∷ bs) = ok_bad bs
-
 abbrev after_lead : At → ℕ → List ℕ → Lead → Option (List Ch)
 after_lead p b bs x =
     elim x
@@ -62,73 +49,6 @@ after_more l m n p b bs t u =
       ]
       | false ↦ none
     ]
-
-abbrev need_more : ℕ → Bool → Bool → Need
-need_more n t u = pick t bad (pick u bad (needed (n - 1) 128 191))
-
--- inside a character the bounds and the count decide
-more_need : (n lo hi b : ℕ) → 1 ≤ n → n ≤ 3 → next_need (needed n lo hi) b ≡ need_more n (ltb b lo) (ltb hi b)
-more_need n lo hi b h k = rw (ne_eqb n 9 (λ e. omega arith), ne_eqb n 0 (λ e. omega arith))
-
-record Ok (bs : List ℕ) : Type 0 where
-  fr : (p : At) → eqb (ran_need start bs).missing 0 ≡ is_some (decode fresh p bs)
-  wi : (l : ℕ) (m : List ℕ) (n lo hi : ℕ) (p : At) → 1 ≤ n → n ≤ 3
-      → eqb (ran_need (needed n lo hi) bs).missing 0 ≡ is_some (decode (within l m n lo hi) p bs)
-
-module _ (bs : List ℕ) (ok : Ok bs) where
-  ok_lead : (p : At) (b : ℕ) (x : Lead) → Small x → eqb (ran_need (need_of x) bs).missing 0 ≡ is_some (after_lead p b bs x)
-  ok_lead p b single h = ok.fr (past p b []) ∙ sym (and_some (char_at p b []) (decode fresh (past p b []) bs))
-  ok_lead p b (with_more n lo hi) h = ok.wi b [] n lo hi p h.0 h.1
-  ok_lead p b wrong h = ok_bad bs
-
-  ok_tests : (l : ℕ) (m : List ℕ) (n lo hi : ℕ) (p : At) (b : ℕ) → 1 ≤ n → n ≤ 3 → (t : Bool) → ltb b lo ≡ t
-      → (u : Bool) → ltb hi b ≡ u → (v : Bool) → eqb n 1 ≡ v →
-      eqb (ran_need (need_more n t u) bs).missing 0 ≡ is_some (after_more l m n p b bs (leb lo b && leb b hi) (leb n 1))
-  ok_tests l m n lo hi p b h k true e u f v g = ok_bad bs ∙ rw (lt-leb lo b (ltb-true _ _ e))
-  ok_tests l m n lo hi p b h k false e true f v g = ok_bad bs ∙ rw (le-leb lo b (ltb-false _ _ e), lt-leb b hi (ltb-true _ _ f))
-  ok_tests l m n lo hi p b h k false e false f true g =
-      let z : n - 1 ≡ 0 = omega (arith, eqb-true n 1 g) in
-      rw (
-        z,
-        le-leb lo b (ltb-false _ _ e),
-        le-leb b hi (ltb-false _ _ f),
-        le-leb n 1 (omega (arith, eqb-true n 1 g)),
-      ) (ok.fr (past p l (m ++ (b ∷ [])))
-      ∙ sym (and_some (char_at p l (m ++ (b ∷ []))) (decode fresh (past p l (m ++ (b ∷ []))) bs)))
-  ok_tests l m n lo hi p b h k false e false f false g =
-      let q : 1 < n = omega (arith, eqb-false n 1 g) in
-      rw (le-leb lo b (ltb-false _ _ e), le-leb b hi (ltb-false _ _ f), lt-leb n 1 q, sub-one)
-      (ok.wi l (m ++ (b ∷ [])) (pred n) 128 191 p (omega (arith, sub-one n)) (omega (arith, sub-one n)))
-
-oks : (bs : List ℕ) → Ok bs
-unfolding ran_need decode
-oks [] = record { fr = λ p. refl; wi = λ l m n lo hi p h k. ne_eqb n 0 (λ e. omega arith) }
-oks (b ∷ bs) = record {
-  fr = λ p. ok_lead bs (oks bs) p b (lead b) (lead_small b);
-  wi =
-      λ l m n lo hi p h k. ap (λ (x : Need). eqb (ran_need x bs).missing 0) (more_need n lo hi b h k)
-      ∙ ok_tests bs (oks bs) l m n lo hi p b h k (ltb b lo) refl (ltb hi b) refl (eqb n 1) refl;
-}
-
--- the invariant of `valid`: the fold over the bytes left, from the need n, gives the same as the fold over all
-pub record Ran (s : List ℕ) (n : Need) (i : ℕ) : Type 0 where
-  pub inside : i ≤ length s
-  pub same : ran_need n (drop i s) ≡ ran_need start s
-
-pub ran_start : {s : List ℕ} → Ran s start 0
-ran_start = record { inside = omega arith; same = refl }
-
-pub ran_more : {s : List ℕ} {n r : Need} {i : ℕ} → Ran s n i → i < length s → r ≡ next_need n (get_or s i 0) → Ran s r (i + 1)
-unfolding ran_need
-ran_more {s} {n} {r} {i} e h q =
-    record {
-      inside = omega arith;
-      same = rw (q, add-one) (sym (ap (ran_need n) (drop-cons s i 0 h)) ∙ e.same);
-    }
-
-pub ran_end : {s : List ℕ} {n : Need} {i : ℕ} → Ran s n i → length s ≤ i → eqb n.missing 0 ≡ utf8 s
-unfolding ran_need utf8 characters
-ran_end {s} {n} {i} e h = ap (λ (x : Need). eqb x.missing 0) (sym (ap (ran_need n) (drop_of_length-le s h)) ∙ e.same) ∙ (oks s).fr _
 
 -- ---- one step of a cursor
 
@@ -241,23 +161,6 @@ unfolding lead first
 along_law {s} {c} {r} z h l n e =
     let w : more (lead (get_or s c.at 0)) ≡ 0 = rw (lt-ltb (get_or s c.at 0) 128 l) in
     rw e (step_law z h (omega (arith, w)) (rw (ne_eqb (get_or s c.at 0) 10 n, add-one)) (omega arith) (omega arith))
-
--- the width of a byte that begins no character, and of one that does
-pub width_bad : (b : ℕ) (n : Need) → n ≡ need_of (lead b) → n.missing ≡ 9 → 1 ≡ more (lead b) + 1
-width_bad b n e h = go (lead b) (lead_small b) (ap (λ (x : Need). x.missing) (sym e) ∙ h)
-  where
-    go : (x : Lead) → Small x → (need_of x).missing ≡ 9 → 1 ≡ more x + 1
-    go single s k = refl
-    go (with_more n lo hi) s k = absurd (omega (arith, k))
-    go wrong s k = refl
-
-pub width_good : (b : ℕ) (n : Need) → n ≡ need_of (lead b) → (n.missing ≡ 9 → ⊥) → n.missing + 1 ≡ more (lead b) + 1
-width_good b n e h = ap (λ (x : Need). x.missing + 1) e ∙ go (lead b) (λ k. h (ap (λ (x : Need). x.missing) e ∙ k))
-  where
-    go : (x : Lead) → ((need_of x).missing ≡ 9 → ⊥) → (need_of x).missing + 1 ≡ more x + 1
-    go single k = refl
-    go (with_more n lo hi) k = refl
-    go wrong k = absurd (k refl)
 
 -- the start of a UTF-8 script is a valid cursor
 pub stands_start : (s : List ℕ) (c : Cursor) → utf8 s ≡ true → c.at ≡ 0 → c.line ≡ 1 → c.column ≡ 1 → Stands s c

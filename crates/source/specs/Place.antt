@@ -1,41 +1,8 @@
--- What must follow each byte of UTF-8, as a fold over the bytes; the characters from a cursor on. Assumes nothing.
-use Rattle.std.specs.Prelude.{◌≡◌, List, [], ◌∷◌, ℕ, max, ◌+◌, ◌-◌, ◌≤◌, eqb, ltb, length, get_or, take, drop}
+-- The characters from a cursor on. Assumes nothing.
+use Rattle.std.specs.Prelude.{◌≡◌, List, [], ◌∷◌, ℕ, ◌+◌, ◌≤◌, length, get_or, take, drop}
 use Rattle.std.proofs.Math.Option.{Option, none, some}
 use Rattle.definition.specs.Source.{Place, At, Ch, Lead, single, with_more, wrong, lead, decode, fresh}
-use Rattle.definition.specs.Choice.{pick}
-use Rattle.source.specs.declared.Need.{Need}
 use Rattle.source.specs.declared.Cursor.{Cursor}
-
--- ---- the highest byte
-
-unfoldable pub highest_of : List ℕ → ℕ
-highest_of [] = 0
-highest_of (b ∷ bs) = max b (highest_of bs)
-
--- ---- what must follow a byte
-
-abbrev pub needed : ℕ → ℕ → ℕ → Need
-needed n lo hi = record { missing = n; lo = lo; hi = hi }
-
--- between two characters
-abbrev pub start : Need
-start = needed 0 0x80 0xBF
-
-abbrev pub bad : Need
-bad = needed 9 0 0
-
-abbrev pub need_of : Lead → Need
-need_of single = start
-need_of (with_more n lo hi) = needed n lo hi
-need_of wrong = bad
-
-abbrev pub next_need : Need → ℕ → Need
-next_need n b =
-    pick (eqb n.missing 9) n (pick (eqb n.missing 0) (need_of (lead b)) (pick (ltb b n.lo) bad (pick (ltb n.hi b) bad (needed (n.missing - 1) 0x80 0xBF))))
-
-unfoldable pub ran_need : Need → List ℕ → Need
-ran_need n [] = n
-ran_need n (b ∷ bs) = ran_need (next_need n b) bs
 
 -- ---- places
 

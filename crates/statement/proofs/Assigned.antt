@@ -14,19 +14,17 @@ use Rattle.definition.specs.Go.{go}
 use Rattle.definition.specs.Places.{unpack_place}
 use Rattle.definition.proofs.Flat.{go_bind}
 use Rattle.fallible.proofs.Grown.{errs_length}
-use Rattle.fallible.specs.declared.State.{State}
-use Rattle.fallible.specs.declared.Status.{Status}
-use Rattle.fallible.specs.declared.Status.TheVariants.{Done, Fatal, Refused}
-use Rattle.fallible.specs.declared.Answer.{Answer}
+use Rattle.fallible.specs.declared.parser.State.{State}
+use Rattle.fallible.specs.Answer.{Status, Done, Fatal, Refused, done_of, Answer}
 use Rattle.fallible.specs.Lists.{errs}
 use Rattle.fallible.specs.Answers.{Abandoned, Cuts}
 use Rattle.node.specs.Put.{Room}
 use Rattle.node.specs.declared.Numbers.TheVariants.{None}
 use Rattle.node.specs.declared.Record.{Record}
-use Rattle.steps.specs.declared.Token.{Token}
+use Rattle.steps.specs.declared.tokens.Token.{Token}
 use Rattle.steps.specs.Tokens.{budget, Seen}
-use Rattle.steps.specs.Shows.{st_of, Asked, Moved, View, Shows, Reads, node, Expected, Follows, done_of, NodeWrittenOf, NodeWritten}
-use Rattle.steps.proofs.Tokens.{yes, no, fore, adv}
+use Rattle.steps.specs.Shows.{st_of, Asked, Moved, View, Shows, Reads, node, Expected, Follows, NodeWrittenOf, NodeWritten}
+use Rattle.steps.proofs.Records.{yes, no, fore, adv}
 use Rattle.steps.proofs.Moves.{fore_moved, moved_trans, asks_moved, abandoned_moved}
 use Rattle.steps.proofs.Answers.{Stopped, say, good_of, is_good, follows, abandons, wrapped, writes_node}
 use Rattle.steps.proofs.Constructs.{then_stops}
@@ -107,7 +105,7 @@ module _ {w x : List ℕ} {n d : ℕ} {o r f : List ℕ} {s : State} {t : Token}
 module _ {w x : List ℕ} {n d : ℕ} {o r f : List ℕ} {s : State} {t : Token} {i : ℕ} (q : Asked w x n o r f s)
     (hi : i ≤ s.pos) (u : Seen w n s.at t) where
   module _ {o1 r1 f1 : List ℕ} {a : Answer} {m : Act (Ans Node)} (B : Reads node w x n d m o r f (fore s t) o1 r1 f1 a) where
-    pub assigned_cuts : length r1 ≡ length r → Cuts r1 a i s.reported s.reported
+    pub assigned_cuts : length r1 ≡ length r → Cuts r1 a.state i s.reported s.reported
     assigned_cuts l =
         record {
           pos = omega (arith, hi, B.moved.pos);

@@ -18,17 +18,15 @@ use Rattle.definition.specs.Go.{go}
 use Rattle.definition.specs.Places.{unpack_place}
 use Rattle.definition.proofs.Flat.{go_bind}
 use Rattle.fallible.proofs.Grown.{errs_length}
-use Rattle.fallible.specs.declared.State.{State}
-use Rattle.fallible.specs.declared.Status.{Status}
-use Rattle.fallible.specs.declared.Status.TheVariants.{Done, Fatal, Refused}
-use Rattle.fallible.specs.declared.Answer.{Answer}
+use Rattle.fallible.specs.declared.parser.State.{State}
+use Rattle.fallible.specs.Answer.{Status, Done, Fatal, Refused, done_of, Answer}
 use Rattle.fallible.specs.Lists.{unpack, error_at, errs}
 use Rattle.fallible.specs.Answers.{raised, Raised}
 use Rattle.node.specs.declared.Numbers.TheVariants.{None, Two}
-use Rattle.steps.specs.declared.Token.{Token}
+use Rattle.steps.specs.declared.tokens.Token.{Token}
 use Rattle.steps.specs.Tokens.{rest, budget, Parts, Seen}
-use Rattle.steps.specs.Shows.{st_of, Asks, Asked, Moved, ShowsOf, Shows, Reads, node, items, typed, Expects, Expected, done_of, NodeWrittenOf, NodeWritten}
-use Rattle.steps.proofs.Tokens.{present_kind, yes, no}
+use Rattle.steps.specs.Shows.{st_of, Asks, Asked, Moved, ShowsOf, Shows, Reads, node, items, typed, Expects, Expected, NodeWrittenOf, NodeWritten}
+use Rattle.steps.proofs.Records.{present_kind, yes, no}
 use Rattle.steps.proofs.Moves.{making_moved, asks_moved}
 use Rattle.steps.proofs.Answers.{Stopped, say, good_of, stops, follows, wrapped, writes_node, wrote, raise_shows, not_done, done_le, raise_same}
 use Rattle.steps.proofs.Following.{expects_after}

@@ -12,18 +12,16 @@ use Rattle.definition.specs.Go.{go}
 use Rattle.definition.specs.Places.{unpack_place}
 use Rattle.definition.proofs.Flat.{go_bind}
 use Rattle.fallible.proofs.Grown.{errs_length}
-use Rattle.fallible.specs.declared.State.{State}
-use Rattle.fallible.specs.declared.Status.{Status}
-use Rattle.fallible.specs.declared.Status.TheVariants.{Done, Fatal, Refused}
-use Rattle.fallible.specs.declared.Answer.{Answer}
+use Rattle.fallible.specs.declared.parser.State.{State}
+use Rattle.fallible.specs.Answer.{Status, Done, Fatal, Refused, done_of, Answer}
 use Rattle.fallible.specs.Lists.{errs}
 use Rattle.fallible.specs.Answers.{Abandoned}
 use Rattle.node.specs.Put.{Wrote, bare_of, bare_size}
 use Rattle.node.specs.declared.Numbers.TheVariants.{None}
-use Rattle.steps.specs.declared.Token.{Token}
+use Rattle.steps.specs.declared.tokens.Token.{Token}
 use Rattle.steps.specs.Tokens.{budget, Seen}
-use Rattle.steps.specs.Shows.{st_of, Asked, ShowsOf, Shows, Reads, GoesOn, node, typed, done_of}
-use Rattle.steps.proofs.Tokens.{yes, no, fore, adv}
+use Rattle.steps.specs.Shows.{st_of, Asked, ShowsOf, Shows, Reads, GoesOn, node, typed}
+use Rattle.steps.proofs.Records.{yes, no, fore, adv}
 use Rattle.steps.proofs.Answers.{Stopped, say, good_of, is_good, stops, follows, abandons, wrote, not_done, done_le}
 use Rattle.expression_laws.specs.Post.{ReadsTyped}
 use Rattle.expression_laws.proofs.Types.{past}

@@ -17,12 +17,11 @@ use Rattle.definition.proofs.Later.{After}
 use Rattle.definition.proofs.Size as Z
 use Rattle.definition.proofs.Room.{recs_length}
 use Rattle.definition.proofs.Flat.{go_call}
-use Rattle.fallible.specs.declared.State.{State}
-use Rattle.fallible.specs.declared.Status.TheVariants.{Done}
-use Rattle.fallible.specs.declared.Answer.{Answer}
+use Rattle.fallible.specs.declared.parser.State.{State}
+use Rattle.fallible.specs.Answer.{Done, done_of, Answer}
 use Rattle.steps.specs.Tokens.{budget}
-use Rattle.steps.specs.Shows.{Asked, Good, Reads, Expects, done_of, node}
-use Rattle.steps.proofs.Tokens.{budget_spend}
+use Rattle.steps.specs.Shows.{Asked, Good, Reads, Expects, node}
+use Rattle.steps.proofs.Records.{budget_spend}
 use Rattle.steps.proofs.Answers.{good_of}
 
 -- the definition's law for an expression

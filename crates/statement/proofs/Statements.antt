@@ -18,18 +18,16 @@ use Rattle.definition.specs.Go.{go}
 use Rattle.definition.specs.Places.{unpack_place}
 use Rattle.definition.proofs.Flat.{go_bind}
 use Rattle.fallible.proofs.Grown.{errs_length}
-use Rattle.fallible.specs.declared.State.{State}
-use Rattle.fallible.specs.declared.Status.{Status}
-use Rattle.fallible.specs.declared.Status.TheVariants.{Done, Fatal, Refused}
-use Rattle.fallible.specs.declared.Answer.{Answer}
+use Rattle.fallible.specs.declared.parser.State.{State}
+use Rattle.fallible.specs.Answer.{Status, Done, Fatal, Refused, Answer}
 use Rattle.fallible.specs.Lists.{unpack, error_at, errs}
 use Rattle.fallible.specs.Answers.{raised, Raised, Abandoned, Cuts}
 use Rattle.node.specs.Put.{Room}
 use Rattle.node.specs.declared.Numbers.TheVariants.{None, Byte, Two}
-use Rattle.steps.specs.declared.Token.{Token}
+use Rattle.steps.specs.declared.tokens.Token.{Token}
 use Rattle.steps.specs.Tokens.{rest, budget, present, Seen}
 use Rattle.steps.specs.Shows.{st_of, Asked, Moved, ShowsOf, Shows, Reads, node, items, token, Expects, Expected, NodeWritten, texted, untexted}
-use Rattle.steps.proofs.Tokens.{present_kind, yes, no, fore, adv}
+use Rattle.steps.proofs.Records.{present_kind, yes, no, fore, adv}
 use Rattle.steps.proofs.Moves.{making_moved, fore_moved, moved_trans, asks_moved, asked_seen, asked_moved}
 use Rattle.steps.proofs.Answers.{Stopped, say, good_of, stops, follows, abandons, wrapped, writes_node, raise_shows, raise_same}
 use Rattle.steps.proofs.Constructs.{then_stops}
@@ -608,8 +606,8 @@ module _ {w x : List ℕ} {n d : ℕ} {o r f o1 r1 f1 : List ℕ} {s : State} {a
 
 module _ {w x : List ℕ} {n : ℕ} {o r f : List ℕ} {s : State} (q : Asked w x n o r f s) where
   -- a second part, parsed from t', whose error counts are those at the end t of the first part
-  pub later_cuts : {r2 : List ℕ} {t t' : State} {b : Answer} → Moved w n s.pos s.reported s t
-      → Moved w n t.pos t.reported t' b.state → t'.reported ≡ t.reported → t'.full ≡ t.full
+  pub later_cuts : {r2 : List ℕ} {t t' b : State} → Moved w n s.pos s.reported s t
+      → Moved w n t.pos t.reported t' b → t'.reported ≡ t.reported → t'.full ≡ t.full
       → length r2 ≡ length r → Cuts r2 b s.pos s.reported t.reported
   later_cuts M B e g l =
       record {

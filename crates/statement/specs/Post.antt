@@ -10,13 +10,11 @@ use Rattle.definition.specs.Go.{go}
 use Rattle.definition.specs.Places.{unpack_place}
 use Rattle.node.specs.Put.{Wrote, bare_of}
 use Rattle.node.specs.declared.Numbers.TheVariants.{None}
-use Rattle.fallible.specs.declared.State.{State}
-use Rattle.fallible.specs.declared.Status.{Status}
-use Rattle.fallible.specs.declared.Status.TheVariants.{Done, Fatal, Refused}
-use Rattle.fallible.specs.declared.Answer.{Answer}
+use Rattle.fallible.specs.declared.parser.State.{State}
+use Rattle.fallible.specs.Answer.{Status, Done, Fatal, Refused, done_of, Answer}
 use Rattle.fallible.specs.Lists.{errs}
 use Rattle.steps.specs.Tokens.{rest, budget, present}
-use Rattle.steps.specs.Shows.{st_of, Asked, Moved, Shows, done_of, node, typed, items}
+use Rattle.steps.specs.Shows.{st_of, Asked, Moved, Shows, node, typed, items}
 use Rattle.expression_laws.specs.Post.{name_of, as_answer}
 use Rattle.statement.specs.Rules.{value_on}
 

@@ -12,93 +12,62 @@ ghost use Rattle.steps.specs.Contract.{Asked, Parses};
 ghost use Rattle.expression_laws.specs.Contract.{LoopOn};
 ghost use Rattle.statement.specs.Contract.{Starts, ReadsBody};
 
-use definition::{kind, parse_error, refusal, tag};
+use definition::refusal::Refusal;
+use definition::{kind, parse_error, tag};
 use expression::expression;
-use fallible::{Answer, State, Status, abandon, entry, note, raise, refuse};
+use fallible::parser::Parser;
+use fallible::{Stop, abandon, entry, recover};
 use leaves::{counted, leaf};
 use node::Numbers;
 use simple::{break_statement, expression_statement, return_statement, var_statement};
-use steps::{expect, peek, write_node};
+use steps::tokens::Tokens;
+use steps::{expect, write_node};
 
 // ---- bodies
 
-// parse_body: `{` {statement} `}`. Never fatal; `count` of the answer is that of the statements.
+// parse_body: `{` {statement} `}`. Never fatal; gives the count of the statements.
 #[cycle(statement)]
 pub fn body(
-    tokens: &[u32],
-    text: &[u8],
-    n: usize,
+    tokens: Tokens,
     file: &mut [u8],
-    reported: &mut [usize],
-    full: &mut [usize],
-    st: State,
+    parser: &mut Parser,
     nesting: usize,
-) -> Answer
-    requires { Asked tokens text n file reported full st }
-    ensures { ReadsBody tokens text n file reported full st nesting result }
+) -> Result<usize, Refusal>
+    requires { Asked tokens file parser }
+    ensures { ReadsBody tokens file parser nesting result }
 {
-    let a = expect(tokens, n, reported, full, st, kind::L_BRACE);
-    let status = a.status;
-    let s = a.state;
-    match status {
-        Status::Done => body_rest(tokens, text, n, file, reported, full, s, nesting),
-        Status::Fatal => Answer {
-            status: Status::Done,
-            state: s,
-            place: 0,
-            count: 0,
-        },
-        Status::Refused(_) => a,
+    match recover(expect(tokens, parser, kind::L_BRACE))? {
+        Some(_) => body_rest(tokens, file, parser, nesting),
+        None => Ok(0),
     }
 }
 
 // The loop of parse_body, after `{`: {statement} `}`
 #[cycle(statement)]
 fn body_rest(
-    tokens: &[u32],
-    text: &[u8],
-    n: usize,
+    tokens: Tokens,
     file: &mut [u8],
-    reported: &mut [usize],
-    full: &mut [usize],
-    from: State,
+    parser: &mut Parser,
     nesting: usize,
-) -> Answer
-    requires { Asked tokens text n file reported full from }
-    ensures { LoopOn statements_on 0 tokens text n file reported full from nesting result }
+) -> Result<usize, Refusal>
+    requires { Asked tokens file parser }
+    ensures { LoopOn statements_on 0 tokens file parser nesting result }
 {
     let mut count = 0;
-    let mut st = from;
     loop {
-        let t = peek(tokens, n, st.at);
+        let t = tokens.peek(parser.state.at);
         if t.kind == kind::R_BRACE {
-            return Answer {
-                status: Status::Done,
-                state: State { at: t.next, ..st },
-                place: 0,
-                count,
-            };
+            parser.state.at = t.next;
+            return Ok(count);
         }
         if t.kind == kind::END {
             let error = entry(parse_error::BODY_AT_END, 0, 0, 0);
-            let b = note(n, reported, full, st, error);
-            let status = b.status;
-            let s = b.state;
-            return Answer {
-                status,
-                state: s,
-                place: 0,
-                count,
-            };
+            parser.note(tokens.count, error)?;
+            return Ok(count);
         }
-        let b = statement(tokens, text, n, file, reported, full, st, nesting);
-        let status = b.status;
-        let s = b.state;
-        if let Status::Refused(_) = status {
-            return b;
-        }
-        count = counted(status, count);
-        st = s;
+        let b = statement(tokens, file, parser, nesting);
+        let parsed = recover(b)?;
+        count = counted(parsed, count);
     }
 }
 
@@ -107,187 +76,197 @@ fn body_rest(
 // A block: a body as a statement.
 #[cycle(statement)]
 fn block(
-    tokens: &[u32],
-    text: &[u8],
-    n: usize,
+    tokens: Tokens,
     file: &mut [u8],
-    reported: &mut [usize],
-    full: &mut [usize],
-    st: State,
+    parser: &mut Parser,
     nesting: usize,
-) -> Answer
-    requires { Starts K.LBrace tokens text n file reported full st }
-    ensures { Parses P.statement_rule tokens text n file reported full st nesting result }
+) -> Result<usize, Stop>
+    requires { Starts K.LBrace tokens file parser }
+    ensures { Parses P.statement_rule tokens file parser nesting result }
 {
-    let t = peek(tokens, n, st.at);
-    let a = body(tokens, text, n, file, reported, full, st, nesting);
-    write_node(file, text, a, t.place, tag::BLOCK, Numbers::Two(a.count))
+    let t = tokens.peek(parser.state.at);
+    let count = body(tokens, file, parser, nesting)?;
+    write_node(
+        file,
+        tokens.text,
+        &mut parser.state,
+        Ok(t.place),
+        t.place,
+        tag::BLOCK,
+        Numbers::Two(count),
+    )
 }
 
 // `loop` statement
 #[cycle(statement)]
 fn loop_statement(
-    tokens: &[u32],
-    text: &[u8],
-    n: usize,
+    tokens: Tokens,
     file: &mut [u8],
-    reported: &mut [usize],
-    full: &mut [usize],
-    st: State,
+    parser: &mut Parser,
     nesting: usize,
-) -> Answer
-    requires { Starts K.KwLoop tokens text n file reported full st }
-    ensures { Parses P.statement_rule tokens text n file reported full st nesting result }
+) -> Result<usize, Stop>
+    requires { Starts K.KwLoop tokens file parser }
+    ensures { Parses P.statement_rule tokens file parser nesting result }
 {
-    let t = peek(tokens, n, st.at);
-    let on = State { at: t.next, ..st };
-    let a = statement(tokens, text, n, file, reported, full, on, nesting);
-    write_node(file, text, a, t.place, tag::LOOP, Numbers::None)
+    let t = tokens.peek(parser.state.at);
+    parser.state.at = t.next;
+    let a = statement(tokens, file, parser, nesting);
+    write_node(
+        file,
+        tokens.text,
+        &mut parser.state,
+        a,
+        t.place,
+        tag::LOOP,
+        Numbers::None,
+    )
 }
 
 // A condition and the statement it guards: expression statement
 #[cycle(statement)]
 fn guarded(
-    tokens: &[u32],
-    text: &[u8],
-    n: usize,
+    tokens: Tokens,
     file: &mut [u8],
-    reported: &mut [usize],
-    full: &mut [usize],
-    st: State,
+    parser: &mut Parser,
     nesting: usize,
-) -> Answer
-    requires { Asked tokens text n file reported full st }
-    ensures { Parses guarded_rule tokens text n file reported full st nesting result }
+) -> Result<usize, Stop>
+    requires { Asked tokens file parser }
+    ensures { Parses guarded_rule tokens file parser nesting result }
 {
-    let a = expression(tokens, text, n, file, reported, full, st, nesting);
-    let status = a.status;
-    let Status::Done = status else {
-        return a;
-    };
-    let s = a.state;
-    let b = statement(tokens, text, n, file, reported, full, s, nesting);
-    abandon(reported, b, st, s)
+    let from = parser.state;
+    expression(tokens, file, parser, nesting)?;
+    let before = parser.state;
+    let b = statement(tokens, file, parser, nesting);
+    abandon(&mut parser.reported, &mut parser.state, b, from, before)
 }
 
 // `while` guarded
 #[cycle(statement)]
 fn while_statement(
-    tokens: &[u32],
-    text: &[u8],
-    n: usize,
+    tokens: Tokens,
     file: &mut [u8],
-    reported: &mut [usize],
-    full: &mut [usize],
-    st: State,
+    parser: &mut Parser,
     nesting: usize,
-) -> Answer
-    requires { Starts K.KwWhile tokens text n file reported full st }
-    ensures { Parses P.statement_rule tokens text n file reported full st nesting result }
+) -> Result<usize, Stop>
+    requires { Starts K.KwWhile tokens file parser }
+    ensures { Parses P.statement_rule tokens file parser nesting result }
 {
-    let t = peek(tokens, n, st.at);
-    let on = State { at: t.next, ..st };
-    let a = guarded(tokens, text, n, file, reported, full, on, nesting);
-    write_node(file, text, a, t.place, tag::WHILE, Numbers::None)
+    let t = tokens.peek(parser.state.at);
+    parser.state.at = t.next;
+    let a = guarded(tokens, file, parser, nesting);
+    write_node(
+        file,
+        tokens.text,
+        &mut parser.state,
+        a,
+        t.place,
+        tag::WHILE,
+        Numbers::None,
+    )
 }
 
 // `if` guarded [`else` statement]
 #[cycle(statement)]
 fn if_statement(
-    tokens: &[u32],
-    text: &[u8],
-    n: usize,
+    tokens: Tokens,
     file: &mut [u8],
-    reported: &mut [usize],
-    full: &mut [usize],
-    st: State,
+    parser: &mut Parser,
     nesting: usize,
-) -> Answer
-    requires { Starts K.KwIf tokens text n file reported full st }
-    ensures { Parses P.statement_rule tokens text n file reported full st nesting result }
+) -> Result<usize, Stop>
+    requires { Starts K.KwIf tokens file parser }
+    ensures { Parses P.statement_rule tokens file parser nesting result }
 {
-    let t = peek(tokens, n, st.at);
-    let on = State { at: t.next, ..st };
-    let a = guarded(tokens, text, n, file, reported, full, on, nesting);
-    let status = a.status;
-    let Status::Done = status else {
+    let from = parser.state;
+    let t = tokens.peek(from.at);
+    parser.state.at = t.next;
+    let a = guarded(tokens, file, parser, nesting);
+    let Ok(_) = a else {
         return a;
     };
-    let s = a.state;
-    let u = peek(tokens, n, s.at);
+    let before = parser.state;
+    let u = tokens.peek(before.at);
     if u.kind != kind::KW_ELSE {
-        return write_node(file, text, a, t.place, tag::IF, Numbers::Byte(2));
+        return write_node(
+            file,
+            tokens.text,
+            &mut parser.state,
+            a,
+            t.place,
+            tag::IF,
+            Numbers::Byte(2),
+        );
     }
-    let on = State { at: u.next, ..s };
-    let b = statement(tokens, text, n, file, reported, full, on, nesting);
-    let c = abandon(reported, b, st, s);
-    write_node(file, text, c, t.place, tag::IF, Numbers::Byte(3))
+    parser.state.at = u.next;
+    let b = statement(tokens, file, parser, nesting);
+    let c = abandon(&mut parser.reported, &mut parser.state, b, from, before);
+    write_node(
+        file,
+        tokens.text,
+        &mut parser.state,
+        c,
+        t.place,
+        tag::IF,
+        Numbers::Byte(3),
+    )
 }
 
 // parse_statement without its nesting count: chooses the statement by its first token.
 #[cycle(statement)]
 fn statement_rule(
-    tokens: &[u32],
-    text: &[u8],
-    n: usize,
+    tokens: Tokens,
     file: &mut [u8],
-    reported: &mut [usize],
-    full: &mut [usize],
-    st: State,
+    parser: &mut Parser,
     nesting: usize,
-) -> Answer
-    requires { Asked tokens text n file reported full st }
-    ensures { Parses P.statement_rule tokens text n file reported full st nesting result }
+) -> Result<usize, Stop>
+    requires { Asked tokens file parser }
+    ensures { Parses P.statement_rule tokens file parser nesting result }
 {
-    let t = peek(tokens, n, st.at);
+    let t = tokens.peek(parser.state.at);
     if t.kind == kind::KW_RETURN {
-        return return_statement(tokens, text, n, file, reported, full, st, nesting);
+        return return_statement(tokens, file, parser, nesting);
     }
     if t.kind == kind::KW_VAR {
-        return var_statement(tokens, text, n, file, reported, full, st, nesting);
+        return var_statement(tokens, file, parser, nesting);
     }
     if t.kind == kind::L_BRACE {
-        return block(tokens, text, n, file, reported, full, st, nesting);
+        return block(tokens, file, parser, nesting);
     }
     if t.kind == kind::KW_LOOP {
-        return loop_statement(tokens, text, n, file, reported, full, st, nesting);
+        return loop_statement(tokens, file, parser, nesting);
     }
     if t.kind == kind::KW_WHILE {
-        return while_statement(tokens, text, n, file, reported, full, st, nesting);
+        return while_statement(tokens, file, parser, nesting);
     }
     if t.kind == kind::KW_BREAK {
-        return break_statement(tokens, text, n, file, reported, full, st);
+        return break_statement(tokens, file, parser);
     }
     if t.kind == kind::KW_IF {
-        return if_statement(tokens, text, n, file, reported, full, st, nesting);
+        return if_statement(tokens, file, parser, nesting);
     }
     if t.kind == kind::INLINE_ASSEMBLY_FRAGMENT {
-        return leaf(file, text, st, t, tag::INLINE_ASSEMBLY, Numbers::None);
+        let tag = tag::INLINE_ASSEMBLY;
+        return Ok(leaf(file, tokens.text, &mut parser.state, t, tag, Numbers::None));
     }
     if t.kind == kind::END {
         let error = entry(parse_error::STATEMENT_AT_END, 0, 0, 0);
-        return raise(n, reported, full, st, error);
+        return Err(parser.raise(tokens.count, error));
     }
-    expression_statement(tokens, text, n, file, reported, full, t.place, st, nesting)
+    expression_statement(tokens, file, parser, t.place, nesting)
 }
 
 // parse_statement, one of the four functions whose open calls are counted: refuses where `nesting` is 0.
 #[cycle(statement)]
 pub fn statement(
-    tokens: &[u32],
-    text: &[u8],
-    n: usize,
+    tokens: Tokens,
     file: &mut [u8],
-    reported: &mut [usize],
-    full: &mut [usize],
-    st: State,
+    parser: &mut Parser,
     nesting: usize,
-) -> Answer
-    requires { Asked tokens text n file reported full st }
-    ensures { Parses P.parse_statement tokens text n file reported full st nesting result }
+) -> Result<usize, Stop>
+    requires { Asked tokens file parser }
+    ensures { Parses P.parse_statement tokens file parser nesting result }
 {
     if nesting == 0 {
-        return refuse(n, st, refusal::NESTING);
+        return Err(parser.state.refuse(tokens.count, Refusal::Nesting));
     }
-    statement_rule(tokens, text, n, file, reported, full, st, nesting - 1)
+    statement_rule(tokens, file, parser, nesting - 1)
 }

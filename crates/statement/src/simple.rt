@@ -9,130 +9,143 @@ ghost use Rattle.statement.specs.Contract.{Starts, ReadsAfter};
 use crate::declarations::{compound, declaration};
 use definition::{kind, tag};
 use expression::expression;
-use fallible::{Answer, State, Status, abandon};
+use fallible::parser::{Parser, State};
+use fallible::{Stop, abandon};
 use node::Numbers;
-use steps::{and_expect, expect, peek, write_node};
+use steps::tokens::Tokens;
+use steps::{expect, expect_after, write_node};
 
 // `return` [expression] `;`
 pub fn return_statement(
-    tokens: &[u32],
-    text: &[u8],
-    n: usize,
+    tokens: Tokens,
     file: &mut [u8],
-    reported: &mut [usize],
-    full: &mut [usize],
-    st: State,
+    parser: &mut Parser,
     nesting: usize,
-) -> Answer
-    requires { Starts K.KwReturn tokens text n file reported full st }
-    ensures { Parses P.statement_rule tokens text n file reported full st nesting result }
+) -> Result<usize, Stop>
+    requires { Starts K.KwReturn tokens file parser }
+    ensures { Parses P.statement_rule tokens file parser nesting result }
 {
-    let t = peek(tokens, n, st.at);
-    let u = peek(tokens, n, t.next);
+    let from = parser.state;
+    let t = tokens.peek(from.at);
+    let u = tokens.peek(t.next);
     if u.kind == kind::SEMICOLON {
-        let a = Answer {
-            status: Status::Done,
-            state: State { at: u.next, ..st },
-            place: t.place,
-            count: 0,
-        };
-        return write_node(file, text, a, t.place, tag::RETURN, Numbers::Byte(0));
+        parser.state.at = u.next;
+        return write_node(
+            file,
+            tokens.text,
+            &mut parser.state,
+            Ok(t.place),
+            t.place,
+            tag::RETURN,
+            Numbers::Byte(0),
+        );
     }
-    let on = State { at: t.next, ..st };
-    let a = expression(tokens, text, n, file, reported, full, on, nesting);
-    let b = and_expect(tokens, n, reported, full, a, kind::SEMICOLON, st);
-    write_node(file, text, b, t.place, tag::RETURN, Numbers::Byte(1))
+    parser.state.at = t.next;
+    let a = expression(tokens, file, parser, nesting);
+    let b = expect_after(tokens, parser, a, kind::SEMICOLON, from);
+    write_node(
+        file,
+        tokens.text,
+        &mut parser.state,
+        b,
+        t.place,
+        tag::RETURN,
+        Numbers::Byte(1),
+    )
 }
 
 // `var` declaration
 pub fn var_statement(
-    tokens: &[u32],
-    text: &[u8],
-    n: usize,
+    tokens: Tokens,
     file: &mut [u8],
-    reported: &mut [usize],
-    full: &mut [usize],
-    st: State,
+    parser: &mut Parser,
     nesting: usize,
-) -> Answer
-    requires { Starts K.KwVar tokens text n file reported full st }
-    ensures { Parses P.statement_rule tokens text n file reported full st nesting result }
+) -> Result<usize, Stop>
+    requires { Starts K.KwVar tokens file parser }
+    ensures { Parses P.statement_rule tokens file parser nesting result }
 {
-    let t = peek(tokens, n, st.at);
-    let on = State { at: t.next, ..st };
-    let tag = tag::VARIABLE_DECLARATION;
+    let t = tokens.peek(parser.state.at);
+    parser.state.at = t.next;
     declaration(
-        tokens, text, n, file, reported, full, tag, t.place, on, nesting,
+        tokens,
+        file,
+        parser,
+        tag::VARIABLE_DECLARATION,
+        t.place,
+        nesting,
     )
 }
 
 // `break` `;`
-pub fn break_statement(
-    tokens: &[u32],
-    text: &[u8],
-    n: usize,
-    file: &mut [u8],
-    reported: &mut [usize],
-    full: &mut [usize],
-    st: State,
-) -> Answer
-    requires { Starts K.KwBreak tokens text n file reported full st }
-    ensures { (d : ℕ) → Parses P.statement_rule tokens text n file reported full st d result }
+pub fn break_statement(tokens: Tokens, file: &mut [u8], parser: &mut Parser) -> Result<usize, Stop>
+    requires { Starts K.KwBreak tokens file parser }
+    ensures { (d : ℕ) → Parses P.statement_rule tokens file parser d result }
 {
-    let t = peek(tokens, n, st.at);
-    let on = State { at: t.next, ..st };
-    let a = expect(tokens, n, reported, full, on, kind::SEMICOLON);
-    write_node(file, text, a, t.place, tag::BREAK, Numbers::None)
+    let t = tokens.peek(parser.state.at);
+    parser.state.at = t.next;
+    let a = expect(tokens, parser, kind::SEMICOLON);
+    write_node(
+        file,
+        tokens.text,
+        &mut parser.state,
+        a,
+        t.place,
+        tag::BREAK,
+        Numbers::None,
+    )
 }
 
 // Parses an assignment after its target, in a statement that began in the state `from`: `=` expression `;`
 fn assignment(
-    tokens: &[u32],
-    text: &[u8],
-    n: usize,
+    tokens: Tokens,
     file: &mut [u8],
-    reported: &mut [usize],
-    full: &mut [usize],
+    parser: &mut Parser,
     place: usize,
     from: State,
-    st: State,
     nesting: usize,
-) -> Answer
-    requires { Starts K.Equals tokens text n file reported full st × ((from.pos ≤ st.pos) × (from.reported ≡ st.reported)) }
-    ensures { ReadsAfter (P.after_expression (unpack_place place)) tokens text n file reported full from st nesting result }
+) -> Result<usize, Stop>
+    requires { Starts K.Equals tokens file parser × ((from.pos ≤ parser.now.state.pos) × (from.reported ≡ parser.now.state.reported)) }
+    ensures { ReadsAfter (P.after_expression (unpack_place place)) tokens file parser from nesting result }
 {
-    let t = peek(tokens, n, st.at);
-    let on = State { at: t.next, ..st };
-    let a = expression(tokens, text, n, file, reported, full, on, nesting);
-    let b = abandon(reported, a, from, st);
-    let c = and_expect(tokens, n, reported, full, b, kind::SEMICOLON, from);
-    write_node(file, text, c, place, tag::ASSIGNMENT, Numbers::None)
+    let before = parser.state;
+    let t = tokens.peek(before.at);
+    parser.state.at = t.next;
+    let a = expression(tokens, file, parser, nesting);
+    let b = abandon(&mut parser.reported, &mut parser.state, a, from, before);
+    let c = expect_after(tokens, parser, b, kind::SEMICOLON, from);
+    write_node(
+        file,
+        tokens.text,
+        &mut parser.state,
+        c,
+        place,
+        tag::ASSIGNMENT,
+        Numbers::None,
+    )
 }
 
 // Parses a compound assignment after its target, in a statement that began in the state `from`: `<-` compound `;`
 fn compound_assignment(
-    tokens: &[u32],
-    text: &[u8],
-    n: usize,
+    tokens: Tokens,
     file: &mut [u8],
-    reported: &mut [usize],
-    full: &mut [usize],
+    parser: &mut Parser,
     place: usize,
     from: State,
-    st: State,
     nesting: usize,
-) -> Answer
-    requires { Starts K.LArrow tokens text n file reported full st × ((from.pos ≤ st.pos) × (from.reported ≡ st.reported)) }
-    ensures { ReadsAfter (P.after_expression (unpack_place place)) tokens text n file reported full from st nesting result }
+) -> Result<usize, Stop>
+    requires { Starts K.LArrow tokens file parser × ((from.pos ≤ parser.now.state.pos) × (from.reported ≡ parser.now.state.reported)) }
+    ensures { ReadsAfter (P.after_expression (unpack_place place)) tokens file parser from nesting result }
 {
-    let t = peek(tokens, n, st.at);
-    let on = State { at: t.next, ..st };
-    let a = compound(tokens, text, n, file, reported, full, on, nesting);
-    let b = abandon(reported, a, from, st);
-    let c = and_expect(tokens, n, reported, full, b, kind::SEMICOLON, from);
+    let before = parser.state;
+    let t = tokens.peek(before.at);
+    parser.state.at = t.next;
+    let a = compound(tokens, file, parser, nesting);
+    let b = abandon(&mut parser.reported, &mut parser.state, a, from, before);
+    let c = expect_after(tokens, parser, b, kind::SEMICOLON, from);
     write_node(
         file,
-        text,
+        tokens.text,
+        &mut parser.state,
         c,
         place,
         tag::COMPOUND_ASSIGNMENT,
@@ -143,64 +156,61 @@ fn compound_assignment(
 // Parses what follows an error-free expression, in a statement that began in the state `from`:
 // assignment | compound_assignment | `;`
 fn after_expression(
-    tokens: &[u32],
-    text: &[u8],
-    n: usize,
+    tokens: Tokens,
     file: &mut [u8],
-    reported: &mut [usize],
-    full: &mut [usize],
+    parser: &mut Parser,
     place: usize,
     from: State,
-    st: State,
     nesting: usize,
-) -> Answer
-    requires { Asked tokens text n file reported full st × ((from.pos ≤ st.pos) × (from.reported ≡ st.reported)) }
-    ensures { ReadsAfter (P.after_expression (unpack_place place)) tokens text n file reported full from st nesting result }
+) -> Result<usize, Stop>
+    requires { Asked tokens file parser × ((from.pos ≤ parser.now.state.pos) × (from.reported ≡ parser.now.state.reported)) }
+    ensures { ReadsAfter (P.after_expression (unpack_place place)) tokens file parser from nesting result }
 {
-    let t = peek(tokens, n, st.at);
+    let t = tokens.peek(parser.state.at);
     if t.kind == kind::EQUALS {
-        return assignment(
-            tokens, text, n, file, reported, full, place, from, st, nesting,
-        );
+        return assignment(tokens, file, parser, place, from, nesting);
     }
     if t.kind == kind::L_ARROW {
-        return compound_assignment(
-            tokens, text, n, file, reported, full, place, from, st, nesting,
-        );
+        return compound_assignment(tokens, file, parser, place, from, nesting);
     }
-    let a = Answer {
-        status: Status::Done,
-        state: st,
+    let b = expect_after(tokens, parser, Ok(place), kind::SEMICOLON, from);
+    write_node(
+        file,
+        tokens.text,
+        &mut parser.state,
+        b,
         place,
-        count: 0,
-    };
-    let b = and_expect(tokens, n, reported, full, a, kind::SEMICOLON, from);
-    write_node(file, text, b, place, tag::EXPRESSION, Numbers::None)
+        tag::EXPRESSION,
+        Numbers::None,
+    )
 }
 
 // expression after_expression. If the expression has errors, the statement ends with it.
 pub fn expression_statement(
-    tokens: &[u32],
-    text: &[u8],
-    n: usize,
+    tokens: Tokens,
     file: &mut [u8],
-    reported: &mut [usize],
-    full: &mut [usize],
+    parser: &mut Parser,
     place: usize,
-    st: State,
     nesting: usize,
-) -> Answer
-    requires { Asked tokens text n file reported full st }
-    ensures { Parses (P.expression_statement (unpack_place place)) tokens text n file reported full st nesting result }
+) -> Result<usize, Stop>
+    requires { Asked tokens file parser }
+    ensures { Parses (P.expression_statement (unpack_place place)) tokens file parser nesting result }
 {
-    let a = expression(tokens, text, n, file, reported, full, st, nesting);
-    let status = a.status;
-    let Status::Done = status else {
+    let from = parser.state;
+    let a = expression(tokens, file, parser, nesting);
+    let Ok(_) = a else {
         return a;
     };
-    let s = a.state;
-    if st.reported < s.reported {
-        return write_node(file, text, a, place, tag::EXPRESSION, Numbers::None);
+    if from.reported < parser.state.reported {
+        return write_node(
+            file,
+            tokens.text,
+            &mut parser.state,
+            a,
+            place,
+            tag::EXPRESSION,
+            Numbers::None,
+        );
     }
-    after_expression(tokens, text, n, file, reported, full, place, st, s, nesting)
+    after_expression(tokens, file, parser, place, from, nesting)
 }

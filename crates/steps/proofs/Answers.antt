@@ -19,22 +19,43 @@ use Rattle.definition.specs.Parser as P
 use Rattle.definition.specs.Go.{go}
 use Rattle.definition.proofs.Room.{recs_append}
 use Rattle.fallible.proofs.Grown.{errs_length}
-use Rattle.fallible.specs.declared.State.{State}
-use Rattle.fallible.specs.declared.Status.{Status}
-use Rattle.fallible.specs.declared.Status.TheVariants.{Done, Fatal, Refused}
-use Rattle.fallible.specs.declared.Answer.{Answer}
+use Rattle.fallible.specs.declared.parser.State.{State}
+use Rattle.fallible.specs.Answer.{Status, Done, Fatal, Refused, done_of, Answer}
 use Rattle.fallible.specs.Lists.{unpack, errs}
 use Rattle.fallible.specs.Answers.{refused_at, one_more, raised, Raised, Cut, AbandonedOf, Abandoned}
 use Rattle.node.specs.Put.{Wrote, rec_of}
 use Rattle.node.specs.declared.Record.{Record}
 use Rattle.steps.specs.Tokens.{rest}
-use Rattle.steps.specs.Shows.{st_of, Asks, View, Good, ShowsOf, Shows, done_of, node, NodeWrittenOf, NodeWritten}
+use Rattle.steps.specs.Shows.{st_of, Asks, View, Good, ShowsOf, Shows, node, NodeWrittenOf, NodeWritten, Goes}
 
 -- an answer that is fatal or refused
 abbrev pub Stopped : Answer → Type 0
 Stopped a = a.status ≡ Done → ⊥
 
 -- ---- what an answer represents
+
+-- a fatal answer has no numbers, so only the status and the state of an answer that is not done matter
+pub alike : {A : Type 0} {K : View A} {T : List ℕ} {E : List Err} {rs : List Rec} {es : List Err} {w x : List ℕ}
+    {n : ℕ} {o r f : List ℕ} {a y : Answer} {q : Res (Ans A)}
+    → y.status ≡ a.status → y.state ≡ a.state → (y.status ≡ Done → (y.place ≡ a.place) × (y.count ≡ a.count))
+    → Shows K T E rs es w x n o r f a q → Shows K T E rs es w x n o r f y q
+alike {K = K} {T = T} {E = E} {rs = rs} {es = es} {w = w} {x = x} {n = n} {o = o} {r = r} {f = f} {a = a} {y = y} {q = q} hs ht hn v =
+    record { told = one y.status refl (subst (λ (h : Status). ShowsOf h K T E rs es w x n o r f a q) (sym hs) v.told) }
+  where
+    one : (h : Status) → y.status ≡ h → ShowsOf h K T E rs es w x n o r f a q → ShowsOf h K T E rs es w x n o r f y q
+    one Done z g =
+        record {
+          item = g.item;
+          errors = g.errors;
+          read = g.read;
+          is = rw ht g.is;
+          tree = rw ht g.tree;
+          reported = rw ht g.reported;
+          holds = rw ((hn z).0, (hn z).1) g.holds;
+        }
+    one Fatal z g =
+        record { errors = g.errors; read = g.read; is = rw ht g.is; tree = rw ht g.tree; reported = rw ht g.reported }
+    one (Refused m) z g = g
 
 module _ {A : Type 0} {K : View A} {T : List ℕ} {E : List Err} {rs : List Rec} {es : List Err} {w x : List ℕ}
     {n : ℕ} {o r f : List ℕ} {a : Answer} {q : Res (Ans A)} where
@@ -48,6 +69,13 @@ module _ {A : Type 0} {K : View A} {T : List ℕ} {E : List Err} {rs : List Rec}
 
   pub is_good : a.status ≡ Done → Good K T E rs es w x n o r f a q → Shows K T E rs es w x n o r f a q
   is_good z g = record { told = subst (λ (h : Status). ShowsOf h K T E rs es w x n o r f a q) (sym z) g }
+
+pub goes_alike : {A B : Type 0} {K : View A} {L : View B} {w x : List ℕ} {n d : ℕ} {k : Fallible A → Act (Ans B)}
+    {i j : ℕ} {o r f o' r' f' : List ℕ} {a y z : Answer}
+    → z.status ≡ y.status → z.state ≡ y.state → (z.status ≡ Done → (z.place ≡ y.place) × (z.count ≡ y.count))
+    → Goes K L w x n d k i j o r f a o' r' f' y → Goes K L w x n d k i j o r f a o' r' f' z
+goes_alike hs ht hn u =
+    record { moved = rw ht u.moved; is = λ T E q li lj v. alike hs ht hn (u.is T E q li lj v) }
 
 pub not_done : (h : Status) → (h ≡ Done → ⊥) → done_of h ≡ 0
 not_done Done nd = absurd (nd refl)
@@ -208,12 +236,12 @@ module _ {A : Type 0} {K : View A} {T : List ℕ} {E : List Err} {rs : List Rec}
     {n : ℕ} {o o' r f : List ℕ} {a y : Answer} {v : Record} {q : Res (Ans A)} (d : ℕ) (p : A → Place)
     (ns : A → List Num) (text : List ℕ) (u : NodeWritten x o a v o' y) where
   -- writing a record after an answer represents wrapping its item
-  pub writes_node : ((i : A) → K.fine a.place a.count i
+  pub writes_done : (a.status ≡ Done → (i : A) → K.fine a.place a.count i
       → rec_of x v ≡ record { tag = v.tag; place = some (p i); numbers = ns i; text = text })
       → Shows K T E rs es w x n o r f a q
       → Shows node T E [] [] w x n o' r f y (after q (λ z S. go d (or_return (wrapped K rs es v.tag p ns text) z) S))
   unfolding go run place_of
-  writes_node e h = record { told = one a.status refl u.is h.told }
+  writes_done e h = record { told = one a.status refl u.is h.told }
     where
       one : (k : Status) → a.status ≡ k → NodeWrittenOf k x o a v o' y → ShowsOf k K T E rs es w x n o r f a q
           → ShowsOf y.status node T E [] [] w x n o' r f y
@@ -224,9 +252,16 @@ module _ {A : Type 0} {K : View A} {T : List ℕ} {E : List Err} {rs : List Rec}
             errors = es ++ g.errors;
             read = g.read;
             is = rw (g.is, u.at, u.full);
-            tree = wrote T (rs ++ K.recs g.item) m.1.0 g.tree (sym (e g.item g.holds));
+            tree = wrote T (rs ++ K.recs g.item) m.1.0 g.tree (sym (e z g.item g.holds));
             reported = ap (λ (k : ℕ). errs r k) u.reported ∙ g.reported;
-            holds = ap place_of (sym (e g.item g.holds)) ∙ sym (rw m.1.1);
+            holds = ap place_of (sym (e z g.item g.holds)) ∙ sym (rw m.1.1);
           })
       one Fatal z m g = rw (m.0, m.1, z) (record { errors = g.errors; read = g.read; is = rw g.is; tree = g.tree; reported = g.reported })
       one (Refused k) z m g = rw (m.0, z, g)
+
+  -- the same where the record does not depend on the status
+  pub writes_node : ((i : A) → K.fine a.place a.count i
+      → rec_of x v ≡ record { tag = v.tag; place = some (p i); numbers = ns i; text = text })
+      → Shows K T E rs es w x n o r f a q
+      → Shows node T E [] [] w x n o' r f y (after q (λ z S. go d (or_return (wrapped K rs es v.tag p ns text) z) S))
+  writes_node e h = writes_done (λ _. e) h

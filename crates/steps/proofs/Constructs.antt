@@ -11,11 +11,11 @@ use Rattle.definition.specs.Parser.{parse, rule}
 use Rattle.definition.specs.Go.{go}
 use Rattle.definition.proofs.Flat.{go_call, go_rule, go_bind}
 use Rattle.fallible.proofs.Grown.{errs_length}
-use Rattle.fallible.specs.declared.State.{State}
-use Rattle.fallible.specs.declared.Answer.{Answer}
+use Rattle.fallible.specs.declared.parser.State.{State}
+use Rattle.fallible.specs.Answer.{Answer}
 use Rattle.fallible.specs.Answers.{refused_at}
 use Rattle.steps.specs.Shows.{Asks, View, Reads, Goes, node}
-use Rattle.steps.proofs.Tokens.{present_within}
+use Rattle.steps.proofs.Records.{present_within}
 use Rattle.steps.proofs.Moves.{refused_moved}
 use Rattle.steps.proofs.Answers.{Stopped, say, stops}
 

@@ -12,14 +12,12 @@ use Rattle.definition.specs.Parser as P
 use Rattle.definition.specs.Go.{go}
 use Rattle.definition.proofs.Flat.{go_bind}
 use Rattle.fallible.proofs.Grown.{errs_length}
-use Rattle.fallible.specs.declared.Status.{Status}
-use Rattle.fallible.specs.declared.Status.TheVariants.{Done, Fatal, Refused}
-use Rattle.fallible.specs.declared.Answer.{Answer}
+use Rattle.fallible.specs.Answer.{Status, Done, Fatal, Refused, Answer}
 use Rattle.fallible.specs.Lists.{errs}
 use Rattle.fallible.specs.Answers.{AbandonedOf}
 use Rattle.steps.specs.Tokens.{rest}
 use Rattle.steps.specs.Shows.{st_of, View, Good, Bad, ShowsOf, Shows, token, Follows, Followed, ExpectedOf, Expected}
-use Rattle.steps.proofs.Answers.{abandons, follows}
+use Rattle.steps.proofs.Answers.{alike, abandons, follows}
 
 -- the continuation after the item
 abbrev pub expecting : {A : Type 0} → Role → ℕ → Fallible A → Act (Ans A)
@@ -34,9 +32,9 @@ module _ {A : Type 0} {K : View A} {w x : List ℕ} {n k i j : ℕ} {r f r' f' :
       → Shows K T E rs es w x n o r' f' y (after q (λ z S. go d (or_return (expecting role k) z) S))
   unfolding go run
   there z g v =
-      subst (λ (a' : Answer). Shows K T E rs es w x n o r' f' a'
-      (after q (λ z S. go d (or_return (expecting role k) z) S))) (sym v.is)
-      (record { told = one v.b.status refl v.abandoned.is (v.expects.is x role d g.read o).told })
+      alike v.status v.state v.numbers (record {
+        told = one v.b.status refl v.abandoned.is (v.expects.is x role d g.read o).told;
+      })
     where
       S : St
       S = st_of w x n f g.read a.state
@@ -89,7 +87,7 @@ module _ {A : Type 0} {K : View A} {w x : List ℕ} {n k i j : ℕ} {r f r' f' :
           (after q (λ z S. go d (or_return (expecting role k) z) S))) (sym m.status) (lost c)
       one (Refused u) h m t = rw (m.0, h) (step ∙ rw t)
 
-  -- `and_expect` represents `expect(..)?` after the answer
+  -- `expect_after` represents `expect(..)?` after the answer
   pub expects_after : Shows K T E rs es w x n o r f a q
       → Shows K T E rs es w x n o r' f' y (after q (λ z S. go d (or_return (expecting role k) z) S))
   unfolding go run

@@ -1,4 +1,4 @@
-pub mod Tokens
+pub mod Records
 pub mod Moves
 pub mod Answers
 pub mod OneToken

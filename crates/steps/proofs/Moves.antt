@@ -9,14 +9,13 @@ use lib.Dec.{ltb}
 use borrow.Author.Tests.{ltb-true}
 use Rattle.definition.specs.Choice.{pick}
 use Rattle.node.specs.Put.{Room}
-use Rattle.fallible.specs.declared.State.{State}
-use Rattle.fallible.specs.declared.Status.{Status}
-use Rattle.fallible.specs.declared.Answer.{Answer}
+use Rattle.fallible.specs.declared.parser.State.{State}
+use Rattle.fallible.specs.Answer.{Status, Answer}
 use Rattle.fallible.specs.Answers.{refused_at, one_more, making, Abandoned}
-use Rattle.steps.specs.declared.Token.{Token}
+use Rattle.steps.specs.declared.tokens.Token.{Token}
 use Rattle.steps.specs.Tokens.{budget, Seen}
 use Rattle.steps.specs.Shows.{Asks, Asked, Moved}
-use Rattle.steps.proofs.Tokens.{budget_nil, fore}
+use Rattle.steps.proofs.Records.{budget_nil, fore}
 
 -- at the end the budget is 0
 pub spent : (w : List ℕ) (n : ℕ) → budget w n n ≡ 0

@@ -1,5 +1,5 @@
 -- Expecting one token: it is there, another token is, or the end. Assumes nothing.
-use mathlib.Core.Path.{◌≡◌, refl, sym, ap, subst}
+use mathlib.Core.Path.{◌≡◌, refl, sym, ap}
 use mathlib.Core.Bool.{Bool, true, false}
 use mathlib.Core.List.{List, [], ◌++◌, append-nil}
 use Prim.Native.Nat.{ℕ, ◌≤◌, ◌<◌}
@@ -13,18 +13,18 @@ use Rattle.definition.specs.Token.{Tok, next_token}
 use Rattle.definition.specs.Act.{Act, Role, plain, Consumed, now_read, run}
 use Rattle.definition.specs.Parser as P
 use Rattle.definition.specs.Go.{go}
-use Rattle.fallible.specs.declared.State.{State}
-use Rattle.fallible.specs.declared.Status.{Status}
-use Rattle.fallible.specs.declared.Status.TheVariants.{Done, Fatal, Refused}
-use Rattle.fallible.specs.declared.Answer.{Answer}
+use Rattle.std.specs.Prelude.{Result, Ok, Err}
+use Rattle.fallible.specs.declared.Stop.{Stop}
+use Rattle.fallible.specs.declared.parser.State.{State}
+use Rattle.fallible.specs.Answer.{Status, Done, Fatal, Refused, done_of, Answer, node_answer, count_answer}
 use Rattle.fallible.specs.Lists.{unpack, error_at, errs}
 use Rattle.fallible.specs.Answers.{refused_at, one_more, making, raised, Raised, AbandonedOf, Abandoned}
 use Rattle.node.specs.Put.{Wrote, rec_of, size_of}
 use Rattle.node.specs.declared.Record.{Record}
-use Rattle.steps.specs.declared.Token.{Token}
+use Rattle.steps.specs.declared.tokens.Token.{Token}
 use Rattle.steps.specs.Tokens.{rest, budget, Seen}
-use Rattle.steps.specs.Shows.{st_of, Asks, Moved, done_of, token, Expects, Follows, ExpectedOf, Expected, NodeWrittenOf, NodeWritten}
-use Rattle.steps.proofs.Tokens.{yes, no, fore, adv}
+use Rattle.steps.specs.Shows.{st_of, Asks, Moved, token, Expects, Follows, ExpectedOf, Expected, NodeWrittenOf, NodeWritten}
+use Rattle.steps.proofs.Records.{yes, no, fore, adv}
 use Rattle.steps.proofs.Moves.{asks_fore, fore_moved, making_moved, moved_trans, abandoned_moved}
 use Rattle.steps.proofs.Answers.{Stopped, say, not_done, raise_same, raise_shows}
 
@@ -169,21 +169,27 @@ module _ {w : List ℕ} {n k i j : ℕ} {r f : List ℕ} {a : Answer} (q : Follo
       one Fatal nd = (refl, (refl, refl))
       one (Refused m) nd = (refl, (refl, refl))
 
-  pub expected_on : {r1 r' f' : List ℕ} {b c : Answer} → a.status ≡ Done
+  pub expected_on : {r1 r' f' : List ℕ} {b c y : Answer} → a.status ≡ Done
       → Expects w n (λ role. P.expect_as role k) r f a.state r1 f' b
-      → Abandoned r1 b i j a.state.reported r' c
-      → Expected w n k i j r f a r' f' (record { status = c.status; state = c.state; place = a.place; count = a.count })
-  expected_on {r1} {r'} {f'} {b} {c} z e v =
+      → Abandoned r1 b i j a.state.reported r' c → y.status ≡ c.status → y.state ≡ c.state
+      → (y.status ≡ Done → (y.place ≡ a.place) × (y.count ≡ a.count)) → Expected w n k i j r f a r' f' y
+  expected_on {r1} {r'} {f'} {b} {c} {y} z e v hs ht hn =
       let at : budget w n c.state.at ≡ budget w n b.state.at = ap (λ (k : ℕ). budget w n k) v.at in
       let hw : done_of c.status ≤ done_of b.status = fewer b.status refl v.is in
       record {
-        moved = abandoned_moved e.moved v;
-        high = omega (arith, e.pos, v.high);
-        pays = omega (arith, e.pays);
-        is =
-            subst (λ (h : Status). ExpectedOf h w n k i j r f a r' f'
-            (record { status = c.status; state = c.state; place = a.place; count = a.count })) (sym z)
-            (record { b = b; c = c; between = r1; expects = e; abandoned = v; is = refl });
+        moved = rw ht (abandoned_moved e.moved v);
+        high = rw ht (omega (arith, e.pos, v.high));
+        pays = rw (ht, hs) (omega (arith, e.pays));
+        is = rw z (record {
+          b = b;
+          c = c;
+          between = r1;
+          expects = e;
+          abandoned = v;
+          status = hs;
+          state = ht;
+          numbers = hn;
+        });
       }
     where
       fewer : (h : Status) → b.status ≡ h → AbandonedOf h r1 b i j a.state.reported r' c → done_of c.status ≤ done_of b.status
@@ -219,3 +225,44 @@ module _ {x o : List ℕ} {a : Answer} {v : Record} where
         high = omega (arith, u.end);
         is = rw z (refl, (u, refl));
       }
+
+-- a record after a good answer depends only on its state
+pub written_at : {x o o' : List ℕ} {a a' y : Answer} {v : Record} → a.status ≡ Done → a'.status ≡ Done → a'.state ≡ a.state
+    → NodeWritten x o a v o' y → NodeWritten x o a' v o' y
+written_at z z' s u =
+    record {
+      at = rw s u.at;
+      reported = rw s u.reported;
+      full = rw s u.full;
+      low = rw s u.low;
+      high = rw s u.high;
+      is = rw (z', s) (rw z at u.is);
+    }
+
+-- the number that `expect_after` passes on is the count of a list
+pub counted_expected : {w : List ℕ} {n k i j v : ℕ} {r f r' f' : List ℕ} {s t : State} (y : Result ℕ Stop)
+    → Expected w n k i j r f (node_answer (Ok v) s) r' f' (node_answer y t)
+    → Expected w n k i j r f (count_answer (Ok v) s) r' f' (count_answer y t)
+counted_expected y u =
+    let g = u.is in
+    record {
+      moved = u.moved;
+      high = u.high;
+      pays = u.pays;
+      is = record {
+        b = g.b;
+        c = g.c;
+        between = g.between;
+        expects = g.expects;
+        abandoned = g.abandoned;
+        status = g.status;
+        state = g.state;
+        numbers = λ z. (refl, (g.numbers z).0);
+      };
+    }
+
+-- a record after a list is written as after a node
+pub counted_written : {x o o' : List ℕ} (b : Result ℕ Stop) {s : State} {y : Answer} {v : Record}
+    → NodeWritten x o (node_answer b s) v o' y → NodeWritten x o (count_answer b s) v o' y
+counted_written (Ok k) u = written_at refl refl refl u
+counted_written (Err e) u = u

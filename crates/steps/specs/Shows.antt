@@ -13,10 +13,8 @@ use Rattle.definition.specs.Places.{unpack_place}
 use Rattle.node.specs.Put.{Wrote, rec_of, size_of}
 use Rattle.node.specs.declared.Numbers.{Numbers}
 use Rattle.node.specs.declared.Record.{Record}
-use Rattle.fallible.specs.declared.State.{State}
-use Rattle.fallible.specs.declared.Status.{Status}
-use Rattle.fallible.specs.declared.Status.TheVariants.{Done, Fatal, Refused}
-use Rattle.fallible.specs.declared.Answer.{Answer}
+use Rattle.fallible.specs.declared.parser.State.{State}
+use Rattle.fallible.specs.Answer.{Status, Done, Fatal, Refused, done_of, Answer}
 use Rattle.fallible.specs.Lists.{errs}
 use Rattle.fallible.specs.Answers.{Abandoned}
 use Rattle.steps.specs.Tokens.{rest, budget, present, Held, Parts}
@@ -86,12 +84,6 @@ ShowsOf (Refused m) K T E rs es w x n o r f a q = q ≡ refused m
 pub record Shows {A : Type 0} (K : View A) (T : List ℕ) (E : List Err) (rs : List Rec) (es : List Err) (w x : List ℕ) (n : ℕ) (o r f : List ℕ) (a : Answer) (q : Res (Ans A)) : Type 0 where
   pub told : ShowsOf a.status K T E rs es w x n o r f a q
 
--- 1 for an answer that is neither fatal nor refused, else 0
-abbrev pub done_of : Status → ℕ
-done_of Done = 1
-done_of Fatal = 0
-done_of (Refused m) = 0
-
 -- ---- items
 
 -- a node, with its place
@@ -152,7 +144,9 @@ pub record Followed (w : List ℕ) (n k i j : ℕ) (r f : List ℕ) (a : Answer)
   pub between : List ℕ
   pub expects : Expects w n (λ role. P.expect_as role k) r f a.state between f' b
   pub abandoned : Abandoned between b i j a.state.reported r' c
-  pub is : y ≡ record { status = c.status; state = c.state; place = a.place; count = a.count }
+  pub status : y.status ≡ c.status
+  pub state : y.state ≡ c.state
+  pub numbers : y.status ≡ Done → (y.place ≡ a.place) × (y.count ≡ a.count)
 
 abbrev pub ExpectedOf : Status → List ℕ → ℕ → ℕ → ℕ → ℕ → List ℕ → List ℕ → Answer → List ℕ → List ℕ → Answer → Type 0
 ExpectedOf Done w n k i j r f a r' f' y = Followed w n k i j r f a r' f' y

@@ -4,7 +4,7 @@ use Rattle.definition.specs.Kind as K
 use Rattle.definition.specs.Token.{Tok, next_token, tail}
 use Rattle.definition.specs.Records.{words_at, token_of}
 use Rattle.definition.specs.Places.{unpack_place}
-use Rattle.steps.specs.declared.Token.{Token}
+use Rattle.steps.specs.declared.tokens.Token.{Token}
 
 -- the token of the record at index i
 abbrev pub tok_at : List ℕ → List ℕ → ℕ → Tok

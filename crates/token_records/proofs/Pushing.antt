@@ -1,6 +1,5 @@
--- The laws of `push_token` and `push_errors`. Assumes nothing.
+-- The laws of `push_errors`. Assumes nothing.
 use mathlib.Core.Path.{◌≡◌, refl, sym, ap}
-use mathlib.Core.Logic.{inl, inr}
 use mathlib.Core.List.{List, [], ◌∷◌, ◌++◌}
 use Prim.Native.Nat.{ℕ, zero, suc, ◌+◌, ◌-◌, ◌*◌, ◌<◌, ◌≤◌}
 use native.Mathlib.Omega.{arith}
@@ -10,18 +9,7 @@ use Rattle.definition.specs.Records.{errors_words}
 use Rattle.slices.specs.Written.{Wrote}
 use Rattle.slices.proofs.Writing.{wrote_none, wrote_trans}
 use Rattle.token_records.specs.declared.State.{State}
-use Rattle.token_records.specs.Push.{ErrorsPushed, TokenPushed}
-
-pub token_full : {most : ℕ} {T : List ℕ} {f r : State} {ws : List ℕ} → most ≤ f.tokens → r.refusal ≡ 6 → TokenPushed most T f ws T r
-token_full h e = inr (record { many = h; refusal = e })
-
-pub token_went : {most : ℕ} {T : List ℕ} {f : State} {ws T' : List ℕ} {m : ℕ} → f.tokens < most → length ws ≡ 8
-    → Wrote T (8 * f.tokens) ws T' m
-    → TokenPushed most T f ws T'
-    (record { cursor = f.cursor; tokens = f.tokens + 1; errors = f.errors; text = f.text; refusal = f.refusal })
-token_went {f = f} {m = m} h l w =
-    let e : 8 * (f.tokens + 1) ≡ m = omega (arith, w.count) in
-    inl (record { few = h; cursor = refl; tokens = refl; errors = refl; text = refl; refusal = refl; wrote = rw e w })
+use Rattle.token_records.specs.Push.{ErrorsWent}
 
 error_words : Err → List ℕ
 error_words e = e.number ∷ e.place.line ∷ e.place.column ∷ 0 ∷ []
@@ -41,9 +29,6 @@ pub record Pushing (E₀ : List ℕ) (f : State) (count : ℕ) (e : Err) (total 
   pub wide : 1024 ≤ length E
   pub wrote : Wrote E₀ (4 * f.errors) (errors_words (replicate (i - f.errors) e)) E (4 * i)
 
-pub errors_full : {E : List ℕ} {f r : State} (n : ℕ) (e : Err) → 255 < f.errors + n → r.refusal ≡ 7 → ErrorsPushed E f (replicate n e) E r
-errors_full n e h k = inr (record { many = omega (arith, length-replicate n e); refusal = k })
-
 pub pushing : {E : List ℕ} {f : State} {n : ℕ} {e : Err} {total : ℕ} → total ≡ f.errors + n → total ≤ 255
     → 1024 ≤ length E → Pushing E f n e total E f.errors
 unfolding errors_words
@@ -52,11 +37,12 @@ pushing {E} {f} {n} {e} {total} h k w =
     record { sum = h; few = k; low = omega arith; high = omega arith; wide = w; wrote = rw z wrote_none }
 
 module _ {E₀ : List ℕ} {f : State} {n : ℕ} {e : Err} {total : ℕ} {E : List ℕ} {i : ℕ} (q : Pushing E₀ f n e total E i) where
-  pub pushing_more : {E' : List ℕ} {m : ℕ} → i < total
-      → Wrote E (4 * i) (e.number ∷ e.place.line ∷ e.place.column ∷ 0 ∷ []) E' m
+  pub pushing_more : {E' : List ℕ} {m v : ℕ} → i < total
+      → v ≡ e.number → Wrote E (4 * i) (v ∷ e.place.line ∷ e.place.column ∷ 0 ∷ []) E' m
       → Pushing E₀ f n e total E' (i + 1)
   unfolding error_words
-  pushing_more {E'} {m} h w =
+  pushing_more {E'} {m} h v w₀ =
+      let w = rw v at w₀ in
       let z : i + 1 - f.errors ≡ suc (i - f.errors) = omega (arith, q.low) in
       let y : 4 * (i + 1) ≡ m = omega (arith, w.count) in
       record {
@@ -69,17 +55,15 @@ module _ {E₀ : List ℕ} {f : State} {n : ℕ} {e : Err} {total : ℕ} {E : Li
       }
 
   pub pushing_end : total ≤ i
-      → ErrorsPushed E₀ f (replicate n e) E
-      (record { cursor = f.cursor; tokens = f.tokens; errors = total; text = f.text; refusal = f.refusal })
+      → ErrorsWent E₀ f (replicate n e) E (record { cursor = f.cursor; tokens = f.tokens; errors = total; text = f.text })
   pushing_end h =
       let y : i ≡ total = omega (arith, q.high) in
       let z : i - f.errors ≡ n = omega (arith, q.sum, q.high) in
-      inl (record {
+      record {
         few = omega (arith, q.sum, q.few, length-replicate n e);
         cursor = refl;
         tokens = refl;
         errors = omega (arith, q.sum, length-replicate n e);
         text = refl;
-        refusal = refl;
         wrote = rw (z, y) at q.wrote;
-      })
+      }

@@ -1,116 +1,83 @@
 -- The laws of the validation of a token record, and of `token_text`. Assumes nothing.
-use mathlib.Core.Path.{◌≡◌, refl, sym, ap, ◌∙◌}
-use mathlib.Core.Bool.{Bool, true, false, ◌&&◌, ◌||◌, and-true, and_assoc, or_assoc}
+use mathlib.Core.Path.{◌≡◌, refl, sym, ap, ap₂, ◌∙◌}
+use mathlib.Core.Bool.{Bool, true, false, not, ◌&&◌, and_assoc}
 use mathlib.Core.List.{List, [], ◌∷◌}
-use Prim.Native.Nat.{ℕ, suc, ◌+◌, ◌-◌, ◌*◌, ◌/◌, ◌<◌, ◌≤◌}
-use native.Mathlib.Numerals.{add-one}
+use Prim.Native.Nat.{ℕ, zero, suc, ◌+◌, ◌-◌, ◌*◌, ◌/◌, ◌<◌, ◌≤◌}
 use native.Mathlib.Omega.{arith}
-use borrow.Author.Tests.{leb-true, lt-ltb, le-leb, lt-leb, eq-eqb, ne_eqb}
+use borrow.Author.Tests.{leb-true, eqb-true, lt-ltb, le-leb, lt-leb, ne_eqb}
 use lib.Dec.{eqb, leb}
-use lib.ListN.{length, get_or, take, drop, length-drop, drop_of_length-le}
-use lib.Seq.{drop-cons}
-use Rattle.definition.specs.Ascii.{char}
+use lib.ListN.{length, get_or, take, drop}
+use Rattle.std.specs.Bool.{MatchBool}
+use Rattle.std.specs.List.{AllWithin, HoldsAt}
 use Rattle.definition.specs.Choice.{pick}
 use Rattle.definition.specs.Classes as C
-use Rattle.definition.specs.Token.{dashed}
-use Rattle.definition.specs.Kind as K
-use Rattle.definition.specs.Records.{TokenWords, all_digits, some_digits, has_text, valid_alone, integer_text, words_at, part, text_of}
-use Rattle.definition.proofs.Tests.{clash, left_true, right_true}
-use Rattle.token_records.specs.Tested.{fields_fit, part_fits}
+use Rattle.definition.specs.Records as R
+use Rattle.definition.specs.Records.{TokenWords, all_digits, some_digits, base_fits, has_text, valid_alone, words_at, part, text_of}
+use Rattle.definition.proofs.Tests.{clash, left_true, right_true, and_false}
+use Rattle.definition.proofs.Validated.{fits}
+use Rattle.token_records.specs.Tested.{text_fits}
+
+and_none : (t : Bool) → t && false ≡ false
+and_none t = and_false t false refl
 
 -- ---- digits
 
--- the invariant: the bytes from `from` on are digits if and only if those from i on are
-pub record Digits (p : List ℕ) (from base i : ℕ) : Type 0 where
-  pub some : from < length p
-  pub high : i ≤ length p
-  pub is : all_digits base (drop i p) ≡ all_digits base (drop from p)
+-- what a test of each byte says
+abbrev Tested : Bool → ℕ → List ℕ → Type 0
+Tested r base ds =
+    MatchBool r (AllWithin (λ b. C.is_digit_of base b ≡ true) ds 0 (length ds))
+    ((k : ℕ) × (k < length ds) × HoldsAt (λ b. C.is_digit_of base b ≡ false) ds k)
 
-pub no_digits : (p : List ℕ) (from base : ℕ) → length p ≤ from → false ≡ some_digits base (drop from p)
-no_digits p from base h = rw (drop_of_length-le p h)
+each_digit : (base : ℕ) (ds : List ℕ) → ((k : ℕ) → k < length ds → C.is_digit_of base (get_or ds k 0) ≡ true) → all_digits base ds ≡ true
+unfolding all_digits
+each_digit base [] h = refl
+each_digit base (d ∷ ds) h = rw (h 0 (omega arith), each_digit base ds (λ k l. h (suc k) (omega arith)))
 
-pub digits_start : {p : List ℕ} {from base : ℕ} → from < length p → Digits p from base from
-digits_start h = record { some = h; high = omega arith; is = refl }
+other_digit : (base : ℕ) (ds : List ℕ) (k : ℕ) → k < length ds → C.is_digit_of base (get_or ds k 0) ≡ false → all_digits base ds ≡ false
+unfolding all_digits
+other_digit base [] k l h = absurd (omega arith)
+other_digit base (d ∷ ds) zero l h = rw h
+other_digit base (d ∷ ds) (suc k) l h = rw (other_digit base ds k (omega arith) h) (and_none _)
 
-module _ {p : List ℕ} {from base i : ℕ} (q : Digits p from base i) where
-  pub digits_more : i < length p → C.is_digit_of base (get_or p i 0) ≡ true → Digits p from base (i + 1)
-  unfolding all_digits
-  digits_more h e =
-      record {
-        some = q.some;
-        high = omega arith;
-        is = rw add-one
-            (ap (λ (t : Bool). t && all_digits base (drop (suc i) p)) (sym e) ∙ rw (drop-cons p i 0 h) at q.is);
-      }
-
-  whole : some_digits base (drop from p) ≡ all_digits base (drop from p)
-  whole =
-      ap (λ (t : Bool). t && all_digits base (drop from p))
-      (lt-ltb 0 (length (drop from p)) (omega (arith, length-drop from p, q.some)))
-
-  pub digits_fail : i < length p → C.is_digit_of base (get_or p i 0) ≡ false → false ≡ some_digits base (drop from p)
-  unfolding all_digits
-  digits_fail h e = sym (ap (λ (t : Bool). t && all_digits base (drop (suc i) p)) e) ∙ rw (drop-cons p i 0 h) at q.is ∙ sym whole
-
-  pub digits_end : length p ≤ i → true ≡ some_digits base (drop from p)
-  unfolding all_digits
-  digits_end h = rw (drop_of_length-le p h) at q.is ∙ sym whole
-
-pub dashed_none : (p : List ℕ) → length p ≡ 0 → false ≡ dashed p
-dashed_none [] h = refl
-dashed_none (c ∷ p) h = absurd (omega (arith, h))
-
-pub dashed_some : (p : List ℕ) → (length p ≡ 0 → ⊥) → eqb (get_or p 0 0) (char "-") ≡ dashed p
-dashed_some [] h = absurd (h refl)
-dashed_some (c ∷ p) h = refl
+pub digits_tested : (r : Bool) (base : ℕ) (ds : List ℕ) → (length ds ≡ 0 → ⊥) → Tested r base ds → r ≡ some_digits base ds
+digits_tested true base ds n h = rw (lt-ltb 0 (length ds) (omega arith), each_digit base ds (λ k l. h k 0 (omega arith) l))
+digits_tested false base ds n h = rw (lt-ltb 0 (length ds) (omega arith), other_digit base ds h.0 h.1 (h.2 0))
 
 -- ---- a record
 
-textless : (k : ℕ) → has_text k ≡ false → eqb k K.Integer ≡ false
-textless k e = go (eqb k K.Identifier) (eqb k K.Integer) (eqb k K.String || eqb k K.InlineAssemblyFragment) (simp or_assoc at e)
-  where
-    go : (a b c : Bool) → (a || (b || c)) ≡ false → b ≡ false
-    go true b c f = clash f
-    go false true c f = clash f
-    go false false c f = refl
+-- the number of a kind that is not the end's
+real : (k : ℕ) {n : Bool} → k ≤ 54 → n ≡ not (eqb k 0) → n ≡ C.between 1 54 k
+real zero h i = i
+real (suc k) h i = i ∙ rw (ne_eqb (suc k) 0 (λ e. omega arith), le-leb 1 (suc k) (omega arith), le-leb (suc k) 54 h)
 
-module _ (text : List ℕ) (w : TokenWords) where
-  abbrev fields : Bool
-  fields = fields_fit w.kind w.line w.column w.base w.seventh w.eighth
+-- the words of the token that the code makes
+abbrev with_words : TokenWords → ℕ → ℕ → ℕ → TokenWords
+with_words w k seventh eighth = record { kind = k; line = w.line; column = w.column; start = w.start; size = w.size; base = w.base; seventh = seventh; eighth = eighth }
 
-  abbrev end : ℕ
-  end = w.start + w.size
+abbrev words : TokenWords → ℕ → TokenWords
+words w k = with_words w k 0 0
 
-  good_is : valid_alone text w
-      ≡ (fields && pick (has_text w.kind) (part_fits text w.start end) (eqb w.start 0 && eqb w.size 0))
-      && pick (eqb w.kind K.Integer) (integer_text w.base (take (end - w.start) (drop w.start text)))
-      true
-  unfolding valid_alone
-  good_is = let z : end - w.start ≡ w.size = omega arith in rw z
+-- the tests of the code, where a kind has the number of the record's
+module _ (text : List ℕ) (w : TokenWords) {k : ℕ} (e : k ≡ w.kind) (h : w.kind ≤ 54) {n v b x : Bool} (i : n ≡ not (eqb k 0))
+    (p : v ≡ (C.between 1 16384 w.line && C.between 1 16384 w.column)) (q : b ≡ base_fits k w.base) where
+  module _ (r : x ≡ text_fits text (words w k)) where
+    valid_is : (n && v && b && eqb w.seventh 0 && eqb w.eighth 0 && x) ≡ valid_alone text w
+    unfolding valid_alone
+    valid_is = rw (real k (omega arith) i, p, q, r, e) (simp and_assoc)
 
-  -- the words that fail, and a record without text
-  pub bad_fields : fields ≡ false → false ≡ valid_alone text w
-  bad_fields e = rw (good_is, e)
+    pub valid_true : (n && v && b && eqb w.seventh 0 && eqb w.eighth 0 && x) ≡ true → (valid_alone text w ≡ true) × (words w k ≡ w)
+    valid_true t =
+        let f = left_true (n && v && b && eqb w.seventh 0 && eqb w.eighth 0) x t in
+        let y = eqb-true _ _ (right_true (n && v && b && eqb w.seventh 0) (eqb w.eighth 0) f) in
+        let z = eqb-true _ _ (right_true (n && v && b) (eqb w.seventh 0) (left_true (n && v && b && eqb w.seventh 0) (eqb w.eighth 0) f)) in
+        (sym valid_is ∙ t, ap (words w) e ∙ ap₂ (with_words w w.kind) (sym z) (sym y))
 
-  pub no_text : fields ≡ true → has_text w.kind ≡ false → (eqb w.start 0 && eqb w.size 0) ≡ valid_alone text w
-  no_text e f = rw (good_is, e, f, textless w.kind f, and-true)
+    pub valid_false : (n && v && b && eqb w.seventh 0 && eqb w.eighth 0 && x) ≡ false → valid_alone text w ≡ false
+    valid_false t = sym valid_is ∙ t
 
-  module _ (e : fields ≡ true) (f : has_text w.kind ≡ true) where
-    -- the text fails, is that of an integer, or is another text
-    pub bad_part : part_fits text w.start end ≡ false → false ≡ valid_alone text w
-    bad_part g = rw (good_is, e, f, g)
-
-    pub good_integer : part_fits text w.start end ≡ true → w.kind ≡ K.Integer
-        → integer_text w.base (take (end - w.start) (drop w.start text)) ≡ valid_alone text w
-    good_integer g h = rw (good_is, e, f, g, eq-eqb _ _ h)
-
-    pub good_text : part_fits text w.start end ≡ true → (w.kind ≡ K.Integer → ⊥) → true ≡ valid_alone text w
-    good_text g h = rw (good_is, e, f, g, ne_eqb _ _ h)
-
-pub part_inside : (text : List ℕ) (start end : ℕ) → part_fits text start end ≡ true → end ≤ length text
-part_inside text start end e =
-    leb-true _ _
-    (right_true (leb end 16384) (leb end (length text)) (left_true (leb end 16384 && leb end (length text)) _ e))
+pub no_kind : (text : List ℕ) (w : TokenWords) → 54 < w.kind → valid_alone text w ≡ false
+unfolding valid_alone
+no_kind text w h = simp (lt-leb w.kind 54 h, and_none)
 
 -- ---- the text of a token
 
@@ -118,38 +85,43 @@ module _ (ws text : List ℕ) (i : ℕ) where
   abbrev whole_record : Bool
   whole_record = leb (8 * i + 8) (length ws)
 
-  abbrev there : Bool
-  there = has_text (words_at ws i).kind && valid_alone text (words_at ws i)
-
-  text_is : text_of ws text i ≡ pick (whole_record && there) (part text (words_at ws i)) []
+  text_is : text_of ws text i ≡ pick (whole_record && has_text (words_at ws i).kind && valid_alone text (words_at ws i)) (part text (words_at ws i)) []
   unfolding text_of
-  text_is = rw and_assoc
+  text_is = refl
+
+  text_by : (a h v : Bool) → whole_record ≡ a → has_text (words_at ws i).kind ≡ h → valid_alone text (words_at ws i) ≡ v
+      → text_of ws text i ≡ pick (a && h && v) (part text (words_at ws i)) []
+  text_by a h v e f g = text_is ∙ rw (e, f, g)
 
   pub text_short : length ws / 8 ≤ i → [] ≡ text_of ws text i
-  text_short h = rw (text_is, lt-leb (8 * i + 8) (length ws) (omega arith))
+  text_short h = sym (text_by false _ _ (lt-leb (8 * i + 8) (length ws) (omega arith)) refl refl)
 
-  -- the record as the code has it, and its two tests
-  module _ {w : TokenWords} {h g : Bool} (k : i < length ws / 8) (e : w ≡ words_at ws i)
-      (f : h ≡ has_text w.kind) (p : g ≡ valid_alone text w) where
-    there_is : (t : Bool) → (h && g) ≡ t → text_of ws text i ≡ pick t (part text w) []
-    there_is t q =
-        let r : there ≡ t = sym (ap (λ (x : TokenWords). has_text x.kind && valid_alone text x) e) ∙ rw (sym f, sym p) q in
-        text_is ∙ ap (λ (b : Bool). pick (b && there) (part text (words_at ws i)) []) (le-leb (8 * i + 8) (length ws) (omega arith))
-        ∙ ap (λ (b : Bool). pick b (part text (words_at ws i)) []) r ∙ ap (λ (x : TokenWords). pick t (part text x) []) (sym e)
+  module _ (k : i < length ws / 8) where
+    there : whole_record ≡ true
+    there = le-leb (8 * i + 8) (length ws) (omega arith)
 
-    pub text_none : (h && g) ≡ false → [] ≡ text_of ws text i
-    text_none q = sym (there_is false q)
+    pub text_bad : valid_alone text (words_at ws i) ≡ false → [] ≡ text_of ws text i
+    text_bad e = sym (text_by true (has_text (words_at ws i).kind) false there refl e ∙ simp and_none)
 
-    pub text_some : (h && g) ≡ true → take (w.start + w.size - w.start) (drop w.start text) ≡ text_of ws text i
-    text_some q = let z : w.start + w.size - w.start ≡ w.size = omega arith in rw z (sym (there_is true q))
+    module _ {w : TokenWords} {h : Bool} (e : (valid_alone text (words_at ws i) ≡ true) × (w ≡ words_at ws i)) (f : h ≡ has_text w.kind) where
+      kind_text : (u : Bool) → h ≡ u → has_text (words_at ws i).kind ≡ u
+      kind_text u g = ap (λ (x : TokenWords). has_text x.kind) (sym e.1) ∙ sym f ∙ g
+
+      pub text_none : h ≡ false → [] ≡ text_of ws text i
+      text_none g = sym (text_by true false true there (kind_text false g) e.0)
+
+      pub text_some : h ≡ true → take (w.start + w.size - w.start) (drop w.start text) ≡ text_of ws text i
+      text_some g =
+          let z : w.start + w.size - w.start ≡ w.size = omega arith in
+          rw z (ap (part text) e.1 ∙ sym (text_by true true true there (kind_text true g) e.0))
 
 -- the text of a valid record is within the slice
-pub text_inside : (text : List ℕ) (w : TokenWords) {h g : Bool} → h ≡ has_text w.kind → g ≡ valid_alone text w
-    → (h && g) ≡ true → w.start + w.size ≤ length text
-text_inside text w {h} {g} e f n =
-    let a = sym e ∙ left_true h g n in
-    let b = sym (good_is text w) ∙ sym f ∙ right_true h g n in
-    let d = left_true
-    (fields text w && pick (has_text w.kind) (part_fits text w.start (w.start + w.size))
-    (eqb w.start 0 && eqb w.size 0)) _ b in
-    part_inside text w.start (w.start + w.size) (rw a at (right_true (fields text w) _ d))
+pub text_inside : (text : List ℕ) (v : TokenWords) {w : TokenWords} {h : Bool} → (valid_alone text v ≡ true) × (w ≡ v)
+    → h ≡ has_text w.kind → h ≡ true → w.start + w.size ≤ length text
+text_inside text v {w} e f g = go (has_text w.kind) (sym f ∙ g) (fits text w (ap (valid_alone text) e.1 ∙ e.0)).text
+  where
+    go : (t : Bool) → t ≡ true → pick t (R.text_fits text w) (eqb w.start 0 && eqb w.size 0) ≡ true → w.start + w.size ≤ length text
+    go true p q =
+        leb-true _ _ (right_true (leb (w.start + w.size) 16384) _
+        (left_true (leb (w.start + w.size) 16384 && leb (w.start + w.size) (length text)) _ q))
+    go false p q = clash (sym p)

@@ -1,10 +1,26 @@
 -- What pushing a token or errors ensures of the slices and the state. Assumes nothing.
-use Rattle.std.specs.Prelude.{◌≡◌, ◌⊎◌, List, ℕ, ◌+◌, ◌*◌, ◌<◌, ◌≤◌, length}
-pub use Rattle.definition.specs.Source.{place_at}
+use Rattle.std.specs.Prelude.{◌≡◌, List, [], ◌∷◌, Result, MatchResult, ℕ, ◌+◌, ◌*◌, ◌<◌, ◌≤◌, length}
 use Rattle.definition.specs.Fallible.{Err}
+use Rattle.definition.specs.Numbers.{kind_number}
+use Rattle.definition.specs.declared.refusal.Refusal.{Refusal}
 use Rattle.definition.specs.Records.{errors_words}
+use Rattle.definition.specs.Source as S
+use Rattle.source.specs.declared.Cursor.{Cursor}
 use Rattle.slices.specs.Written.{Wrote}
 use Rattle.token_records.specs.declared.State.{State}
+use Rattle.token_records.specs.declared.Token.{Token}
+use Rattle.token_records.specs.declared.Place.{Place}
+
+-- the definition's place
+abbrev pub place_of : Place → S.Place
+place_of p = S.place_at p.line p.column
+
+abbrev pub PlaceOf : Cursor → Place → Type 0
+PlaceOf c p = p ≡ record { line = c.line; column = c.column }
+
+-- the words of a token
+abbrev pub words_of_token : Token → List ℕ
+words_of_token t = kind_number t.kind ∷ t.place.line ∷ t.place.column ∷ t.start ∷ t.size ∷ t.base ∷ 0 ∷ 0 ∷ []
 
 pub record ErrorsWent (E : List ℕ) (f : State) (es : List Err) (E' : List ℕ) (r : State) : Type 0 where
   pub few : f.errors + length es ≤ 255
@@ -12,15 +28,14 @@ pub record ErrorsWent (E : List ℕ) (f : State) (es : List Err) (E' : List ℕ)
   pub tokens : r.tokens ≡ f.tokens
   pub errors : r.errors ≡ f.errors + length es
   pub text : r.text ≡ f.text
-  pub refusal : r.refusal ≡ f.refusal
   pub wrote : Wrote E (4 * f.errors) (errors_words es) E' (4 * r.errors)
 
-pub record ErrorsFull (f : State) (es : List Err) (r : State) : Type 0 where
+pub record ErrorsFull (f : State) (es : List Err) (x : Refusal) : Type 0 where
   pub many : 255 < f.errors + length es
-  pub refusal : r.refusal ≡ 7
+  pub refusal : x ≡ Refusal.TokenErrors
 
-abbrev pub ErrorsPushed : List ℕ → State → List Err → List ℕ → State → Type 0
-ErrorsPushed E f es E' r = ErrorsWent E f es E' r ⊎ ErrorsFull f es r
+pub record ErrorsPushed (E : List ℕ) (f : State) (es : List Err) (E' : List ℕ) (r : Result State Refusal) : Type 0 where
+  pub is : MatchResult r (ErrorsWent E f es E') (ErrorsFull f es)
 
 pub record TokenWent (most : ℕ) (T : List ℕ) (f : State) (ws : List ℕ) (T' : List ℕ) (r : State) : Type 0 where
   pub few : f.tokens < most
@@ -28,12 +43,11 @@ pub record TokenWent (most : ℕ) (T : List ℕ) (f : State) (ws : List ℕ) (T'
   pub tokens : r.tokens ≡ f.tokens + 1
   pub errors : r.errors ≡ f.errors
   pub text : r.text ≡ f.text
-  pub refusal : r.refusal ≡ f.refusal
   pub wrote : Wrote T (8 * f.tokens) ws T' (8 * r.tokens)
 
-pub record TokenFull (most : ℕ) (f r : State) : Type 0 where
+pub record TokenFull (most : ℕ) (f : State) (x : Refusal) : Type 0 where
   pub many : most ≤ f.tokens
-  pub refusal : r.refusal ≡ 6
+  pub refusal : x ≡ Refusal.Tokens
 
-abbrev pub TokenPushed : ℕ → List ℕ → State → List ℕ → List ℕ → State → Type 0
-TokenPushed most T f ws T' r = TokenWent most T f ws T' r ⊎ TokenFull most f r
+pub record TokenPushed (most : ℕ) (T : List ℕ) (f : State) (ws T' : List ℕ) (r : Result State Refusal) : Type 0 where
+  pub is : MatchResult r (TokenWent most T f ws T') (TokenFull most f)

@@ -1,6 +1,6 @@
 -- The laws of `tokenize`, one for each return. Assumes nothing.
 use mathlib.Core.Path.{◌≡◌, refl, sym, ap, ◌∙◌}
-use mathlib.Core.Logic.{inl, inr}
+use Rattle.std.specs.Prelude.{Ok}
 use mathlib.Core.Bool.{Bool, true, false, ◌&&◌}
 use mathlib.Core.List.{List, []}
 use mathlib.Core.Option.{Option, none, some}
@@ -14,13 +14,14 @@ use Rattle.definition.specs.Records.{tokens_words, tokens_text, errors_words}
 use Rattle.definition.specs.Operations.{Tokenised, untouched, tokenised, tokenise}
 use Rattle.definition.specs.Tokenizer as Z
 use Rattle.definition.proofs.Tests.{left_true, right_true}
+use Rattle.definition.specs.Numbers.{refusal_number}
+use Rattle.definition.specs.declared.refusal.Refusal.{Refusal}
 use Rattle.source.specs.Place.{Stands, rest, origin}
 use Rattle.source.proofs.Laws.{stands_start}
 use Rattle.token_records.specs.declared.State.{State}
 use Rattle.slices.specs.Cleared.{Cleared}
 use Rattle.slices.proofs.Clearing.{cleared_filled}
-use Rattle.tokenizer.specs.declared.Tokenized.{Tokenized}
-use Rattle.tokenizer.specs.Run.{Done, Ran, answer, refusal_of}
+use Rattle.tokenizer.specs.Run.{Done, NotDone, answer}
 
 -- ---- the slices are long enough
 
@@ -59,14 +60,14 @@ pub the_characters : (s : List ℕ) → Stands s origin → characters s ≡ som
 unfolding characters
 the_characters s z = z.is
 
-module _ (s T E X : List ℕ) {r : Tokenized} where
-  pub too_long : 16384 < length s → r ≡ refusal_of 1 → answer r T E X ≡ tokenise s T E X
+module _ (s T E X : List ℕ) where
+  pub too_long : 16384 < length s → untouched 1 T E X ≡ tokenise s T E X
   unfolding tokenise
-  too_long h e = rw (e, lt-ltb 16384 (length s) h, tokenise)
+  too_long h = rw (lt-ltb 16384 (length s) h, tokenise)
 
-  pub not_text : {v : Bool} → length s ≤ 16384 → v ≡ utf8 s → v ≡ false → r ≡ refusal_of 2 → answer r T E X ≡ tokenise s T E X
+  pub not_text : {v : Bool} → length s ≤ 16384 → v ≡ utf8 s → v ≡ false → untouched 2 T E X ≡ tokenise s T E X
   unfolding tokenise
-  not_text h e n f = rw (f, le-ltb 16384 (length s) h, no_characters s (sym e ∙ n), tokenise)
+  not_text h e n = rw (le-ltb 16384 (length s) h, no_characters s (sym e ∙ n), tokenise)
 
 of_characters : (s T E X : List ℕ) {v : Bool} → length s ≤ 16384 → v ≡ utf8 s → v ≡ true → (t : Bool)
     → wide_enough T E X ≡ t
@@ -76,20 +77,15 @@ of_characters : (s T E X : List ℕ) {v : Bool} → length s ≤ 16384 → v ≡
 unfolding tokenise
 of_characters s T E X h e n t w = rw (le-ltb 16384 (length s) h, the_characters s (at_start s e n), w, tokenise)
 
-pub too_narrow : (s T E X : List ℕ) {r : Tokenized} {v : Bool} → length s ≤ 16384 → v ≡ utf8 s → v ≡ true
-    → wide_enough T E X ≡ false → r ≡ refusal_of 3 → answer r T E X ≡ tokenise s T E X
-too_narrow s T E X h e n w f = rw f (sym (of_characters s T E X h e n false w))
+pub too_narrow : (s T E X : List ℕ) {v : Bool} → length s ≤ 16384 → v ≡ utf8 s → v ≡ true
+    → wide_enough T E X ≡ false → untouched 3 T E X ≡ tokenise s T E X
+too_narrow s T E X h e n w = sym (of_characters s T E X h e n false w)
 
 -- ---- after the loop
 
 pub within_limit : (cs : List Ch) → Z.tokenize cs ≡ Z.tokenize_within 2048 cs
 unfolding Z.tokenize
 within_limit cs = refl
-
--- a loop that is not refused has tokenised all characters
-pub ran_done : {cs : List Ch} {T E X : List ℕ} {f : State} → Ran 2048 cs T E X f → f.refusal ≡ 0 → Done 2048 cs T E X f
-ran_done (inl d) n = d
-ran_done (inr d) n = absurd (omega (arith, d.refusal, n))
 
 answer_eq : {a a' b b' c c' : ℕ} {x x' y y' w w' : List ℕ} → a ≡ a' → b ≡ b' → c ≡ c' → x ≡ x' → y ≡ y' → w ≡ w'
     → ◌≡◌ {A = Tokenised} (record { number = 0; tokens = a; errors = b; bytes = c; toks = x; errs = y; text = w })
@@ -101,25 +97,19 @@ module _ (s T E X : List ℕ) {v : Bool} (h : length s ≤ 16384) (e : v ≡ utf
   ran : tokenise s T E X ≡ tokenised T E X (Z.tokenize_within 2048 (rest s origin))
   ran = of_characters s T E X h e n true w ∙ ap (tokenised T E X) (within_limit _)
 
-  module _ {T₁ E₁ X₁ T₂ E₂ X₂ : List ℕ} {f : State} (g : Ran 2048 (rest s origin) T₁ E₁ X₁ f)
-      (lt : length T₁ ≡ length T) (le : length E₁ ≡ length E) (lx : length X₁ ≡ length X) where
-    pub refused_answer : {r : Tokenized} → (f.refusal ≡ 0 → ⊥) → Cleared T₁ 0 T₂ → Cleared E₁ 0 E₂ → Cleared X₁ 0 X₂
-        → r ≡ refusal_of f.refusal → answer r T₂ E₂ X₂ ≡ tokenise s T E X
-    refused_answer {r} m a b c q = go g
-      where
-        go : Ran 2048 (rest s origin) T₁ E₁ X₁ f → answer r T₂ E₂ X₂ ≡ tokenise s T E X
-        go (inl d) = absurd (m d.few.refusal)
-        go (inr d) =
-            let x = cleared_filled T 0 [] a refl lt (omega arith) in
-            let y = cleared_filled E 0 [] b refl le (omega arith) in
-            let z = cleared_filled X 0 [] c refl lx (omega arith) in
-            rw (q, x, y, z) (sym (ran ∙ ap (tokenised T E X) d.is))
+  module _ {T₁ E₁ X₁ T₂ E₂ X₂ : List ℕ} (lt : length T₁ ≡ length T) (le : length E₁ ≡ length E) (lx : length X₁ ≡ length X) where
+    pub refused_answer : {x : Refusal} → NotDone 2048 (rest s origin) x → Cleared T₁ 0 T₂ → Cleared E₁ 0 E₂ → Cleared X₁ 0 X₂
+        → untouched (refusal_number x) T₂ E₂ X₂ ≡ tokenise s T E X
+    refused_answer d a b c =
+        let x = cleared_filled T 0 [] a refl lt (omega arith) in
+        let y = cleared_filled E 0 [] b refl le (omega arith) in
+        let z = cleared_filled X 0 [] c refl lx (omega arith) in
+        rw (x, y, z) (sym (ran ∙ ap (tokenised T E X) d.is))
 
-    pub accepted_answer : f.refusal ≡ 0 → Cleared T₁ (8 * f.tokens) T₂ → Cleared E₁ (4 * f.errors) E₂ → Cleared X₁ f.text X₂
-        → answer (record { number = 0; tokens = f.tokens; errors = f.errors; bytes = f.text }) T₂ E₂ X₂
-        ≡ tokenise s T E X
-    accepted_answer m a b c =
-        let d = ran_done g m in
+    pub accepted_answer : {f : State} → Done 2048 (rest s origin) T₁ E₁ X₁ f → Cleared T₁ (8 * f.tokens) T₂
+        → Cleared E₁ (4 * f.errors) E₂ → Cleared X₁ f.text X₂
+        → answer (Ok (record { tokens = f.tokens; errors = f.errors; bytes = f.text })) T₂ E₂ X₂ ≡ tokenise s T E X
+    accepted_answer {f} d a b c =
         let k = wide_all T E X w in
         let x = cleared_filled T (8 * f.tokens) (tokens_words 0 d.ts) a d.holds.toks lt
         (omega (arith, d.few.tokens, lt, k.tokens)) in

@@ -1,6 +1,7 @@
 -- The laws of the tokenizer's loop. Assumes nothing.
 use mathlib.Core.Path.{◌≡◌, refl, sym, ap, ◌∙◌}
-use mathlib.Core.Logic.{inl, inr}
+use Rattle.std.specs.Prelude as P
+use Rattle.definition.specs.declared.refusal.Refusal.{Refusal}
 use mathlib.Core.Bool.{Bool, true, false}
 use mathlib.Core.List.{List, [], ◌∷◌, ◌++◌, append_assoc}
 use Prim.Native.Nat.{ℕ, zero, suc, ◌+◌, ◌*◌, ◌<◌, ◌≤◌}
@@ -18,9 +19,9 @@ use Rattle.definition.specs.Tokenizer as Z
 use Rattle.source.specs.Place.{Stands, rest, char, origin}
 use Rattle.source.proofs.Laws.{rest_head, rest_end}
 use Rattle.token_records.specs.declared.State.{State}
-use Rattle.turns.specs.Turn.{Ready, bounded}
+use Rattle.turns.specs.Turn.{Ready, Stopped, bounded}
 use Rattle.turns.proofs.Turned.{errors_words_append}
-use Rattle.tokenizer.specs.Run.{Onward, Taken, turn_of, Holds, Ran}
+use Rattle.tokenizer.specs.Run.{Onward, turn_of, Holds, Ran}
 
 -- ---- the records of two lists, one after the other
 
@@ -96,13 +97,13 @@ pub record Looping (most : ℕ) (s T₀ E₀ X₀ T E X : List ℕ) (f : State) 
 
 pub loop_start : {most : ℕ} {s T E X : List ℕ}
     → Stands s origin × (length s ≤ 16384) × (8 * most ≤ length T) × (1024 ≤ length E) × (16384 ≤ length X)
-    → Looping most s T E X T E X (record { cursor = origin; tokens = 0; errors = 0; text = 0; refusal = 0 })
+    → Looping most s T E X T E X (record { cursor = origin; tokens = 0; errors = 0; text = 0 })
 unfolding tokens_words tokens_text errors_words Z.tokenize_within
 loop_start {s = s} p = record {
   ready =
       record {
         asks = record { stands = p.0; small = p.1; room = omega arith; wide = p.4 };
-        few = record { tokens = omega arith; errors = omega arith; refusal = refl };
+        few = record { tokens = omega arith; errors = omega arith };
         wide = p.2;
       };
   wide = p.3;
@@ -118,18 +119,20 @@ loop_start {s = s} p = record {
 }
 
 module _ {most : ℕ} {s T₀ E₀ X₀ T E X : List ℕ} {f : State} (q : Looping most s T₀ E₀ X₀ T E X f) where
-  pub loop_end : length s ≤ f.cursor.at → Ran most (rest s origin) T E X f
+  pub loop_end : length s ≤ f.cursor.at → Ran most (rest s origin) T E X (P.Ok f)
   loop_end h =
-      inl (record {
-        ts = q.ts;
-        es = q.es;
-        is = sym q.is
-            ∙ ap (λ (cs : List Ch). Z.tokenize_from most (suc q.n) cs q.ts q.es) (rest_end s f.cursor h)
-            ∙ from_end most q.n q.ts q.es;
-        holds = q.holds;
-        few = q.ready.few;
-        room = omega (arith, q.ready.asks.room, q.ready.asks.stands.inside, q.ready.asks.small);
-      })
+      record {
+        is = record {
+          ts = q.ts;
+          es = q.es;
+          is = sym q.is
+              ∙ ap (λ (cs : List Ch). Z.tokenize_from most (suc q.n) cs q.ts q.es) (rest_end s f.cursor h)
+              ∙ from_end most q.n q.ts q.es;
+          holds = q.holds;
+          few = q.ready.few;
+          room = omega (arith, q.ready.asks.room, q.ready.asks.stands.inside, q.ready.asks.small);
+        };
+      }
 
   module _ (h : f.cursor.at < length s) where
     -- the definition at this turn
@@ -138,21 +141,16 @@ module _ {most : ℕ} {s T₀ E₀ X₀ T E X : List ℕ} {f : State} (q : Loopi
         (bounded most (length q.es) (length q.ts) (turn_of (rest s f.cursor)))
     at_turn = sym q.is ∙ rw (rest_head q.ready.asks.stands h) (from_cons most q.n q.ts q.es (char s f.cursor) _)
 
-    pub loop_stop : {r : State} {T' E' X' : List ℕ} → Taken most (turn_of (rest s f.cursor)) s f T E X r T' E' X'
-        → (r.refusal ≡ 0 → ⊥) → Ran most (rest s origin) T' E' X' r
-    loop_stop (inl x) z = absurd (z x.went.few.refusal)
-    loop_stop (inr x) z =
-        inr (record {
-          is = at_turn
-              ∙ ap (next most q.n q.ts q.es) (rw (q.holds.errors, q.holds.tokens) at x.is);
-          refusal = x.refusal;
-        })
-
-    -- a turn that is not refused moves on
-    pub onward : {r : State} {T' E' X' : List ℕ} → Taken most (turn_of (rest s f.cursor)) s f T E X r T' E' X'
-        → r.refusal ≡ 0 → Onward most (turn_of (rest s f.cursor)) s f T E X r T' E' X'
-    onward (inl x) z = x
-    onward (inr x) z = absurd (omega (arith, x.refusal, z))
+    pub loop_stop : {x : Refusal} {T' E' X' : List ℕ} → Stopped most (turn_of (rest s f.cursor)) f x
+        → Ran most (rest s origin) T' E' X' (P.Err x)
+    loop_stop x =
+        record {
+          is = record {
+            is = at_turn
+                ∙ ap (next most q.n q.ts q.es) (rw (q.holds.errors, q.holds.tokens) at x.is);
+            refusal = x.refusal;
+          };
+        }
 
     loop_next : {r : State} {T' E' X' : List ℕ} → Onward most (turn_of (rest s f.cursor)) s f T E X r T' E' X'
         → (m : ℕ) → m ≡ q.n → Looping most s T₀ E₀ X₀ T' E' X' r
@@ -208,6 +206,6 @@ module _ {most : ℕ} {s T₀ E₀ X₀ T E X : List ℕ} {f : State} (q : Loopi
               ∙ sym (at_turn ∙ ap (next most q.n q.ts q.es) b);
         }
 
-    pub loop_more : {r : State} {T' E' X' : List ℕ} → Taken most (turn_of (rest s f.cursor)) s f T E X r T' E' X'
-        → r.refusal ≡ 0 → Looping most s T₀ E₀ X₀ T' E' X' r
-    loop_more g z = loop_next (onward g z) q.n refl
+    pub loop_more : {r : State} {T' E' X' : List ℕ} → Onward most (turn_of (rest s f.cursor)) s f T E X r T' E' X'
+        → Looping most s T₀ E₀ X₀ T' E' X' r
+    loop_more x = loop_next x q.n refl

@@ -1,6 +1,8 @@
 -- The laws of a turn, by the class of its character. Assumes nothing.
 use mathlib.Core.Path.{◌≡◌, refl, sym, ap, ◌∙◌, subst}
-use mathlib.Core.Logic.{inl, inr}
+use Rattle.std.specs.Prelude as P
+use Rattle.std.specs.Prelude.{Result}
+use Rattle.definition.specs.declared.refusal.Refusal.{Refusal}
 use mathlib.Core.Bool.{false}
 use mathlib.Core.List.{List, [], ◌∷◌}
 use Prim.Native.Nat.{ℕ, ◌≤◌}
@@ -64,45 +66,48 @@ module _ {s : List ℕ} (st : State) {c : Cursor} {d : ℕ} {k : Class} (x : Cla
       (coded_class here_coded (Z.look (rest s c)) ∙ ap (Z.class (get_or s st.cursor.at 0)) (sym h) ∙ sym e ∙ ap class_of told)
 
   -- a turn of the class is the turn at the cursor
-  pub taken : {E : List ℕ} {r : State} {T' E' X' : List ℕ} → Turned most begun s st c T E X r T' E' X'
+  pub taken : {E : List ℕ} {r : Result State Refusal} {T' E' X' : List ℕ} → Turned most begun s st c T E X r T' E' X'
       → Taken most (turn_of (rest s st.cursor)) s st T E X r T' E' X'
-  taken (inl g) = inl (record {
-    went = record {
-      es = g.es;
-      ts = g.ts;
-      is = of_turn ∙ g.is;
-      stands = g.stands;
-      forward = omega (arith, g.forward, z.wide);
-      shorter = omega (arith, g.shorter, ap length z.chars);
-      toks = g.toks;
-      errs = g.errs;
-      text = g.text;
-      tokens = g.tokens;
-      errors = g.errors;
-      room = g.room;
-      few = g.few;
+  taken {r = P.Ok r} t = let g = t.is in record {
+    is = record {
+      went = record {
+        es = g.es;
+        ts = g.ts;
+        is = of_turn ∙ g.is;
+        stands = g.stands;
+        forward = omega (arith, g.forward, z.wide);
+        shorter = omega (arith, g.shorter, ap length z.chars);
+        toks = g.toks;
+        errs = g.errs;
+        text = g.text;
+        tokens = g.tokens;
+        errors = g.errors;
+        room = g.room;
+        few = g.few;
+      };
+      strict = omega (arith, g.forward, z.wide);
+      less = omega (arith, g.shorter, ap length z.chars);
     };
-    strict = omega (arith, g.forward, z.wide);
-    less = omega (arith, g.shorter, ap length z.chars);
-  })
-  taken (inr g) = inr (record { is = ap (bounded most st.errors st.tokens) of_turn ∙ g.is; refusal = g.refusal })
+  }
+  taken {r = P.Err x} t =
+      record { is = record { is = ap (bounded most st.errors st.tokens) of_turn ∙ t.is.is; refusal = t.is.refusal } }
 
   room : st.text ≤ c.at
   room = omega (arith, a.asks.room, z.wide)
 
   -- the turn pushes nothing, a token without text, or the error 4
-  pub taken_nothing : {E : List ℕ} {cs : List Ch} {q : Cursor} {r : State} → r ≡ at_cursor st q → Passed s c cs q
-      → begun ≡ Z.nothing cs → Taken most (turn_of (rest s st.cursor)) s st T E X r T E X
-  taken_nothing f p g = rw f (taken (end_nothing a.few (on_text a.few p wrote_none (omega (arith, room, p.forward))) g))
+  pub taken_nothing : {E : List ℕ} {cs : List Ch} {q : Cursor} → Passed s c cs q
+      → begun ≡ Z.nothing cs → Taken most (turn_of (rest s st.cursor)) s st T E X (P.Ok (at_cursor st q)) T E X
+  taken_nothing p g = taken (end_nothing a.few (on_text a.few p wrote_none (omega (arith, room, p.forward))) g)
 
-  pub taken_plain : {E : List ℕ} {cs : List Ch} {q : Cursor} {y : ℕ} {r : State} {T' : List ℕ} → Passed s c cs q
+  pub taken_plain : {E : List ℕ} {cs : List Ch} {q : Cursor} {y : ℕ} {r : Result State Refusal} {T' : List ℕ} → Passed s c cs q
       → begun ≡ Z.token cs y (placed st.cursor) → has_text y ≡ false
       → TokenPushed most T (at_cursor st q) (y ∷ st.cursor.line ∷ st.cursor.column ∷ 0 ∷ 0 ∷ 0 ∷ 0 ∷ 0 ∷ [])
       T' r
       → Taken most (turn_of (rest s st.cursor)) s st T E X r T' E X
   taken_plain p f g w = taken (end_plain a.few room p f g w)
 
-  pub taken_error : {E E' : List ℕ} {r : State} → begun ≡ goes (rest s c) (Z.token_error 4 (placed st.cursor) ∷ []) []
+  pub taken_error : {E E' : List ℕ} {r : Result State Refusal} → begun ≡ goes (rest s c) (Z.token_error 4 (placed st.cursor) ∷ []) []
       → ErrorsPushed E (at_cursor st c) (replicate 1 (Z.token_error 4 (placed st.cursor))) E' r
       → Taken most (turn_of (rest s st.cursor)) s st T E X r T E' X
   taken_error f g = taken (end_errors {es = []} a.few (on_text a.few (passed_none z.stands) wrote_none room) f g)

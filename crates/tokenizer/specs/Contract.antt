@@ -1,17 +1,18 @@
 -- The records of Run, stated over the parameters of the functions. Assumes nothing.
-use Rattle.std.specs.Prelude.{ℕ, ◌*◌, ◌<◌, ◌≤◌, length}
+use Rattle.std.specs.Prelude.{Result, ℕ, ◌*◌, ◌<◌, ◌≤◌, length}
 use Rattle.definition.specs.Slices.{Slice, MutSlice, Lent, MutLent, at_entry, old, new}
+use Rattle.definition.specs.declared.refusal.Refusal.{Refusal}
 use Rattle.source.specs.Place.{Stands, rest, origin}
 use Rattle.token_records.specs.declared.State.{State}
-use Rattle.turns.specs.Contract.{Ready}
+use Rattle.turns.specs.Turn.{Ready}
 use Rattle.tokenizer.specs.Run as R
 
 -- what a turn requires: a character at the cursor
 abbrev pub TurnAsks : ℕ → Slice → State → MutSlice → MutSlice → MutSlice → Type 0
 TurnAsks most s st tokens errors text =
-    Ready most s st st.cursor tokens text × (st.cursor.at < length s.now) × (1024 ≤ length errors.now)
+    Ready most s.now tokens.now text.now st st.cursor × (st.cursor.at < length s.now) × (1024 ≤ length errors.now)
 
-abbrev pub Taken : ℕ → Lent → State → MutLent → MutLent → MutLent → State → Type 0
+abbrev pub Taken : ℕ → Lent → State → MutLent → MutLent → MutLent → Result State Refusal → Type 0
 Taken most s st tokens errors text r =
     R.Taken most (R.turn_of (rest (at_entry s) st.cursor)) (at_entry s) st
     (old tokens) (old errors) (old text) r (new tokens) (new errors) (new text)
@@ -22,6 +23,6 @@ RunAsks most s tokens errors text =
     Stands s.now origin × (length s.now ≤ 16384)
     × (8 * most ≤ length tokens.now) × (1024 ≤ length errors.now) × (16384 ≤ length text.now)
 
-abbrev pub Ran : ℕ → Lent → MutLent → MutLent → MutLent → State → Type 0
+abbrev pub Ran : ℕ → Lent → MutLent → MutLent → MutLent → Result State Refusal → Type 0
 Ran most s tokens errors text r =
     R.Ran most (rest (at_entry s) origin) (new tokens) (new errors) (new text) r

@@ -1,10 +1,13 @@
 -- What the turn and the loop ensure, and the answer of Tokenise. Assumes nothing.
-use Rattle.std.specs.Prelude.{◌≡◌, ◌⊎◌, List, [], ◌∷◌, ℕ, ◌*◌, ◌<◌, ◌≤◌, length, take}
+use Rattle.std.specs.Prelude.{◌≡◌, Result, MatchResult, List, [], ◌∷◌, ℕ, ◌*◌, ◌<◌, ◌≤◌, length, take}
+use Rattle.std.specs.Prelude as P
 use Rattle.definition.specs.Fallible.{Err}
 use Rattle.definition.specs.Token.{Tok}
 use Rattle.definition.specs.Source.{Ch}
 use Rattle.definition.specs.Records.{tokens_words, tokens_text, errors_words}
-use Rattle.definition.specs.Operations.{Tokenised}
+use Rattle.definition.specs.Operations.{Tokenised, untouched}
+use Rattle.definition.specs.Numbers.{refusal_number}
+use Rattle.definition.specs.declared.refusal.Refusal.{Refusal}
 use Rattle.definition.specs.Tokenizer.{Turn, goes}
 use Rattle.definition.specs.Tokenizer as Z
 use Rattle.source.specs.Place.{rest}
@@ -20,8 +23,8 @@ pub record Onward (most : ℕ) (t : Turn) (s : List ℕ) (f : State) (T E X : Li
   pub strict : f.cursor.at < r.cursor.at
   pub less : length (rest s r.cursor) < length (rest s f.cursor)
 
-abbrev pub Taken : ℕ → Turn → List ℕ → State → List ℕ → List ℕ → List ℕ → State → List ℕ → List ℕ → List ℕ → Type 0
-Taken most t s f T E X r T' E' X' = Onward most t s f T E X r T' E' X' ⊎ Stopped most t f r
+pub record Taken (most : ℕ) (t : Turn) (s : List ℕ) (f : State) (T E X : List ℕ) (r : Result State Refusal) (T' E' X' : List ℕ) : Type 0 where
+  pub is : MatchResult r (λ r. Onward most t s f T E X r T' E' X') (Stopped most t f)
 
 abbrev pub turn_of : List Ch → Turn
 turn_of [] = goes [] [] []
@@ -46,18 +49,16 @@ pub record Done (most : ℕ) (cs : List Ch) (T E X : List ℕ) (f : State) : Typ
   pub few : Few most f
   pub room : f.text ≤ 16384
 
-pub record NotDone (most : ℕ) (cs : List Ch) (f : State) : Type 0 where
-  pub is : Z.tokenize_within most cs ≡ Z.refused f.refusal
-  pub refusal : 4 ≤ f.refusal
+pub record NotDone (most : ℕ) (cs : List Ch) (x : Refusal) : Type 0 where
+  pub is : Z.tokenize_within most cs ≡ Z.refused (refusal_number x)
+  pub refusal : 4 ≤ refusal_number x
 
-abbrev pub Ran : ℕ → List Ch → List ℕ → List ℕ → List ℕ → State → Type 0
-Ran most cs T E X f = Done most cs T E X f ⊎ NotDone most cs f
+pub record Ran (most : ℕ) (cs : List Ch) (T E X : List ℕ) (r : Result State Refusal) : Type 0 where
+  pub is : MatchResult r (Done most cs T E X) (NotDone most cs)
 
 -- ---- the answer
 
 -- the number, the counts and the three slices
-abbrev pub answer : Tokenized → List ℕ → List ℕ → List ℕ → Tokenised
-answer r T E X = record { number = r.number; tokens = r.tokens; errors = r.errors; bytes = r.bytes; toks = T; errs = E; text = X }
-
-abbrev pub refusal_of : ℕ → Tokenized
-refusal_of n = record { number = n; tokens = 0; errors = 0; bytes = 0 }
+abbrev pub answer : Result Tokenized Refusal → List ℕ → List ℕ → List ℕ → Tokenised
+answer (P.Ok r) T E X = record { number = 0; tokens = r.tokens; errors = r.errors; bytes = r.bytes; toks = T; errs = E; text = X }
+answer (P.Err x) T E X = untouched (refusal_number x) T E X

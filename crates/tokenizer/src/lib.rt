@@ -3,20 +3,19 @@
 
 ghost use Rattle.std.specs.Prelude.{◌≡◌};
 ghost use Rattle.definition.specs.Operations as O;
-ghost use Rattle.tokenizer.specs.Run.{answer, refusal_of};
+ghost use Rattle.tokenizer.specs.Run.{answer};
 ghost use Rattle.tokenizer.specs.Contract.{TurnAsks, Taken, RunAsks, Ran};
 
 use classes::character::Class;
 use classes::class;
-use classes::spelling::{pair, symbol};
-use definition::{limit, refusal, token_error};
-use scan::{comment, look, skip};
-use slices::{clear_bytes, clear_words};
+use definition::limit;
+use definition::refusal::Refusal;
+use definition::token_error::TokenError;
+use scan::{Scan, comment, look, skip};
+use slices::fill_from;
 use source::{Cursor, step, valid};
 use token_records::State;
-use turns::{
-    dash_turn, moved, number_turn, plain, refuse, string_turn, with_errors, word_turn, zero_turn,
-};
+use turns::{Turn, dash_turn, number_turn, plain, string_turn, with_errors, word_turn, zero_turn};
 
 // ---- the loop
 
@@ -28,122 +27,116 @@ fn turn(
     tokens: &mut [u32],
     errors: &mut [u32],
     text: &mut [u8],
-) -> State
+) -> Result<State, Refusal>
     requires { TurnAsks most s st tokens errors text }
     ensures { Taken most s st tokens errors text result }
 {
     let from = st.cursor;
-    let at = from.at;
-    let b = s[at];
+    let b = s[from.at];
     let c = step(s, from);
-    let d = look(s, c);
-    let k = class(b, d);
-    match k {
-        Class::Foreign => refuse(st, refusal::FOREIGN_CHARACTER),
-        Class::White => moved(st, c),
-        Class::Comment => moved(st, comment(s, skip(s, c))),
-        Class::Pair => plain(most, tokens, st, skip(s, c), pair(b, d)),
-        Class::Symbol => plain(most, tokens, st, c, symbol(b)),
-        Class::Quote => string_turn(most, s, st, c, tokens, errors, text),
-        Class::Word => word_turn(most, s, st, c, b, tokens, errors, text),
-        Class::Dash => dash_turn(most, s, st, c, tokens, text),
-        Class::Zero => zero_turn(most, s, st, c, tokens, text),
-        Class::Digit => number_turn(most, s, st, c, b, tokens, text),
-        Class::Unknown => with_errors(
-            errors,
-            st,
-            from,
-            c,
-            st.text,
-            1,
-            token_error::UNKNOWN_CHARACTER,
-        ),
+    let next = look(s, c);
+    let turn = Turn { s, most, st, c };
+    match class(b, next) {
+        Class::Foreign => Err(Refusal::ForeignCharacter),
+        Class::White => Ok(State { cursor: c, ..st }),
+        Class::Comment => Ok(State {
+            cursor: comment(s, skip(s, c)),
+            ..st
+        }),
+        Class::Pair(kind) => {
+            let second = Turn {
+                c: skip(s, c),
+                ..turn
+            };
+            plain(second, kind, tokens)
+        }
+        Class::Symbol(kind) => plain(turn, kind, tokens),
+        Class::Quote => string_turn(turn, tokens, errors, text),
+        Class::Word => word_turn(turn, b, tokens, errors, text),
+        Class::Dash => dash_turn(turn, tokens, text),
+        Class::Zero => zero_turn(turn, tokens, text),
+        Class::Digit => number_turn(turn, b, tokens, text),
+        Class::Unknown => {
+            let end = Scan {
+                cursor: c,
+                n: st.text,
+            };
+            with_errors(errors, st, from, end, 1, TokenError::UnknownCharacter)
+        }
     }
 }
 
 // The tokenizer's loop: turns until the end or a refusal. Does not clear the slices after the records.
-pub fn run(most: usize, s: &[u8], tokens: &mut [u32], errors: &mut [u32], text: &mut [u8]) -> State
+pub fn run(
+    most: usize,
+    s: &[u8],
+    tokens: &mut [u32],
+    errors: &mut [u32],
+    text: &mut [u8],
+) -> Result<State, Refusal>
     requires { RunAsks most s tokens errors text }
     ensures { Ran most s tokens errors text result }
 {
-    let start = Cursor {
-        at: 0,
-        line: 1,
-        column: 1,
-    };
     let mut st = State {
-        cursor: start,
+        cursor: Cursor::START,
         tokens: 0,
         errors: 0,
         text: 0,
-        refusal: 0,
     };
-    loop {
-        let c = st.cursor;
-        let at = c.at;
-        if s.len() <= at {
-            return st;
-        }
-        st = turn(most, s, st, tokens, errors, text);
-        if st.refusal != 0 {
-            return st;
-        }
+    while st.cursor.at < s.len() {
+        st = turn(most, s, st, tokens, errors, text)?;
     }
+    Ok(st)
 }
 
 // ---- the operation
 
-// The result: the number of the refusal or 0, and the counts of tokens, token errors and text bytes.
+// The counts of tokens, token errors and text bytes.
 #[derive(Clone, Copy)]
 pub struct Tokenized {
-    pub number: u32,
     pub tokens: usize,
     pub errors: usize,
     pub bytes: usize,
 }
 
-fn refused(number: u32) -> Tokenized
-    ensures { result ≡ refusal_of number }
-{
-    Tokenized {
-        number,
-        tokens: 0,
-        errors: 0,
-        bytes: 0,
-    }
-}
-
 // Tokenise. Refusals 1 to 3 leave the slices untouched, later ones clear them; zeros follow the last record.
-pub fn tokenize(script: &[u8], tokens: &mut [u32], errors: &mut [u32], text: &mut [u8]) -> Tokenized
+pub fn tokenize(
+    script: &[u8],
+    tokens: &mut [u32],
+    errors: &mut [u32],
+    text: &mut [u8],
+) -> Result<Tokenized, Refusal>
     ensures { answer result tokens.new errors.new text.new
         ≡ O.tokenise script.now tokens.old errors.old text.old }
 {
     if limit::SCRIPT_BYTES < script.len() {
-        return refused(refusal::SCRIPT_LENGTH);
+        return Err(Refusal::ScriptLength);
     }
     if !valid(script) {
-        return refused(refusal::NOT_UTF8);
+        return Err(Refusal::NotUtf8);
     }
     let wide = (limit::TOKEN_WORDS <= tokens.len())
         & (limit::ERROR_WORDS <= errors.len())
         & (limit::TEXT_BYTES <= text.len());
     if !wide {
-        return refused(refusal::SLICE_LENGTH);
+        return Err(Refusal::SliceLength);
     }
-    let st = run(limit::TOKENS, script, tokens, errors, text);
-    if st.refusal != 0 {
-        clear_words(tokens, 0);
-        clear_words(errors, 0);
-        clear_bytes(text, 0);
-        return refused(st.refusal);
-    }
-    clear_words(tokens, 8 * st.tokens);
-    clear_words(errors, 4 * st.errors);
-    clear_bytes(text, st.text);
-    Tokenized {
-        number: 0,
-        tokens: st.tokens,
-        errors: st.errors,
-        bytes: st.text,
+    match run(limit::TOKENS, script, tokens, errors, text) {
+        Ok(st) => {
+            fill_from(tokens, 8 * st.tokens, 0);
+            fill_from(errors, 4 * st.errors, 0);
+            fill_from(text, st.text, 0);
+            Ok(Tokenized {
+                tokens: st.tokens,
+                errors: st.errors,
+                bytes: st.text,
+            })
+        }
+        Err(refusal) => {
+            fill_from(tokens, 0, 0);
+            fill_from(errors, 0, 0);
+            fill_from(text, 0, 0);
+            Err(refusal)
+        }
     }
 }

@@ -6,7 +6,9 @@ use Prim.Native.Nat.{ℕ, ◌-◌, ◌<◌, ◌≤◌}
 use native.Mathlib.Omega.{arith}
 use borrow.Author.Tests.{eq-eqb, ne_eqb}
 use lib.ListN.{length, get_or}
+use Rattle.std.specs.Prelude.{Result, Err}
 use Rattle.definition.specs.Source.{Place, Ch}
+use Rattle.definition.specs.declared.refusal.Refusal.{Refusal}
 use Rattle.definition.specs.Token.{Tok, tok}
 use Rattle.definition.specs.Classes as C
 use Rattle.definition.specs.Kind as K
@@ -37,7 +39,7 @@ some_left : (t : List ℕ) → (length t ≡ 0 → ⊥) → Z.or_zero t ≡ t
 some_left [] e = absurd (e refl)
 some_left (b ∷ t) e = refl
 
-module _ {most : ℕ} {s : List ℕ} {st : State} {c : Cursor} {T X X₁ T' : List ℕ} {p : Place} {r : State}
+module _ {most : ℕ} {s : List ℕ} {st : State} {c : Cursor} {T X X₁ T' : List ℕ} {p : Place} {r : Result State Refusal}
     (a : Ready most s T X st c × (st.text < c.at)) where
   -- a decimal integer after its first character b
   pub number_law : {X₂ : List ℕ} {b n : ℕ} {d : Scan} → Wrote X st.text (b ∷ []) X₁ n → Spanned s c X₁ n (Z.digits 10 (rest s c)) X₂ d →
@@ -88,7 +90,7 @@ zero_decimal : (p : Place) (cs : List Ch) → (Z.look cs ≡ 120 → ⊥) → (Z
 unfolding Z.zero_turn
 zero_decimal p cs e f = rw (ne_eqb _ _ e, ne_eqb _ _ f, Z.zero_turn)
 
-module _ {most : ℕ} {s : List ℕ} {st : State} {c : Cursor} {T X : List ℕ} {b : ℕ} {p : Place} {r : State}
+module _ {most : ℕ} {s : List ℕ} {st : State} {c : Cursor} {T X : List ℕ} {b : ℕ} {p : Place} {r : Result State Refusal}
     {T' X' : List ℕ} (k : b ≡ Z.look (rest s c)) where
   based : {d : Cursor} {base : ℕ}
       → Z.zero_turn p (rest s c) ≡ Z.integer p base [] (Z.digits base (Z.drop_one (rest s c)))
@@ -132,12 +134,12 @@ dash_minus : (p : Place) (c : Ch) (cs : List Ch) → (c.byte ≡ 62 → ⊥) →
 unfolding Z.dash_turn
 dash_minus p c cs e f = rw (ne_eqb _ _ e, f, Z.dash_turn)
 
-pub end_law : {most : ℕ} {s : List ℕ} {st : State} {c : Cursor} {T X : List ℕ} (p : Place) {r : State} {T' X' : List ℕ}
-    → length s ≤ c.at → r.refusal ≡ 5 → (E : List ℕ)
-    → Turned most (Z.dash_turn p (rest s c)) s st c T E X r T' E X'
-end_law {s = s} {c = c} p h e E = end_refused (ap (Z.dash_turn p) (rest_end s c h) ∙ dash_end _) e (omega arith)
+pub end_law : {most : ℕ} {s : List ℕ} {st : State} {c : Cursor} {T X : List ℕ} (p : Place) {T' X' : List ℕ}
+    → length s ≤ c.at → (E : List ℕ)
+    → Turned most (Z.dash_turn p (rest s c)) s st c T E X (Err Refusal.MinusAtEnd) T' E X'
+end_law {s = s} {c = c} p h E = end_refused Refusal.MinusAtEnd (ap (Z.dash_turn p) (rest_end s c h) ∙ dash_end _) (omega arith)
 
-module _ {most : ℕ} {s : List ℕ} {st : State} {c : Cursor} {T X : List ℕ} {p : Place} {r : State} {T' : List ℕ}
+module _ {most : ℕ} {s : List ℕ} {st : State} {c : Cursor} {T X : List ℕ} {p : Place} {r : Result State Refusal} {T' : List ℕ}
     {d : Cursor} (z : Stepped s c d) where
   pub digit_law : {X' : List ℕ} {v : Bool} → (get_or s c.at 0 ≡ 62 → ⊥) → v ≡ C.is_digit (get_or s c.at 0) → v ≡ true
       → ((E : List ℕ) → Turned most (Z.integer p 10 (45 ∷ []) (Z.digits 10 (rest s c))) s st c T E X r T' E X')

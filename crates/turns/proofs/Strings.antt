@@ -1,14 +1,16 @@
 -- The laws of the turn for a string. Assumes nothing.
 use mathlib.Core.Path.{◌≡◌, refl, sym, ap, ◌∙◌}
-use mathlib.Core.Logic.{inl, inr}
 use mathlib.Core.Bool.{Bool, true, false}
 use mathlib.Core.List.{List, [], ◌∷◌, ◌++◌}
 use Prim.Native.Nat.{ℕ, ◌+◌, ◌-◌, ◌<◌, ◌≤◌}
 use native.Mathlib.Omega.{arith}
 use borrow.Author.Tests.{lt-leb}
 use lib.ListN.{length, replicate, length-append}
+use Rattle.std.specs.Prelude as P
+use Rattle.std.specs.Prelude.{Result}
 use Rattle.definition.specs.Source.{Place}
 use Rattle.definition.specs.Fallible.{Err}
+use Rattle.definition.specs.declared.refusal.Refusal.{Refusal}
 use Rattle.definition.specs.Token.{Tok, tok}
 use Rattle.definition.specs.Kind as K
 use Rattle.definition.specs.Tokenizer.{goes, refused}
@@ -18,9 +20,9 @@ use Rattle.source.specs.Place.{rest}
 use Rattle.scan.specs.declared.Body.{Body}
 use Rattle.scan.specs.Scan.{QuotedAs}
 use Rattle.token_records.specs.declared.State.{State}
-use Rattle.token_records.specs.Push.{ErrorsWent, ErrorsPushed, TokenPushed}
+use Rattle.token_records.specs.Push.{ErrorsWent, ErrorsFull, ErrorsPushed, TokenPushed}
 use Rattle.turns.specs.Turn.{at_text, at_cursor, Few, Ready, bounded, Turned}
-use Rattle.turns.proofs.Turned.{end_token, end_errors, with_words, wrote_back}
+use Rattle.turns.proofs.Turned.{stopped, end_token, end_errors, with_words, wrote_back}
 
 string_closed : (p : Place) (q : Z.Quoted) → q.closed ≡ true
     → Z.string_turn p q
@@ -42,9 +44,8 @@ body s c = Z.quoted false (rest s c)
 abbrev escapes : ℕ → Place → List Err
 escapes n p = replicate n (Z.token_error 1 p)
 
-module _ {most : ℕ} {s : List ℕ} {st : State} {c : Cursor} {T E X X₁ E₁ : List ℕ} {q : Body} {e : State}
-    (p : Place) (a : Ready most s T X st c) (u : QuotedAs s c X st.text (body s c) X₁ q)
-    (g : ErrorsPushed E (at_cursor st q.cursor) (escapes q.unknown p) E₁ e) where
+module _ {most : ℕ} {s : List ℕ} {st : State} {c : Cursor} {T X X₁ : List ℕ} {q : Body}
+    (p : Place) (a : Ready most s T X st c) (u : QuotedAs s c X st.text (body s c) X₁ q) where
   too_many : 255 < st.errors + length (escapes (body s c).unknown p) → (t : Bool) → (body s c).closed ≡ t
       → bounded most st.errors st.tokens (Z.string_turn p (body s c)) ≡ refused 7
   too_many h true f =
@@ -56,49 +57,27 @@ module _ {most : ℕ} {s : List ℕ} {st : State} {c : Cursor} {T E X X₁ E₁ 
       ap (bounded most st.errors st.tokens) (string_open p (body s c) f) ∙ rw (lt-leb (st.errors + length x) 255 k)
 
   -- too many errors: refused
-  pub string_full_law : {T' E' X' : List ℕ} → (e.refusal ≡ 0 → ⊥) → Turned most (Z.string_turn p (body s c)) s st c T E X e T' E' X'
-  string_full_law {T'} {E'} {X'} h = go g
-    where
-      go : ErrorsPushed E (at_cursor st q.cursor) (escapes q.unknown p) E₁ e
-          → Turned most (Z.string_turn p (body s c)) s st c T E X e T' E' X'
-      go (inl x) = absurd (h (x.refusal ∙ a.few.refusal))
-      go (inr x) =
-          inr (record {
-            is = too_many (rw u.unknown at x.many) (body s c).closed refl ∙ ap refused (sym x.refusal);
-            refusal = omega (arith, x.refusal);
-          })
+  pub string_full_law : {E E' T' X' : List ℕ} {x : Refusal} → ErrorsFull (at_cursor st q.end.cursor) (escapes q.unknown p) x
+      → Turned most (Z.string_turn p (body s c)) s st c T E X (P.Err x) T' E' X'
+  string_full_law f =
+      rw f.refusal (stopped Refusal.TokenErrors (too_many (rw u.unknown at f.many) (body s c).closed refl) (omega arith))
 
-  module _ (h : e.refusal ≡ 0) where
-    -- the errors of the escapes are pushed
-    pub escapes_went : ErrorsWent E (at_cursor st q.cursor) (escapes q.unknown p) E₁ e
-    escapes_went = go g
-      where
-        go : ErrorsPushed E (at_cursor st q.cursor) (escapes q.unknown p) E₁ e
-            → ErrorsWent E (at_cursor st q.cursor) (escapes q.unknown p) E₁ e
-        go (inl x) = x
-        go (inr x) = absurd (omega (arith, x.refusal, h))
-
+  -- the errors of the escapes are pushed
+  module _ {E E₁ : List ℕ} {e : State} (z : ErrorsWent E (at_cursor st q.end.cursor) (escapes q.unknown p) E₁ e) where
     pub escapes_few : Few most e
-    escapes_few =
-        record {
-          tokens = omega (arith, escapes_went.tokens, a.few.tokens);
-          errors = omega (arith, escapes_went.errors, escapes_went.few);
-          refusal = h;
-        }
+    escapes_few = record { tokens = omega (arith, z.tokens, a.few.tokens); errors = omega (arith, z.errors, z.few) }
 
-    pub string_closed_law : {T' : List ℕ} {r : State} → q.closed ≡ true
-        → TokenPushed most T (at_text e q.cursor q.n)
-        (K.String ∷ p.line ∷ p.column ∷ e.text ∷ (q.n - e.text) ∷ 0 ∷ 0 ∷ 0 ∷ []) T' r
+    pub string_closed_law : {T' : List ℕ} {r : Result State Refusal} → q.closed ≡ true
+        → TokenPushed most T (at_text e q.end.cursor q.end.n)
+        (K.String ∷ p.line ∷ p.column ∷ e.text ∷ (q.end.n - e.text) ∷ 0 ∷ 0 ∷ 0 ∷ []) T' r
         → Turned most (Z.string_turn p (body s c)) s st c T E X r T' E₁ X₁
     string_closed_law f x =
-        let z = escapes_went in
         let k : Tok = tok K.String p (body s c).text 0 in
         end_token a.few (record {
           passed = u.passed;
           tokens = z.tokens;
           errors = z.errors;
           few = omega (arith, z.errors, z.few);
-          refusal = h;
           room = u.room;
           errs = z.wrote;
           text = u.wrote;
@@ -107,18 +86,16 @@ module _ {most : ℕ} {s : List ℕ} {st : State} {c : Cursor} {T E X X₁ E₁ 
         ∙ ap (λ (v : ℕ). goes (body s c).rest (escapes v p) (k ∷ [])) (sym u.unknown))
         (with_words k refl z.text (omega (arith, u.wrote.count, z.text)) x)
 
-    pub string_open_law : {E₂ : List ℕ} {r : State} → q.closed ≡ false
-        → ErrorsPushed E₁ (at_text e q.cursor st.text) (replicate 1 (Z.token_error 2 p)) E₂ r
+    pub string_open_law : {E₂ : List ℕ} {r : Result State Refusal} → q.closed ≡ false
+        → ErrorsPushed E₁ (at_text e q.end.cursor st.text) (replicate 1 (Z.token_error 2 p)) E₂ r
         → Turned most (Z.string_turn p (body s c)) s st c T E X r T E₂ X₁
     string_open_law f x =
-        let z = escapes_went in
         let l : st.text ≤ length X = omega (arith, a.asks.room, a.asks.wide, a.asks.small, a.asks.stands.inside) in
         end_errors a.few (record {
           passed = u.passed;
           tokens = z.tokens;
           errors = z.errors;
           few = omega (arith, z.errors, z.few);
-          refusal = h;
           room = omega (arith, a.asks.room, u.passed.forward);
           errs = z.wrote;
           text = wrote_back l u.wrote;

@@ -1,7 +1,10 @@
 -- How a turn ends: after what was read and written, a token is pushed, errors are, nothing is, or the turn is
 -- refused. Assumes nothing.
 use mathlib.Core.Path.{◌≡◌, refl, sym, ap, ◌∙◌}
-use mathlib.Core.Logic.{inl, inr}
+use Rattle.std.specs.Prelude as P
+use Rattle.std.specs.Prelude.{Result}
+use Rattle.definition.specs.Numbers.{refusal_number}
+use Rattle.definition.specs.declared.refusal.Refusal.{Refusal}
 use mathlib.Core.Bool.{true, false}
 use mathlib.Core.List.{List, [], ◌∷◌, ◌++◌, append-nil}
 use Prim.Native.Nat.{ℕ, ◌+◌, ◌-◌, ◌*◌, ◌≤◌}
@@ -116,7 +119,6 @@ pub record On (s : List ℕ) (st : State) (c : Cursor) (E X : List ℕ) (cs : Li
   pub tokens : f.tokens ≡ st.tokens
   pub errors : f.errors ≡ st.errors + length es
   pub few : f.errors ≤ 255
-  pub refusal : f.refusal ≡ 0
   pub room : f.text ≤ f.cursor.at
   pub errs : Wrote E (4 * st.errors) (errors_words es) E' (4 * f.errors)
   pub text : Wrote X st.text t X' f.text
@@ -133,113 +135,119 @@ on_text {st = st} w p x r =
       tokens = refl;
       errors = omega arith;
       few = w.errors;
-      refusal = w.refusal;
       room = r;
       errs = wrote_none;
       text = x;
     }
 
+pub stopped : {most : ℕ} {t : Turn} {s : List ℕ} {st : State} {c : Cursor} {T E X T' E' X' : List ℕ} (x : Refusal)
+    → bounded most st.errors st.tokens t ≡ refused (refusal_number x) → 4 ≤ refusal_number x
+    → Turned most t s st c T E X (P.Err x) T' E' X'
+stopped x e l = record { is = record { is = e; refusal = l } }
+
 module _ {most : ℕ} {t : Turn} {s : List ℕ} {st : State} {c : Cursor} {T E X : List ℕ} {cs : List Ch}
     {es : List Err} (w : Few most st) where
   -- the turn ends with a token, with errors, with nothing, or with a refusal
-  pub end_token : {k : Tok} {f : State} {E' X' T' : List ℕ} {r : State} → On s st c E X cs es k.text f E' X'
+  pub end_token : {k : Tok} {f : State} {E' X' T' : List ℕ} {r : Result State Refusal} → On s st c E X cs es k.text f E' X'
       → t ≡ goes cs es (k ∷ []) → TokenPushed most T f (token_words st.text k) T' r
       → Turned most t s st c T E X r T' E' X'
-  end_token {k} {f} {E'} {X'} {T'} {r} o e (inl p) =
+  end_token {k} {f} {E'} {X'} {T'} {r = P.Ok r} o e g =
+      let p = g.is in
       let q : f.cursor ≡ r.cursor = sym p.cursor in
       let a : f.errors ≡ r.errors = sym p.errors in
       let b : f.text ≡ r.text = sym p.text in
       let d : f.tokens ≡ st.tokens = o.tokens in
-      inl (record {
-        es = es;
-        ts = k ∷ [];
-        is = e ∙ ap (λ (c : List Ch). goes c es (k ∷ [])) (rw q at (sym o.passed.is));
-        stands = rw q at o.passed.stands;
-        forward = rw q at o.passed.forward;
-        shorter = rw q at o.passed.shorter;
-        toks = rw words_one (rw d at p.wrote);
-        errs = rw a at o.errs;
-        text = rw text_one (rw b at o.text);
-        tokens = omega (arith, p.tokens, o.tokens);
-        errors = omega (arith, p.errors, o.errors);
-        room = rw (q, b) at o.room;
-        few =
-            record {
-              tokens = omega (arith, p.tokens, p.few, o.tokens);
-              errors = omega (arith, p.errors, o.few);
-              refusal = p.refusal ∙ o.refusal;
-            };
-      })
-  end_token {k} {f} {r = r} o e (inr p) =
-      let x : leb (st.errors + length es) 255 ≡ true = le-leb (st.errors + length es) 255 (omega (arith, o.errors, o.few)) in
+      record {
+        is = record {
+          es = es;
+          ts = k ∷ [];
+          is = e ∙ ap (λ (c : List Ch). goes c es (k ∷ [])) (rw q at (sym o.passed.is));
+          stands = rw q at o.passed.stands;
+          forward = rw q at o.passed.forward;
+          shorter = rw q at o.passed.shorter;
+          toks = rw words_one (rw d at p.wrote);
+          errs = rw a at o.errs;
+          text = rw text_one (rw b at o.text);
+          tokens = omega (arith, p.tokens, o.tokens);
+          errors = omega (arith, p.errors, o.errors);
+          room = rw (q, b) at o.room;
+          few =
+              record {
+                tokens = omega (arith, p.tokens, p.few, o.tokens);
+                errors = omega (arith, p.errors, o.few);
+              };
+        };
+      }
+  end_token {k} {f} {r = P.Err x} o e g =
+      let p = g.is in
+      let z : leb (st.errors + length es) 255 ≡ true = le-leb (st.errors + length es) 255 (omega (arith, o.errors, o.few)) in
       let y : leb (st.tokens + 1) most ≡ false = lt-leb (st.tokens + 1) most (omega (arith, p.many, o.tokens)) in
-      inr (record {
-        is = ap (bounded most st.errors st.tokens) e ∙ rw (x, y) (ap refused (sym p.refusal));
-        refusal = omega (arith, p.refusal);
-      })
+      rw p.refusal (stopped Refusal.Tokens (ap (bounded most st.errors st.tokens) e ∙ rw (z, y) refl) (omega arith))
 
-  pub end_errors : {fs : List Err} {f : State} {E' X' E'' : List ℕ} {r : State} → On s st c E X cs es [] f E' X'
+  pub end_errors : {fs : List Err} {f : State} {E' X' E'' : List ℕ} {r : Result State Refusal} → On s st c E X cs es [] f E' X'
       → t ≡ goes cs (es ++ fs) [] → ErrorsPushed E' f fs E'' r → Turned most t s st c T E X r T E'' X'
   unfolding tokens_words tokens_text
-  end_errors {fs} {f} {E'} {X'} {E''} {r} o e (inl p) =
+  end_errors {fs} {f} {E'} {X'} {E''} {r = P.Ok r} o e g =
+      let p = g.is in
       let q : f.cursor ≡ r.cursor = sym p.cursor in
       let b : f.text ≡ r.text = sym p.text in
       let d : r.tokens ≡ st.tokens = p.tokens ∙ o.tokens in
-      inl (record {
-        es = es ++ fs;
-        ts = [];
-        is = e ∙ ap (λ (c : List Ch). goes c (es ++ fs) []) (rw q at (sym o.passed.is));
-        stands = rw q at o.passed.stands;
-        forward = rw q at o.passed.forward;
-        shorter = rw q at o.passed.shorter;
-        toks = rw d wrote_none;
-        errs = rw errors_words_append (wrote_trans o.errs p.wrote);
-        text = rw b at o.text;
-        tokens = omega (arith, p.tokens, o.tokens);
-        errors = omega (arith, p.errors, o.errors, length-append es fs);
-        room = rw (q, b) at o.room;
-        few =
-            record {
-              tokens = omega (arith, p.tokens, o.tokens, w.tokens);
-              errors = omega (arith, p.errors, p.few);
-              refusal = p.refusal ∙ o.refusal;
-            };
-      })
-  end_errors {fs} {f} {r = r} o e (inr p) =
-      let x : leb (st.errors + length (es ++ fs)) 255 ≡ false = lt-leb (st.errors + length (es ++ fs)) 255
+      record {
+        is = record {
+          es = es ++ fs;
+          ts = [];
+          is = e ∙ ap (λ (c : List Ch). goes c (es ++ fs) []) (rw q at (sym o.passed.is));
+          stands = rw q at o.passed.stands;
+          forward = rw q at o.passed.forward;
+          shorter = rw q at o.passed.shorter;
+          toks = rw d wrote_none;
+          errs = rw errors_words_append (wrote_trans o.errs p.wrote);
+          text = rw b at o.text;
+          tokens = omega (arith, p.tokens, o.tokens);
+          errors = omega (arith, p.errors, o.errors, length-append es fs);
+          room = rw (q, b) at o.room;
+          few =
+              record {
+                tokens = omega (arith, p.tokens, o.tokens, w.tokens);
+                errors = omega (arith, p.errors, p.few);
+              };
+        };
+      }
+  end_errors {fs} {f} {r = P.Err x} o e g =
+      let p = g.is in
+      let y : leb (st.errors + length (es ++ fs)) 255 ≡ false = lt-leb (st.errors + length (es ++ fs)) 255
       (omega (arith, o.errors, p.many, length-append es fs)) in
-      inr (record { is = ap (bounded most st.errors st.tokens) e ∙ rw x (ap refused (sym p.refusal)); refusal = omega (arith, p.refusal) })
+      rw p.refusal (stopped Refusal.TokenErrors (ap (bounded most st.errors st.tokens) e ∙ rw y refl) (omega arith))
 
-  pub end_nothing : {f : State} {E' X' : List ℕ} → On s st c E X cs es [] f E' X' → t ≡ goes cs es [] → Turned most t s st c T E X f T E' X'
+  pub end_nothing : {f : State} {E' X' : List ℕ} → On s st c E X cs es [] f E' X' → t ≡ goes cs es [] → Turned most t s st c T E X (P.Ok f) T E' X'
   unfolding tokens_words tokens_text
   end_nothing {f} o e =
       let d : f.tokens ≡ st.tokens = o.tokens in
-      inl (record {
-        es = es;
-        ts = [];
-        is = e ∙ ap (λ (c : List Ch). goes c es []) (sym o.passed.is);
-        stands = o.passed.stands;
-        forward = o.passed.forward;
-        shorter = o.passed.shorter;
-        toks = rw d wrote_none;
-        errs = o.errs;
-        text = o.text;
-        tokens = omega (arith, o.tokens);
-        errors = o.errors;
-        room = o.room;
-        few = record { tokens = omega (arith, o.tokens, w.tokens); errors = o.few; refusal = o.refusal };
-      })
+      record {
+        is = record {
+          es = es;
+          ts = [];
+          is = e ∙ ap (λ (c : List Ch). goes c es []) (sym o.passed.is);
+          stands = o.passed.stands;
+          forward = o.passed.forward;
+          shorter = o.passed.shorter;
+          toks = rw d wrote_none;
+          errs = o.errs;
+          text = o.text;
+          tokens = omega (arith, o.tokens);
+          errors = o.errors;
+          room = o.room;
+          few = record { tokens = omega (arith, o.tokens, w.tokens); errors = o.few };
+        };
+      }
 
-pub end_refused : {most : ℕ} {t : Turn} {s : List ℕ} {st : State} {c : Cursor} {T E X : List ℕ} {r : State}
-    {T' E' X' : List ℕ} {k : ℕ}
-    → t ≡ refused k → r.refusal ≡ k → 4 ≤ k → Turned most t s st c T E X r T' E' X'
-end_refused {most} {st = st} e h l =
-    inr
-    (record { is = ap (bounded most st.errors st.tokens) e ∙ ap refused (sym h); refusal = omega (arith, h) })
+pub end_refused : {most : ℕ} {t : Turn} {s : List ℕ} {st : State} {c : Cursor} {T E X T' E' X' : List ℕ} (x : Refusal)
+    → t ≡ refused (refusal_number x) → 4 ≤ refusal_number x → Turned most t s st c T E X (P.Err x) T' E' X'
+end_refused {most} {st = st} x e l = stopped x (ap (bounded most st.errors st.tokens) e) l
 
 -- ---- the words of a token
 
-pub with_words : {most : ℕ} {T : List ℕ} {f : State} {T' : List ℕ} {r : State} (k : Tok) {x y z : ℕ}
+pub with_words : {most : ℕ} {T : List ℕ} {f : State} {T' : List ℕ} {r : Result State Refusal} (k : Tok) {x y z : ℕ}
     → has_text k.kind ≡ true → y ≡ x → z ≡ length k.text
     → TokenPushed most T f (k.kind ∷ k.place.line ∷ k.place.column ∷ y ∷ z ∷ k.base ∷ 0 ∷ 0 ∷ []) T' r
     → TokenPushed most T f (token_words x k) T' r
@@ -247,7 +255,7 @@ with_words k {x} e f g p = rw (e, sym f, sym g) p
 
 -- a token without text, at a later cursor
 pub end_plain : {most : ℕ} {t : Turn} {s : List ℕ} {st : State} {c : Cursor} {T E X : List ℕ} {cs : List Ch} {d : Cursor}
-    {k : ℕ} {p : Place} {T' : List ℕ} {r : State}
+    {k : ℕ} {p : Place} {T' : List ℕ} {r : Result State Refusal}
     → Few most st → st.text ≤ c.at → Passed s c cs d → t ≡ Z.token cs k p → has_text k ≡ false
     → TokenPushed most T (at_cursor st d) (k ∷ p.line ∷ p.column ∷ 0 ∷ 0 ∷ 0 ∷ 0 ∷ 0 ∷ []) T' r
     → Turned most t s st c T E X r T' E X
@@ -256,50 +264,54 @@ end_plain w h q e f g = end_token w (on_text w q wrote_none (omega (arith, q.for
 -- ---- a turn that continues another
 
 -- the same for an equal turn
-pub turned_same : {most : ℕ} {t t' : Turn} {s : List ℕ} {st : State} {c : Cursor} {T E X : List ℕ} {r : State}
+pub turned_same : {most : ℕ} {t t' : Turn} {s : List ℕ} {st : State} {c : Cursor} {T E X : List ℕ} {r : Result State Refusal}
     {T' E' X' : List ℕ}
     → t ≡ t' → Turned most t' s st c T E X r T' E' X' → Turned most t s st c T E X r T' E' X'
 turned_same e g = rw e g
 
 -- from a later cursor
 pub turned_on : {most : ℕ} {t t' : Turn} {s : List ℕ} {st : State} {c d : Cursor} {T E X : List ℕ} {cs : List Ch}
-    {r : State} {T' E' X' : List ℕ}
+    {r : Result State Refusal} {T' E' X' : List ℕ}
     → t ≡ t' → Passed s c cs d → Turned most t' s st d T E X r T' E' X' → Turned most t s st c T E X r T' E' X'
-turned_on e p (inl g) = inl (record {
-  es = g.es;
-  ts = g.ts;
-  is = e ∙ g.is;
-  stands = g.stands;
-  forward = omega (arith, g.forward, p.forward);
-  shorter = omega (arith, g.shorter, p.shorter);
-  toks = g.toks;
-  errs = g.errs;
-  text = g.text;
-  tokens = g.tokens;
-  errors = g.errors;
-  room = g.room;
-  few = g.few;
-})
-turned_on {most} {st = st} e p (inr g) = inr (record { is = ap (bounded most st.errors st.tokens) e ∙ g.is; refusal = g.refusal })
+turned_on {r = P.Ok r} e p g = let w = g.is in record {
+  is = record {
+    es = w.es;
+    ts = w.ts;
+    is = e ∙ w.is;
+    stands = w.stands;
+    forward = omega (arith, w.forward, p.forward);
+    shorter = omega (arith, w.shorter, p.shorter);
+    toks = w.toks;
+    errs = w.errs;
+    text = w.text;
+    tokens = w.tokens;
+    errors = w.errors;
+    room = w.room;
+    few = w.few;
+  };
+}
+turned_on {most} {st = st} {r = P.Err x} e p g = stopped x (ap (bounded most st.errors st.tokens) e ∙ g.is.is) g.is.refusal
 
 -- after a text that is taken back
 pub turned_back : {most : ℕ} {t : Turn} {s : List ℕ} {st : State} {c : Cursor} {T E X X₁ : List ℕ} {u : List ℕ} {m : ℕ}
-    {r : State} {T' E' X' : List ℕ}
+    {r : Result State Refusal} {T' E' X' : List ℕ}
     → st.text ≤ length X → Wrote X st.text u X₁ m → Turned most t s st c T E X₁ r T' E' X'
     → Turned most t s st c T E X r T' E' X'
-turned_back h w (inl g) = inl (record {
-  es = g.es;
-  ts = g.ts;
-  is = g.is;
-  stands = g.stands;
-  forward = g.forward;
-  shorter = g.shorter;
-  toks = g.toks;
-  errs = g.errs;
-  text = wrote_trans (wrote_back h w) g.text;
-  tokens = g.tokens;
-  errors = g.errors;
-  room = g.room;
-  few = g.few;
-})
-turned_back h w (inr g) = inr g
+turned_back {r = P.Ok r} h x g = let w = g.is in record {
+  is = record {
+    es = w.es;
+    ts = w.ts;
+    is = w.is;
+    stands = w.stands;
+    forward = w.forward;
+    shorter = w.shorter;
+    toks = w.toks;
+    errs = w.errs;
+    text = wrote_trans (wrote_back h x) w.text;
+    tokens = w.tokens;
+    errors = w.errors;
+    room = w.room;
+    few = w.few;
+  };
+}
+turned_back {r = P.Err x} h w g = stopped x g.is.is g.is.refusal

@@ -6,9 +6,15 @@ use Prim.Native.Nat.{ℕ, zero, suc, ◌-◌, ◌<◌, ◌≤◌}
 use native.Mathlib.Omega.{arith}
 use borrow.Author.Tests.{ltb-true, le-leb, lt-leb, eq-eqb, ne_eqb}
 use lib.ListN.{length, take, drop, replicate}
+use Rattle.std.specs.Prelude.{Option, Some, None, option_map, Result, Err}
 use Rattle.definition.specs.Source.{Place, Ch}
 use Rattle.definition.specs.Classes as C
 use Rattle.definition.specs.Kind as K
+use Rattle.definition.specs.declared.kind.Kind.{Kind}
+use Rattle.definition.specs.declared.refusal.Refusal.{Refusal}
+use Rattle.definition.specs.Numbers.{kind_number}
+use Rattle.classes.specs.Found.{nonzero}
+use Rattle.classes.proofs.Found.{kind_is, kind_there, no_kind}
 use Rattle.definition.specs.Token.{tok}
 use Rattle.definition.specs.Tokenizer.{Span, Turn, goes, refused}
 use Rattle.definition.specs.Tokenizer as Z
@@ -20,7 +26,7 @@ use Rattle.source.specs.Place.{rest}
 use Rattle.source.proofs.Laws.{stands_coded}
 use Rattle.scan.specs.declared.Scan.{Scan}
 use Rattle.slices.specs.Written.{Wrote}
-use Rattle.scan.specs.Scan.{Passed, Spanned, letters, blanks}
+use Rattle.scan.specs.Scan.{Passed, Spanned, span_while, letters, blanks}
 use Rattle.slices.proofs.Writing.{wrote_none, wrote_trans}
 use Rattle.token_records.specs.declared.State.{State}
 use Rattle.token_records.specs.Push.{ErrorsPushed, TokenPushed}
@@ -75,7 +81,7 @@ ahead_runs true bs s = refl
 ahead_runs false bs s = refl
 
 word_runs : (cs : List Ch) → All Coded cs → Z.word cs ≡ run_of (C.is_foreign (Z.look (letters cs).rest)) (letters cs)
-unfolding Z.word letters
+unfolding Z.word span_while
 word_runs [] q = refl
 word_runs (c ∷ cs) q =
     coded_same q.0 (λ n. by (C.is_foreign n) (C.is_word n)) Z.foreign (λ n e. rw e)
@@ -126,12 +132,13 @@ module _ {most : ℕ} {s : List ℕ} {st : State} {c w : Cursor} {b : ℕ} {v : 
   white_run : (t : Bool) → v ≡ t → Z.white (rest s c) ≡ run_of t (record { text = []; rest = rest s w })
   white_run t e = asm_run s w _ (stands_coded a.asks.stands) pw.is k t (sym f ∙ e)
 
-  pub asm_foreign_law : {E : List ℕ} {r : State} {T' E' X' : List ℕ} → v ≡ true → r.refusal ≡ 4
-      → Turned most (Z.assembly_turn p (Z.white (rest s c))) s st c T E X r T' E' X'
-  asm_foreign_law h e = end_refused (ap (Z.assembly_turn p) (white_run true h) ∙ asm_foreign p) e (omega arith)
+  pub asm_foreign_law : {E T' E' X' : List ℕ} → v ≡ true
+      → Turned most (Z.assembly_turn p (Z.white (rest s c))) s st c T E X (Err Refusal.ForeignCharacter) T' E' X'
+  asm_foreign_law h =
+      end_refused Refusal.ForeignCharacter (ap (Z.assembly_turn p) (white_run true h) ∙ asm_foreign p) (omega arith)
 
   module _ (h : v ≡ false) {d : Cursor} (pd : Passed s w (Z.drop_one (rest s w)) d) where
-    pub asm_open_law : {E X₁ : List ℕ} {n : Scan} {r : State} {T' : List ℕ} → b ≡ 123
+    pub asm_open_law : {E X₁ : List ℕ} {n : Scan} {r : Result State Refusal} {T' : List ℕ} → b ≡ 123
         → Spanned s d X st.text (Z.assembly (rest s d)) X₁ n →
         TokenPushed most T (at_text st n.cursor n.n)
         (K.InlineAssemblyFragment ∷ p.line ∷ p.column ∷ st.text ∷ (n.n - st.text) ∷ 0 ∷ 0 ∷ 0 ∷ []) T' r
@@ -144,7 +151,7 @@ module _ {most : ℕ} {s : List ℕ} {st : State} {c w : Cursor} {b : ℕ} {v : 
         (with_words (tok K.InlineAssemblyFragment p (Z.assembly (rest s d)).text 0) refl refl
         (omega (arith, sp.wrote.count)) g)
 
-    pub asm_other_law : {E E' : List ℕ} {r : State} → (b ≡ 123 → ⊥)
+    pub asm_other_law : {E E' : List ℕ} {r : Result State Refusal} → (b ≡ 123 → ⊥)
         → ErrorsPushed E (at_cursor st d) (replicate 1 (Z.token_error 3 p)) E' r
         → Turned most (Z.assembly_turn p (Z.white (rest s c))) s st c T E X r T E' X
     asm_other_law e g =
@@ -209,10 +216,10 @@ module _ {most : ℕ} {s : List ℕ} {st : State} {c : Cursor} {T X X₁ X₂ : 
   run : (t : Bool) → u ≡ t → Z.run_ahead (first ∷ []) (Z.word (rest s c)) ≡ run_of t (Z.ahead (first ∷ []) (letters (rest s c)))
   run t e = word_run s w.cursor _ first (stands_coded a.asks.stands) sp.passed.is k t (sym i ∙ e)
 
-  pub word_foreign_law : {E : List ℕ} {r : State} {T' E' X' : List ℕ} → u ≡ true → r.refusal ≡ 4
-      → Turned most (turn_at p first (rest s c)) s st c T E X r T' E' X'
-  word_foreign_law h e =
-      end_refused (ap (Z.word_turn p) (run true h) ∙ word_foreign p) e (omega arith)
+  pub word_foreign_law : {E T' E' X' : List ℕ} → u ≡ true
+      → Turned most (turn_at p first (rest s c)) s st c T E X (Err Refusal.ForeignCharacter) T' E' X'
+  word_foreign_law h =
+      end_refused Refusal.ForeignCharacter (ap (Z.word_turn p) (run true h) ∙ word_foreign p) (omega arith)
 
   module _ (h : u ≡ false) {v : Bool} (e : v ≡ Z.same (taken st w X₂) asm) where
     turn_body : (t : Bool) → v ≡ t → turn_at p first (rest s c) ≡ word_body p (spelled first (rest s c)) t (Z.keyword (taken st w X₂))
@@ -222,7 +229,7 @@ module _ {most : ℕ} {s : List ℕ} {st : State} {c : Cursor} {T X X₁ X₂ : 
         ∙ ap (λ (l : List ℕ). word_body p (spelled first (rest s c)) (Z.same l asm) (Z.keyword l)) (sym taken_is)
         ∙ ap (λ (u : Bool). word_body p (spelled first (rest s c)) u (Z.keyword (taken st w X₂))) (sym e ∙ f)
 
-    pub word_asm_law : {E : List ℕ} {r : State} {T' E' X' : List ℕ} → v ≡ true
+    pub word_asm_law : {E : List ℕ} {r : Result State Refusal} {T' E' X' : List ℕ} → v ≡ true
         → Turned most (Z.assembly_turn p (Z.white (rest s w.cursor))) s st w.cursor T E X₂ r T' E' X'
         → Turned most (turn_at p first (rest s c)) s st c T E X r T' E' X'
     word_asm_law f g =
@@ -230,24 +237,24 @@ module _ {most : ℕ} {s : List ℕ} {st : State} {c : Cursor} {T X X₁ X₂ : 
         (turn_body true f ∙ ap (λ (l : List Ch). Z.assembly_turn p (Z.white l)) (sym sp.passed.is))
         sp.passed g)
 
-    module _ {y : ℕ} (f : v ≡ false) (g : y ≡ Z.keyword (taken st w X₂)) where
-      turn_kind : turn_at p first (rest s c) ≡ word_kind p (spelled first (rest s c)) y
-      turn_kind = turn_body false f ∙ ap (word_kind p (spelled first (rest s c))) (sym g)
-
-      pub word_identifier_law : {E T' : List ℕ} {r : State} → y ≡ 0
+    module _ (f : v ≡ false) {o : Option Kind} (g : option_map kind_number o ≡ nonzero (Z.keyword (taken st w X₂))) where
+      pub word_identifier_law : {E T' : List ℕ} {r : Result State Refusal} → o ≡ None
           → TokenPushed most T (at_text st w.cursor w.n)
           (K.Identifier ∷ p.line ∷ p.column ∷ st.text ∷ (w.n - st.text) ∷ 0 ∷ 0 ∷ 0 ∷ []) T' r
           → Turned most (turn_at p first (rest s c)) s st c T E X r T' E X₂
       word_identifier_law z x =
           end_token a.few (on_text a.few sp.passed written sp.room)
-          (turn_kind ∙ ap (word_kind p (spelled first (rest s c))) z)
+          (turn_body false f ∙ ap (word_kind p (spelled first (rest s c))) (no_kind _ g z))
           (with_words (tok K.Identifier p (first ∷ (letters (rest s c)).text) 0) refl refl
           (omega (arith, written.count)) x)
 
-      pub word_keyword_law : {E T' : List ℕ} {r : State} → (y ≡ 0 → ⊥)
-          → TokenPushed most T (at_cursor st w.cursor) (y ∷ p.line ∷ p.column ∷ 0 ∷ 0 ∷ 0 ∷ 0 ∷ 0 ∷ []) T' r
+      pub word_keyword_law : {E T' : List ℕ} {r : Result State Refusal} {y : Kind} → o ≡ Some y
+          → TokenPushed most T (at_cursor st w.cursor) (kind_number y ∷ p.line ∷ p.column ∷ 0 ∷ 0 ∷ 0 ∷ 0 ∷ 0 ∷ []) T' r
           → Turned most (turn_at p first (rest s c)) s st c T E X r T' E X₂
-      word_keyword_law z x =
+      word_keyword_law {y = y} z x =
+          let e : kind_number y ≡ Z.keyword (taken st w X₂) = kind_is _ g z in
           turned_back within written
-          (end_plain a.few a.asks.room sp.passed (turn_kind ∙ word_keyword _ _ _ z)
-          (rw g (plain_textless _ (keyword_plain (taken st w X₂)))) x)
+          (end_plain a.few a.asks.room sp.passed
+          (turn_body false f ∙ ap (word_kind p (spelled first (rest s c))) (sym e)
+          ∙ word_keyword _ _ _ (λ i. omega (arith, e, ltb-true 0 _ (kind_there _ g z))))
+          (rw e (plain_textless _ (keyword_plain (taken st w X₂)))) x)

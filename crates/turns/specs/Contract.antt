@@ -1,25 +1,31 @@
 -- What a turn requires and ensures: the records of Turn, stated over its parameters, with slices as they are now, or
 -- at entry and at exit. First the turn of the definition, then the parameters in order. Assumes nothing.
-use Rattle.std.specs.Prelude.{List, ℕ}
-use Rattle.definition.specs.Slices.{Slice, MutSlice, Lent, MutLent, at_entry, old, new}
+use Rattle.std.specs.Prelude.{List, ℕ, Result}
+use Rattle.definition.specs.Slices.{MutSlice, MutLent, old, new}
 use Rattle.definition.specs.Source.{Place, Ch}
-use Rattle.definition.specs.Tokenizer.{Turn}
+use Rattle.definition.specs.Tokenizer as Z
+use Rattle.definition.specs.declared.refusal.Refusal.{Refusal}
 use Rattle.source.specs.Place.{placed, rest}
-use Rattle.source.specs.declared.Cursor.{Cursor}
 use Rattle.token_records.specs.declared.State.{State}
+use Rattle.token_records.specs.Contract.{TokenPushed}
 use Rattle.turns.specs.Turn as T
+use Rattle.turns.specs.declared.Turn.{Turn}
 
-abbrev pub Ready : ℕ → Slice → State → Cursor → MutSlice → MutSlice → Type 0
-Ready most s st c tokens text = T.Ready most s.now tokens.now text.now st c
+abbrev pub Ready : Turn → MutSlice → MutSlice → Type 0
+Ready t tokens text = T.Ready t.most t.s.now tokens.now text.now t.st t.c
 
--- the turn t, given the place of the token and the characters from c on
-abbrev pub Turned : (Place → List Ch → Turn) → ℕ → Lent → State → Cursor → MutLent → MutLent → MutLent → State → Type 0
-Turned t most s st c tokens errors text r =
-    T.Turned most (t (placed st.cursor) (rest (at_entry s) c)) (at_entry s) st c
+-- a token without text is pushed, at the end of the turn
+abbrev pub Plain : ℕ → Turn → MutLent → Result State Refusal → Type 0
+Plain k t tokens r = TokenPushed (T.token_record t.st.cursor k 0 0 0) t.most tokens (T.at_cursor t.st t.c) r
+
+-- the turn f, given the place of the token and the characters from c on
+abbrev pub Turned : (Place → List Ch → Z.Turn) → Turn → MutLent → MutLent → MutLent → Result State Refusal → Type 0
+Turned f t tokens errors text r =
+    T.Turned t.most (f (placed t.st.cursor) (rest t.s.now t.c)) t.s.now t.st t.c
     (old tokens) (old errors) (old text) r (new tokens) (new errors) (new text)
 
 -- a turn that pushes no errors, for any contents of the error slice
-abbrev pub TurnedClean : (Place → List Ch → Turn) → ℕ → Lent → State → Cursor → MutLent → MutLent → State → Type 0
-TurnedClean t most s st c tokens text r =
-    (E : List ℕ) → T.Turned most (t (placed st.cursor) (rest (at_entry s) c)) (at_entry s) st c
+abbrev pub TurnedClean : (Place → List Ch → Z.Turn) → Turn → MutLent → MutLent → Result State Refusal → Type 0
+TurnedClean f t tokens text r =
+    (E : List ℕ) → T.Turned t.most (f (placed t.st.cursor) (rest t.s.now t.c)) t.s.now t.st t.c
     (old tokens) E (old text) r (new tokens) E (new text)

@@ -1,6 +1,8 @@
 -- What a turn of the tokenizer's loop ensures of the state and the slices. Assumes nothing.
-use Rattle.std.specs.Prelude.{◌≡◌, ◌⊎◌, List, [], ◌∷◌, ℕ, ◌+◌, ◌*◌, ◌≤◌, leb, length}
+use Rattle.std.specs.Prelude.{◌≡◌, Result, MatchResult, List, [], ◌∷◌, ℕ, ◌+◌, ◌*◌, ◌≤◌, leb, length}
 use Rattle.definition.specs.Fallible.{Err}
+use Rattle.definition.specs.Numbers.{refusal_number}
+use Rattle.definition.specs.declared.refusal.Refusal.{Refusal}
 use Rattle.definition.specs.Token.{Tok}
 use Rattle.definition.specs.Choice.{pick}
 use Rattle.definition.specs.Records.{tokens_words, tokens_text, errors_words}
@@ -13,7 +15,7 @@ use Rattle.token_records.specs.declared.State.{State}
 
 -- the state with another cursor, and with more text
 abbrev pub at_text : State → Cursor → ℕ → State
-at_text f c n = record { cursor = c; tokens = f.tokens; errors = f.errors; text = n; refusal = f.refusal }
+at_text f c n = record { cursor = c; tokens = f.tokens; errors = f.errors; text = n }
 
 abbrev pub at_cursor : State → Cursor → State
 at_cursor f c = at_text f c f.text
@@ -22,11 +24,10 @@ at_cursor f c = at_text f c f.text
 abbrev pub token_record : Cursor → ℕ → ℕ → ℕ → ℕ → List ℕ
 token_record c kind start size base = kind ∷ c.line ∷ c.column ∷ start ∷ size ∷ base ∷ 0 ∷ 0 ∷ []
 
--- the state is not refused, and within the limits
+-- the state is within the limits
 pub record Few (most : ℕ) (f : State) : Type 0 where
   pub tokens : f.tokens ≤ most
   pub errors : f.errors ≤ 255
-  pub refusal : f.refusal ≡ 0
 
 -- what a turn requires: f is the state before it, c the cursor after the characters already consumed
 pub record Ready (most : ℕ) (s T X : List ℕ) (f : State) (c : Cursor) : Type 0 where
@@ -55,9 +56,9 @@ pub record Went (most : ℕ) (t : Turn) (s : List ℕ) (f : State) (c : Cursor) 
   pub room : r.text ≤ r.cursor.at
   pub few : Few most r
 
-pub record Stopped (most : ℕ) (t : Turn) (f r : State) : Type 0 where
-  pub is : bounded most f.errors f.tokens t ≡ refused r.refusal
-  pub refusal : 4 ≤ r.refusal
+pub record Stopped (most : ℕ) (t : Turn) (f : State) (x : Refusal) : Type 0 where
+  pub is : bounded most f.errors f.tokens t ≡ refused (refusal_number x)
+  pub refusal : 4 ≤ refusal_number x
 
-abbrev pub Turned : ℕ → Turn → List ℕ → State → Cursor → List ℕ → List ℕ → List ℕ → State → List ℕ → List ℕ → List ℕ → Type 0
-Turned most t s f c T E X r T' E' X' = Went most t s f c T E X r T' E' X' ⊎ Stopped most t f r
+pub record Turned (most : ℕ) (t : Turn) (s : List ℕ) (f : State) (c : Cursor) (T E X : List ℕ) (r : Result State Refusal) (T' E' X' : List ℕ) : Type 0 where
+  pub is : MatchResult r (λ r. Went most t s f c T E X r T' E' X') (Stopped most t f)

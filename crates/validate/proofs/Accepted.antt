@@ -19,7 +19,7 @@ use Rattle.definition.proofs.Tests.{either_true, clash}
 use Rattle.definition.proofs.Validated.{Fits, fits, Lies, lies, First, first, split}
 unfoldable use Rattle.definition.specs.Cost.{spend}
 use Rattle.steps.specs.Tokens.{tok_at, from, rest, Sound, Parts}
-use Rattle.steps.proofs.Tokens.{budget_spend}
+use Rattle.steps.proofs.Records.{budget_spend}
 use Rattle.validate.specs.Tested.{Tested}
 
 -- a value that is present, by `is_some`

@@ -1,5 +1,5 @@
 -- The laws of the tests of single records, and of all together. Assumes nothing.
-use mathlib.Core.Path.{◌≡◌, refl, sym, ap, ap₂, ◌∙◌, subst}
+use mathlib.Core.Path.{◌≡◌, refl, sym, ap, ap₂, ◌∙◌}
 use mathlib.Core.Bool.{Bool, true, false, not, ◌&&◌, ◌||◌}
 use mathlib.Core.List.{List}
 use mathlib.Core.Option.{Option, none, some}
@@ -9,14 +9,14 @@ use native.Mathlib.Omega.{arith}
 use borrow.Author.Tests.{ltb-true, ltb-false, le-leb, lt-leb}
 use lib.Dec.{leb, ltb}
 use lib.ListN.{length}
-use Rattle.definition.specs.Choice.{pick}
 use Rattle.definition.specs.Fallible.{Err}
 use Rattle.definition.specs.Source.{Place, nowhere, is_some}
 use Rattle.definition.specs.Token.{Tok}
-use Rattle.definition.specs.Records.{TokenWords, words_at, has_text, valid_alone, comes_after, valid_after, place_of, text_end, token_of, token_before, tokens_of, error_at, valid_error, error_of, error_before, errors_of}
+use Rattle.definition.specs.Records as R
+use Rattle.definition.specs.Records.{TokenWords, words_at, valid_alone, valid_after, text_end, token_of, token_before, tokens_of, error_at, valid_error, error_of, error_before, errors_of}
 use Rattle.definition.specs.Operations.{both, validate}
 use Rattle.definition.proofs.Tests.{clash}
-use Rattle.token_records.specs.Push.{place_at}
+use Rattle.token_records.specs.Push.{place_of}
 use Rattle.validate.specs.declared.Previous.{Previous}
 
 -- a value that is present if a test holds
@@ -25,17 +25,6 @@ some_chosen : {A : Type 0} (b : Bool) (o : Option A)
 some_chosen true o = refl
 some_chosen false o = refl
 
--- ---- a token record after the one before
-
-module _ (p : Place) (e : ℕ) (w : TokenWords) {a : Bool} (q : a ≡ comes_after p w.line w.column) where
-  -- it is not after the one before; else its text decides
-  pub early : a ≡ false → false ≡ valid_after p e w
-  early n = let z = sym q ∙ n in rw z
-
-  module _ {h : Bool} (n : a ≡ true) (t : h ≡ has_text w.kind) where
-    pub comes_later : (b : Bool) → h ≡ b → pick b (leb e w.start) true ≡ valid_after p e w
-    comes_later b y = let z = sym q ∙ n in let k = sym t ∙ y in rw (z, k)
-
 -- ---- token records
 
 abbrev tokens_before : (t : Tok) (o : Option (List Tok)) → is_some (token_before t o) ≡ is_some o
@@ -43,17 +32,15 @@ tokens_before t none = refl
 tokens_before t (some ts) = refl
 
 -- the test of one record, then that of those after it
-token_turn : (T X : List ℕ) (p : Place) (e i m : ℕ) (w : TokenWords) → w ≡ words_at T i
+token_turn : (T X : List ℕ) (p : Place) (e i m : ℕ)
     → is_some (tokens_of T X p e i (suc m))
-    ≡ (valid_alone X w && valid_after p e w) && is_some (tokens_of T X (place_of w) (text_end e w) (suc i) m)
+    ≡ (valid_alone X (words_at T i) && valid_after p e (words_at T i))
+    && is_some (tokens_of T X (R.place_of (words_at T i)) (text_end e (words_at T i)) (suc i) m)
 unfolding tokens_of
-token_turn T X p e i m w q =
-    subst
-    (λ (w : TokenWords). is_some (tokens_of T X p e i (suc m)) ≡ (valid_alone X w && valid_after p e w) && is_some
-    (tokens_of T X (place_of w) (text_end e w) (suc i) m)) (sym q)
-    (some_chosen (valid_alone X v && valid_after p e v) _
+token_turn T X p e i m =
+    some_chosen (valid_alone X v && valid_after p e v) _
     ∙ ap (λ (b : Bool). (valid_alone X v && valid_after p e v) && b)
-    (tokens_before (token_of X v) (tokens_of T X (place_of v) (text_end e v) (suc i) m)))
+    (tokens_before (token_of X v) (tokens_of T X (R.place_of v) (text_end e v) (suc i) m))
   where
     v : TokenWords
     v = words_at T i
@@ -61,36 +48,43 @@ token_turn T X p e i m w q =
 -- the invariant: all n are valid if and only if those from index i on are
 pub record Tokens (T X : List ℕ) (n : ℕ) (f : Previous) (i : ℕ) : Type 0 where
   pub high : i ≤ n
-  pub is : is_some (tokens_of T X (place_at f.line f.column) f.end i (n - i)) ≡ is_some (tokens_of T X nowhere 0 0 n)
+  pub is : is_some (tokens_of T X (place_of f.place) f.end i (n - i)) ≡ is_some (tokens_of T X nowhere 0 0 n)
 
-pub tokens_start : (T X : List ℕ) (n : ℕ) → Tokens T X n (record { line = 0; column = 0; end = 0 }) 0
+pub tokens_start : (T X : List ℕ) (n : ℕ) → Tokens T X n (record { place = record { line = 0; column = 0 }; end = 0 }) 0
 tokens_start T X n = let l : n - 0 ≡ n = omega arith in record { high = omega arith; is = rw l }
 
 module _ {T X : List ℕ} {n : ℕ} {f : Previous} {i : ℕ} (q : Tokens T X n f i) where
-  module _ {w : TokenWords} {a b : Bool} (h : i < n) (e : w ≡ words_at T i) (g : a ≡ valid_alone X w)
-      (k : b ≡ valid_after (place_at f.line f.column) f.end w) where
-    turn : (t : Bool) → (a && b) ≡ t
-        → t && is_some (tokens_of T X (place_of w) (text_end f.end w) (i + 1) (n - (i + 1)))
+  module _ (h : i < n) where
+    abbrev v : TokenWords
+    v = words_at T i
+
+    turn : (a b : Bool) → valid_alone X v ≡ a → valid_after (place_of f.place) f.end v ≡ b
+        → (a && b) && is_some (tokens_of T X (R.place_of v) (text_end f.end v) (i + 1) (n - (i + 1)))
         ≡ is_some (tokens_of T X nowhere 0 0 n)
-    turn t z =
+    turn a b g k =
         let l : suc (n - (i + 1)) ≡ n - i = omega arith in
-        ap (λ (t : Bool). t && is_some (tokens_of T X (place_of w) (text_end f.end w) (i + 1) (n - (i + 1)))) (sym z ∙ ap₂ ◌&&◌ g k)
-        ∙ ap (λ (j : ℕ). (valid_alone X w && valid_after (place_at f.line f.column) f.end w) && is_some
-        (tokens_of T X (place_of w) (text_end f.end w) j (n - (i + 1)))) (add-one i)
-        ∙ sym (token_turn T X (place_at f.line f.column) f.end i (n - (i + 1)) w e)
-        ∙ ap (λ (m : ℕ). is_some (tokens_of T X (place_at f.line f.column) f.end i m)) l ∙ q.is
+        rw (add-one i, sym g, sym k) (sym (token_turn T X (place_of f.place) f.end i (n - suc i)))
+        ∙ ap (λ (m : ℕ). is_some (tokens_of T X (place_of f.place) f.end i m)) (rw add-one at l) ∙ q.is
 
-    pub token_more : {r : Previous} → (a && b) ≡ true
-        → (place_at r.line r.column ≡ place_of w) × (r.end ≡ text_end f.end w) → Tokens T X n r (i + 1)
-    token_more z m =
-        record {
-          high = omega arith;
-          is = ap₂ (λ (p : Place) (e : ℕ). is_some (tokens_of T X p e (i + 1) (n - (i + 1)))) m.0 m.1
-              ∙ turn true z;
-        }
+    -- the record is not valid; it is, and its token does not follow, or does
+    pub token_bad : valid_alone X v ≡ false → false ≡ is_some (tokens_of T X nowhere 0 0 n)
+    token_bad g = turn false _ g refl
 
-    pub token_bad : (a && b) ≡ false → false ≡ is_some (tokens_of T X nowhere 0 0 n)
-    token_bad z = turn false z
+    module _ {w : TokenWords} {b : Bool} (g : (valid_alone X v ≡ true) × (w ≡ v)) (k : b ≡ valid_after (place_of f.place) f.end w) where
+      after : (t : Bool) → b ≡ t → valid_after (place_of f.place) f.end v ≡ t
+      after t z = ap (valid_after (place_of f.place) f.end) (sym g.1) ∙ sym k ∙ z
+
+      pub token_early : b ≡ false → false ≡ is_some (tokens_of T X nowhere 0 0 n)
+      token_early z = turn true false g.0 (after false z)
+
+      pub token_more : {r : Previous} → b ≡ true → (place_of r.place ≡ R.place_of w) × (r.end ≡ text_end f.end w)
+          → Tokens T X n r (i + 1)
+      token_more z m =
+          record {
+            high = omega arith;
+            is = ap₂ (λ (p : Place) (e : ℕ). is_some (tokens_of T X p e (i + 1) (n - (i + 1))))
+                (m.0 ∙ ap R.place_of g.1) (m.1 ∙ ap (text_end f.end) g.1) ∙ turn true true g.0 (after true z);
+          }
 
   pub tokens_end : n ≤ i → true ≡ is_some (tokens_of T X nowhere 0 0 n)
   unfolding tokens_of

@@ -6,57 +6,43 @@ ghost use Rattle.definition.specs.Slices.{at_entry};
 ghost use Rattle.definition.specs.Records as R;
 ghost use Rattle.definition.specs.Operations as O;
 ghost use Rattle.definition.specs.Source.{nowhere, is_some};
+ghost use Rattle.token_records.specs.Push.{place_of};
 ghost use Rattle.token_records.specs.Tested.{words_of};
-ghost use Rattle.validate.specs.Contract.{previous_place};
 
-use definition::{limit, token_error};
-use token_records::{PLACES, Words, between, has_text, valid_alone, words_at};
+use definition::limit;
+use definition::token_error::TokenError;
+use token_records::{Place, Token, valid_token};
 
 // ---- tokens
 
 // The place of the token before, and the end of the last text before.
 #[derive(Clone, Copy)]
 struct Previous {
-    line: u32,
-    column: u32,
+    place: Place,
     end: usize,
 }
 
-// Whether a place comes after that of the token before.
-fn comes_after(f: Previous, line: u32, column: u32) -> bool
-    ensures { result ≡ R.comes_after (previous_place f) line column }
+// Whether a token follows those before it.
+fn follows(previous: Previous, token: Token) -> bool
+    ensures { result ≡ R.valid_after (place_of previous.place) previous.end (words_of token) }
 {
-    (f.line < line) | ((f.line == line) & (f.column < column))
+    (previous.place < token.place)
+        && (!token.kind.has_text() || previous.end <= token.start as usize)
 }
 
-// Validates a token record against those before it.
-fn valid_after(f: Previous, w: Words) -> bool
-    ensures { result ≡ R.valid_after (previous_place f) f.end (words_of w) }
+// What the next token is compared with.
+fn remember(previous: Previous, token: Token) -> Previous
+    ensures { (place_of result.place ≡ R.place_of (words_of token))
+        × (result.end ≡ R.text_end previous.end (words_of token)) }
 {
-    if !comes_after(f, w.line, w.column) {
-        return false;
-    }
-    if has_text(w.kind) {
-        return f.end <= w.start as usize;
-    }
-    true
-}
-
-// What the next record is compared with.
-fn remember(f: Previous, w: Words) -> Previous
-    ensures { (previous_place result ≡ R.place_of (words_of w)) × (result.end ≡ R.text_end f.end (words_of w)) }
-{
-    if has_text(w.kind) {
-        return Previous {
-            line: w.line,
-            column: w.column,
-            end: w.start as usize + w.size as usize,
-        };
-    }
+    let end = if token.kind.has_text() {
+        token.start as usize + token.size as usize
+    } else {
+        previous.end
+    };
     Previous {
-        line: w.line,
-        column: w.column,
-        end: f.end,
+        place: token.place,
+        end,
     }
 }
 
@@ -65,36 +51,30 @@ fn valid_tokens(tokens: &[u32], count: usize, text: &[u8]) -> bool
     requires { 8 * count ≤ length tokens.now }
     ensures { result ≡ is_some (R.tokens_of (at_entry tokens) (at_entry text) nowhere 0 0 count) }
 {
-    let mut f = Previous {
-        line: 0,
-        column: 0,
+    let start = Place { line: 0, column: 0 };
+    let mut previous = Previous {
+        place: start,
         end: 0,
     };
-    let mut i = 0;
-    while i < count {
-        let w = words_at(tokens, i);
-        if valid_alone(text, w) & valid_after(f, w) {
-            f = remember(f, w);
-            i += 1;
-        } else {
+    for i in 0..count {
+        let Some(token) = valid_token(tokens, i, text) else {
+            return false;
+        };
+        if !follows(previous, token) {
             return false;
         }
+        previous = remember(previous, token);
     }
     true
 }
 
 // ---- errors
 
-fn valid_error(number: u32, line: u32, column: u32, fourth: u32) -> bool
-    ensures { result ≡ R.valid_error (record { number = number; line = line; column = column; fourth = fourth }) }
+fn valid_error(number: u32, place: Place, fourth: u32) -> bool
+    ensures { result ≡ R.valid_error
+        (record { number = number; line = place.line; column = place.column; fourth = fourth }) }
 {
-    between(
-        token_error::UNKNOWN_ESCAPE,
-        token_error::UNKNOWN_CHARACTER,
-        number,
-    ) & between(1, PLACES, line)
-        & between(1, PLACES, column)
-        & (fourth == 0)
+    TokenError::try_from(number).is_ok() & place.valid() & (fourth == 0)
 }
 
 // Whether each of `count` error records is valid.
@@ -102,12 +82,13 @@ fn valid_errors(errors: &[u32], count: usize) -> bool
     requires { 4 * count ≤ length errors.now }
     ensures { result ≡ is_some (R.errors_of (at_entry errors) 0 count) }
 {
-    let mut i = 0;
-    while i < count {
+    for i in 0..count {
         let k = 4 * i;
-        if valid_error(errors[k], errors[k + 1], errors[k + 2], errors[k + 3]) {
-            i += 1;
-        } else {
+        let place = Place {
+            line: errors[k + 1],
+            column: errors[k + 2],
+        };
+        if !valid_error(errors[k], place, errors[k + 3]) {
             return false;
         }
     }
@@ -116,7 +97,8 @@ fn valid_errors(errors: &[u32], count: usize) -> bool
 
 // ---- both
 
-// Whether the slices hold the stated counts of records, within the limits, and each record is valid.
+// Whether the slices hold the stated counts of records, within the limits, and each record is valid. The counts are not
+// the slices' lengths, but what the caller says of them.
 pub fn valid_records(
     tokens: &[u32],
     count: usize,

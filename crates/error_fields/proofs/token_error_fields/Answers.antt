@@ -23,8 +23,5 @@ loop-i-preserved c =
     c.loop-i.invariant (omega arith) c.entry-e.ensures c.error_field-p.ensures
     (omega (arith, c.error_field-p.auto))
 
-pub shape_of-file : goal.shape_of-file
-shape_of-file c = c.loop-i.invariant.size
-
 pub returns : goal.returns
 returns c = token_done _ c.loop-i.invariant (omega arith)

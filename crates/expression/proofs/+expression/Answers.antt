@@ -6,14 +6,18 @@ use Rattle.expression_laws.proofs.Turns.{at_start, one_turn}
 use Rattle.expression_laws.proofs.Suffixes.{suffix_none, suffix_star, star_moved, dot_end, dot_name, dot_moved, dot_other, index_asks, index_moved, suffix_index}
 use native.Mathlib.Omega.{arith}
 use Rattle.definition.specs.Act.{AddSub, BitAnd, BitXor, Expression, Mul, Shift, Unary}
-use Rattle.expression_laws.proofs.Types.{array_no_integer, array_no_size, array_open, array_done, raise_asked, size_asked, bracket_asked, array_room, type_deep, type_name, type_star, type_array, type_struct, type_end, type_other, star_room, struct_room, array_asked}
-use Rattle.expression_laws.proofs.Calls.{atom_group, call_on, call_none, call_done, call_later, call_room, sizeof_other, sizeof_stop, sizeof_asks, sizeof_done, unary_none, unary_prefix}
+use Rattle.expression_laws.proofs.Types.{array_no_integer, array_no_size, array_open, array_done, size_asked, bracket_asked, array_room, type_deep, type_name, type_star, type_array, type_struct, type_end, type_other, star_room, struct_room, array_asked}
+use Rattle.expression_laws.proofs.Calls.{atom_group, call_on, call_none, call_found, call_later, call_room, sizeof_other, sizeof_stop, sizeof_asks, sizeof_done, unary_none, unary_prefix}
 use Rattle.leaves.proofs.Choices.{no_operator}
 use Rattle.expression_laws.proofs.Levels.{operators_none, levels_start, levels_more, levels_end, levels_pass, and_on, and_none, and_found, casts_none, casts_more, compare_on, compare_none, compare_found, operators_more}
 use Rattle.steps.proofs.Constructs.{then_stops, deep, down}
 use Rattle.expression_laws.proofs.Names.{field_follows, field_asked, field_stops, field_room, field_done, named_reads, named_room, typed_colon, typed_type, colon_cuts, type_asked, type_cuts, identifier_name, identifier_end, identifier_refused, identifier_noted, noted_moved, noted_asked}
 use Rattle.expression_laws.proofs.Lists.{item_parameter, item_argument, item_field, item_value, item_named_value, list_refused, list_on, rest_end, rest_closed, rest_item, rest_comma, rest_next, comma_asks, rest_asked}
 use Rattle.expression_laws.proofs.Operands.{name_operand}
+use Rattle.fallible.proofs.Calls.{left, passed_on, is_done, is_stop, stop_is, not_ok, not_refused, item_is, refused_is, exit_refused, is_whole, is_refused, refusal_is, not_whole}
+use Rattle.steps.proofs.Answers.{goes_alike}
+use Rattle.steps.proofs.OneToken.{write_node_stop, written_at}
+use Rattle.expression_laws.proofs.Loops.{loop_alike}
 use Rattle.definition.specs.Parser as P
 use Rattle.expression.proofs.+expression.Goals as goal
 
@@ -31,7 +35,7 @@ pub access-returns-in_default : goal.access-returns-in_default
 unfolding P.parse_field_access_or_index
 access-returns-in_default t c =
     then_asked suffixes_on c.requires c.atom-a.ensures
-    (c.loop-a.invariant.1.rest (goes_stops c.loop-a.invariant.0 c.in_default.not-Done))
+    (c.loop-a.invariant.1.rest (goes_stops c.loop-a.invariant.0 (not_ok _ c.in_default.not-Ok)))
 
 pub access-peek-t-requires : goal.access-peek-t-requires
 access-peek-t-requires t c = (c.loop-a.invariant.0.asked.asks.held, c.loop-a.invariant.0.asked.asks.at)
@@ -44,23 +48,23 @@ unfolding P.parse_field_access_or_index
 access-returns-then-u-eq-END t c =
     then_asked suffixes_on c.requires c.atom-a.ensures
     (c.loop-a.invariant.1.rest
-    (dot_end c.loop-a.invariant.0 c.in-Done.is c.peek-t.ensures
+    (dot_end c.loop-a.invariant.0 (is_done c.in-Ok.is) c.peek-t.ensures
     c.if-t-eq-DOT.true c.peek-u.ensures c.if-u-eq-END.true c.refuse.ensures))
 
 pub access-entry-error-requires : goal.access-entry-error-requires
 access-entry-error-requires t c = omega (arith, c.peek-u.ensures)
 
-pub access-note-b-requires : goal.access-note-b-requires
-access-note-b-requires t c = omega (arith, c.loop-a.invariant.0.asked.asks)
+pub access-note-requires : goal.access-note-requires
+access-note-requires t c = omega (arith, c.loop-a.invariant.0.asked.asks)
 
 pub access-returns-then-u-ne-IDENTIFIER : goal.access-returns-then-u-ne-IDENTIFIER
 unfolding P.parse_field_access_or_index
-access-returns-then-u-ne-IDENTIFIER t c =
-    then_asked suffixes_on c.requires c.atom-a.ensures
-    (c.loop-a.invariant.1.rest
-    (dot_other c.loop-a.invariant.0 c.in-Done.is c.peek-t.ensures
+access-returns-then-u-ne-IDENTIFIER t c = then_asked suffixes_on c.requires c.atom-a.ensures
+    (c.loop-a.invariant.1.rest (goes_alike
+    (is_done c.in-Ok.is ∙ sym (is_whole c.in_ok-note.was)) refl (λ z. (refl, refl))
+    (dot_other c.loop-a.invariant.0 (is_done c.in-Ok.is) c.peek-t.ensures
     c.if-t-eq-DOT.true c.peek-u.ensures c.if-u-eq-END.false c.if-u-ne-IDENTIFIER.true
-    c.entry-error.ensures c.note-b.ensures))
+    c.entry-error.ensures c.note.ensures)))
 
 pub access-write_text_node-a-requires : goal.access-write_text_node-a-requires
 access-write_text_node-a-requires t c =
@@ -85,7 +89,7 @@ access-loop-a-preserved-then-t-eq-DOT t c = (
       (omega (arith, c.write_text_node-a.auto)) refl refl,
   one_turn c.loop-a.invariant.1 (omega (arith, c.write_text_node-a.auto)) refl refl
       (omega (arith, c.peek-t.ensures.up, c.peek-u.ensures.up, c.write_text_node-a.ensures.at))
-      (λ _ _ _ _ g. dot_name c.loop-a.invariant.0 c.in-Done.is
+      (λ _ _ _ _ g. dot_name c.loop-a.invariant.0 (is_done c.in-Ok.is)
       c.peek-t.ensures c.if-t-eq-DOT.true c.peek-u.ensures c.if-u-eq-END.false
       c.if-u-ne-IDENTIFIER.false c.write_text_node-a.ensures g),
 )
@@ -111,7 +115,7 @@ access-loop-a-preserved-then-t-eq-DOT_STAR t c = (
       (omega (arith, c.write_node-a.auto)) refl refl,
   one_turn c.loop-a.invariant.1 (omega (arith, c.write_node-a.auto)) refl refl
       (omega (arith, c.peek-t.ensures.up, c.write_node-a.ensures.at))
-      (λ _ _ _ _ g. suffix_star c.loop-a.invariant.0 c.in-Done.is
+      (λ _ _ _ _ g. suffix_star c.loop-a.invariant.0 (is_done c.in-Ok.is)
       c.peek-t.ensures c.if-t-eq-DOT.false c.if-t-eq-DOT_STAR.true c.write_node-a.ensures g),
 )
 
@@ -120,7 +124,7 @@ unfolding P.parse_field_access_or_index
 access-returns-then-t-ne-L_BRACKET t c =
     then_asked suffixes_on c.requires c.atom-a.ensures
     (c.loop-a.invariant.1.rest
-    (suffix_none c.loop-a.invariant.0 c.in-Done.is c.peek-t.ensures
+    (suffix_none c.loop-a.invariant.0 (is_done c.in-Ok.is) c.peek-t.ensures
     c.if-t-eq-DOT.false c.if-t-eq-DOT_STAR.false c.if-t-ne-L_BRACKET.true))
 
 pub access-expression-b-requires : goal.access-expression-b-requires
@@ -142,9 +146,9 @@ access-abandon-c-requires t c =
     join_cuts c.loop-a.invariant.0 c.peek-t.ensures c.expression-b.ensures
     (omega (arith, c.expression-b.auto))
 
-pub access-and_expect-d-requires : goal.access-and_expect-d-requires
-access-and_expect-d-requires t c = (
-  index_asks c.loop-a.invariant.0 c.in-Done.is c.peek-t.ensures
+pub access-expect_after-d-requires : goal.access-expect_after-d-requires
+access-expect_after-d-requires t c = (
+  index_asks c.loop-a.invariant.0 (is_done c.in-Ok.is) c.peek-t.ensures
       c.expression-b.ensures c.abandon-c.ensures
       (omega (arith, c.abandon-c.auto, c.expression-b.auto))
       (omega (arith, c.expression-b.auto)),
@@ -160,7 +164,7 @@ access-write_node-a-requires-in-loop-a t c =
         c.peek-t.ensures.pays,
         c.expression-b.ensures.moved.room,
         c.abandon-c.ensures.high,
-        c.and_expect-d.ensures.high,
+        c.expect_after-d.ensures.high,
         c.expression-b.auto,
       );
       part = omega arith;
@@ -175,38 +179,38 @@ access-loop-a-smaller t c =
       c.if-t-ne-L_BRACKET.false,
       c.expression-b.ensures.moved,
       c.abandon-c.ensures.at,
-      c.and_expect-d.ensures.moved,
+      c.expect_after-d.ensures.moved,
       c.write_node-a-in-loop-a.ensures.at,
     )
 
 pub access-loop-a-preserved : goal.access-loop-a-preserved
 access-loop-a-preserved t c = (
   turn_on c.loop-a.invariant.0
-      (index_moved c.loop-a.invariant.0 c.in-Done.is c.peek-t.ensures
+      (index_moved c.loop-a.invariant.0 (is_done c.in-Ok.is) c.peek-t.ensures
       c.if-t-ne-L_BRACKET.false c.expression-b.ensures c.abandon-c.ensures
       (omega (arith, c.abandon-c.auto, c.expression-b.auto))
-      (omega (arith, c.expression-b.auto)) c.and_expect-d.ensures
+      (omega (arith, c.expression-b.auto)) c.expect_after-d.ensures
       c.write_node-a-in-loop-a.ensures)
       (omega (arith, c.write_node-a-in-loop-a.auto, c.expression-b.auto))
-      (omega (arith, c.and_expect-d.auto, c.abandon-c.auto, c.expression-b.auto))
-      (omega (arith, c.and_expect-d.auto, c.expression-b.auto)),
+      (omega (arith, c.expect_after-d.auto, c.abandon-c.auto, c.expression-b.auto))
+      (omega (arith, c.expect_after-d.auto, c.expression-b.auto)),
   one_turn c.loop-a.invariant.1
       (omega (arith, c.write_node-a-in-loop-a.auto, c.expression-b.auto))
-      (omega (arith, c.and_expect-d.auto, c.abandon-c.auto, c.expression-b.auto))
-      (omega (arith, c.and_expect-d.auto, c.expression-b.auto))
+      (omega (arith, c.expect_after-d.auto, c.abandon-c.auto, c.expression-b.auto))
+      (omega (arith, c.expect_after-d.auto, c.expression-b.auto))
       (omega (
         arith,
         c.peek-t.ensures.up,
         c.expression-b.ensures.moved,
         c.abandon-c.ensures.at,
-        c.and_expect-d.ensures.moved,
+        c.expect_after-d.ensures.moved,
         c.write_node-a-in-loop-a.ensures.at,
       ))
-      (λ _ _ _ _ g. suffix_index c.loop-a.invariant.0 c.in-Done.is
+      (λ _ _ _ _ g. suffix_index c.loop-a.invariant.0 (is_done c.in-Ok.is)
       c.peek-t.ensures c.if-t-ne-L_BRACKET.false c.expression-b.ensures
       c.abandon-c.ensures
       (omega (arith, c.abandon-c.auto, c.expression-b.auto))
-      (omega (arith, c.expression-b.auto)) c.and_expect-d.ensures
+      (omega (arith, c.expression-b.auto)) c.expect_after-d.ensures
       c.write_node-a-in-loop-a.ensures c.if-t-eq-DOT.false c.if-t-eq-DOT_STAR.false g),
 )
 
@@ -233,7 +237,7 @@ pub array-entry-error-requires : goal.array-entry-error-requires
 array-entry-error-requires t c = omega (arith, c.requires.1)
 
 pub array-raise-requires : goal.array-raise-requires
-array-raise-requires t c = raise_asked (asked_seen c.requires.0 c.peek-t.ensures)
+array-raise-requires t c = omega (arith, c.requires.0.asks)
 
 pub array-returns-then-t-ne-INTEGER : goal.array-returns-then-t-ne-INTEGER
 array-returns-then-t-ne-INTEGER t c =
@@ -247,7 +251,7 @@ pub array-entry-error-requires-then-not-size : goal.array-entry-error-requires-t
 array-entry-error-requires-then-not-size t c = omega (arith, c.requires.1)
 
 pub array-raise-requires-then-not-size : goal.array-raise-requires-then-not-size
-array-raise-requires-then-not-size t c = raise_asked (asked_seen c.requires.0 c.peek-t.ensures)
+array-raise-requires-then-not-size t c = omega (arith, c.requires.0.asks)
 
 pub array-returns-then-not-size : goal.array-returns-then-not-size
 array-returns-then-not-size t c =
@@ -255,32 +259,32 @@ array-returns-then-not-size t c =
     c.peek-t.ensures c.if-t-ne-INTEGER.false c.array_size-size.ensures c.if-not-size.true
     c.entry-error-then-not-size.ensures c.raise-then-not-size.ensures
 
-pub array-expect-a-requires : goal.array-expect-a-requires
-array-expect-a-requires t c = (asks_fore c.requires.0.asks c.peek-t.ensures, (omega arith, omega arith))
+pub array-expect-requires : goal.array-expect-requires
+array-expect-requires t c = (asks_fore c.requires.0.asks c.peek-t.ensures, (omega arith, omega arith))
 
-pub array-returns-in_default : goal.array-returns-in_default
-array-returns-in_default t c =
-    array_open c.args.place c.requires
+pub array-returns-in_err-expect : goal.array-returns-in_err-expect
+array-returns-in_err-expect t c = rw (passed_on c.in_err-expect.was c.from_residual.ensures.1)
+    (array_open c.args.place c.requires
     c.peek-t.ensures c.if-t-ne-INTEGER.false c.array_size-size.ensures c.if-not-size.false
-    c.expect-a.ensures c.in_default.not-Done
+    c.expect.ensures (is_stop c.in_err-expect.was))
 
 pub array-ty-b-requires : goal.array-ty-b-requires
 array-ty-b-requires t c = (
-  omega (arith, c.decreases, c.peek-t.ensures, c.expect-a.ensures.moved),
-  bracket_asked c.requires.0 c.peek-t.ensures c.expect-a.ensures
-      (omega (arith, c.expect-a.auto)) (omega (arith, c.expect-a.auto)),
+  omega (arith, c.decreases, c.peek-t.ensures, c.expect.ensures.moved),
+  bracket_asked c.requires.0 c.peek-t.ensures c.expect.ensures
+      (omega (arith, c.expect.auto)) (omega (arith, c.expect.auto)),
 )
 
 pub array-write_node-requires : goal.array-write_node-requires
 array-write_node-requires t c =
-    array_room c.requires.0 c.peek-t.ensures c.expect-a.ensures
+    array_room c.requires.0 c.peek-t.ensures c.expect.ensures
     c.ty-b.ensures (omega (arith, c.ty-b.auto))
 
 pub array-returns : goal.array-returns
 array-returns t c =
     array_done c.args.place c.requires
     c.peek-t.ensures c.if-t-ne-INTEGER.false c.array_size-size.ensures c.if-not-size.false
-    c.expect-a.ensures c.in-Done.is c.ty-b.ensures
+    c.expect.ensures (is_done c.in_ok-expect.was) c.ty-b.ensures
     c.write_node.ensures
 
 pub atom-peek-t-requires : goal.atom-peek-t-requires
@@ -333,7 +337,7 @@ pub bit_or-returns-in_default : goal.bit_or-returns-in_default
 bit_or-returns-in_default t c =
     levels_pass c.requires c.cast-a.ensures
     (λ l. goes_stops (goes_on c.requires c.cast-a.ensures (omega (arith, c.cast-a.auto))
-    (omega (arith, c.cast-a.auto)) (omega (arith, c.cast-a.auto))) c.in_default.not-Done)
+    (omega (arith, c.cast-a.auto)) (omega (arith, c.cast-a.auto))) (not_ok _ c.in_default.not-Ok))
 
 pub bit_or-peek-t-requires : goal.bit_or-peek-t-requires
 bit_or-peek-t-requires t c = (c.requires.asks.held, c.cast-a.ensures.moved.end)
@@ -343,7 +347,7 @@ bit_or-returns-then-not-arithmetic t c =
     levels_pass c.requires c.cast-a.ensures
     (λ l. operators_none (goes_on c.requires c.cast-a.ensures (omega (arith, c.cast-a.auto))
     (omega (arith, c.cast-a.auto)) (omega (arith, c.cast-a.auto)))
-    c.in-Done.is c.peek-t.ensures l
+    (is_done c.in-Ok.is) c.peek-t.ensures l
     (no_operator _ (sym c.arithmetic.ensures ∙ c.if-not-arithmetic.true) l) refl)
 
 pub bit_or-loop-k-init : goal.bit_or-loop-k-init
@@ -388,7 +392,7 @@ boolean-comparison-a-requires t c = (omega (arith, c.decreases), c.requires)
 
 pub boolean-returns-in_default : goal.boolean-returns-in_default
 unfolding P.expression_rule
-boolean-returns-in_default t c = then_stops and_on c.comparison-a.ensures c.in_default.not-Done
+boolean-returns-in_default t c = then_stops and_on c.comparison-a.ensures (not_ok _ c.in_default.not-Ok)
 
 pub boolean-peek-t-requires : goal.boolean-peek-t-requires
 boolean-peek-t-requires t c = (c.requires.asks.held, omega (arith, c.comparison-a.ensures.moved.end))
@@ -399,7 +403,7 @@ boolean-returns-then-t-ne-DOUBLE_AMPERSAND t c =
     then_asked and_on c.requires c.comparison-a.ensures
     (and_none (goes_on c.requires c.comparison-a.ensures
     (omega (arith, c.comparison-a.auto)) (omega (arith, c.comparison-a.auto))
-    (omega (arith, c.comparison-a.auto))) c.in-Done.is
+    (omega (arith, c.comparison-a.auto))) (is_done c.in-Ok.is)
     c.peek-t.ensures c.if-t-ne-DOUBLE_AMPERSAND.true)
 
 pub boolean-comparison-b-requires : goal.boolean-comparison-b-requires
@@ -443,54 +447,54 @@ boolean-returns t c =
     then_asked and_on c.requires c.comparison-a.ensures
     (and_found (goes_on c.requires c.comparison-a.ensures
     (omega (arith, c.comparison-a.auto)) (omega (arith, c.comparison-a.auto))
-    (omega (arith, c.comparison-a.auto))) c.in-Done.is
+    (omega (arith, c.comparison-a.auto))) (is_done c.in-Ok.is)
     c.peek-t.ensures c.if-t-ne-DOUBLE_AMPERSAND.false c.comparison-b.ensures
     c.abandon-c.ensures c.write_node.ensures)
 
-pub call-sizeof-a-requires : goal.call-sizeof-a-requires
-call-sizeof-a-requires t c = (omega (arith, c.decreases), c.requires)
+pub call-sizeof-requires : goal.call-sizeof-requires
+call-sizeof-requires t c = (omega (arith, c.decreases), c.requires)
 
-pub call-returns-in_default : goal.call-returns-in_default
+pub call-returns-in_err-place : goal.call-returns-in_err-place
 unfolding P.parse_call
-call-returns-in_default t c = then_stops call_on c.sizeof-a.ensures c.in_default.not-Done
+call-returns-in_err-place t c = rw (passed_on c.in_err-place.was c.from_residual.ensures.1)
+    (then_stops call_on c.sizeof.ensures (is_stop c.in_err-place.was))
 
 pub call-peek-t-requires : goal.call-peek-t-requires
-call-peek-t-requires t c = (c.requires.asks.held, omega (arith, c.sizeof-a.ensures.moved.end))
+call-peek-t-requires t c = (c.requires.asks.held, omega (arith, c.sizeof.ensures.moved.end))
 
 pub call-returns-then-t-ne-L_PAREN : goal.call-returns-then-t-ne-L_PAREN
 unfolding P.parse_call
-call-returns-then-t-ne-L_PAREN t c =
-    then_asked call_on c.requires c.sizeof-a.ensures
-    (call_none (goes_on c.requires c.sizeof-a.ensures (omega (arith, c.sizeof-a.auto))
-    (omega (arith, c.sizeof-a.auto)) (omega (arith, c.sizeof-a.auto)))
-    c.in-Done.is c.peek-t.ensures c.if-t-ne-L_PAREN.true)
+call-returns-then-t-ne-L_PAREN t c = let a = rw c.in_ok-place.was at c.sizeof.ensures in
+    then_asked call_on c.requires a
+    (call_none (goes_on c.requires a (omega (arith, c.sizeof.auto))
+    (omega (arith, c.sizeof.auto)) (omega (arith, c.sizeof.auto)))
+    refl c.peek-t.ensures c.if-t-ne-L_PAREN.true)
 
 pub call-list-b-requires : goal.call-list-b-requires
 call-list-b-requires t c = (
   omega (
     arith,
     c.decreases,
-    c.sizeof-a.ensures.moved.end,
-    call_later c.requires c.sizeof-a.ensures c.peek-t.ensures
+    c.sizeof.ensures.moved.end,
+    call_later c.requires c.sizeof.ensures c.peek-t.ensures
         c.if-t-ne-L_PAREN.false,
   ),
-  (asked_moved c.requires c.sizeof-a.ensures.moved (omega (arith, c.sizeof-a.auto))
-      (omega (arith, c.sizeof-a.auto)) (omega (arith, c.sizeof-a.auto))),
+  (asked_moved c.requires c.sizeof.ensures.moved (omega (arith, c.sizeof.auto))
+      (omega (arith, c.sizeof.auto)) (omega (arith, c.sizeof.auto))),
 )
 
 pub call-write_node-requires : goal.call-write_node-requires
-call-write_node-requires t c =
-    call_room c.requires c.sizeof-a.ensures.moved c.list-b.ensures.moved
-    c.silence-c.ensures (omega (arith, c.list-b.auto, c.sizeof-a.auto))
+call-write_node-requires t c = call_room c.requires c.sizeof.ensures.moved c.list-b.ensures.moved (omega (arith, c.list-b.auto, c.sizeof.auto))
 
 pub call-returns : goal.call-returns
 unfolding P.parse_call
-call-returns t c =
-    then_asked call_on c.requires c.sizeof-a.ensures
-    (call_done (goes_on c.requires c.sizeof-a.ensures (omega (arith, c.sizeof-a.auto))
-    (omega (arith, c.sizeof-a.auto)) (omega (arith, c.sizeof-a.auto)))
-    c.in-Done.is c.peek-t.ensures c.if-t-ne-L_PAREN.false c.list-b.ensures
-    c.silence-c.ensures c.write_node.ensures)
+call-returns t c = let a = rw c.in_ok-place.was at c.sizeof.ensures in
+    let b = rw c.in_ok-count.was at c.list-b.ensures in
+    then_asked call_on c.requires a
+    (call_found (goes_on c.requires a (omega (arith, c.sizeof.auto))
+    (omega (arith, c.sizeof.auto)) (omega (arith, c.sizeof.auto)))
+    refl c.peek-t.ensures c.if-t-ne-L_PAREN.false b
+    (written_at refl refl refl c.write_node.ensures))
 
 pub cascade-bit_xor-requires : goal.cascade-bit_xor-requires
 cascade-bit_xor-requires t c = (omega (arith, c.decreases), c.requires)
@@ -542,7 +546,7 @@ pub cast-returns-in_default : goal.cast-returns-in_default
 unfolding P.parse_cast
 cast-returns-in_default t c =
     then_asked casts_on c.requires c.operand-a.ensures
-    (c.loop-a.invariant.1.rest (goes_stops c.loop-a.invariant.0 c.in_default.not-Done))
+    (c.loop-a.invariant.1.rest (goes_stops c.loop-a.invariant.0 (not_ok _ c.in_default.not-Ok)))
 
 pub cast-peek-t-requires : goal.cast-peek-t-requires
 cast-peek-t-requires t c = (c.loop-a.invariant.0.asked.asks.held, c.loop-a.invariant.0.asked.asks.at)
@@ -552,7 +556,7 @@ unfolding P.parse_cast
 cast-returns-then-t-ne-KW_AS t c =
     then_asked casts_on c.requires c.operand-a.ensures
     (c.loop-a.invariant.1.rest
-    (casts_none c.loop-a.invariant.0 c.in-Done.is c.peek-t.ensures
+    (casts_none c.loop-a.invariant.0 (is_done c.in-Ok.is) c.peek-t.ensures
     c.if-t-ne-KW_AS.true))
 
 pub cast-ty-b-requires : goal.cast-ty-b-requires
@@ -606,7 +610,7 @@ cast-loop-a-preserved t c = (
         c.abandon-c.ensures.at,
         c.write_node-a.ensures.at,
       ))
-      (λ _ _ _ _ g. casts_more c.loop-a.invariant.0 c.in-Done.is
+      (λ _ _ _ _ g. casts_more c.loop-a.invariant.0 (is_done c.in-Ok.is)
       c.peek-t.ensures c.if-t-ne-KW_AS.false c.ty-b.ensures c.abandon-c.ensures
       c.write_node-a.ensures g),
 )
@@ -616,7 +620,7 @@ comparison-bit_or-a-requires t c = (omega (arith, c.decreases), c.requires)
 
 pub comparison-returns-in_default : goal.comparison-returns-in_default
 unfolding P.parse_comparison
-comparison-returns-in_default t c = then_stops compare_on c.bit_or-a.ensures c.in_default.not-Done
+comparison-returns-in_default t c = then_stops compare_on c.bit_or-a.ensures (not_ok _ c.in_default.not-Ok)
 
 pub comparison-peek-t-requires : goal.comparison-peek-t-requires
 comparison-peek-t-requires t c = (c.requires.asks.held, omega (arith, c.bit_or-a.ensures.moved.end))
@@ -628,7 +632,7 @@ comparison-returns-then-op-eq0 t c =
     (compare_none
     (goes_on c.requires c.bit_or-a.ensures (omega (arith, c.bit_or-a.auto))
     (omega (arith, c.bit_or-a.auto)) (omega (arith, c.bit_or-a.auto)))
-    c.in-Done.is c.peek-t.ensures c.comparison_operator-op.ensures
+    (is_done c.in-Ok.is) c.peek-t.ensures c.comparison_operator-op.ensures
     c.if-op-eq0.true)
 
 pub comparison-bit_or-b-requires : goal.comparison-bit_or-b-requires
@@ -674,7 +678,7 @@ comparison-returns t c =
     (compare_found
     (goes_on c.requires c.bit_or-a.ensures (omega (arith, c.bit_or-a.auto))
     (omega (arith, c.bit_or-a.auto)) (omega (arith, c.bit_or-a.auto)))
-    c.in-Done.is c.peek-t.ensures
+    (is_done c.in-Ok.is) c.peek-t.ensures
     c.comparison_operator-op.ensures c.if-op-eq0.false c.bit_or-b.ensures
     c.abandon-c.ensures c.write_node.ensures)
 
@@ -697,8 +701,8 @@ field-peek-t-requires t c = (c.requires.asks.held, c.requires.asks.at)
 pub field-expect_identifier-a-requires : goal.field-expect_identifier-a-requires
 field-expect_identifier-a-requires t c = c.requires.asks
 
-pub field-and_expect-b-requires : goal.field-and_expect-b-requires
-field-and_expect-b-requires t c = (
+pub field-expect_after-b-requires : goal.field-expect_after-b-requires
+field-expect_after-b-requires t c = (
   field_follows c.requires c.peek-t.ensures
       c.expect_identifier-a.ensures
       (omega (arith, c.expect_identifier-a.auto))
@@ -709,9 +713,9 @@ field-and_expect-b-requires t c = (
 pub field-returns-in_default : goal.field-returns-in_default
 field-returns-in_default t c =
     field_stops c.requires c.peek-t.ensures
-    c.expect_identifier-a.ensures c.and_expect-b.ensures
+    c.expect_identifier-a.ensures c.expect_after-b.ensures
     (omega (arith, c.expect_identifier-a.auto))
-    (omega (arith, c.expect_identifier-a.auto)) c.in_default.not-Done
+    (omega (arith, c.expect_identifier-a.auto)) (not_ok _ c.in_default.not-Ok)
 
 pub field-expression-c-requires : goal.field-expression-c-requires
 field-expression-c-requires t c = (
@@ -719,25 +723,24 @@ field-expression-c-requires t c = (
     arith,
     c.decreases,
     c.expect_identifier-a.ensures.moved,
-    c.and_expect-b.ensures.moved,
+    c.expect_after-b.ensures.moved,
   ),
   field_asked c.requires c.peek-t.ensures
-      c.expect_identifier-a.ensures c.and_expect-b.ensures
-      (omega (arith, c.expect_identifier-a.auto, c.and_expect-b.auto))
-      (omega (arith, c.expect_identifier-a.auto, c.and_expect-b.auto)),
+      c.expect_identifier-a.ensures c.expect_after-b.ensures
+      (omega (arith, c.expect_identifier-a.auto, c.expect_after-b.auto))
+      (omega (arith, c.expect_identifier-a.auto, c.expect_after-b.auto)),
 )
 
 pub field-write_text_node-requires : goal.field-write_text_node-requires
 field-write_text_node-requires t c =
     field_room c.requires c.peek-t.ensures c.expect_identifier-a.ensures
-    c.and_expect-b.ensures c.in-Done.is
+    c.expect_after-b.ensures (is_done c.in-Ok.is)
     c.expression-c.ensures (omega (arith, c.expression-c.auto))
 
 pub field-returns : goal.field-returns
-field-returns t c =
+field-returns t c = let b = rw c.in-Ok.is at c.expect_after-b.ensures in
     field_done c.requires c.peek-t.ensures c.expect_identifier-a.ensures
-    c.and_expect-b.ensures c.in-Done.is
-    c.expression-c.ensures c.write_text_node.ensures
+    b refl c.expression-c.ensures c.write_text_node.ensures
 
 pub item-named-requires : goal.item-named-requires
 item-named-requires t c = (omega (arith, c.decreases), c.requires)
@@ -769,19 +772,19 @@ item-returns-in-ArrayValues t c = item_value c.in-ArrayValues.is c.expression-in
 pub item-returns-in-StructValues : goal.item-returns-in-StructValues
 item-returns-in-StructValues t c = item_named_value c.in-StructValues.is c.field.ensures
 
-pub list-expect-a-requires : goal.list-expect-a-requires
-list-expect-a-requires t c = (c.requires.asks, c.opener-open.ensures.1)
+pub list-expect-requires : goal.list-expect-requires
+list-expect-requires t c = (c.requires.asks, c.opener.ensures.1)
 
-pub list-returns-in-Refused : goal.list-returns-in-Refused
-list-returns-in-Refused t c =
-    list_refused _ c.requires c.opener-open.ensures c.expect-a.ensures
-    (_, c.in-Refused.is)
+pub list-returns-in_err-recover : goal.list-returns-in_err-recover
+list-returns-in_err-recover t c = let g = sym c.recover.ensures ∙ c.in_err-recover.was in
+    rw (left c.from_residual.ensures.1) (rw (refused_is _ g) at
+    (list_refused _ c.requires c.opener.ensures c.expect.ensures {d = c.args.nesting} (exit_refused _ g)))
 
 pub list-loop-what-init : goal.list-loop-what-init
 list-loop-what-init t c = (
   (
-    asked_moved c.requires c.expect-a.ensures.moved refl
-        (omega (arith, c.expect-a.auto)) (omega (arith, c.expect-a.auto)),
+    asked_moved c.requires c.expect.ensures.moved refl
+        (omega (arith, c.expect.auto)) (omega (arith, c.expect.auto)),
     omega arith,
   ),
   at_start,
@@ -793,52 +796,50 @@ list-peek-t-requires t c = (c.loop-what.invariant.0.0.asks.held, c.loop-what.inv
 pub list-entry-error-requires : goal.list-entry-error-requires
 list-entry-error-requires t c = omega arith
 
-pub list-note-b-requires : goal.list-note-b-requires
-list-note-b-requires t c = raise_asked c.loop-what.invariant.0.0
+pub list-note-requires : goal.list-note-requires
+list-note-requires t c = omega (arith, c.loop-what.invariant.0.0.asks)
 
 pub list-returns-then-t-eq-END : goal.list-returns-then-t-eq-END
-list-returns-then-t-eq-END t c =
-    list_on _ c.requires c.opener-open.ensures c.expect-a.ensures
-    c.in_default.not-Refused
+list-returns-then-t-eq-END t c = list_on _ c.requires c.opener.ensures c.expect.ensures
+    (not_refused _ (sym c.recover.ensures ∙ c.in_ok-recover.was))
     (c.loop-what.invariant.1.rest
+    (loop_alike (sym (is_whole c.in_ok-note.was)) refl (λ z. (refl, refl))
     (rest_end _ c.loop-what.invariant.0 c.peek-t.ensures c.if-t-eq-END.true
-    c.entry-error.ensures c.note-b.ensures))
+    c.entry-error.ensures c.note.ensures)))
 
 pub list-returns-then-t-close : goal.list-returns-then-t-close
-list-returns-then-t-close t c =
-    list_on _ c.requires c.opener-open.ensures c.expect-a.ensures
-    c.in_default.not-Refused
+list-returns-then-t-close t c = list_on _ c.requires c.opener.ensures c.expect.ensures
+    (not_refused _ (sym c.recover.ensures ∙ c.in_ok-recover.was))
     (c.loop-what.invariant.1.rest
     (rest_closed _ c.loop-what.invariant.0 c.peek-t.ensures c.if-t-eq-END.false
     c.closer-close.ensures c.if-t-close.true))
 
 pub list-item-b-requires : goal.list-item-b-requires
 list-item-b-requires t c = (
-  omega (arith, c.decreases, c.expect-a.ensures.moved, c.loop-what.invariant.1.on),
+  omega (arith, c.decreases, c.expect.ensures.moved, c.loop-what.invariant.1.on),
   c.loop-what.invariant.0.0,
 )
 
-pub list-returns-in-Refused-h : goal.list-returns-in-Refused-h
-list-returns-in-Refused-h t c =
-    list_on _ c.requires c.opener-open.ensures c.expect-a.ensures
-    c.in_default.not-Refused
+pub list-returns-in_err-parsed : goal.list-returns-in_err-parsed
+list-returns-in_err-parsed t c = let g = sym c.recover-in-loop-what.ensures ∙ c.in_err-parsed.was in
+    rw (left c.from_residual-in_err-parsed.ensures.1) (rw (refused_is _ g) at (list_on _ c.requires c.opener.ensures c.expect.ensures
+    (not_refused _ (sym c.recover.ensures ∙ c.in_ok-recover.was))
     (c.loop-what.invariant.1.rest
     (rest_item _ c.loop-what.invariant.0 c.peek-t.ensures c.if-t-eq-END.false
-    c.closer-close.ensures c.if-t-close.false c.item-b.ensures (_, c.in-Refused-h.is)))
+    c.closer-close.ensures c.if-t-close.false c.item-b.ensures (exit_refused _ g)))))
 
-pub list-comma-c-requires : goal.list-comma-c-requires
-list-comma-c-requires t c =
+pub list-comma-requires : goal.list-comma-requires
+list-comma-requires t c =
     comma_asks c.loop-what.invariant.0 c.peek-t.ensures c.if-t-eq-END.false
     c.item-b.ensures (omega (arith, c.item-b.auto)) (omega (arith, c.item-b.auto))
 
-pub list-returns-in_default-g : goal.list-returns-in_default-g
-list-returns-in_default-g t c =
-    list_on _ c.requires c.opener-open.ensures c.expect-a.ensures
-    c.in_default.not-Refused
+pub list-returns-in_err-comma : goal.list-returns-in_err-comma
+list-returns-in_err-comma t c = rw (left c.from_residual-in_err-comma.ensures.1) (rw c.in_err-comma.was at (list_on _ c.requires c.opener.ensures c.expect.ensures
+    (not_refused _ (sym c.recover.ensures ∙ c.in_ok-recover.was))
     (c.loop-what.invariant.1.rest
     (rest_comma _ c.loop-what.invariant.0 c.peek-t.ensures c.if-t-eq-END.false
-    c.closer-close.ensures c.if-t-close.false c.item-b.ensures c.in_default-h.not-Refused
-    c.comma-c.ensures c.in_default-g.not-Done))
+    c.closer-close.ensures c.if-t-close.false c.item-b.ensures (not_refused _ (sym c.recover-in-loop-what.ensures ∙ c.in_ok-parsed.was))
+    c.comma.ensures (not_whole c.in_err-comma.was)))))
 
 pub list-counted-count-requires : goal.list-counted-count-requires
 list-counted-count-requires t c =
@@ -858,23 +859,24 @@ list-loop-what-smaller t c =
       c.if-t-eq-END.false,
       c.item-b.ensures.on,
       c.item-b.ensures.moved,
-      c.comma-c.ensures.moved,
+      c.comma.ensures.moved,
     )
 
 pub list-loop-what-preserved : goal.list-loop-what-preserved
-list-loop-what-preserved t c = (
-  rest_asked c.loop-what.invariant.0 c.peek-t.ensures c.if-t-eq-END.false
-      c.item-b.ensures c.comma-c.ensures c.counted-count.ensures
-      (omega (arith, c.item-b.auto)) (omega (arith, c.comma-c.auto, c.item-b.auto))
-      (omega (arith, c.comma-c.auto, c.item-b.auto)),
-  one_turn c.loop-what.invariant.1 (omega (arith, c.item-b.auto))
-      (omega (arith, c.comma-c.auto, c.item-b.auto))
-      (omega (arith, c.comma-c.auto, c.item-b.auto))
-      (omega (arith, c.item-b.ensures.moved, c.comma-c.ensures.moved))
-      (λ _ _ _ _ g. rest_next _ c.loop-what.invariant.0 c.peek-t.ensures c.if-t-eq-END.false
-      c.closer-close.ensures c.if-t-close.false c.item-b.ensures c.in_default-h.not-Refused
-      c.comma-c.ensures c.in-Done.is c.counted-count.ensures g),
-)
+list-loop-what-preserved t c = let g = item_is _ (sym c.recover-in-loop-what.ensures ∙ c.in_ok-parsed.was) in
+    let more = rw (sym g) at c.counted-count.ensures in (
+      rest_asked c.loop-what.invariant.0 c.peek-t.ensures c.if-t-eq-END.false
+          c.item-b.ensures c.comma.ensures more
+          (omega (arith, c.item-b.auto)) (omega (arith, c.comma.auto, c.item-b.auto))
+          (omega (arith, c.comma.auto, c.item-b.auto)),
+      one_turn c.loop-what.invariant.1 (omega (arith, c.item-b.auto))
+          (omega (arith, c.comma.auto, c.item-b.auto))
+          (omega (arith, c.comma.auto, c.item-b.auto))
+          (omega (arith, c.item-b.ensures.moved, c.comma.ensures.moved))
+          (λ _ _ _ _ l. rest_next _ c.loop-what.invariant.0 c.peek-t.ensures c.if-t-eq-END.false
+          c.closer-close.ensures c.if-t-close.false c.item-b.ensures (not_refused _ (sym c.recover-in-loop-what.ensures ∙ c.in_ok-parsed.was))
+          c.comma.ensures (is_whole c.in_ok-comma.was) more l),
+    )
 
 pub mul-cast-a-requires : goal.mul-cast-a-requires
 mul-cast-a-requires t c = (omega (arith, c.decreases), c.requires)
@@ -928,7 +930,7 @@ pub operators-loop-a-init : goal.operators-loop-a-init
 operators-loop-a-init t c = (c.requires, at_start)
 
 pub operators-returns-in_default : goal.operators-returns-in_default
-operators-returns-in_default t c = c.loop-a.invariant.1.rest (goes_stops c.loop-a.invariant.0 c.in_default.not-Done)
+operators-returns-in_default t c = c.loop-a.invariant.1.rest (goes_stops c.loop-a.invariant.0 (not_ok _ c.in_default.not-Ok))
 
 pub operators-peek-t-requires : goal.operators-peek-t-requires
 operators-peek-t-requires t c = (c.loop-a.invariant.0.asked.asks.held, c.loop-a.invariant.0.asked.asks.at)
@@ -936,7 +938,7 @@ operators-peek-t-requires t c = (c.loop-a.invariant.0.asked.asks.held, c.loop-a.
 pub operators-returns-then-op-eq0 : goal.operators-returns-then-op-eq0
 operators-returns-then-op-eq0 t c =
     c.loop-a.invariant.1.rest
-    (operators_none c.loop-a.invariant.0 c.in-Done.is c.peek-t.ensures _
+    (operators_none c.loop-a.invariant.0 (is_done c.in-Ok.is) c.peek-t.ensures _
     c.operator-op.ensures c.if-op-eq0.true)
 
 pub operators-cascade-b-requires : goal.operators-cascade-b-requires
@@ -997,7 +999,7 @@ operators-loop-a-preserved t c = (
         c.abandon-c.ensures.at,
         c.write_node-a.ensures.at,
       ))
-      (λ _ _ _ _ g. operators_more c.loop-a.invariant.0 c.in-Done.is
+      (λ _ _ _ _ g. operators_more c.loop-a.invariant.0 (is_done c.in-Ok.is)
       c.peek-t.ensures _ c.operator-op.ensures c.if-op-eq0.false
       c.cascade-b.ensures c.abandon-c.ensures c.write_node-a.ensures g),
 )
@@ -1029,13 +1031,13 @@ sizeof-returns-then-t-ne-KW_SIZEOF t c =
     sizeof_other c.requires c.peek-t.ensures c.if-t-ne-KW_SIZEOF.true
     c.access.ensures
 
-pub sizeof-expect-a-requires : goal.sizeof-expect-a-requires
-sizeof-expect-a-requires t c = (asks_fore c.requires.asks c.peek-t.ensures, (omega arith, omega arith))
+pub sizeof-expect-requires : goal.sizeof-expect-requires
+sizeof-expect-requires t c = (asks_fore c.requires.asks c.peek-t.ensures, (omega arith, omega arith))
 
-pub sizeof-returns-in_default : goal.sizeof-returns-in_default
-sizeof-returns-in_default t c =
-    sizeof_stop c.requires c.peek-t.ensures c.if-t-ne-KW_SIZEOF.false c.expect-a.ensures
-    c.in_default.not-Done
+pub sizeof-returns-in_err-expect : goal.sizeof-returns-in_err-expect
+sizeof-returns-in_err-expect t c = rw (passed_on c.in_err-expect.was c.from_residual.ensures.1)
+    (sizeof_stop c.requires c.peek-t.ensures c.if-t-ne-KW_SIZEOF.false c.expect.ensures
+    (is_stop c.in_err-expect.was))
 
 pub sizeof-ty-b-requires : goal.sizeof-ty-b-requires
 sizeof-ty-b-requires t c = (
@@ -1045,19 +1047,19 @@ sizeof-ty-b-requires t c = (
     c.requires.asks.at,
     c.peek-t.ensures,
     c.if-t-ne-KW_SIZEOF.false,
-    c.expect-a.ensures.moved,
+    c.expect.ensures.moved,
   ),
   asked_moved (asked_seen c.requires c.peek-t.ensures)
-      c.expect-a.ensures.moved refl (omega (arith, c.expect-a.auto))
-      (omega (arith, c.expect-a.auto)),
+      c.expect.ensures.moved refl (omega (arith, c.expect.auto))
+      (omega (arith, c.expect.auto)),
 )
 
-pub sizeof-and_expect-c-requires : goal.sizeof-and_expect-c-requires
-sizeof-and_expect-c-requires t c = (
+pub sizeof-expect_after-c-requires : goal.sizeof-expect_after-c-requires
+sizeof-expect_after-c-requires t c = (
   sizeof_asks c.requires c.peek-t.ensures c.if-t-ne-KW_SIZEOF.false
-      c.expect-a.ensures c.in-Done.is c.ty-b.ensures
-      (omega (arith, c.ty-b.auto, c.expect-a.auto))
-      (omega (arith, c.ty-b.auto, c.expect-a.auto)),
+      c.expect.ensures (is_done c.in_ok-expect.was) c.ty-b.ensures
+      (omega (arith, c.ty-b.auto, c.expect.auto))
+      (omega (arith, c.ty-b.auto, c.expect.auto)),
   (omega arith, omega arith),
 )
 
@@ -1065,16 +1067,16 @@ pub sizeof-write_node-requires : goal.sizeof-write_node-requires
 sizeof-write_node-requires t c =
     room_at c.requires
     (moved_trans (moved_trans (moved_trans (fore_moved c.requires.asks c.peek-t.ensures)
-    c.expect-a.ensures.moved) c.ty-b.ensures.moved)
-    c.and_expect-c.ensures.moved)
+    c.expect.ensures.moved) c.ty-b.ensures.moved)
+    c.expect_after-c.ensures.moved)
     (omega (arith, c.ty-b.auto))
 
 pub sizeof-returns : goal.sizeof-returns
 sizeof-returns t c =
-    sizeof_done c.requires c.peek-t.ensures c.if-t-ne-KW_SIZEOF.false c.expect-a.ensures
-    c.in-Done.is c.ty-b.ensures
-    (omega (arith, c.ty-b.auto, c.expect-a.auto))
-    (omega (arith, c.ty-b.auto, c.expect-a.auto)) c.and_expect-c.ensures
+    sizeof_done c.requires c.peek-t.ensures c.if-t-ne-KW_SIZEOF.false c.expect.ensures
+    (is_done c.in_ok-expect.was) c.ty-b.ensures
+    (omega (arith, c.ty-b.auto, c.expect.auto))
+    (omega (arith, c.ty-b.auto, c.expect.auto)) c.expect_after-c.ensures
     c.write_node.ensures
 
 pub ty-returns-then-nesting-eq0 : goal.ty-returns-then-nesting-eq0
@@ -1134,21 +1136,19 @@ ty-list-a-requires t c = (
 )
 
 pub ty-write_node-requires-then-t-eq-KW_STRUCT : goal.ty-write_node-requires-then-t-eq-KW_STRUCT
-ty-write_node-requires-then-t-eq-KW_STRUCT t c =
-    struct_room c.requires c.peek-t.ensures c.list-a.ensures
-    c.silence-b.ensures (omega (arith, c.list-a.auto))
+ty-write_node-requires-then-t-eq-KW_STRUCT t c = struct_room c.requires c.peek-t.ensures c.list-a.ensures (omega (arith, c.list-a.auto))
 
 pub ty-returns-then-t-eq-KW_STRUCT : goal.ty-returns-then-t-eq-KW_STRUCT
-ty-returns-then-t-eq-KW_STRUCT t c =
+ty-returns-then-t-eq-KW_STRUCT t c = let a = rw c.in_ok-count.was at c.list-a.ensures in
     type_struct c.requires c.if-nesting-eq0.false c.peek-t.ensures c.if-t-eq-IDENTIFIER.false
-    c.if-t-eq-STAR.false c.if-t-eq-L_BRACKET.false c.if-t-eq-KW_STRUCT.true c.list-a.ensures
-    c.silence-b.ensures c.write_node-then-t-eq-KW_STRUCT.ensures
+    c.if-t-eq-STAR.false c.if-t-eq-L_BRACKET.false c.if-t-eq-KW_STRUCT.true a
+    (written_at refl refl refl c.write_node-then-t-eq-KW_STRUCT.ensures)
 
 pub ty-entry-error-requires : goal.ty-entry-error-requires
 ty-entry-error-requires t c = omega arith
 
 pub ty-raise-requires : goal.ty-raise-requires
-ty-raise-requires t c = raise_asked (asked_seen c.requires c.peek-t.ensures)
+ty-raise-requires t c = omega (arith, c.requires.asks)
 
 pub ty-returns-then-t-eq-END : goal.ty-returns-then-t-eq-END
 ty-returns-then-t-eq-END t c =
@@ -1160,7 +1160,7 @@ pub ty-entry-error-requires-2 : goal.ty-entry-error-requires-2
 ty-entry-error-requires-2 t c = omega (arith, c.peek-t.ensures)
 
 pub ty-raise-requires-2 : goal.ty-raise-requires-2
-ty-raise-requires-2 t c = raise_asked (asked_seen c.requires c.peek-t.ensures)
+ty-raise-requires-2 t c = omega (arith, c.requires.asks)
 
 pub ty-returns : goal.ty-returns
 ty-returns t c =
@@ -1180,7 +1180,7 @@ pub typed-returns-in_default : goal.typed-returns-in_default
 typed-returns-in_default t c =
     let same = c.requires.1.0 in
     typed_colon (c.requires.0, c.requires.1.1) c.expect-a.ensures (rw same at c.abandon-b.ensures)
-    c.in_default.not-Done
+    (not_ok _ c.in_default.not-Ok)
 
 pub typed-ty-c-requires : goal.typed-ty-c-requires
 typed-ty-c-requires t c =
@@ -1202,7 +1202,7 @@ pub typed-returns : goal.typed-returns
 typed-returns t c =
     let same = c.requires.1.0 in
     typed_type (c.requires.0, c.requires.1.1) c.expect-a.ensures (rw same at c.abandon-b.ensures)
-    c.in-Done.is c.ty-c.ensures (rw same at c.abandon.ensures)
+    (is_done c.in-Ok.is) c.ty-c.ensures (rw same at c.abandon.ensures)
 
 pub typed_name-peek-t-requires : goal.typed_name-peek-t-requires
 typed_name-peek-t-requires t c = (c.requires.asks.held, c.requires.asks.at)
@@ -1222,7 +1222,7 @@ pub typed_name-entry-error-requires : goal.typed_name-entry-error-requires
 typed_name-entry-error-requires t c = omega arith
 
 pub typed_name-raise-requires : goal.typed_name-raise-requires
-typed_name-raise-requires t c = raise_asked (asked_seen c.requires c.peek-t.ensures)
+typed_name-raise-requires t c = omega (arith, c.requires.asks)
 
 pub typed_name-returns-then-t-eq-END : goal.typed_name-returns-then-t-eq-END
 typed_name-returns-then-t-eq-END t c =
@@ -1232,13 +1232,13 @@ typed_name-returns-then-t-eq-END t c =
 pub typed_name-entry-error-requires-2 : goal.typed_name-entry-error-requires-2
 typed_name-entry-error-requires-2 t c = omega (arith, c.peek-t.ensures)
 
-pub typed_name-note-b-requires : goal.typed_name-note-b-requires
-typed_name-note-b-requires t c = raise_asked (asked_seen c.requires c.peek-t.ensures)
+pub typed_name-note-requires : goal.typed_name-note-requires
+typed_name-note-requires t c = omega (arith, c.requires.asks)
 
-pub typed_name-returns-in_default : goal.typed_name-returns-in_default
-typed_name-returns-in_default t c =
-    identifier_refused c.requires c.peek-t.ensures c.if-t-eq-IDENTIFIER.false c.if-t-eq-END.false
-    c.entry-error-2.ensures c.note-b.ensures c.in_default.not-Done
+pub typed_name-returns-in_err-note : goal.typed_name-returns-in_err-note
+typed_name-returns-in_err-note t c = rw (left c.from_residual.ensures.1) (rw c.in_err-note.was at
+    (identifier_refused c.requires c.peek-t.ensures c.if-t-eq-IDENTIFIER.false c.if-t-eq-END.false
+    c.entry-error-2.ensures c.note.ensures {d = c.args.nesting} (not_whole c.in_err-note.was)))
 
 pub typed_name-typed-requires-2 : goal.typed_name-typed-requires-2
 typed_name-typed-requires-2 t c = (
@@ -1246,16 +1246,16 @@ typed_name-typed-requires-2 t c = (
     arith,
     c.decreases,
     c.peek-t.ensures,
-    noted_moved c.requires c.peek-t.ensures c.note-b.ensures,
+    noted_moved c.requires c.peek-t.ensures c.note.ensures,
   ),
-  noted_asked c.requires c.peek-t.ensures c.note-b.ensures
-      (omega (arith, c.note-b.auto)) (omega (arith, c.note-b.auto)),
+  noted_asked c.requires c.peek-t.ensures c.note.ensures
+      (omega (arith, c.note.auto)) (omega (arith, c.note.auto)),
 )
 
 pub typed_name-returns : goal.typed_name-returns
 typed_name-returns t c =
     identifier_noted c.requires c.peek-t.ensures c.if-t-eq-IDENTIFIER.false c.if-t-eq-END.false
-    c.entry-error-2.ensures c.note-b.ensures c.in-Done.is
+    c.entry-error-2.ensures c.note.ensures (is_whole c.in_ok-note.was)
     c.typed-2.ensures
 
 pub unary-returns-then-nesting-eq0 : goal.unary-returns-then-nesting-eq0
@@ -1278,8 +1278,8 @@ unary-returns-then-tag-eq0 t c =
 pub unary-overflow_sub-nesting-2 : goal.unary-overflow_sub-nesting-2
 unary-overflow_sub-nesting-2 t c = omega arith
 
-pub unary-unary-a-requires : goal.unary-unary-a-requires
-unary-unary-a-requires t c = (
+pub unary-unary-requires : goal.unary-unary-requires
+unary-unary-requires t c = (
   omega (
     arith,
     c.decreases,
@@ -1293,10 +1293,48 @@ unary-unary-a-requires t c = (
 
 pub unary-write_node-requires : goal.unary-write_node-requires
 unary-write_node-requires t c =
-    star_room c.requires c.peek-t.ensures c.unary-a.ensures
-    (omega (arith, c.unary-a.auto))
+    star_room c.requires c.peek-t.ensures c.unary.ensures
+    (omega (arith, c.unary.auto))
 
 pub unary-returns : goal.unary-returns
-unary-returns t c =
+unary-returns t c = let a = rw c.in_ok-place.was at c.unary.ensures in
     unary_prefix c.requires c.if-nesting-eq0.false c.peek-t.ensures c.prefix-tag.ensures
-    c.if-tag-eq0.false c.unary-a.ensures c.write_node.ensures
+    c.if-tag-eq0.false a c.write_node.ensures
+
+pub access-returns-in_err-note : goal.access-returns-in_err-note
+unfolding P.parse_field_access_or_index
+access-returns-in_err-note t c = rw (left c.from_residual.ensures.1) (then_asked suffixes_on c.requires c.atom-a.ensures
+    (c.loop-a.invariant.1.rest (goes_alike
+    (sym (is_refused c.in_err-note.was)) refl (λ z. absurd (refusal_is _ z))
+    (dot_other c.loop-a.invariant.0 (is_done c.in-Ok.is) c.peek-t.ensures
+    c.if-t-eq-DOT.true c.peek-u.ensures c.if-u-eq-END.false c.if-u-ne-IDENTIFIER.true
+    c.entry-error.ensures c.note.ensures))))
+
+pub list-returns-in_err-note : goal.list-returns-in_err-note
+list-returns-in_err-note t c = rw (left c.from_residual-in_err-note.ensures.1) (list_on _ c.requires c.opener.ensures c.expect.ensures
+    (not_refused _ (sym c.recover.ensures ∙ c.in_ok-recover.was))
+    (c.loop-what.invariant.1.rest
+    (loop_alike (sym (is_refused c.in_err-note.was)) refl (λ z. absurd (refusal_is _ z))
+    (rest_end _ c.loop-what.invariant.0 c.peek-t.ensures c.if-t-eq-END.true
+    c.entry-error.ensures c.note.ensures))))
+
+pub call-returns-in_err-count : goal.call-returns-in_err-count
+unfolding P.parse_call
+call-returns-in_err-count t c = let a = rw c.in_ok-place.was at c.sizeof.ensures in
+    let b = rw c.in_err-count.was at c.list-b.ensures in
+    rw (left c.from_residual-in_err-count.ensures.1) (then_asked call_on c.requires a
+    (call_found (goes_on c.requires a (omega (arith, c.sizeof.auto))
+    (omega (arith, c.sizeof.auto)) (omega (arith, c.sizeof.auto)))
+    refl c.peek-t.ensures c.if-t-ne-L_PAREN.false b (write_node_stop (refusal_is _))))
+
+pub ty-returns-in_err-count : goal.ty-returns-in_err-count
+ty-returns-in_err-count t c = let a = rw c.in_err-count.was at c.list-a.ensures in
+    rw (left c.from_residual.ensures.1) (type_struct c.requires c.if-nesting-eq0.false c.peek-t.ensures c.if-t-eq-IDENTIFIER.false
+    c.if-t-eq-STAR.false c.if-t-eq-L_BRACKET.false c.if-t-eq-KW_STRUCT.true a
+    (write_node_stop (refusal_is _)))
+
+pub unary-returns-in_err-place : goal.unary-returns-in_err-place
+unary-returns-in_err-place t c = let a = rw c.in_err-place.was at c.unary.ensures in
+    rw (left c.from_residual.ensures.1)
+    (unary_prefix c.requires c.if-nesting-eq0.false c.peek-t.ensures c.prefix-tag.ensures
+    c.if-tag-eq0.false a (write_node_stop (stop_is _)))

@@ -1,125 +1,144 @@
 use Rattle.expression_laws.specs.Post.{suffixes_on, operators_on, casts_on, LoopOn, listed_on}
 use Rattle.expression_laws.proofs.Turns.{GoesTurned, ItemsTurned}
+use Rattle.fallible.specs.Answer.{node_answer}
 use Prim.Native.Nat.{◌-◌, ◌+◌, ◌*◌}
 use Rattle.expression_laws.proofs.Levels.{Levelled}
 use Rattle.leaves.specs.Leaves.{listed_of, level_of}
 use Rattle.expression.proofs.+expression.Given as goal
 
 abbrev pub decreases-access : goal.decreases-access
-decreases-access l = 32 * (l.n - l.st.at) + 7
+decreases-access l = 32 * (l.tokens.count - l.parser.now.state.at) + 7
 
 abbrev pub decreases-add_sub : goal.decreases-add_sub
-decreases-add_sub l = 32 * (l.n - l.st.at) + 14
+decreases-add_sub l = 32 * (l.tokens.count - l.parser.now.state.at) + 14
 
 abbrev pub decreases-array : goal.decreases-array
-decreases-array l = 32 * (l.n - l.st.at) + 2
+decreases-array l = 32 * (l.tokens.count - l.parser.now.state.at) + 2
 
 abbrev pub decreases-atom : goal.decreases-atom
-decreases-atom l = 32 * (l.n - l.st.at) + 6
+decreases-atom l = 32 * (l.tokens.count - l.parser.now.state.at) + 6
 
 abbrev pub decreases-shift : goal.decreases-shift
-decreases-shift l = 32 * (l.n - l.st.at) + 15
+decreases-shift l = 32 * (l.tokens.count - l.parser.now.state.at) + 15
 
 abbrev pub decreases-bit_and : goal.decreases-bit_and
-decreases-bit_and l = 32 * (l.n - l.st.at) + 16
+decreases-bit_and l = 32 * (l.tokens.count - l.parser.now.state.at) + 16
 
 abbrev pub decreases-bit_or : goal.decreases-bit_or
-decreases-bit_or l = 32 * (l.n - l.st.at) + 18
+decreases-bit_or l = 32 * (l.tokens.count - l.parser.now.state.at) + 18
 
 abbrev pub decreases-bit_xor : goal.decreases-bit_xor
-decreases-bit_xor l = 32 * (l.n - l.st.at) + 17
+decreases-bit_xor l = 32 * (l.tokens.count - l.parser.now.state.at) + 17
 
 abbrev pub decreases-boolean : goal.decreases-boolean
-decreases-boolean l = 32 * (l.n - l.st.at) + 20
+decreases-boolean l = 32 * (l.tokens.count - l.parser.now.state.at) + 20
 
 abbrev pub decreases-call : goal.decreases-call
-decreases-call l = 32 * (l.n - l.st.at) + 9
+decreases-call l = 32 * (l.tokens.count - l.parser.now.state.at) + 9
 
 abbrev pub decreases-cascade : goal.decreases-cascade
-decreases-cascade l = 32 * (l.n - l.st.at) + 18
+decreases-cascade l = 32 * (l.tokens.count - l.parser.now.state.at) + 18
 
 abbrev pub decreases-cast : goal.decreases-cast
-decreases-cast l = 32 * (l.n - l.st.at) + 12
+decreases-cast l = 32 * (l.tokens.count - l.parser.now.state.at) + 12
 
 abbrev pub decreases-comparison : goal.decreases-comparison
-decreases-comparison l = 32 * (l.n - l.st.at) + 19
+decreases-comparison l = 32 * (l.tokens.count - l.parser.now.state.at) + 19
 
 abbrev pub decreases-expression : goal.decreases-expression
-decreases-expression l = 32 * (l.n - l.st.at) + 21
+decreases-expression l = 32 * (l.tokens.count - l.parser.now.state.at) + 21
 
 abbrev pub decreases-item : goal.decreases-item
-decreases-item l = 32 * (l.n - l.st.at) + 23
+decreases-item l = 32 * (l.tokens.count - l.parser.now.state.at) + 23
 
 abbrev pub decreases-list : goal.decreases-list
-decreases-list l = 32 * (l.n - l.st.at) + 25
+decreases-list l = 32 * (l.tokens.count - l.parser.now.state.at) + 25
 
 abbrev pub decreases-mul : goal.decreases-mul
-decreases-mul l = 32 * (l.n - l.st.at) + 13
+decreases-mul l = 32 * (l.tokens.count - l.parser.now.state.at) + 13
 
 abbrev pub decreases-named : goal.decreases-named
-decreases-named l = 32 * (l.n - l.st.at) + 4
+decreases-named l = 32 * (l.tokens.count - l.parser.now.state.at) + 4
 
 abbrev pub decreases-operand : goal.decreases-operand
-decreases-operand l = 32 * (l.n - l.st.at) + 11
+decreases-operand l = 32 * (l.tokens.count - l.parser.now.state.at) + 11
 
 abbrev pub decreases-operators : goal.decreases-operators
-decreases-operators l = 32 * (l.n - l.first.state.at) + 6
+decreases-operators l = 32 * (l.tokens.count - l.parser.now.state.at) + 6
 
 abbrev pub decreases-sizeof : goal.decreases-sizeof
-decreases-sizeof l = 32 * (l.n - l.st.at) + 8
+decreases-sizeof l = 32 * (l.tokens.count - l.parser.now.state.at) + 8
 
 abbrev pub decreases-field : goal.decreases-field
-decreases-field l = 32 * (l.n - l.st.at) + 22
+decreases-field l = 32 * (l.tokens.count - l.parser.now.state.at) + 22
 
 abbrev pub decreases-ty : goal.decreases-ty
-decreases-ty l = 32 * (l.n - l.st.at) + 1
+decreases-ty l = 32 * (l.tokens.count - l.parser.now.state.at) + 1
 
 abbrev pub decreases-typed : goal.decreases-typed
-decreases-typed l = 32 * (l.n - l.st.at) + 2
+decreases-typed l = 32 * (l.tokens.count - l.parser.now.state.at) + 2
 
 abbrev pub decreases-typed_name : goal.decreases-typed_name
-decreases-typed_name l = 32 * (l.n - l.st.at) + 3
+decreases-typed_name l = 32 * (l.tokens.count - l.parser.now.state.at) + 3
 
 abbrev pub decreases-unary : goal.decreases-unary
-decreases-unary l = 32 * (l.n - l.st.at) + 10
+decreases-unary l = 32 * (l.tokens.count - l.parser.now.state.at) + 10
 
 abbrev pub invariant-access-loop-a : goal.invariant-access-loop-a
 invariant-access-loop-a l =
-    GoesTurned suffixes_on l.tokens l.text l.n l.nesting l.st.pos l.st.reported l.initial.file
-    l.initial.reported l.initial.full l.initial.a l.file l.reported l.full l.a
+    let t = l.tokens in
+    let p = l.initial.parser in
+    let q = l.parser in
+    GoesTurned suffixes_on t.records.now t.text.now t.count l.nesting l.from.pos l.from.reported
+    l.initial.file p.reported p.full (node_answer l.initial.a p.state) l.file q.reported q.full
+    (node_answer l.a q.state)
 
 abbrev pub decreases-access-loop-a : goal.decreases-access-loop-a
-decreases-access-loop-a l = l.n - l.a.state.at
+decreases-access-loop-a l = l.tokens.count - l.parser.state.at
 
 abbrev pub invariant-bit_or-loop-k : goal.invariant-bit_or-loop-k
 invariant-bit_or-loop-k l =
-    Levelled l.tokens l.text l.n l.nesting l.st l.initial.file l.initial.reported l.initial.full l.initial.a
-    l.file l.reported l.full l.a l.k
+    let t = l.tokens in
+    let p = l.initial.parser in
+    let q = l.parser in
+    Levelled t.records.now t.text.now t.count l.nesting l.from l.initial.file p.reported p.full
+    (node_answer l.initial.a p.state) l.file q.reported q.full (node_answer l.a q.state) l.k
 
 abbrev pub decreases-bit_or-loop-k : goal.decreases-bit_or-loop-k
 decreases-bit_or-loop-k l = 6 - l.k
 
 abbrev pub invariant-cast-loop-a : goal.invariant-cast-loop-a
 invariant-cast-loop-a l =
-    GoesTurned casts_on l.tokens l.text l.n l.nesting l.st.pos l.st.reported l.initial.file l.initial.reported
-    l.initial.full l.initial.a l.file l.reported l.full l.a
+    let t = l.tokens in
+    let p = l.initial.parser in
+    let q = l.parser in
+    GoesTurned casts_on t.records.now t.text.now t.count l.nesting l.from.pos l.from.reported
+    l.initial.file p.reported p.full (node_answer l.initial.a p.state) l.file q.reported q.full
+    (node_answer l.a q.state)
 
 abbrev pub decreases-cast-loop-a : goal.decreases-cast-loop-a
-decreases-cast-loop-a l = l.n - l.a.state.at
+decreases-cast-loop-a l = l.tokens.count - l.parser.state.at
 
 abbrev pub invariant-list-loop-what : goal.invariant-list-loop-what
 invariant-list-loop-what l =
-    ItemsTurned (LoopOn (listed_on (listed_of l.what)) l.tokens l.text l.n l.nesting) l.tokens l.text l.n
-    l.initial.count l.initial.file l.initial.reported l.initial.full l.initial.s l.count l.file l.reported
-    l.full l.s
+    let t = l.tokens in
+    let p = l.initial.parser in
+    let q = l.parser in
+    ItemsTurned (LoopOn (listed_on (listed_of l.what)) t.records.now t.text.now t.count l.nesting)
+    t.records.now t.text.now t.count l.initial.count l.initial.file p.reported p.full p.state l.count l.file
+    q.reported q.full q.state
 
 abbrev pub decreases-list-loop-what : goal.decreases-list-loop-what
-decreases-list-loop-what l = l.n - l.s.at
+decreases-list-loop-what l = l.tokens.count - l.parser.state.at
 
 abbrev pub invariant-operators-loop-a : goal.invariant-operators-loop-a
 invariant-operators-loop-a l =
-    GoesTurned (operators_on (level_of l.level)) l.tokens l.text l.n l.nesting l.from.pos l.from.reported
-    l.initial.file l.initial.reported l.initial.full l.initial.a l.file l.reported l.full l.a
+    let t = l.tokens in
+    let p = l.initial.parser in
+    let q = l.parser in
+    GoesTurned (operators_on (level_of l.level)) t.records.now t.text.now t.count l.nesting l.from.pos l.from.reported
+    l.initial.file p.reported p.full (node_answer l.initial.a p.state) l.file q.reported q.full
+    (node_answer l.a q.state)
 
 abbrev pub decreases-operators-loop-a : goal.decreases-operators-loop-a
-decreases-operators-loop-a l = l.n - l.a.state.at
+decreases-operators-loop-a l = l.tokens.count - l.parser.state.at

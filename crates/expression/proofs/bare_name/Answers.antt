@@ -1,21 +1,26 @@
+use mathlib.Core.Path.{refl}
+use Rattle.fallible.proofs.Calls.{left, stop_is}
 use Rattle.expression_laws.proofs.Names.{bare_stops, bare_name, bare_unknown, bare_room, unknown_room}
 use Rattle.expression.proofs.bare_name.Goals as goal
 
-pub returns-in_default : goal.returns-in_default
-returns-in_default c = bare_stops c.requires c.in_default.not-Done
+pub returns-in_err-called : goal.returns-in_err-called
+returns-in_err-called c =
+    let room = rw c.in_err-called.was at c.requires in
+    rw (left c.from_residual.ensures.1, c.in_err-called.was) (bare_stops room (stop_is _))
 
-pub write_bare-pos-requires : goal.write_bare-pos-requires
-write_bare-pos-requires c = bare_room c.requires c.in-Done.is c.peek-t.ensures
+pub write_bare-state-requires : goal.write_bare-state-requires
+write_bare-state-requires c = bare_room (rw c.in_ok-called.was at c.requires) refl c.peek-t.ensures
 
 pub returns-then-t-eq-IDENTIFIER : goal.returns-then-t-eq-IDENTIFIER
 returns-then-t-eq-IDENTIFIER c =
-    bare_name c.requires c.in-Done.is c.peek-t.ensures c.if-t-eq-IDENTIFIER.true
-    c.write_bare-pos.ensures
+    let room = rw c.in_ok-called.was at c.requires in
+    rw c.in_ok-called.was (bare_name room refl c.peek-t.ensures c.if-t-eq-IDENTIFIER.true c.write_bare-state.ensures)
 
-pub write_bare-pos-requires-2 : goal.write_bare-pos-requires-2
-write_bare-pos-requires-2 c = unknown_room c.requires c.in-Done.is
+pub write_bare-state-requires-2 : goal.write_bare-state-requires-2
+write_bare-state-requires-2 c = unknown_room (rw c.in_ok-called.was at c.requires) refl
 
 pub returns : goal.returns
 returns c =
-    bare_unknown c.requires c.in-Done.is c.peek-t.ensures
-    c.if-t-eq-IDENTIFIER.false c.write_bare-pos-2.ensures
+    let room = rw c.in_ok-called.was at c.requires in
+    rw c.in_ok-called.was
+    (bare_unknown room refl c.peek-t.ensures c.if-t-eq-IDENTIFIER.false c.write_bare-state-2.ensures)

@@ -1,77 +1,62 @@
+use mathlib.Core.Path.{sym, ◌∙◌}
+use Rattle.fallible.proofs.Calls.{left, not_refused, item_is, refused_is, exit_refused}
 use Rattle.expression_laws.proofs.Turns.{at_start, one_turn}
 use Rattle.expression_laws.proofs.Loops.{loop_asked}
 use Rattle.items.proofs.Modules.{module_end, module_refused, module_next}
 use native.Mathlib.Omega.{arith}
 use Rattle.items.proofs.module.Goals as goal
 
-pub loop-st-init : goal.loop-st-init
-loop-st-init c = ((c.requires, omega arith), at_start)
+pub loop-nesting-init : goal.loop-nesting-init
+loop-nesting-init c = ((c.requires, omega arith), at_start)
 
 pub peek-t-requires : goal.peek-t-requires
-peek-t-requires c = (c.loop-st.invariant.0.0.asks.held, c.loop-st.invariant.0.0.asks.at)
-
-pub shape_of-file-then-t-eq-END : goal.shape_of-file-then-t-eq-END
-shape_of-file-then-t-eq-END c = omega (arith, c.loop-st.invariant.1)
-
-pub shape_of-reported-then-t-eq-END : goal.shape_of-reported-then-t-eq-END
-shape_of-reported-then-t-eq-END c = omega (arith, c.loop-st.invariant.1)
-
-pub shape_of-full-then-t-eq-END : goal.shape_of-full-then-t-eq-END
-shape_of-full-then-t-eq-END c = omega (arith, c.loop-st.invariant.1)
+peek-t-requires c = (c.loop-nesting.invariant.0.0.asks.held, c.loop-nesting.invariant.0.0.asks.at)
 
 pub returns-then-t-eq-END : goal.returns-then-t-eq-END
 returns-then-t-eq-END c =
-    c.loop-st.invariant.1.rest (module_end c.loop-st.invariant.0 c.peek-t.ensures c.if-t-eq-END.true)
+    c.loop-nesting.invariant.1.rest (module_end c.loop-nesting.invariant.0 c.peek-t.ensures c.if-t-eq-END.true)
 
 pub top_level_item-b-requires : goal.top_level_item-b-requires
-top_level_item-b-requires c = c.loop-st.invariant.0.0
+top_level_item-b-requires c = c.loop-nesting.invariant.0.0
 
-pub shape_of-file-in-Refused : goal.shape_of-file-in-Refused
-shape_of-file-in-Refused c = omega (arith, c.loop-st.invariant.1, c.top_level_item-b.auto)
-
-pub shape_of-reported-in-Refused : goal.shape_of-reported-in-Refused
-shape_of-reported-in-Refused c = omega (arith, c.loop-st.invariant.1, c.top_level_item-b.auto)
-
-pub shape_of-full-in-Refused : goal.shape_of-full-in-Refused
-shape_of-full-in-Refused c = omega (arith, c.loop-st.invariant.1, c.top_level_item-b.auto)
-
-pub returns-in-Refused : goal.returns-in-Refused
-returns-in-Refused c =
-    c.loop-st.invariant.1.rest
-    (module_refused c.loop-st.invariant.0 c.peek-t.ensures c.if-t-eq-END.false
-    c.top_level_item-b.ensures (_, c.in-Refused.is))
+pub returns-in_err-parsed : goal.returns-in_err-parsed
+returns-in_err-parsed c = let g = sym c.recover.ensures ∙ c.in_err-parsed.was in
+    rw (left c.from_residual.ensures.1) (rw (refused_is _ g) at
+    (c.loop-nesting.invariant.1.rest
+    (module_refused c.loop-nesting.invariant.0 c.peek-t.ensures c.if-t-eq-END.false
+    c.top_level_item-b.ensures (exit_refused _ g))))
 
 pub counted-count-requires : goal.counted-count-requires
 counted-count-requires c =
     omega (
       arith,
-      c.loop-st.invariant.0.1,
-      c.loop-st.invariant.0.0.asks.at,
-      c.loop-st.invariant.0.0.asks.held.few,
+      c.loop-nesting.invariant.0.1,
+      c.loop-nesting.invariant.0.0.asks.at,
+      c.loop-nesting.invariant.0.0.asks.held.few,
     )
 
-pub loop-st-smaller : goal.loop-st-smaller
-loop-st-smaller c =
+pub loop-nesting-smaller : goal.loop-nesting-smaller
+loop-nesting-smaller c =
     omega (
       arith,
-      c.loop-st.invariant.0.0.asks.at,
+      c.loop-nesting.invariant.0.0.asks.at,
       c.peek-t.ensures.present,
       c.if-t-eq-END.false,
       c.top_level_item-b.ensures.on,
       c.top_level_item-b.ensures.moved,
     )
 
-pub loop-st-preserved : goal.loop-st-preserved
-loop-st-preserved c = (
-  loop_asked c.loop-st.invariant.0 c.peek-t.ensures c.if-t-eq-END.false
-      c.top_level_item-b.ensures c.counted-count.ensures
-      (omega (arith, c.top_level_item-b.auto))
-      (omega (arith, c.top_level_item-b.auto))
-      (omega (arith, c.top_level_item-b.auto)),
-  one_turn c.loop-st.invariant.1 (omega (arith, c.top_level_item-b.auto))
-      (omega (arith, c.top_level_item-b.auto))
-      (omega (arith, c.top_level_item-b.auto))
-      c.top_level_item-b.ensures.moved.at
-      (λ _ _ _ _ g. module_next c.loop-st.invariant.0 c.peek-t.ensures c.if-t-eq-END.false
-      c.top_level_item-b.ensures c.in_default.not-Refused c.counted-count.ensures g),
-)
+pub loop-nesting-preserved : goal.loop-nesting-preserved
+loop-nesting-preserved c = let h = sym c.recover.ensures ∙ c.in_ok-parsed.was in
+    let more = rw (sym (item_is _ h)) at c.counted-count.ensures in (
+      loop_asked c.loop-nesting.invariant.0 c.peek-t.ensures c.if-t-eq-END.false c.top_level_item-b.ensures more
+          (omega (arith, c.top_level_item-b.auto))
+          (omega (arith, c.top_level_item-b.auto))
+          (omega (arith, c.top_level_item-b.auto)),
+      one_turn c.loop-nesting.invariant.1 (omega (arith, c.top_level_item-b.auto))
+          (omega (arith, c.top_level_item-b.auto))
+          (omega (arith, c.top_level_item-b.auto))
+          c.top_level_item-b.ensures.moved.at
+          (λ _ _ _ _ l. module_next c.loop-nesting.invariant.0 c.peek-t.ensures c.if-t-eq-END.false
+          c.top_level_item-b.ensures (not_refused _ h) more l),
+    )

@@ -4,10 +4,13 @@ use Rattle.items.specs.Rules.{items_on}
 use Prim.Native.Nat.{◌-◌}
 use Rattle.items.proofs.module.Given as goal
 
-abbrev pub invariant-loop-st : goal.invariant-loop-st
-invariant-loop-st l =
-    ItemsTurned (LoopOn items_on l.tokens l.text l.n l.nesting) l.tokens l.text l.n l.initial.count
-    l.initial.file l.initial.reported l.initial.full l.initial.st l.count l.file l.reported l.full l.st
+abbrev pub invariant-loop-nesting : goal.invariant-loop-nesting
+invariant-loop-nesting l =
+    let t = l.tokens in
+    let p = l.initial.parser in
+    let q = l.parser in
+    ItemsTurned (LoopOn items_on t.records.now t.text.now t.count l.nesting) t.records.now t.text.now t.count
+    l.initial.count l.initial.file p.reported p.full p.state l.count l.file q.reported q.full q.state
 
-abbrev pub decreases-loop-st : goal.decreases-loop-st
-decreases-loop-st l = l.n - l.st.at
+abbrev pub decreases-loop-nesting : goal.decreases-loop-nesting
+decreases-loop-nesting l = l.tokens.count - l.parser.state.at

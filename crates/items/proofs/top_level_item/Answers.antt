@@ -1,6 +1,5 @@
 use Rattle.items.proofs.Modules.{item_function, item_alias, item_use, item_variable, item_assembly, item_other}
-use Rattle.expression_laws.proofs.Types.{raise_asked}
-use Rattle.steps.proofs.Moves.{asked_seen, room_token}
+use Rattle.steps.proofs.Moves.{room_token}
 use native.Mathlib.Omega.{arith}
 use Rattle.items.proofs.top_level_item.Goals as goal
 
@@ -13,12 +12,6 @@ function_definition-requires c = c.requires
 pub shape_of-file-then-t : goal.shape_of-file-then-t
 shape_of-file-then-t c = omega (arith, c.function_definition.auto)
 
-pub shape_of-reported-then-t : goal.shape_of-reported-then-t
-shape_of-reported-then-t c = omega (arith, c.function_definition.auto)
-
-pub shape_of-full-then-t : goal.shape_of-full-then-t
-shape_of-full-then-t c = omega (arith, c.function_definition.auto)
-
 pub returns-then-t : goal.returns-then-t
 returns-then-t c =
     item_function c.peek-t.ensures c.if-t.true
@@ -29,12 +22,6 @@ type_alias-requires c = c.requires
 
 pub shape_of-file-then-t-2 : goal.shape_of-file-then-t-2
 shape_of-file-then-t-2 c = omega (arith, c.type_alias.auto)
-
-pub shape_of-reported-then-t-2 : goal.shape_of-reported-then-t-2
-shape_of-reported-then-t-2 c = omega (arith, c.type_alias.auto)
-
-pub shape_of-full-then-t-2 : goal.shape_of-full-then-t-2
-shape_of-full-then-t-2 c = omega (arith, c.type_alias.auto)
 
 pub returns-then-t-2 : goal.returns-then-t-2
 returns-then-t-2 c =
@@ -47,12 +34,6 @@ use_path-requires c = c.requires
 pub shape_of-file-then-t-eq-KW_USE : goal.shape_of-file-then-t-eq-KW_USE
 shape_of-file-then-t-eq-KW_USE c = omega (arith, c.use_path.auto)
 
-pub shape_of-reported-then-t-eq-KW_USE : goal.shape_of-reported-then-t-eq-KW_USE
-shape_of-reported-then-t-eq-KW_USE c = omega (arith, c.use_path.auto)
-
-pub shape_of-full-then-t-eq-KW_USE : goal.shape_of-full-then-t-eq-KW_USE
-shape_of-full-then-t-eq-KW_USE c = omega (arith, c.use_path.auto)
-
 pub returns-then-t-eq-KW_USE : goal.returns-then-t-eq-KW_USE
 returns-then-t-eq-KW_USE c =
     item_use c.peek-t.ensures c.if-t.false c.if-t-2.false c.if-t-eq-KW_USE.true
@@ -63,12 +44,6 @@ top_level_var_declaration-requires c = c.requires
 
 pub shape_of-file-then-t-eq-KW_VAR : goal.shape_of-file-then-t-eq-KW_VAR
 shape_of-file-then-t-eq-KW_VAR c = omega (arith, c.top_level_var_declaration.auto)
-
-pub shape_of-reported-then-t-eq-KW_VAR : goal.shape_of-reported-then-t-eq-KW_VAR
-shape_of-reported-then-t-eq-KW_VAR c = omega (arith, c.top_level_var_declaration.auto)
-
-pub shape_of-full-then-t-eq-KW_VAR : goal.shape_of-full-then-t-eq-KW_VAR
-shape_of-full-then-t-eq-KW_VAR c = omega (arith, c.top_level_var_declaration.auto)
 
 pub returns-then-t-eq-KW_VAR : goal.returns-then-t-eq-KW_VAR
 returns-then-t-eq-KW_VAR c =
@@ -89,17 +64,11 @@ returns-then-t-eq-INLINE_ASSEMBLY_FRAGMENT c =
 pub entry-error-requires : goal.entry-error-requires
 entry-error-requires c = omega (arith, c.peek-t.ensures)
 
-pub raise-requires : goal.raise-requires
-raise-requires c = raise_asked (asked_seen c.requires c.peek-t.ensures)
-
-pub shape_of-reported : goal.shape_of-reported
-shape_of-reported c = omega (arith, c.raise.auto)
-
-pub shape_of-full : goal.shape_of-full
-shape_of-full c = omega (arith, c.raise.auto)
-
 pub returns : goal.returns
 returns c =
     item_other c.peek-t.ensures c.if-t.false c.if-t-2.false c.if-t-eq-KW_USE.false
     c.if-t-eq-KW_VAR.false c.requires c.if-t-eq-INLINE_ASSEMBLY_FRAGMENT.false c.entry-error.ensures
     c.raise.ensures
+
+pub raise-requires : goal.raise-requires
+raise-requires c = omega (arith, c.requires.asks)

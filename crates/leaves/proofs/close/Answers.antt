@@ -1,13 +1,22 @@
+use mathlib.Core.Path.{sym, ◌∙◌}
+use Rattle.fallible.proofs.Calls.{left, refused_is, not_refused, exit_refused}
 use Rattle.leaves.proofs.Atoms.{close_ended, close_refused, close_on}
 use Rattle.leaves.proofs.close.Goals as goal
 
-pub returns-in-Refused : goal.returns-in-Refused
-returns-in-Refused c = close_ended c.requires (_, c.in-Refused.is)
+pub returns-in_err-recover : goal.returns-in_err-recover
+returns-in_err-recover c =
+    let g = sym c.recover.ensures ∙ c.in_err-recover.was in
+    rw (left c.from_residual.ensures.1 ∙ sym (refused_is _ g)) (close_ended c.requires (exit_refused _ g))
 
-pub returns-in-Refused-h : goal.returns-in-Refused-h
-returns-in-Refused-h c =
-    close_refused c.requires c.in_default.not-Refused c.expect-b.ensures
-    (_, c.in-Refused-h.is)
+pub returns-in_err-recover-2 : goal.returns-in_err-recover-2
+returns-in_err-recover-2 c =
+    let h = sym c.recover.ensures ∙ c.in_ok-recover.was in
+    let g = sym c.recover-2.ensures ∙ c.in_err-recover-2.was in
+    rw (left c.from_residual-in_err-recover-2.ensures.1 ∙ sym (refused_is _ g))
+    (close_refused c.requires (not_refused _ h) c.expect.ensures (exit_refused _ g))
 
 pub returns : goal.returns
-returns c = close_on c.requires c.in_default.not-Refused c.expect-b.ensures c.in_default-h.not-Refused
+returns c =
+    let h = sym c.recover.ensures ∙ c.in_ok-recover.was in
+    let g = sym c.recover-2.ensures ∙ c.in_ok-recover-2.was in
+    close_on c.requires (not_refused _ h) c.expect.ensures (not_refused _ g)

@@ -1,5 +1,6 @@
+use mathlib.Core.Path.{refl}
 use Rattle.leaves.proofs.Lists.{counted_done}
 use Rattle.leaves.proofs.counted.Goals as goal
 
-pub returns-in-Done : goal.returns-in-Done
-returns-in-Done c = counted_done c.in-Done.is
+pub returns-in-Some : goal.returns-in-Some
+returns-in-Some c = rw c.in-Some.is (counted_done refl)

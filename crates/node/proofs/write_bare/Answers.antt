@@ -1,7 +1,13 @@
-use Rattle.node.proofs.Laws.{is_bare}
+use native.Mathlib.Omega.{arith}
+use Rattle.slices.proofs.Writing.{put_trans}
+use Rattle.node.proofs.Laws.{is_bare, part_room, width_law}
 use Rattle.node.proofs.write_bare.Goals as goal
+
+pub put_all-requires : goal.put_all-requires
+put_all-requires c = omega (arith, width_law, part_room)
 
 pub returns : goal.returns
 returns c =
-    is_bare c.put-p.ensures (rw c.width.ensures.0 at c.put_two-p.ensures)
-    c.put_numbers-p.ensures c.put_part.ensures
+    let p = put_trans c.put.ensures (put_trans c.put_two.ensures (put_trans c.put_numbers.ensures c.put_all.ensures)) in
+    let w = is_bare _ _ _ _ c.width.ensures.0 c.requires.part p in
+    grind (arith, w, p.same)

@@ -44,8 +44,8 @@ error_fields-end-requires c = (
   omega (arith, c.requires.fulls),
 )
 
-pub clear_bytes-requires : goal.clear_bytes-requires
-clear_bytes-requires c =
+pub fill_from-requires : goal.fill_from-requires
+fill_from-requires c =
     omega (
       arith,
       end_room c.requires c.write_bare-p.ensures
@@ -64,7 +64,7 @@ pub shape_of-file : goal.shape_of-file
 shape_of-file c =
     omega (
       arith,
-      c.clear_bytes.auto,
+      c.fill_from.auto,
       c.error_fields-end.auto,
       c.error_fields-r.auto,
       c.token_error_fields-q.auto,
@@ -75,7 +75,7 @@ pub returns : goal.returns
 returns c =
     ended c.requires c.write_bare-p.ensures
     c.token_error_fields-q.ensures c.error_fields-r.ensures
-    c.error_fields-end.ensures c.clear_bytes.ensures
+    c.error_fields-end.ensures c.fill_from.ensures
     (omega (
       arith,
       c.write_bare-p.auto,

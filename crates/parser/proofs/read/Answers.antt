@@ -4,18 +4,17 @@ use native.Mathlib.Omega.{arith}
 use Rattle.parser.proofs.read.Goals as goal
 
 pub returns-then-file-lt-FILE_BYTES : goal.returns-then-file-lt-FILE_BYTES
-returns-then-file-lt-FILE_BYTES c = read_short _ _ _ _ _ _ c.if-file-lt-FILE_BYTES.true c.refused.ensures
+returns-then-file-lt-FILE_BYTES c = read_short _ _ _ _ _ _ c.if-file-lt-FILE_BYTES.true
 
 pub returns-then-not-valid_records : goal.returns-then-not-valid_records
 returns-then-not-valid_records c =
     read_bad _ _ _ _ _ _ (omega (arith, c.if-file-lt-FILE_BYTES.false))
-    (sym c.valid_records.ensures ∙ c.if-not-valid_records.true) c.refused-then-not-valid_records.ensures
+    (sym c.valid_records.ensures ∙ c.if-not-valid_records.true)
 
 pub returns-then-count-eq0 : goal.returns-then-count-eq0
 returns-then-count-eq0 c =
     read_none _ _ _ _ _ _ (omega (arith, c.if-file-lt-FILE_BYTES.false))
     (sym c.valid_records.ensures ∙ c.if-not-valid_records.false) c.if-count-eq0.true
-    c.refused-then-count-eq0.ensures
 
 pub read_tokens-requires : goal.read_tokens-requires
 read_tokens-requires c = (
@@ -33,4 +32,4 @@ pub returns : goal.returns
 returns c =
     read_good _ _ _ _ _ _ (omega (arith, c.if-file-lt-FILE_BYTES.false))
     (sym c.valid_records.ensures ∙ c.if-not-valid_records.false)
-    c.read_tokens.ensures
+    _ _ c.read_tokens.ensures

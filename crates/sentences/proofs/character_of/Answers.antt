@@ -1,22 +1,12 @@
 use Rattle.sentences.proofs.Messages.{names_none, names_end, names_part}
-use borrow.Author.Rules.{rules}
 use Rattle.sentences.proofs.character_of.Goals as goal
 
-pub returns-then-number-ne-UNKNOWN_CHARACTER : goal.returns-then-number-ne-UNKNOWN_CHARACTER
-returns-then-number-ne-UNKNOWN_CHARACTER c =
-    names_none c.args.s.now c.args.number c.args.line c.args.column c.if-number-ne-UNKNOWN_CHARACTER.true
+pub returns-then-number : goal.returns-then-number
+returns-then-number c = names_none _ _ _ _ c.if-number.true
 
-pub returns-then-s-start : goal.returns-then-s-start
-returns-then-s-start c =
-    names_end c.args.s.now c.args.number c.args.line c.args.column
-    c.if-number-ne-UNKNOWN_CHARACTER.false
-    c.cursor_at-c.ensures c.if-s-start.true
-
-pub step-d-requires : goal.step-d-requires
-step-d-requires c = (c.cursor_at-c.ensures.stands, search rules, c.requires.short)
+pub returns-then-s-c : goal.returns-then-s-c
+returns-then-s-c c = names_end _ _ _ _ c.if-number.false c.cursor_at-c.ensures c.if-s-c.true
 
 pub returns : goal.returns
 returns c =
-    names_part c.args.s.now c.args.number c.args.line c.args.column
-    c.if-number-ne-UNKNOWN_CHARACTER.false
-    c.cursor_at-c.ensures c.if-s-start.false c.step-d.ensures
+    names_part _ _ _ _ c.if-number.false c.cursor_at-c.ensures c.if-s-c.false c.step-d.ensures

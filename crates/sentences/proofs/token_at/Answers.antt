@@ -1,11 +1,5 @@
-use Rattle.sentences.proofs.Messages.{seeking_start, seeking_none, seeking_found, seeking_more, onward}
+use Rattle.sentences.proofs.Messages.{seeking_none, seeking_found, seeking_more}
 use Rattle.sentences.proofs.token_at.Goals as goal
-
-pub loop-t-init : goal.loop-t-init
-loop-t-init c = seeking_start
-
-pub peek-t-requires : goal.peek-t-requires
-peek-t-requires c = (c.requires, c.loop-t.invariant.within)
 
 pub returns-then-t-eq-END : goal.returns-then-t-eq-END
 returns-then-t-eq-END c = seeking_none c.loop-t.invariant c.peek-t.ensures c.if-t-eq-END.true
@@ -13,9 +7,6 @@ returns-then-t-eq-END c = seeking_none c.loop-t.invariant c.peek-t.ensures c.if-
 pub returns-then-t-place : goal.returns-then-t-place
 returns-then-t-place c =
     seeking_found c.loop-t.invariant c.peek-t.ensures c.if-t-eq-END.false c.if-t-place.true
-
-pub loop-t-smaller : goal.loop-t-smaller
-loop-t-smaller c = onward c.peek-t.ensures c.if-t-eq-END.false
 
 pub loop-t-preserved : goal.loop-t-preserved
 loop-t-preserved c = seeking_more c.loop-t.invariant c.peek-t.ensures c.if-t-eq-END.false c.if-t-place.false

@@ -1,12 +1,8 @@
 use native.Mathlib.Numerals.{add-one}
 use borrow.Author.Tests.{eq-eqb, ne_eqb}
-use Rattle.source.proofs.Laws.{step_law, step_inside}
+use Rattle.source.proofs.Laws.{step_law}
 use native.Mathlib.Omega.{arith}
-use borrow.Author.Rules.{rules}
 use Rattle.source.proofs.step.Goals as goal
-
-pub overflow_add-next : goal.overflow_add-next
-overflow_add-next c = search (step_inside, rules)
 
 pub returns-then-b-eq10 : goal.returns-then-b-eq10
 returns-then-b-eq10 c =

@@ -1,17 +1,6 @@
-use Rattle.source.proofs.Laws.{ran_start, ran_more, ran_end}
-use Rattle.source.proofs.Low.{low_utf8}
-use native.Mathlib.Omega.{arith}
-use borrow.Author.Rules.{rules}
+use mathlib.Core.Path.{◌∙◌}
+use Rattle.source.proofs.Utf8.{utf8_ok}
 use Rattle.source.proofs.valid.Goals as goal
 
-pub returns-then-highest-lt128 : goal.returns-then-highest-lt128
-returns-then-highest-lt128 c = low_utf8 _ (omega (arith, c.highest.ensures, c.if-highest-lt128.true))
-
-pub loop-i-init : goal.loop-i-init
-loop-i-init c = rw c.asks-n.ensures ran_start
-
-pub loop-i-preserved : goal.loop-i-preserved
-loop-i-preserved c = search (ran_more, rules)
-
 pub returns : goal.returns
-returns c = search (ran_end, rules)
+returns c = c.is_ok.ensures.value ∙ utf8_ok _ _ c.from_utf8.result _ c.from_utf8.ensures.cases

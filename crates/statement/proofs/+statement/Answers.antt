@@ -1,13 +1,15 @@
+use Rattle.steps.proofs.OneToken.{write_node_stop, written_at}
+use Rattle.fallible.proofs.Calls.{left, passed_on, is_done, is_stop, not_ok, not_refused, item_is, refused_is, exit_refused, is_whole, is_refused, refusal_is}
+use Rattle.fallible.specs.Answer.{item_status}
 use Rattle.expression_laws.proofs.Joins.{room_at}
 use Rattle.statement.proofs.Statements.{block_reads, guarded_stops, guarded_reads, later_cuts, starts_kind, if_stops, if_two, if_three, later_asked, later_room, loop_reads, begins, assembly_reads, end_reads, other_reads, while_reads}
 use native.Mathlib.Omega.{arith}
-use mathlib.Core.Path.{refl}
+use mathlib.Core.Path.{refl, sym, ap, ◌∙◌}
 use Rattle.steps.proofs.Moves.{asked_moved, asked_seen, fore_moved, moved_trans, room_token}
 use Rattle.statement.proofs.Bodies.{body_refused, body_none, body_on, rest_closed, rest_end, rest_refused, rest_next}
 use Rattle.statement.proofs.Spare.{passed}
-use Rattle.expression_laws.proofs.Types.{raise_asked}
 use Rattle.expression_laws.proofs.Turns.{at_start, one_turn}
-use Rattle.expression_laws.proofs.Loops.{loop_asked}
+use Rattle.expression_laws.proofs.Loops.{loop_asked, loop_alike}
 use Rattle.definition.specs.Act.{Statement}
 use Rattle.steps.proofs.Constructs.{deep, down}
 use Rattle.statement.proofs.+statement.Goals as goal
@@ -15,134 +17,127 @@ use Rattle.statement.proofs.+statement.Goals as goal
 pub block-peek-t-requires : goal.block-peek-t-requires
 block-peek-t-requires t c = (c.requires.asked.asks.held, c.requires.asked.asks.at)
 
-pub block-body-a-requires : goal.block-body-a-requires
-block-body-a-requires t c = (omega (arith, c.decreases), c.requires.asked)
+pub block-body-requires : goal.block-body-requires
+block-body-requires t c = (omega (arith, c.decreases), c.requires.asked)
 
 pub block-write_node-requires : goal.block-write_node-requires
-block-write_node-requires t c = room_at c.requires.asked c.body-a.ensures.moved (omega (arith, c.body-a.auto))
+block-write_node-requires t c = room_at c.requires.asked c.body.ensures.moved (omega (arith, c.body.auto))
 
 pub block-returns : goal.block-returns
-block-returns t c =
-    block_reads c.peek-t.ensures c.requires c.body-a.ensures
-    c.write_node.ensures
+block-returns t c = let a = rw c.in_ok-count.was at c.body.ensures in
+    block_reads c.peek-t.ensures c.requires a (written_at refl refl refl c.write_node.ensures)
 
-pub body-expect-a-requires : goal.body-expect-a-requires
-body-expect-a-requires t c = (c.requires.asks, (omega arith, omega arith))
+pub body-expect-requires : goal.body-expect-requires
+body-expect-requires t c = (c.requires.asks, (omega arith, omega arith))
 
 pub body-body_rest-requires : goal.body-body_rest-requires
 body-body_rest-requires t c = (
-  omega (
-    arith,
-    c.decreases,
-    c.expect-a.ensures.moved.end,
-    passed c.expect-a.ensures c.in-Done.is,
-  ),
-  asked_moved c.requires c.expect-a.ensures.moved refl
-      (omega (arith, c.expect-a.auto)) (omega (arith, c.expect-a.auto)),
+  omega (arith, c.decreases, c.expect.ensures.moved.end, passed c.expect.ensures (item_is _ (sym c.recover.ensures ∙ c.in_ok-recover.was) ∙ ap item_status c.in-Some.is)),
+  asked_moved c.requires c.expect.ensures.moved refl (omega (arith, c.expect.auto)) (omega (arith, c.expect.auto)),
 )
 
-pub body-returns-in-Done : goal.body-returns-in-Done
-body-returns-in-Done t c =
-    body_on c.requires c.expect-a.ensures c.in-Done.is
-    c.body_rest.ensures
+pub body-returns-in-Some : goal.body-returns-in-Some
+body-returns-in-Some t c = body_on c.requires c.expect.ensures (item_is _ (sym c.recover.ensures ∙ c.in_ok-recover.was) ∙ ap item_status c.in-Some.is) c.body_rest.ensures
 
-pub body-returns-in-Fatal : goal.body-returns-in-Fatal
-body-returns-in-Fatal t c = body_none c.requires c.expect-a.ensures c.in-Fatal.is
+pub body-returns-in-None : goal.body-returns-in-None
+body-returns-in-None t c = body_none c.requires c.expect.ensures (item_is _ (sym c.recover.ensures ∙ c.in_ok-recover.was) ∙ ap item_status c.in-None.is)
 
-pub body-returns-in-Refused : goal.body-returns-in-Refused
-body-returns-in-Refused t c = body_refused c.requires c.expect-a.ensures (_, c.in-Refused.is)
+pub body-returns-in_err-recover : goal.body-returns-in_err-recover
+body-returns-in_err-recover t c = let g = sym c.recover.ensures ∙ c.in_err-recover.was in
+    rw (left c.from_residual.ensures.1) (rw (refused_is _ g) at
+    (body_refused {d = c.args.nesting} c.requires c.expect.ensures (exit_refused _ g)))
 
-pub body_rest-loop-st-init : goal.body_rest-loop-st-init
-body_rest-loop-st-init t c = ((c.requires, omega arith), at_start)
+pub body_rest-loop-t-init : goal.body_rest-loop-t-init
+body_rest-loop-t-init t c = ((c.requires, omega arith), at_start)
 
 pub body_rest-peek-t-requires : goal.body_rest-peek-t-requires
-body_rest-peek-t-requires t c = (c.loop-st.invariant.0.0.asks.held, c.loop-st.invariant.0.0.asks.at)
+body_rest-peek-t-requires t c = (c.loop-t.invariant.0.0.asks.held, c.loop-t.invariant.0.0.asks.at)
 
 pub body_rest-returns-then-t-eq-R_BRACE : goal.body_rest-returns-then-t-eq-R_BRACE
 body_rest-returns-then-t-eq-R_BRACE t c =
-    c.loop-st.invariant.1.rest
-    (rest_closed c.loop-st.invariant.0 c.peek-t.ensures c.if-t-eq-R_BRACE.true)
+    c.loop-t.invariant.1.rest
+    (rest_closed c.loop-t.invariant.0 c.peek-t.ensures c.if-t-eq-R_BRACE.true)
 
 pub body_rest-entry-error-requires : goal.body_rest-entry-error-requires
 body_rest-entry-error-requires t c = omega arith
 
-pub body_rest-note-b-requires : goal.body_rest-note-b-requires
-body_rest-note-b-requires t c = raise_asked c.loop-st.invariant.0.0
+pub body_rest-note-requires : goal.body_rest-note-requires
+body_rest-note-requires t c = omega (arith, c.loop-t.invariant.0.0.asks)
 
 pub body_rest-returns-then-t-eq-END : goal.body_rest-returns-then-t-eq-END
-body_rest-returns-then-t-eq-END t c =
-    c.loop-st.invariant.1.rest
-    (rest_end c.loop-st.invariant.0 c.peek-t.ensures c.if-t-eq-R_BRACE.false c.if-t-eq-END.true
-    c.entry-error.ensures c.note-b.ensures)
+body_rest-returns-then-t-eq-END t c = c.loop-t.invariant.1.rest (loop_alike (sym (is_whole c.in_ok-note.was)) refl (λ z. (refl, refl))
+    (rest_end c.loop-t.invariant.0 c.peek-t.ensures c.if-t-eq-R_BRACE.false c.if-t-eq-END.true
+    c.entry-error.ensures c.note.ensures))
 
 pub body_rest-statement-b-requires : goal.body_rest-statement-b-requires
 body_rest-statement-b-requires t c =
-    (omega (arith, c.decreases, c.loop-st.invariant.1.on), c.loop-st.invariant.0.0)
+    (omega (arith, c.decreases, c.loop-t.invariant.1.on), c.loop-t.invariant.0.0)
 
-pub body_rest-returns-in-Refused : goal.body_rest-returns-in-Refused
-body_rest-returns-in-Refused t c =
-    c.loop-st.invariant.1.rest
-    (rest_refused c.loop-st.invariant.0 c.peek-t.ensures c.if-t-eq-R_BRACE.false c.if-t-eq-END.false
-    c.statement-b.ensures (_, c.in-Refused.is))
+pub body_rest-returns-in_err-parsed : goal.body_rest-returns-in_err-parsed
+body_rest-returns-in_err-parsed t c = let g = sym c.recover.ensures ∙ c.in_err-parsed.was in
+    rw (left c.from_residual-in_err-parsed.ensures.1) (rw (refused_is _ g) at
+    (c.loop-t.invariant.1.rest
+    (rest_refused c.loop-t.invariant.0 c.peek-t.ensures c.if-t-eq-R_BRACE.false c.if-t-eq-END.false
+    c.statement-b.ensures (exit_refused _ g))))
 
 pub body_rest-counted-count-requires : goal.body_rest-counted-count-requires
 body_rest-counted-count-requires t c =
     omega (
       arith,
-      c.loop-st.invariant.0.1,
-      c.loop-st.invariant.0.0.asks.at,
-      c.loop-st.invariant.0.0.asks.held.few,
+      c.loop-t.invariant.0.1,
+      c.loop-t.invariant.0.0.asks.at,
+      c.loop-t.invariant.0.0.asks.held.few,
     )
 
-pub body_rest-loop-st-smaller : goal.body_rest-loop-st-smaller
-body_rest-loop-st-smaller t c =
+pub body_rest-loop-t-smaller : goal.body_rest-loop-t-smaller
+body_rest-loop-t-smaller t c =
     omega (
       arith,
-      c.loop-st.invariant.0.0.asks.at,
+      c.loop-t.invariant.0.0.asks.at,
       c.peek-t.ensures.present,
       c.if-t-eq-END.false,
       c.statement-b.ensures.on,
       c.statement-b.ensures.moved,
     )
 
-pub body_rest-loop-st-preserved : goal.body_rest-loop-st-preserved
-body_rest-loop-st-preserved t c = (
-  loop_asked c.loop-st.invariant.0 c.peek-t.ensures c.if-t-eq-END.false
-      c.statement-b.ensures c.counted-count.ensures
-      (omega (arith, c.statement-b.auto)) (omega (arith, c.statement-b.auto))
-      (omega (arith, c.statement-b.auto)),
-  one_turn c.loop-st.invariant.1 (omega (arith, c.statement-b.auto))
-      (omega (arith, c.statement-b.auto)) (omega (arith, c.statement-b.auto))
-      c.statement-b.ensures.moved.at
-      (λ _ _ _ _ g. rest_next c.loop-st.invariant.0 c.peek-t.ensures c.if-t-eq-R_BRACE.false
-      c.if-t-eq-END.false c.statement-b.ensures c.in_default.not-Refused
-      c.counted-count.ensures g),
-)
+pub body_rest-loop-t-preserved : goal.body_rest-loop-t-preserved
+body_rest-loop-t-preserved t c = let h = sym c.recover.ensures ∙ c.in_ok-parsed.was in
+    let more = rw (sym (item_is _ h)) at c.counted-count.ensures in (
+      loop_asked c.loop-t.invariant.0 c.peek-t.ensures c.if-t-eq-END.false c.statement-b.ensures more
+          (omega (arith, c.statement-b.auto)) (omega (arith, c.statement-b.auto))
+          (omega (arith, c.statement-b.auto)),
+      one_turn c.loop-t.invariant.1 (omega (arith, c.statement-b.auto))
+          (omega (arith, c.statement-b.auto)) (omega (arith, c.statement-b.auto))
+          c.statement-b.ensures.moved.at
+          (λ _ _ _ _ l. rest_next c.loop-t.invariant.0 c.peek-t.ensures c.if-t-eq-R_BRACE.false
+          c.if-t-eq-END.false c.statement-b.ensures (not_refused _ h) more l),
+    )
 
-pub guarded-expression-a-requires : goal.guarded-expression-a-requires
-guarded-expression-a-requires t c = c.requires
+pub guarded-expression-requires : goal.guarded-expression-requires
+guarded-expression-requires t c = c.requires
 
-pub guarded-returns-in_default : goal.guarded-returns-in_default
-guarded-returns-in_default t c = guarded_stops c.requires c.expression-a.ensures c.in_default.not-Done
+pub guarded-returns-in_err-expression : goal.guarded-returns-in_err-expression
+guarded-returns-in_err-expression t c = rw (passed_on c.in_err-expression.was c.from_residual.ensures.1)
+    (guarded_stops c.requires c.expression.ensures (is_stop c.in_err-expression.was))
 
 pub guarded-statement-b-requires : goal.guarded-statement-b-requires
 guarded-statement-b-requires t c = (
-  omega (arith, c.decreases, c.expression-a.ensures.moved),
-  asked_moved c.requires c.expression-a.ensures.moved
-      (omega (arith, c.expression-a.auto)) (omega (arith, c.expression-a.auto))
-      (omega (arith, c.expression-a.auto)),
+  omega (arith, c.decreases, c.expression.ensures.moved),
+  asked_moved c.requires c.expression.ensures.moved
+      (omega (arith, c.expression.auto)) (omega (arith, c.expression.auto))
+      (omega (arith, c.expression.auto)),
 )
 
 pub guarded-abandon-requires : goal.guarded-abandon-requires
 guarded-abandon-requires t c =
-    later_cuts c.requires c.expression-a.ensures.moved
+    later_cuts c.requires c.expression.ensures.moved
     c.statement-b.ensures.moved refl refl
-    (omega (arith, c.statement-b.auto, c.expression-a.auto))
+    (omega (arith, c.statement-b.auto, c.expression.auto))
 
 pub guarded-returns : goal.guarded-returns
 guarded-returns t c =
-    guarded_reads c.requires c.expression-a.ensures c.in-Done.is
-    c.statement-b.ensures (omega (arith, c.expression-a.auto))
+    guarded_reads c.requires c.expression.ensures (is_done c.in_ok-expression.was)
+    c.statement-b.ensures (omega (arith, c.expression.auto))
     c.abandon.ensures
 
 pub if_statement-peek-t-requires : goal.if_statement-peek-t-requires
@@ -162,7 +157,7 @@ if_statement-guarded-a-requires t c = (
 
 pub if_statement-returns-in_default : goal.if_statement-returns-in_default
 if_statement-returns-in_default t c =
-    if_stops c.peek-t.ensures c.requires c.guarded-a.ensures c.in_default.not-Done
+    if_stops c.peek-t.ensures c.requires c.guarded-a.ensures (not_ok _ c.in_default.not-Ok)
 
 pub if_statement-peek-u-requires : goal.if_statement-peek-u-requires
 if_statement-peek-u-requires t c = (c.requires.asked.asks.held, c.guarded-a.ensures.moved.end)
@@ -176,7 +171,7 @@ if_statement-write_node-requires t c =
 pub if_statement-returns-then-u-ne-KW_ELSE : goal.if_statement-returns-then-u-ne-KW_ELSE
 if_statement-returns-then-u-ne-KW_ELSE t c =
     if_two c.peek-t.ensures c.requires c.guarded-a.ensures
-    c.in-Done.is c.peek-u.ensures c.if-u-ne-KW_ELSE.true
+    (is_done c.in-Ok.is) c.peek-u.ensures c.if-u-ne-KW_ELSE.true
     c.write_node.ensures
 
 pub if_statement-statement-b-requires : goal.if_statement-statement-b-requires
@@ -211,7 +206,7 @@ if_statement-write_node-requires-2 t c =
 pub if_statement-returns : goal.if_statement-returns
 if_statement-returns t c =
     if_three c.peek-t.ensures c.requires c.guarded-a.ensures
-    c.in-Done.is c.peek-u.ensures c.if-u-ne-KW_ELSE.false
+    (is_done c.in-Ok.is) c.peek-u.ensures c.if-u-ne-KW_ELSE.false
     c.statement-b.ensures (omega (arith, c.guarded-a.auto))
     c.abandon-c.ensures c.write_node-2.ensures
 
@@ -314,7 +309,7 @@ pub statement_rule-entry-error-requires : goal.statement_rule-entry-error-requir
 statement_rule-entry-error-requires t c = omega arith
 
 pub statement_rule-raise-requires : goal.statement_rule-raise-requires
-statement_rule-raise-requires t c = raise_asked c.requires
+statement_rule-raise-requires t c = omega (arith, c.requires.asks)
 
 pub statement_rule-returns-then-t-eq-END : goal.statement_rule-returns-then-t-eq-END
 statement_rule-returns-then-t-eq-END t c =
@@ -356,3 +351,13 @@ pub while_statement-returns : goal.while_statement-returns
 while_statement-returns t c =
     while_reads c.peek-t.ensures c.requires c.guarded-a.ensures
     c.write_node.ensures
+
+pub block-returns-in_err-count : goal.block-returns-in_err-count
+block-returns-in_err-count t c = let a = rw c.in_err-count.was at c.body.ensures in
+    rw (left c.from_residual.ensures.1) (block_reads c.peek-t.ensures c.requires a (write_node_stop (refusal_is _)))
+
+pub body_rest-returns-in_err-note : goal.body_rest-returns-in_err-note
+body_rest-returns-in_err-note t c = rw (left c.from_residual.ensures.1)
+    (c.loop-t.invariant.1.rest (loop_alike (sym (is_refused c.in_err-note.was)) refl (λ z. absurd (refusal_is _ z))
+    (rest_end c.loop-t.invariant.0 c.peek-t.ensures c.if-t-eq-R_BRACE.false c.if-t-eq-END.true
+    c.entry-error.ensures c.note.ensures)))

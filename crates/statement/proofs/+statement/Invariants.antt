@@ -5,36 +5,39 @@ use Rattle.statement.specs.Post.{statements_on}
 use Rattle.statement.proofs.+statement.Given as goal
 
 abbrev pub decreases-block : goal.decreases-block
-decreases-block l = 32 * (l.n - l.st.at) + 2
+decreases-block l = 32 * (l.tokens.count - l.parser.now.state.at) + 2
 
 abbrev pub decreases-body : goal.decreases-body
-decreases-body l = 32 * (l.n - l.st.at) + 1
+decreases-body l = 32 * (l.tokens.count - l.parser.now.state.at) + 1
 
 abbrev pub decreases-body_rest : goal.decreases-body_rest
-decreases-body_rest l = 32 * (l.n - l.from.at) + 5
+decreases-body_rest l = 32 * (l.tokens.count - l.parser.now.state.at) + 5
 
 abbrev pub decreases-guarded : goal.decreases-guarded
-decreases-guarded l = 32 * (l.n - l.st.at) + 5
+decreases-guarded l = 32 * (l.tokens.count - l.parser.now.state.at) + 5
 
 abbrev pub decreases-if_statement : goal.decreases-if_statement
-decreases-if_statement l = 32 * (l.n - l.st.at) + 2
+decreases-if_statement l = 32 * (l.tokens.count - l.parser.now.state.at) + 2
 
 abbrev pub decreases-loop_statement : goal.decreases-loop_statement
-decreases-loop_statement l = 32 * (l.n - l.st.at) + 2
+decreases-loop_statement l = 32 * (l.tokens.count - l.parser.now.state.at) + 2
 
 abbrev pub decreases-statement : goal.decreases-statement
-decreases-statement l = 32 * (l.n - l.st.at) + 4
+decreases-statement l = 32 * (l.tokens.count - l.parser.now.state.at) + 4
 
 abbrev pub decreases-statement_rule : goal.decreases-statement_rule
-decreases-statement_rule l = 32 * (l.n - l.st.at) + 3
+decreases-statement_rule l = 32 * (l.tokens.count - l.parser.now.state.at) + 3
 
 abbrev pub decreases-while_statement : goal.decreases-while_statement
-decreases-while_statement l = 32 * (l.n - l.st.at) + 2
+decreases-while_statement l = 32 * (l.tokens.count - l.parser.now.state.at) + 2
 
-abbrev pub invariant-body_rest-loop-st : goal.invariant-body_rest-loop-st
-invariant-body_rest-loop-st l =
-    ItemsTurned (LoopOn statements_on l.tokens l.text l.n l.nesting) l.tokens l.text l.n l.initial.count
-    l.initial.file l.initial.reported l.initial.full l.initial.st l.count l.file l.reported l.full l.st
+abbrev pub invariant-body_rest-loop-t : goal.invariant-body_rest-loop-t
+invariant-body_rest-loop-t l =
+    let t = l.tokens in
+    let p = l.initial.parser in
+    let q = l.parser in
+    ItemsTurned (LoopOn statements_on t.records.now t.text.now t.count l.nesting) t.records.now t.text.now
+    t.count l.initial.count l.initial.file p.reported p.full p.state l.count l.file q.reported q.full q.state
 
-abbrev pub decreases-body_rest-loop-st : goal.decreases-body_rest-loop-st
-decreases-body_rest-loop-st l = l.n - l.st.at
+abbrev pub decreases-body_rest-loop-t : goal.decreases-body_rest-loop-t
+decreases-body_rest-loop-t l = l.tokens.count - l.parser.state.at

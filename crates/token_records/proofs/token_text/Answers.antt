@@ -1,19 +1,22 @@
-use Rattle.token_records.specs.Tested.{words_of}
-use Rattle.token_records.proofs.Tested.{text_short, text_none, text_some, text_inside}
+use Rattle.definition.specs.Records.{words_at}
+use Rattle.token_records.proofs.Tested.{text_short, text_bad, text_none, text_some, text_inside}
 use Rattle.token_records.proofs.token_text.Goals as goal
+use Rattle.token_records.proofs.token_text.Goals.{in_default-via-in-Some+else-has_text, in_default-via-in_default}
 
 pub returns-then-tokens-at : goal.returns-then-tokens-at
 returns-then-tokens-at c = search text_short
 
-pub returns-then-not-there : goal.returns-then-not-there
-returns-then-not-there c = search text_none
+pub slice_bounds-result-end-in-Some : goal.slice_bounds-result-end-in-Some
+slice_bounds-result-end-in-Some c =
+    text_inside c.args.text.now (words_at c.args.tokens.now c.args.at) c.in-Some.ensures c.has_text.ensures c.if-has_text.true
 
-pub returns : goal.returns
-returns c =
-    text_some c.args.tokens.now c.args.text.now c.args.at c.if-tokens-at.false
-    c.words_at-w.ensures c.has_text.ensures c.valid_alone.ensures c.if-not-there.false
+pub returns-in-Some : goal.returns-in-Some
+returns-in-Some c =
+    text_some _ _ _ c.if-tokens-at.false c.in-Some.ensures c.has_text.ensures c.if-has_text.true
 
-pub slice_bounds-result-end-2 : goal.slice_bounds-result-end-2
-slice_bounds-result-end-2 c =
-    text_inside c.args.text.now (words_of c.words_at-w.result)
-    c.has_text.ensures c.valid_alone.ensures c.if-not-there.false
+pub returns-in_default : goal.returns-in_default
+returns-in_default c = elim c.in_default.branch [
+  | in_default-via-in-Some+else-has_text w ↦
+      text_none _ _ _ c.if-tokens-at.false w.in-Some.ensures w.has_text.ensures w.if-has_text.false
+  | in_default-via-in_default w ↦ text_bad _ _ _ c.if-tokens-at.false w.in_default.ensures
+]

@@ -8,7 +8,7 @@ pub returns-then-b-eq123 : goal.returns-then-b-eq123
 returns-then-b-eq123 c =
     asm_open_law _ c.requires.0 c.white-w.ensures c.look-b.ensures
     c.is_foreign.ensures c.if-is_foreign.false
-    c.skip-d.ensures c.if-b-eq123.true c.assembly-a.ensures
+    c.skip-d.ensures c.if-b-eq123.true c.assembly-end.ensures
     c.with_text.ensures
 
 pub returns : goal.returns

@@ -1,8 +1,8 @@
 use Rattle.turns.proofs.Numbers.{end_law, arrow_law, digit_law, minus_law}
 use Rattle.turns.proofs.dash_turn.Goals as goal
 
-pub returns-then-s-at : goal.returns-then-s-at
-returns-then-s-at c = search end_law
+pub returns-then-s-c : goal.returns-then-s-c
+returns-then-s-c c = search end_law
 
 pub returns-then-b-eq62 : goal.returns-then-b-eq62
 returns-then-b-eq62 c = search arrow_law

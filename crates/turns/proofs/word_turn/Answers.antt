@@ -1,36 +1,25 @@
-use Rattle.turns.proofs.Turned.{ready_on, ready_wrote}
-use native.Mathlib.Omega.{arith}
+use mathlib.Core.Path.{◌∙◌}
+use Rattle.classes.proofs.Table.{same_is}
 use Rattle.turns.proofs.Words.{word_foreign_law, word_asm_law, word_identifier_law, word_keyword_law}
 use Rattle.turns.proofs.word_turn.Goals as goal
 
 pub returns-then-is_foreign : goal.returns-then-is_foreign
 returns-then-is_foreign c = search word_foreign_law
 
-pub asm_turn-requires : goal.asm_turn-requires
-asm_turn-requires c = (
-  ready_on
-      (ready_wrote (ready_wrote c.requires.0 c.put8-n.ensures) c.word-w.ensures.wrote)
-      c.word-w.ensures.passed,
-  omega arith,
-)
-
-pub returns-then-same : goal.returns-then-same
-returns-then-same c =
-    word_asm_law _ c.requires.0 c.put8-n.ensures c.word-w.ensures
+pub returns-then-eq : goal.returns-then-eq
+returns-then-eq c =
+    word_asm_law _ c.requires.0 c.put-n.ensures c.word-end.ensures
     c.look.ensures c.is_foreign.ensures c.if-is_foreign.false
-    c.same.ensures c.if-same.true
-    c.asm_turn.ensures
+    (c.eq.ensures ∙ same_is _ _) c.if-eq.true c.asm_turn.ensures
 
-pub returns-then-k-eq0 : goal.returns-then-k-eq0
-returns-then-k-eq0 c =
-    word_identifier_law _ c.requires.0 c.put8-n.ensures c.word-w.ensures
+pub returns-in-Some : goal.returns-in-Some
+returns-in-Some c =
+    word_keyword_law _ c.requires.0 c.put-n.ensures c.word-end.ensures
     c.look.ensures c.is_foreign.ensures c.if-is_foreign.false
-    c.same.ensures c.if-same.false
-    c.keyword-k.ensures c.if-k-eq0.true c.with_text.ensures
+    (c.eq.ensures ∙ same_is _ _) c.if-eq.false c.keyword.ensures c.in-Some.is c.plain.ensures
 
-pub returns : goal.returns
-returns c =
-    word_keyword_law _ c.requires.0 c.put8-n.ensures c.word-w.ensures
+pub returns-in-None : goal.returns-in-None
+returns-in-None c =
+    word_identifier_law _ c.requires.0 c.put-n.ensures c.word-end.ensures
     c.look.ensures c.is_foreign.ensures c.if-is_foreign.false
-    c.same.ensures c.if-same.false
-    c.keyword-k.ensures c.if-k-eq0.false c.plain.ensures
+    (c.eq.ensures ∙ same_is _ _) c.if-eq.false c.keyword.ensures c.in-None.is c.with_text.ensures

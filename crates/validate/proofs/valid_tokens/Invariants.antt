@@ -1,9 +1,5 @@
-use Prim.Native.Nat.{◌-◌}
 use Rattle.validate.proofs.Turns.{Tokens}
 use Rattle.validate.proofs.valid_tokens.Given as goal
 
 abbrev pub invariant-loop-i : goal.invariant-loop-i
-invariant-loop-i l = Tokens l.tokens l.text l.count l.f l.i
-
-abbrev pub decreases-loop-i : goal.decreases-loop-i
-decreases-loop-i l = l.count - l.i
+invariant-loop-i l = Tokens l.tokens l.text l.count l.previous l.i

@@ -1,131 +1,70 @@
+use Rattle.fallible.proofs.Calls.{left, passed_on, is_done, is_stop}
 use Rattle.items.specs.Items.{flag}
-use Rattle.items.proofs.Definitions.{function_stops, function_unnamed, function_asked, function_reads}
+use Rattle.items.proofs.Definitions.{function_stops, function_unnamed, function_asked, function_reads, whole_stops}
 use Rattle.steps.proofs.Moves.{asks_moved, asked_moved, moved_trans}
 use mathlib.Core.Path.{refl, ap}
 use native.Mathlib.Omega.{arith}
 use Rattle.items.proofs.functions.function.Goals as goal
 
-pub expect-a-requires : goal.expect-a-requires
-expect-a-requires c = (c.requires.asks, (omega arith, omega arith))
+pub expect-requires : goal.expect-requires
+expect-requires c = (c.requires.asks, (omega arith, omega arith))
 
-pub shape_of-reported-in_default : goal.shape_of-reported-in_default
-shape_of-reported-in_default c = omega (arith, c.expect-a.auto)
+pub returns-in_err-expect : goal.returns-in_err-expect
+returns-in_err-expect c = rw (passed_on c.in_err-expect.was c.from_residual.ensures.1)
+    (function_stops c.expect.ensures _ _ (is_stop c.in_err-expect.was))
 
-pub shape_of-full-in_default : goal.shape_of-full-in_default
-shape_of-full-in_default c = omega (arith, c.expect-a.auto)
+pub expect_identifier-requires : goal.expect_identifier-requires
+expect_identifier-requires c =
+    asks_moved c.requires.asks c.expect.ensures.moved
+    (omega (arith, c.expect.auto)) (omega (arith, c.expect.auto))
 
-pub returns-in_default : goal.returns-in_default
-returns-in_default c = function_stops c.expect-a.ensures _ _ c.in_default.not-Done
+pub returns-in_err-expect_identifier : goal.returns-in_err-expect_identifier
+returns-in_err-expect_identifier c = rw (passed_on c.in_err-expect_identifier.was c.from_residual-in_err-expect_identifier.ensures.1)
+    (function_unnamed c.expect.ensures (is_done c.in_ok-expect.was)
+    c.expect_identifier.ensures _ _ (is_stop c.in_err-expect_identifier.was))
 
-pub expect_identifier-b-requires : goal.expect_identifier-b-requires
-expect_identifier-b-requires c =
-    asks_moved c.requires.asks c.expect-a.ensures.moved
-    (omega (arith, c.expect-a.auto)) (omega (arith, c.expect-a.auto))
-
-pub shape_of-reported-in_default-h : goal.shape_of-reported-in_default-h
-shape_of-reported-in_default-h c = omega (arith, c.expect-a.auto, c.expect_identifier-b.auto)
-
-pub shape_of-full-in_default-h : goal.shape_of-full-in_default-h
-shape_of-full-in_default-h c = omega (arith, c.expect-a.auto, c.expect_identifier-b.auto)
-
-pub returns-in_default-h : goal.returns-in_default-h
-returns-in_default-h c =
-    function_unnamed c.expect-a.ensures c.in-Done.is
-    c.expect_identifier-b.ensures _ _ c.in_default-h.not-Done
-
-pub signature-c-requires : goal.signature-c-requires
-signature-c-requires c =
+pub signature-requires : goal.signature-requires
+signature-requires c =
     asked_moved c.requires
-    (moved_trans c.expect-a.ensures.moved c.expect_identifier-b.ensures.moved)
-    refl (omega (arith, c.expect-a.auto, c.expect_identifier-b.auto))
-    (omega (arith, c.expect-a.auto, c.expect_identifier-b.auto))
+    (moved_trans c.expect.ensures.moved c.expect_identifier.ensures.moved)
+    refl (omega (arith, c.expect.auto, c.expect_identifier.auto))
+    (omega (arith, c.expect.auto, c.expect_identifier.auto))
 
 pub external_function-requires : goal.external_function-requires
-external_function-requires c =
-    function_asked c.expect-a.ensures c.in-Done.is
-    c.expect_identifier-b.ensures c.requires c.in-Done-h.is
-    c.signature-c.ensures (omega (arith, c.signature-c.auto))
-    (omega (arith, c.expect-a.auto, c.expect_identifier-b.auto, c.signature-c.auto))
-    (omega (arith, c.expect-a.auto, c.expect_identifier-b.auto, c.signature-c.auto))
-
-pub shape_of-file-then-external : goal.shape_of-file-then-external
-shape_of-file-then-external c =
-    omega (
-      arith,
-      c.expect-a.auto,
-      c.expect_identifier-b.auto,
-      c.signature-c.auto,
-      c.external_function.auto,
-    )
-
-pub shape_of-reported-then-external : goal.shape_of-reported-then-external
-shape_of-reported-then-external c =
-    omega (
-      arith,
-      c.expect-a.auto,
-      c.expect_identifier-b.auto,
-      c.signature-c.auto,
-      c.external_function.auto,
-    )
-
-pub shape_of-full-then-external : goal.shape_of-full-then-external
-shape_of-full-then-external c =
-    omega (
-      arith,
-      c.expect-a.auto,
-      c.expect_identifier-b.auto,
-      c.signature-c.auto,
-      c.external_function.auto,
-    )
+external_function-requires c = let s = rw c.in_ok-count.was at c.signature.ensures in
+    function_asked c.expect.ensures (is_done c.in_ok-expect.was)
+    c.expect_identifier.ensures c.requires (is_done c.in_ok-expect_identifier.was)
+    s (omega (arith, c.signature.auto))
+    (omega (arith, c.expect.auto, c.expect_identifier.auto, c.signature.auto))
+    (omega (arith, c.expect.auto, c.expect_identifier.auto, c.signature.auto))
 
 pub returns-then-external : goal.returns-then-external
-returns-then-external c =
-    function_reads c.expect-a.ensures c.in-Done.is
-    c.expect_identifier-b.ensures c.requires c.in-Done-h.is
-    c.signature-c.ensures (ap flag c.if-external.true)
-    (c.external_function.ensures _)
+returns-then-external c = let s = rw c.in_ok-count.was at c.signature.ensures in
+    function_reads c.expect.ensures (is_done c.in_ok-expect.was)
+    c.expect_identifier.ensures c.requires (is_done c.in_ok-expect_identifier.was)
+    s (ap flag c.if-external.true) (c.external_function.ensures _)
 
 pub whole_function-requires : goal.whole_function-requires
-whole_function-requires c =
-    function_asked c.expect-a.ensures c.in-Done.is
-    c.expect_identifier-b.ensures c.requires c.in-Done-h.is
-    c.signature-c.ensures (omega (arith, c.signature-c.auto))
-    (omega (arith, c.expect-a.auto, c.expect_identifier-b.auto, c.signature-c.auto))
-    (omega (arith, c.expect-a.auto, c.expect_identifier-b.auto, c.signature-c.auto))
-
-pub shape_of-file : goal.shape_of-file
-shape_of-file c =
-    omega (
-      arith,
-      c.expect-a.auto,
-      c.expect_identifier-b.auto,
-      c.signature-c.auto,
-      c.whole_function.auto,
-    )
-
-pub shape_of-reported : goal.shape_of-reported
-shape_of-reported c =
-    omega (
-      arith,
-      c.expect-a.auto,
-      c.expect_identifier-b.auto,
-      c.signature-c.auto,
-      c.whole_function.auto,
-    )
-
-pub shape_of-full : goal.shape_of-full
-shape_of-full c =
-    omega (
-      arith,
-      c.expect-a.auto,
-      c.expect_identifier-b.auto,
-      c.signature-c.auto,
-      c.whole_function.auto,
-    )
+whole_function-requires c = let s = rw c.in_ok-count.was at c.signature.ensures in
+    function_asked c.expect.ensures (is_done c.in_ok-expect.was)
+    c.expect_identifier.ensures c.requires (is_done c.in_ok-expect_identifier.was)
+    s (omega (arith, c.signature.auto))
+    (omega (arith, c.expect.auto, c.expect_identifier.auto, c.signature.auto))
+    (omega (arith, c.expect.auto, c.expect_identifier.auto, c.signature.auto))
 
 pub returns : goal.returns
-returns c =
-    function_reads c.expect-a.ensures c.in-Done.is
-    c.expect_identifier-b.ensures c.requires c.in-Done-h.is
-    c.signature-c.ensures (ap flag c.if-external.false)
-    c.whole_function.ensures
+returns c = let s = rw c.in_ok-count.was at c.signature.ensures in
+    function_reads c.expect.ensures (is_done c.in_ok-expect.was)
+    c.expect_identifier.ensures c.requires (is_done c.in_ok-expect_identifier.was)
+    s (ap flag c.if-external.false) c.whole_function.ensures
+
+pub returns-in_err-count : goal.returns-in_err-count
+returns-in_err-count c = let s = c.signature.ensures in
+    rw (left c.from_residual-in_err-count.ensures.1) (rw c.in_err-count.was at
+    (function_reads c.expect.ensures (is_done c.in_ok-expect.was)
+    c.expect_identifier.ensures c.requires (is_done c.in_ok-expect_identifier.was)
+    s {k = flag c.args.external} refl (whole_stops (function_asked c.expect.ensures (is_done c.in_ok-expect.was)
+    c.expect_identifier.ensures c.requires (is_done c.in_ok-expect_identifier.was)
+    s (omega (arith, c.signature.auto))
+    (omega (arith, c.expect.auto, c.expect_identifier.auto, c.signature.auto))
+    (omega (arith, c.expect.auto, c.expect_identifier.auto, c.signature.auto))) (is_stop c.in_err-count.was))))

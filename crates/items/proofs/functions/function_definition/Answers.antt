@@ -12,12 +12,6 @@ function-requires c = asked_seen c.requires c.peek-t.ensures
 pub shape_of-file-then-t-eq-KW_EXTERN : goal.shape_of-file-then-t-eq-KW_EXTERN
 shape_of-file-then-t-eq-KW_EXTERN c = omega (arith, c.function.auto)
 
-pub shape_of-reported-then-t-eq-KW_EXTERN : goal.shape_of-reported-then-t-eq-KW_EXTERN
-shape_of-reported-then-t-eq-KW_EXTERN c = omega (arith, c.function.auto)
-
-pub shape_of-full-then-t-eq-KW_EXTERN : goal.shape_of-full-then-t-eq-KW_EXTERN
-shape_of-full-then-t-eq-KW_EXTERN c = omega (arith, c.function.auto)
-
 pub returns-then-t-eq-KW_EXTERN : goal.returns-then-t-eq-KW_EXTERN
 returns-then-t-eq-KW_EXTERN c =
     definition_external c.peek-t.ensures c.if-t-eq-KW_EXTERN.true c.function.ensures
@@ -27,12 +21,6 @@ function-requires-2 c = c.requires
 
 pub shape_of-file : goal.shape_of-file
 shape_of-file c = omega (arith, c.function-2.auto)
-
-pub shape_of-reported : goal.shape_of-reported
-shape_of-reported c = omega (arith, c.function-2.auto)
-
-pub shape_of-full : goal.shape_of-full
-shape_of-full c = omega (arith, c.function-2.auto)
 
 pub returns : goal.returns
 returns c = definition_whole c.peek-t.ensures c.if-t-eq-KW_EXTERN.false c.function-2.ensures

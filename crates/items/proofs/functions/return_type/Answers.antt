@@ -12,12 +12,6 @@ ty-requires c = asked_seen c.requires c.peek-t.ensures
 pub shape_of-file-then-t-eq-R_ARROW : goal.shape_of-file-then-t-eq-R_ARROW
 shape_of-file-then-t-eq-R_ARROW c = omega (arith, c.ty.auto)
 
-pub shape_of-reported-then-t-eq-R_ARROW : goal.shape_of-reported-then-t-eq-R_ARROW
-shape_of-reported-then-t-eq-R_ARROW c = omega (arith, c.ty.auto)
-
-pub shape_of-full-then-t-eq-R_ARROW : goal.shape_of-full-then-t-eq-R_ARROW
-shape_of-full-then-t-eq-R_ARROW c = omega (arith, c.ty.auto)
-
 pub returns-then-t-eq-R_ARROW : goal.returns-then-t-eq-R_ARROW
 returns-then-t-eq-R_ARROW c = type_given c.peek-t.ensures c.if-t-eq-R_ARROW.true c.ty.ensures
 

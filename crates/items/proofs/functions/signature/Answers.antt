@@ -1,88 +1,42 @@
+use Rattle.definition.specs.Places.{unpack_place}
+use mathlib.Core.Path.{refl}
+use Rattle.fallible.proofs.Calls.{left, is_done, is_stop, is_whole, not_whole}
 use Rattle.items.proofs.Signatures.{signature_stops, signature_cuts, signature_untyped, signature_order, signature_reads}
 use Rattle.steps.proofs.Moves.{asked_moved}
 use native.Mathlib.Omega.{arith}
 use Rattle.items.proofs.functions.signature.Goals as goal
 
-pub list-a-requires : goal.list-a-requires
-list-a-requires c = c.requires
+pub list-requires : goal.list-requires
+list-requires c = c.requires
 
-pub shape_of-file-in_default : goal.shape_of-file-in_default
-shape_of-file-in_default c = omega (arith, c.list-a.auto)
-
-pub shape_of-reported-in_default : goal.shape_of-reported-in_default
-shape_of-reported-in_default c = omega (arith, c.list-a.auto)
-
-pub shape_of-full-in_default : goal.shape_of-full-in_default
-shape_of-full-in_default c = omega (arith, c.list-a.auto)
-
-pub returns-in_default : goal.returns-in_default
-returns-in_default c = signature_stops c.requires c.list-a.ensures c.in_default.not-Done
+pub returns-in_err-count : goal.returns-in_err-count
+returns-in_err-count c = rw (left c.from_residual.ensures.1) (rw c.in_err-count.was at
+    (signature_stops {p = unpack_place c.args.place} c.requires c.list.ensures (not_whole c.in_err-count.was)))
 
 pub return_type-b-requires : goal.return_type-b-requires
 return_type-b-requires c =
-    asked_moved c.requires c.list-a.ensures.moved (omega (arith, c.list-a.auto))
-    (omega (arith, c.list-a.auto)) (omega (arith, c.list-a.auto))
+    asked_moved c.requires c.list.ensures.moved (omega (arith, c.list.auto))
+    (omega (arith, c.list.auto)) (omega (arith, c.list.auto))
 
-pub abandon-c-requires : goal.abandon-c-requires
-abandon-c-requires c =
-    signature_cuts c.requires c.list-a.ensures (omega (arith, c.list-a.auto))
+pub abandon-requires : goal.abandon-requires
+abandon-requires c =
+    signature_cuts c.requires c.list.ensures (omega (arith, c.list.auto))
     c.return_type-b.ensures (omega (arith, c.return_type-b.auto))
 
-pub shape_of-file-in_default-h : goal.shape_of-file-in_default-h
-shape_of-file-in_default-h c = omega (arith, c.list-a.auto, c.return_type-b.auto, c.abandon-c.auto)
-
-pub shape_of-reported-in_default-h : goal.shape_of-reported-in_default-h
-shape_of-reported-in_default-h c = omega (arith, c.list-a.auto, c.return_type-b.auto, c.abandon-c.auto)
-
-pub shape_of-full-in_default-h : goal.shape_of-full-in_default-h
-shape_of-full-in_default-h c = omega (arith, c.list-a.auto, c.return_type-b.auto, c.abandon-c.auto)
-
-pub returns-in_default-h : goal.returns-in_default-h
-returns-in_default-h c =
-    signature_untyped c.requires c.list-a.ensures (omega (arith, c.list-a.auto))
-    c.return_type-b.ensures c.abandon-c.ensures
-    c.in-Done.is c.in_default-h.not-Done
+pub returns-in_err-abandon : goal.returns-in_err-abandon
+returns-in_err-abandon c = rw (left c.from_residual-in_err-abandon.ensures.1) (rw c.in_err-abandon.was at
+    (signature_untyped c.requires c.list.ensures (omega (arith, c.list.auto))
+    c.return_type-b.ensures c.abandon.ensures
+    (is_whole c.in_ok-count.was) (is_stop c.in_err-abandon.was)))
 
 pub exchange-requires : goal.exchange-requires
-exchange-requires c =
-    signature_order c.requires c.list-a.ensures (omega (arith, c.list-a.auto))
-    c.return_type-b.ensures c.abandon-c.ensures
-    c.in-Done-h.is
-    (omega (arith, c.abandon-c.auto, c.return_type-b.auto, c.list-a.auto))
-
-pub shape_of-file : goal.shape_of-file
-shape_of-file c =
-    omega (
-      arith,
-      c.list-a.auto,
-      c.return_type-b.auto,
-      c.abandon-c.auto,
-      c.exchange.auto,
-    )
-
-pub shape_of-reported : goal.shape_of-reported
-shape_of-reported c =
-    omega (
-      arith,
-      c.list-a.auto,
-      c.return_type-b.auto,
-      c.abandon-c.auto,
-      c.exchange.auto,
-    )
-
-pub shape_of-full : goal.shape_of-full
-shape_of-full c =
-    omega (
-      arith,
-      c.list-a.auto,
-      c.return_type-b.auto,
-      c.abandon-c.auto,
-      c.exchange.auto,
-    )
+exchange-requires c = signature_order c.requires c.list.ensures (omega (arith, c.list.auto))
+    c.return_type-b.ensures c.abandon.ensures
+    (is_done c.in_ok-abandon.was)
+    (omega (arith, c.abandon.auto, c.return_type-b.auto, c.list.auto))
 
 pub returns : goal.returns
-returns c =
-    signature_reads c.requires c.list-a.ensures (omega (arith, c.list-a.auto))
-    c.return_type-b.ensures c.abandon-c.ensures
-    c.in-Done.is c.in-Done-h.is
-    c.exchange.ensures
+returns c = let a = rw c.in_ok-count.was at c.list.ensures in
+    let d = rw c.in_ok-abandon.was at c.abandon.ensures in
+    signature_reads c.requires a (omega (arith, c.list.auto))
+    c.return_type-b.ensures d refl refl c.exchange.ensures

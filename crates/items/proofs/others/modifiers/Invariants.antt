@@ -5,8 +5,8 @@ use Rattle.items.proofs.others.modifiers.Given as goal
 
 abbrev pub invariant-loop-distinct : goal.invariant-loop-distinct
 invariant-loop-distinct l =
-    ((l.at ≤ l.n) × ((l.distinct ≤ 1) × (l.internal ≤ 2))) × ((m : AliasWords) → Modified l.tokens l.n
-    l.distinct l.internal l.at m → Modified l.tokens l.n 0 0 l.from m)
+    ((l.at ≤ l.tokens.count) × ((l.distinct ≤ 1) × (l.internal ≤ 2))) × ((m : AliasWords) → Modified l.tokens.records.now l.tokens.count
+    l.distinct l.internal l.at m → Modified l.tokens.records.now l.tokens.count 0 0 l.from m)
 
 abbrev pub decreases-loop-distinct : goal.decreases-loop-distinct
-decreases-loop-distinct l = l.n - l.at
+decreases-loop-distinct l = l.tokens.count - l.at

@@ -1,6 +1,5 @@
 use Rattle.items.proofs.Aliased.{path_end, path_other, path_room, path_done}
 use Rattle.steps.proofs.Moves.{asks_fore}
-use Rattle.expression_laws.proofs.Types.{raise_asked}
 use native.Mathlib.Omega.{arith}
 use Rattle.items.proofs.others.path.Goals as goal
 
@@ -12,15 +11,6 @@ returns-then-t-eq-END c = λ d. path_end d _ c.requires c.peek-t.ensures c.if-t-
 
 pub entry-error-requires : goal.entry-error-requires
 entry-error-requires c = omega (arith, c.peek-t.ensures.places)
-
-pub raise-requires : goal.raise-requires
-raise-requires c = raise_asked c.requires
-
-pub shape_of-reported-then-t-ne-STRING : goal.shape_of-reported-then-t-ne-STRING
-shape_of-reported-then-t-ne-STRING c = omega (arith, c.raise.auto)
-
-pub shape_of-full-then-t-ne-STRING : goal.shape_of-full-then-t-ne-STRING
-shape_of-full-then-t-ne-STRING c = omega (arith, c.raise.auto)
 
 pub returns-then-t-ne-STRING : goal.returns-then-t-ne-STRING
 returns-then-t-ne-STRING c =
@@ -36,13 +26,10 @@ write_text_node-requires c = path_room c.requires c.peek-t.ensures c.if-t-ne-STR
 pub shape_of-file : goal.shape_of-file
 shape_of-file c = omega (arith, c.write_text_node.auto, c.expect-a.auto)
 
-pub shape_of-reported : goal.shape_of-reported
-shape_of-reported c = omega (arith, c.write_text_node.auto, c.expect-a.auto)
-
-pub shape_of-full : goal.shape_of-full
-shape_of-full c = omega (arith, c.write_text_node.auto, c.expect-a.auto)
-
 pub returns : goal.returns
 returns c =
     λ d. path_done d _ c.requires c.peek-t.ensures c.if-t-ne-STRING.false
     c.expect-a.ensures c.write_text_node.ensures
+
+pub raise-requires : goal.raise-requires
+raise-requires c = omega (arith, c.requires.asks)

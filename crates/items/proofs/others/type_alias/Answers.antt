@@ -1,3 +1,4 @@
+use Rattle.fallible.proofs.Calls.{passed_on, is_done, is_stop}
 use Rattle.items.proofs.Aliased.{keyword_stops, keyword_on, modified_moved, modified_reads}
 use Rattle.steps.proofs.Moves.{asks_moved, asked_moved, moved_trans}
 use mathlib.Core.Path.{refl}
@@ -10,40 +11,28 @@ peek-t-requires c = (c.requires.asks.held, c.requires.asks.at)
 pub modifiers-m-requires : goal.modifiers-m-requires
 modifiers-m-requires c = (c.requires.asks.held, c.requires.asks.at)
 
-pub expect-a-requires : goal.expect-a-requires
-expect-a-requires c = (
+pub expect-requires : goal.expect-requires
+expect-requires c = (
   asks_moved c.requires.asks (modified_moved c.requires c.modifiers-m.ensures) refl
       refl,
   (omega arith, omega arith),
 )
 
-pub shape_of-reported-in_default : goal.shape_of-reported-in_default
-shape_of-reported-in_default c = omega (arith, c.expect-a.auto)
-
-pub shape_of-full-in_default : goal.shape_of-full-in_default
-shape_of-full-in_default c = omega (arith, c.expect-a.auto)
-
-pub returns-in_default : goal.returns-in_default
-returns-in_default c =
-    modified_reads _ c.requires c.peek-t.ensures c.modifiers-m.ensures
-    (keyword_stops _ c.expect-a.ensures (λ rd. refl) c.in_default.not-Done)
+pub returns-in_err-expect : goal.returns-in_err-expect
+returns-in_err-expect c = rw (passed_on c.in_err-expect.was c.from_residual.ensures.1)
+    (modified_reads _ c.requires c.peek-t.ensures c.modifiers-m.ensures
+    (keyword_stops _ c.expect.ensures (λ rd. refl) (is_stop c.in_err-expect.was)))
 
 pub alias-requires : goal.alias-requires
 alias-requires c =
     asked_moved c.requires
-    (moved_trans (modified_moved c.requires c.modifiers-m.ensures) c.expect-a.ensures.moved)
-    refl (omega (arith, c.expect-a.auto)) (omega (arith, c.expect-a.auto))
+    (moved_trans (modified_moved c.requires c.modifiers-m.ensures) c.expect.ensures.moved)
+    refl (omega (arith, c.expect.auto)) (omega (arith, c.expect.auto))
 
 pub shape_of-file : goal.shape_of-file
-shape_of-file c = omega (arith, c.alias.auto, c.expect-a.auto)
-
-pub shape_of-reported : goal.shape_of-reported
-shape_of-reported c = omega (arith, c.alias.auto, c.expect-a.auto)
-
-pub shape_of-full : goal.shape_of-full
-shape_of-full c = omega (arith, c.alias.auto, c.expect-a.auto)
+shape_of-file c = omega (arith, c.alias.auto, c.expect.auto)
 
 pub returns : goal.returns
 returns c =
     modified_reads _ c.requires c.peek-t.ensures c.modifiers-m.ensures
-    (keyword_on _ c.expect-a.ensures (λ rd. refl) c.in-Done.is c.alias.ensures)
+    (keyword_on _ c.expect.ensures (λ rd. refl) (is_done c.in_ok-expect.was) c.alias.ensures)

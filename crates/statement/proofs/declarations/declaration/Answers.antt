@@ -6,8 +6,8 @@ use Rattle.statement.proofs.declarations.declaration.Goals as goal
 pub var_like_declaration-a-requires : goal.var_like_declaration-a-requires
 var_like_declaration-a-requires c = c.requires
 
-pub and_expect-b-requires : goal.and_expect-b-requires
-and_expect-b-requires c = (
+pub expect_after-b-requires : goal.expect_after-b-requires
+expect_after-b-requires c = (
   record {
     asks = asks_moved c.requires.asks c.var_like_declaration-a.ensures.moved
         (omega (arith, c.var_like_declaration-a.auto))
@@ -21,7 +21,7 @@ and_expect-b-requires c = (
 pub named-requires : goal.named-requires
 named-requires c =
     declaration_room c.requires c.var_like_declaration-a.ensures
-    c.and_expect-b.ensures
+    c.expect_after-b.ensures
     (omega (arith, c.var_like_declaration-a.auto))
 
 pub shape_of-file : goal.shape_of-file
@@ -29,25 +29,7 @@ shape_of-file c =
     omega (
       arith,
       c.named.auto,
-      c.and_expect-b.auto,
-      c.var_like_declaration-a.auto,
-    )
-
-pub shape_of-reported : goal.shape_of-reported
-shape_of-reported c =
-    omega (
-      arith,
-      c.named.auto,
-      c.and_expect-b.auto,
-      c.var_like_declaration-a.auto,
-    )
-
-pub shape_of-full : goal.shape_of-full
-shape_of-full c =
-    omega (
-      arith,
-      c.named.auto,
-      c.and_expect-b.auto,
+      c.expect_after-b.auto,
       c.var_like_declaration-a.auto,
     )
 
@@ -56,4 +38,4 @@ returns c =
     declaration_reads c.requires c.var_like_declaration-a.ensures
     (omega (arith, c.var_like_declaration-a.auto))
     (omega (arith, c.var_like_declaration-a.auto))
-    c.and_expect-b.ensures c.named.ensures
+    c.expect_after-b.ensures c.named.ensures

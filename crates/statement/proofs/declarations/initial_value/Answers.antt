@@ -1,3 +1,4 @@
+use Rattle.fallible.proofs.Calls.{is_done, not_ok}
 use Rattle.statement.proofs.Initial.{value_stops, value_assigned, value_compound, value_none}
 use Rattle.steps.proofs.Moves.{asked_seen}
 use Rattle.expression_laws.proofs.Joins.{join_cuts, join_room}
@@ -5,7 +6,7 @@ use native.Mathlib.Omega.{arith}
 use Rattle.statement.proofs.declarations.initial_value.Goals as goal
 
 pub returns-in_default : goal.returns-in_default
-returns-in_default c = value_stops c.requires c.in_default.not-Done
+returns-in_default c = value_stops c.requires (not_ok _ c.in_default.not-Ok)
 
 pub peek-t-requires : goal.peek-t-requires
 peek-t-requires c = (c.requires.asked.asks.held, c.requires.asked.asks.at)
@@ -26,15 +27,9 @@ bare-requires c =
 pub shape_of-file-then-t-eq-EQUALS : goal.shape_of-file-then-t-eq-EQUALS
 shape_of-file-then-t-eq-EQUALS c = omega (arith, c.bare.auto, c.abandon-c.auto, c.expression-b.auto)
 
-pub shape_of-reported-then-t-eq-EQUALS : goal.shape_of-reported-then-t-eq-EQUALS
-shape_of-reported-then-t-eq-EQUALS c = omega (arith, c.bare.auto, c.abandon-c.auto, c.expression-b.auto)
-
-pub shape_of-full-then-t-eq-EQUALS : goal.shape_of-full-then-t-eq-EQUALS
-shape_of-full-then-t-eq-EQUALS c = omega (arith, c.bare.auto, c.abandon-c.auto, c.expression-b.auto)
-
 pub returns-then-t-eq-EQUALS : goal.returns-then-t-eq-EQUALS
 returns-then-t-eq-EQUALS c =
-    value_assigned c.requires c.in-Done.is c.peek-t.ensures
+    value_assigned c.requires (is_done c.in-Ok.is) c.peek-t.ensures
     c.if-t-eq-EQUALS.true c.expression-b.ensures c.abandon-c.ensures
     c.bare.ensures
 
@@ -55,17 +50,9 @@ pub shape_of-file-then-t-eq-L_ARROW : goal.shape_of-file-then-t-eq-L_ARROW
 shape_of-file-then-t-eq-L_ARROW c =
     omega (arith, c.bare-then-t-eq-L_ARROW.auto, c.abandon-c-then-t-eq-L_ARROW.auto, c.compound-b.auto)
 
-pub shape_of-reported-then-t-eq-L_ARROW : goal.shape_of-reported-then-t-eq-L_ARROW
-shape_of-reported-then-t-eq-L_ARROW c =
-    omega (arith, c.bare-then-t-eq-L_ARROW.auto, c.abandon-c-then-t-eq-L_ARROW.auto, c.compound-b.auto)
-
-pub shape_of-full-then-t-eq-L_ARROW : goal.shape_of-full-then-t-eq-L_ARROW
-shape_of-full-then-t-eq-L_ARROW c =
-    omega (arith, c.bare-then-t-eq-L_ARROW.auto, c.abandon-c-then-t-eq-L_ARROW.auto, c.compound-b.auto)
-
 pub returns-then-t-eq-L_ARROW : goal.returns-then-t-eq-L_ARROW
 returns-then-t-eq-L_ARROW c =
-    value_compound c.requires c.in-Done.is c.peek-t.ensures
+    value_compound c.requires (is_done c.in-Ok.is) c.peek-t.ensures
     c.if-t-eq-L_ARROW.true c.compound-b.ensures c.abandon-c-then-t-eq-L_ARROW.ensures
     c.bare-then-t-eq-L_ARROW.ensures
 
@@ -77,5 +64,5 @@ shape_of-file c = omega (arith, c.bare-2.auto)
 
 pub returns : goal.returns
 returns c =
-    value_none c.requires c.in-Done.is c.peek-t.ensures c.if-t-eq-EQUALS.false
+    value_none c.requires (is_done c.in-Ok.is) c.peek-t.ensures c.if-t-eq-EQUALS.false
     c.if-t-eq-L_ARROW.false c.bare-2.ensures

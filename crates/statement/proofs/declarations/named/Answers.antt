@@ -1,32 +1,33 @@
+use Rattle.fallible.proofs.Calls.{is_done, not_ok}
 use Rattle.statement.proofs.Declared.{named_stops, named_there, named_none}
 use Rattle.expression_laws.proofs.Names.{bare_room, unknown_room}
 use native.Mathlib.Omega.{arith}
 use Rattle.statement.proofs.declarations.named.Goals as goal
 
 pub returns-in_default : goal.returns-in_default
-returns-in_default c = named_stops c.in_default.not-Done
+returns-in_default c = named_stops (not_ok _ c.in_default.not-Ok)
 
 pub peek-t-requires : goal.peek-t-requires
 peek-t-requires c = (c.requires.held, c.requires.within)
 
 pub write_text_node-requires : goal.write_text_node-requires
-write_text_node-requires c = bare_room c.requires c.in-Done.is c.peek-t.ensures
+write_text_node-requires c = bare_room c.requires (is_done c.in-Ok.is) c.peek-t.ensures
 
 pub shape_of-file-then-t-eq-IDENTIFIER : goal.shape_of-file-then-t-eq-IDENTIFIER
 shape_of-file-then-t-eq-IDENTIFIER c = omega (arith, c.write_text_node.auto)
 
 pub returns-then-t-eq-IDENTIFIER : goal.returns-then-t-eq-IDENTIFIER
 returns-then-t-eq-IDENTIFIER c =
-    named_there c.in-Done.is c.peek-t.ensures c.requires.parts c.if-t-eq-IDENTIFIER.true
+    named_there (is_done c.in-Ok.is) c.peek-t.ensures c.requires.parts c.if-t-eq-IDENTIFIER.true
     c.write_text_node.ensures
 
 pub write_text_node-requires-2 : goal.write_text_node-requires-2
-write_text_node-requires-2 c = unknown_room c.requires c.in-Done.is
+write_text_node-requires-2 c = unknown_room c.requires (is_done c.in-Ok.is)
 
 pub shape_of-file : goal.shape_of-file
 shape_of-file c = omega (arith, c.write_text_node-2.auto)
 
 pub returns : goal.returns
 returns c =
-    named_none c.in-Done.is c.peek-t.ensures c.if-t-eq-IDENTIFIER.false
+    named_none (is_done c.in-Ok.is) c.peek-t.ensures c.if-t-eq-IDENTIFIER.false
     c.write_text_node-2.ensures

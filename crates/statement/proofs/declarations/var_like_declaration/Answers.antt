@@ -19,12 +19,6 @@ initial_value-requires c =
 pub shape_of-file : goal.shape_of-file
 shape_of-file c = omega (arith, c.initial_value.auto, c.typed_name-a.auto)
 
-pub shape_of-reported : goal.shape_of-reported
-shape_of-reported c = omega (arith, c.initial_value.auto, c.typed_name-a.auto)
-
-pub shape_of-full : goal.shape_of-full
-shape_of-full c = omega (arith, c.initial_value.auto, c.typed_name-a.auto)
-
 pub returns : goal.returns
 returns c =
     declared_reads c.requires c.typed_name-a.ensures

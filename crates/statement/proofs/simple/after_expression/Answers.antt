@@ -13,12 +13,6 @@ assignment-requires c = (begins c.requires.0 c.peek-t.ensures c.if-t-eq-EQUALS.t
 pub shape_of-file-then-t-eq-EQUALS : goal.shape_of-file-then-t-eq-EQUALS
 shape_of-file-then-t-eq-EQUALS c = omega (arith, c.assignment.auto)
 
-pub shape_of-reported-then-t-eq-EQUALS : goal.shape_of-reported-then-t-eq-EQUALS
-shape_of-reported-then-t-eq-EQUALS c = omega (arith, c.assignment.auto)
-
-pub shape_of-full-then-t-eq-EQUALS : goal.shape_of-full-then-t-eq-EQUALS
-shape_of-full-then-t-eq-EQUALS c = omega (arith, c.assignment.auto)
-
 pub returns-then-t-eq-EQUALS : goal.returns-then-t-eq-EQUALS
 returns-then-t-eq-EQUALS c = c.assignment.ensures
 
@@ -28,35 +22,23 @@ compound_assignment-requires c = (begins c.requires.0 c.peek-t.ensures c.if-t-eq
 pub shape_of-file-then-t-eq-L_ARROW : goal.shape_of-file-then-t-eq-L_ARROW
 shape_of-file-then-t-eq-L_ARROW c = omega (arith, c.compound_assignment.auto)
 
-pub shape_of-reported-then-t-eq-L_ARROW : goal.shape_of-reported-then-t-eq-L_ARROW
-shape_of-reported-then-t-eq-L_ARROW c = omega (arith, c.compound_assignment.auto)
-
-pub shape_of-full-then-t-eq-L_ARROW : goal.shape_of-full-then-t-eq-L_ARROW
-shape_of-full-then-t-eq-L_ARROW c = omega (arith, c.compound_assignment.auto)
-
 pub returns-then-t-eq-L_ARROW : goal.returns-then-t-eq-L_ARROW
 returns-then-t-eq-L_ARROW c = c.compound_assignment.ensures
 
-pub and_expect-b-requires : goal.and_expect-b-requires
-and_expect-b-requires c = (
+pub expect_after-b-requires : goal.expect_after-b-requires
+expect_after-b-requires c = (
   record { asks = c.requires.0.asks; pos = c.requires.1.0; reported = omega (arith, c.requires.1.1) },
   (omega arith, omega arith),
 )
 
 pub write_node-requires : goal.write_node-requires
 write_node-requires c =
-    record { room = omega (arith, c.requires.0.room, c.and_expect-b.ensures.high); part = omega arith }
+    record { room = omega (arith, c.requires.0.room, c.expect_after-b.ensures.high); part = omega arith }
 
 pub shape_of-file : goal.shape_of-file
-shape_of-file c = omega (arith, c.write_node.auto, c.and_expect-b.auto)
-
-pub shape_of-reported : goal.shape_of-reported
-shape_of-reported c = omega (arith, c.write_node.auto, c.and_expect-b.auto)
-
-pub shape_of-full : goal.shape_of-full
-shape_of-full c = omega (arith, c.write_node.auto, c.and_expect-b.auto)
+shape_of-file c = omega (arith, c.write_node.auto, c.expect_after-b.auto)
 
 pub returns : goal.returns
 returns c =
     expression_after c.requires.0 c.requires.1.0 c.peek-t.ensures refl c.if-t-eq-EQUALS.false
-    c.if-t-eq-L_ARROW.false (rw c.requires.1.1 at c.and_expect-b.ensures) c.write_node.ensures
+    c.if-t-eq-L_ARROW.false (rw c.requires.1.1 at c.expect_after-b.ensures) c.write_node.ensures

@@ -15,8 +15,8 @@ abandon-b-requires c =
     rw c.requires.1.1 (assigned_cuts c.requires.0.asked c.requires.1.0 c.peek-t.ensures
     c.expression-a.ensures (omega (arith, c.expression-a.auto)))
 
-pub and_expect-c-requires : goal.and_expect-c-requires
-and_expect-c-requires c = (
+pub expect_after-c-requires : goal.expect_after-c-requires
+expect_after-c-requires c = (
   rw c.requires.1.1 (assigned_asks c.requires.0.asked c.requires.1.0 c.peek-t.ensures
       c.expression-a.ensures (rw c.requires.1.1 at c.abandon-b.ensures)
       (omega (arith, c.abandon-b.auto, c.expression-a.auto))
@@ -28,7 +28,7 @@ pub write_node-requires : goal.write_node-requires
 write_node-requires c =
     assigned_room c.requires.0.asked c.requires.1.0 c.peek-t.ensures
     c.expression-a.ensures (rw c.requires.1.1 at c.abandon-b.ensures)
-    (rw c.requires.1.1 at c.and_expect-c.ensures)
+    (rw c.requires.1.1 at c.expect_after-c.ensures)
     (omega (arith, c.expression-a.auto))
 
 pub shape_of-file : goal.shape_of-file
@@ -36,27 +36,7 @@ shape_of-file c =
     omega (
       arith,
       c.write_node.auto,
-      c.and_expect-c.auto,
-      c.abandon-b.auto,
-      c.expression-a.auto,
-    )
-
-pub shape_of-reported : goal.shape_of-reported
-shape_of-reported c =
-    omega (
-      arith,
-      c.write_node.auto,
-      c.and_expect-c.auto,
-      c.abandon-b.auto,
-      c.expression-a.auto,
-    )
-
-pub shape_of-full : goal.shape_of-full
-shape_of-full c =
-    omega (
-      arith,
-      c.write_node.auto,
-      c.and_expect-c.auto,
+      c.expect_after-c.auto,
       c.abandon-b.auto,
       c.expression-a.auto,
     )
@@ -67,5 +47,5 @@ returns c =
     (starts_kind c.requires.0 c.peek-t.ensures) c.expression-a.ensures
     (rw c.requires.1.1 at c.abandon-b.ensures)
     (omega (arith, c.abandon-b.auto, c.expression-a.auto))
-    (omega (arith, c.expression-a.auto)) (rw c.requires.1.1 at c.and_expect-c.ensures)
+    (omega (arith, c.expression-a.auto)) (rw c.requires.1.1 at c.expect_after-c.ensures)
     c.write_node.ensures

@@ -20,12 +20,6 @@ write_node-requires c =
 pub shape_of-file : goal.shape_of-file
 shape_of-file c = omega (arith, c.write_node.auto, c.expect-a.auto)
 
-pub shape_of-reported : goal.shape_of-reported
-shape_of-reported c = omega (arith, c.write_node.auto, c.expect-a.auto)
-
-pub shape_of-full : goal.shape_of-full
-shape_of-full c = omega (arith, c.write_node.auto, c.expect-a.auto)
-
 pub returns : goal.returns
 returns c =
     λ d. break_reads c.peek-t.ensures c.requires c.expect-a.ensures

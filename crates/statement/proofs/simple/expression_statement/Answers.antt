@@ -1,3 +1,4 @@
+use Rattle.fallible.proofs.Calls.{is_done, not_ok}
 use Rattle.statement.proofs.Assigned.{statement_stops, statement_errors, statement_after}
 use Rattle.steps.proofs.Moves.{asked_moved}
 use Rattle.expression_laws.proofs.Joins.{room_at}
@@ -10,34 +11,19 @@ expression-a-requires c = c.requires
 pub shape_of-file-in_default : goal.shape_of-file-in_default
 shape_of-file-in_default c = omega (arith, c.expression-a.auto)
 
-pub shape_of-reported-in_default : goal.shape_of-reported-in_default
-shape_of-reported-in_default c = omega (arith, c.expression-a.auto)
-
-pub shape_of-full-in_default : goal.shape_of-full-in_default
-shape_of-full-in_default c = omega (arith, c.expression-a.auto)
-
 pub returns-in_default : goal.returns-in_default
-returns-in_default c = statement_stops c.requires c.expression-a.ensures _ c.in_default.not-Done
+returns-in_default c = statement_stops c.requires c.expression-a.ensures _ (not_ok _ c.in_default.not-Ok)
 
 pub write_node-requires : goal.write_node-requires
 write_node-requires c =
     room_at c.requires c.expression-a.ensures.moved
     (omega (arith, c.expression-a.auto))
 
-pub shape_of-file-then-st-s : goal.shape_of-file-then-st-s
-shape_of-file-then-st-s c = omega (arith, c.write_node.auto, c.expression-a.auto)
-
-pub shape_of-reported-then-st-s : goal.shape_of-reported-then-st-s
-shape_of-reported-then-st-s c = omega (arith, c.write_node.auto, c.expression-a.auto)
-
-pub shape_of-full-then-st-s : goal.shape_of-full-then-st-s
-shape_of-full-then-st-s c = omega (arith, c.write_node.auto, c.expression-a.auto)
-
-pub returns-then-st-s : goal.returns-then-st-s
-returns-then-st-s c =
+pub returns-then-from-parser : goal.returns-then-from-parser
+returns-then-from-parser c =
     statement_errors c.requires c.expression-a.ensures _
-    c.in-Done.is (omega (arith, c.expression-a.auto))
-    (omega (arith, c.expression-a.auto)) c.if-st-s.true c.write_node.ensures
+    (is_done c.in-Ok.is) (omega (arith, c.expression-a.auto))
+    (omega (arith, c.expression-a.auto)) c.if-from-parser.true c.write_node.ensures
 
 pub after_expression-requires : goal.after_expression-requires
 after_expression-requires c = (
@@ -46,22 +32,16 @@ after_expression-requires c = (
       (omega (arith, c.expression-a.auto)),
   (
     c.expression-a.ensures.moved.pos,
-    omega (arith, c.if-st-s.false, c.expression-a.ensures.moved.reported),
+    omega (arith, c.if-from-parser.false, c.expression-a.ensures.moved.reported),
   ),
 )
 
 pub shape_of-file : goal.shape_of-file
 shape_of-file c = omega (arith, c.after_expression.auto, c.expression-a.auto)
 
-pub shape_of-reported : goal.shape_of-reported
-shape_of-reported c = omega (arith, c.after_expression.auto, c.expression-a.auto)
-
-pub shape_of-full : goal.shape_of-full
-shape_of-full c = omega (arith, c.after_expression.auto, c.expression-a.auto)
-
 pub returns : goal.returns
 returns c =
     statement_after c.requires c.expression-a.ensures _
-    c.in-Done.is (omega (arith, c.expression-a.auto))
-    (omega (arith, c.expression-a.auto)) (λ e. omega (arith, e, c.if-st-s.false))
+    (is_done c.in-Ok.is) (omega (arith, c.expression-a.auto))
+    (omega (arith, c.expression-a.auto)) (λ e. omega (arith, e, c.if-from-parser.false))
     c.after_expression.ensures

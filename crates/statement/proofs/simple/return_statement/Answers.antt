@@ -24,8 +24,8 @@ returns-then-u-eq-SEMICOLON c =
 pub expression-a-requires : goal.expression-a-requires
 expression-a-requires c = asked_seen c.requires.asked c.peek-t.ensures
 
-pub and_expect-b-requires : goal.and_expect-b-requires
-and_expect-b-requires c = (
+pub expect_after-b-requires : goal.expect_after-b-requires
+expect_after-b-requires c = (
   record {
     asks = asks_moved c.requires.asked.asks
         (moved_trans (fore_moved c.requires.asked.asks c.peek-t.ensures)
@@ -41,7 +41,7 @@ pub write_node-requires-2 : goal.write_node-requires-2
 write_node-requires-2 c =
     room_at c.requires.asked
     (moved_trans (moved_trans (fore_moved c.requires.asked.asks c.peek-t.ensures)
-    c.expression-a.ensures.moved) c.and_expect-b.ensures.moved)
+    c.expression-a.ensures.moved) c.expect_after-b.ensures.moved)
     (omega (arith, c.expression-a.auto))
 
 pub shape_of-file : goal.shape_of-file
@@ -49,25 +49,7 @@ shape_of-file c =
     omega (
       arith,
       c.write_node-2.auto,
-      c.and_expect-b.auto,
-      c.expression-a.auto,
-    )
-
-pub shape_of-reported : goal.shape_of-reported
-shape_of-reported c =
-    omega (
-      arith,
-      c.write_node-2.auto,
-      c.and_expect-b.auto,
-      c.expression-a.auto,
-    )
-
-pub shape_of-full : goal.shape_of-full
-shape_of-full c =
-    omega (
-      arith,
-      c.write_node-2.auto,
-      c.and_expect-b.auto,
+      c.expect_after-b.auto,
       c.expression-a.auto,
     )
 
@@ -75,5 +57,5 @@ pub returns : goal.returns
 returns c =
     return_value c.peek-t.ensures c.requires c.peek-u.ensures c.if-u-eq-SEMICOLON.false
     c.expression-a.ensures (omega (arith, c.expression-a.auto))
-    (omega (arith, c.expression-a.auto)) c.and_expect-b.ensures
+    (omega (arith, c.expression-a.auto)) c.expect_after-b.ensures
     c.write_node-2.ensures

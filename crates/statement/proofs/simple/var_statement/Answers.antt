@@ -12,11 +12,5 @@ declaration-requires c = asked_seen c.requires.asked c.peek-t.ensures
 pub shape_of-file : goal.shape_of-file
 shape_of-file c = omega (arith, c.declaration.auto)
 
-pub shape_of-reported : goal.shape_of-reported
-shape_of-reported c = omega (arith, c.declaration.auto)
-
-pub shape_of-full : goal.shape_of-full
-shape_of-full c = omega (arith, c.declaration.auto)
-
 pub returns : goal.returns
 returns c = var_reads c.peek-t.ensures c.requires c.declaration.ensures

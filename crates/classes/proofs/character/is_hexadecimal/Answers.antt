@@ -1,4 +1,0 @@
-use Rattle.classes.proofs.character.is_hexadecimal.Goals as goal
-
-pub returns : goal.returns
-returns c = cc

@@ -1,0 +1,113 @@
+-- The numbers of the code's enums, by the names that the definitions use. Assumes nothing.
+use Rattle.std.specs.Prelude.{◌≡◌, true, false, ℕ, ◌<◌, ◌≤◌, Result, MatchResult}
+use Rattle.definition.specs.Classes.{between}
+use Rattle.definition.specs.Kind as K
+use Rattle.definition.specs.TokenError as E
+use Rattle.definition.specs.declared.kind.Kind.{Kind}
+use Rattle.definition.specs.declared.kind.NoKind.{NoKind}
+use Rattle.definition.specs.declared.token_error.TokenError.{TokenError}
+use Rattle.definition.specs.declared.token_error.NoTokenError.{NoTokenError}
+use Rattle.definition.specs.declared.refusal.Refusal.{Refusal}
+
+-- ---- kinds of tokens
+
+abbrev pub kind_number : Kind → ℕ
+kind_number Kind.End = K.End
+kind_number Kind.Identifier = K.Identifier
+kind_number Kind.Integer = K.Integer
+kind_number Kind.String = K.String
+kind_number Kind.KwFn = K.KwFn
+kind_number Kind.KwVar = K.KwVar
+kind_number Kind.KwReturn = K.KwReturn
+kind_number Kind.KwLoop = K.KwLoop
+kind_number Kind.KwWhile = K.KwWhile
+kind_number Kind.KwBreak = K.KwBreak
+kind_number Kind.KwIf = K.KwIf
+kind_number Kind.KwElse = K.KwElse
+kind_number Kind.KwTrue = K.KwTrue
+kind_number Kind.KwFalse = K.KwFalse
+kind_number Kind.KwAs = K.KwAs
+kind_number Kind.KwType = K.KwType
+kind_number Kind.KwStruct = K.KwStruct
+kind_number Kind.KwSizeof = K.KwSizeof
+kind_number Kind.KwUse = K.KwUse
+kind_number Kind.KwExtern = K.KwExtern
+kind_number Kind.KwDistinct = K.KwDistinct
+kind_number Kind.KwInternal = K.KwInternal
+kind_number Kind.Plus = K.Plus
+kind_number Kind.Minus = K.Minus
+kind_number Kind.Star = K.Star
+kind_number Kind.ForwardSlash = K.ForwardSlash
+kind_number Kind.Equals = K.Equals
+kind_number Kind.DoubleEquals = K.DoubleEquals
+kind_number Kind.Ampersand = K.Ampersand
+kind_number Kind.DoubleAmpersand = K.DoubleAmpersand
+kind_number Kind.Bar = K.Bar
+kind_number Kind.Caret = K.Caret
+kind_number Kind.Tilde = K.Tilde
+kind_number Kind.Bang = K.Bang
+kind_number Kind.Dot = K.Dot
+kind_number Kind.DotStar = K.DotStar
+kind_number Kind.LeftShift = K.LeftShift
+kind_number Kind.RightShift = K.RightShift
+kind_number Kind.Hash = K.Hash
+kind_number Kind.LBrace = K.LBrace
+kind_number Kind.RBrace = K.RBrace
+kind_number Kind.LParen = K.LParen
+kind_number Kind.RParen = K.RParen
+kind_number Kind.LBracket = K.LBracket
+kind_number Kind.RBracket = K.RBracket
+kind_number Kind.LAngle = K.LAngle
+kind_number Kind.LAngleEquals = K.LAngleEquals
+kind_number Kind.RAngle = K.RAngle
+kind_number Kind.RAngleEquals = K.RAngleEquals
+kind_number Kind.Colon = K.Colon
+kind_number Kind.Semicolon = K.Semicolon
+kind_number Kind.RArrow = K.RArrow
+kind_number Kind.LArrow = K.LArrow
+kind_number Kind.Comma = K.Comma
+kind_number Kind.InlineAssemblyFragment = K.InlineAssemblyFragment
+
+abbrev pub KindNumber : Kind → ℕ → Type 0
+KindNumber kind n = n ≡ kind_number kind
+
+-- the kind with a number, or that no kind has it
+abbrev pub KindOf : ℕ → Result Kind NoKind → Type 0
+KindOf n r = MatchResult r (λ kind. (kind_number kind ≡ n) × (n ≤ 54)) (λ e. (e.0 ≡ n) × (54 < n))
+
+-- ---- token errors
+
+abbrev pub token_error_number : TokenError → ℕ
+token_error_number TokenError.UnknownEscape = E.UnknownEscape
+token_error_number TokenError.UnclosedString = E.UnclosedString
+token_error_number TokenError.NoAssembly = E.NoAssembly
+token_error_number TokenError.UnknownCharacter = E.UnknownCharacter
+
+abbrev pub TokenErrorNumber : TokenError → ℕ → Type 0
+TokenErrorNumber error n = n ≡ token_error_number error
+
+-- the token error with a number, or that none has it
+abbrev pub TokenErrorOf : ℕ → Result TokenError NoTokenError → Type 0
+TokenErrorOf n r =
+    MatchResult r (λ error. (token_error_number error ≡ n) × (between 1 4 n ≡ true))
+    (λ e. (e.0 ≡ n) × (between 1 4 n ≡ false))
+
+-- ---- refusals (docs/FORMAT.md, Operations and refusals)
+
+abbrev pub refusal_number : Refusal → ℕ
+refusal_number Refusal.ScriptLength = 1
+refusal_number Refusal.NotUtf8 = 2
+refusal_number Refusal.SliceLength = 3
+refusal_number Refusal.ForeignCharacter = 4
+refusal_number Refusal.MinusAtEnd = 5
+refusal_number Refusal.Tokens = 6
+refusal_number Refusal.TokenErrors = 7
+refusal_number Refusal.BadRecord = 8
+refusal_number Refusal.NoTokens = 9
+refusal_number Refusal.Nesting = 10
+refusal_number Refusal.EndAfterWord = 11
+refusal_number Refusal.Errors = 12
+refusal_number Refusal.SentenceLength = 13
+
+abbrev pub RefusalNumber : Refusal → ℕ → Type 0
+RefusalNumber refusal n = n ≡ refusal_number refusal

@@ -1,5 +1,0 @@
-use Rattle.slices.proofs.Writing.{wrote_one}
-use Rattle.slices.proofs.put32.Goals as goal
-
-pub returns : goal.returns
-returns c = wrote_one c.requires
