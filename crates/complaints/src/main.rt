@@ -8,8 +8,9 @@
 ghost use Rattle.std.specs.Prelude.{length};
 ghost use Rattle.std.specs.Iterator.{at_most};
 
+use definition::limit;
 use definition::refusal::Refusal;
-use definition::{limit, tag};
+use definition::tag::Tag;
 use replay_cases::whole;
 use std::fmt;
 use std::io::{self, ErrorKind, Read};
@@ -44,9 +45,9 @@ struct Field<'a> {
 
 impl Field<'_> {
     // The place of an error of the list, if the field is one.
-    fn place_in(self, list: u8) -> Option<Place> {
+    fn place_in(self, list: Tag) -> Option<Place> {
         match *self.body {
-            [_, a, b, c, d, _, _] if self.tag == list => Some(Place {
+            [_, a, b, c, d, _, _] if self.tag == u8::from(list) => Some(Place {
                 line: u16::from_be_bytes([a, b]),
                 column: u16::from_be_bytes([c, d]),
             }),
@@ -79,7 +80,7 @@ impl<'a> Iterator for Fields<'a> {
 fn write_complaint(
     rt: &impl Print,
     script: &[u8],
-    list: u8,
+    list: Tag,
     position: usize,
     place: Place,
 ) -> io::Result<()> {
@@ -92,7 +93,7 @@ fn write_complaint(
 }
 
 // Writes the errors of a list, which are fields of the file.
-fn write_list(rt: &impl Print, script: &[u8], file: &[u8], list: u8) -> io::Result<()> {
+fn write_list(rt: &impl Print, script: &[u8], file: &[u8], list: Tag) -> io::Result<()> {
     let places = Fields(file).filter_map(|field| field.place_in(list));
     for (position, place) in places.enumerate() {
         write_complaint(rt, script, list, position, place)?;
@@ -128,8 +129,8 @@ fn write_all(rt: &impl Print, script: &[u8]) -> io::Result<()> {
         }
     };
     let file = &space[..bytes.min(limit::FILE_BYTES)];
-    write_list(rt, script, file, tag::TOKEN_ERROR)?;
-    write_list(rt, script, file, tag::FULL_ERROR)
+    write_list(rt, script, file, Tag::TokenError)?;
+    write_list(rt, script, file, Tag::FullError)
 }
 
 // ---- the script

@@ -3,11 +3,15 @@ use Rattle.std.specs.Prelude.{◌≡◌, true, false, ℕ, ◌<◌, ◌≤◌, R
 use Rattle.definition.specs.Classes.{between}
 use Rattle.definition.specs.Kind as K
 use Rattle.definition.specs.TokenError as E
+use Rattle.definition.specs.Tag as T
+use Rattle.definition.specs.ParseError as P
 use Rattle.definition.specs.declared.kind.Kind.{Kind}
 use Rattle.definition.specs.declared.kind.NoKind.{NoKind}
 use Rattle.definition.specs.declared.token_error.TokenError.{TokenError}
 use Rattle.definition.specs.declared.token_error.NoTokenError.{NoTokenError}
 use Rattle.definition.specs.declared.refusal.Refusal.{Refusal}
+use Rattle.definition.specs.declared.tag.Tag.{Tag}
+use Rattle.definition.specs.declared.parse_error.ParseError.{ParseError}
 
 -- ---- kinds of tokens
 
@@ -111,3 +115,84 @@ refusal_number Refusal.SentenceLength = 13
 
 abbrev pub RefusalNumber : Refusal → ℕ → Type 0
 RefusalNumber refusal n = n ≡ refusal_number refusal
+
+-- ---- tags of fields
+
+abbrev pub tag_number : Tag → ℕ
+tag_number Tag.Name = T.Name
+tag_number Tag.Void = T.Void
+tag_number Tag.Pointer = T.Pointer
+tag_number Tag.Array = T.Array
+tag_number Tag.Struct = T.Struct
+tag_number Tag.NamedType = T.NamedType
+tag_number Tag.Identifier = T.Identifier
+tag_number Tag.Integer = T.Integer
+tag_number Tag.Boolean = T.Boolean
+tag_number Tag.String = T.String
+tag_number Tag.Call = T.Call
+tag_number Tag.Index = T.Index
+tag_number Tag.Cast = T.Cast
+tag_number Tag.PointerTake = T.PointerTake
+tag_number Tag.PointerDereference = T.PointerDereference
+tag_number Tag.FieldAccess = T.FieldAccess
+tag_number Tag.BitwiseNot = T.BitwiseNot
+tag_number Tag.BooleanNot = T.BooleanNot
+tag_number Tag.BooleanAnd = T.BooleanAnd
+tag_number Tag.ArithmeticBinOp = T.ArithmeticBinOp
+tag_number Tag.ComparisonBinOp = T.ComparisonBinOp
+tag_number Tag.Sizeof = T.Sizeof
+tag_number Tag.CompoundArray = T.CompoundArray
+tag_number Tag.CompoundStruct = T.CompoundStruct
+tag_number Tag.CompoundField = T.CompoundField
+tag_number Tag.NoValue = T.NoValue
+tag_number Tag.AssignedValue = T.AssignedValue
+tag_number Tag.CompoundValue = T.CompoundValue
+tag_number Tag.Block = T.Block
+tag_number Tag.Expression = T.Expression
+tag_number Tag.VariableDeclaration = T.VariableDeclaration
+tag_number Tag.Assignment = T.Assignment
+tag_number Tag.CompoundAssignment = T.CompoundAssignment
+tag_number Tag.Return = T.Return
+tag_number Tag.Loop = T.Loop
+tag_number Tag.While = T.While
+tag_number Tag.Break = T.Break
+tag_number Tag.If = T.If
+tag_number Tag.InlineAssembly = T.InlineAssembly
+tag_number Tag.FunctionDefinition = T.FunctionDefinition
+tag_number Tag.TypeAlias = T.TypeAlias
+tag_number Tag.Use = T.Use
+tag_number Tag.TopLevelVariable = T.TopLevelVariable
+tag_number Tag.TopLevelAssembly = T.TopLevelAssembly
+tag_number Tag.Module = T.Module
+tag_number Tag.ReportedError = T.ReportedError
+tag_number Tag.FullError = T.FullError
+tag_number Tag.TokenError = T.TokenError
+
+abbrev pub TagNumber : Tag → ℕ → Type 0
+TagNumber tag n = n ≡ tag_number tag
+
+-- ---- the parser's errors
+
+abbrev pub parse_error_number : ParseError → ℕ
+parse_error_number ParseError.TopLevel = P.TopLevel
+parse_error_number ParseError.Expected = P.Expected
+parse_error_number ParseError.ExpectedAtEnd = P.ExpectedAtEnd
+parse_error_number ParseError.Identifier = P.Identifier
+parse_error_number ParseError.EndOfFile = P.EndOfFile
+parse_error_number ParseError.StatementAtEnd = P.StatementAtEnd
+parse_error_number ParseError.Expression = P.Expression
+parse_error_number ParseError.ExpressionAtEnd = P.ExpressionAtEnd
+parse_error_number ParseError.ArraySize = P.ArraySize
+parse_error_number ParseError.ArraySizePositive = P.ArraySizePositive
+parse_error_number ParseError.Type = P.Type'
+parse_error_number ParseError.TypeAtEnd = P.TypeAtEnd
+parse_error_number ParseError.BodyAtEnd = P.BodyAtEnd
+parse_error_number ParseError.ListAtEnd = P.ListAtEnd
+parse_error_number ParseError.InList = P.InList
+parse_error_number ParseError.NameAfterType = P.NameAfterType
+parse_error_number ParseError.PathAfterUse = P.PathAfterUse
+parse_error_number ParseError.CompoundAtEnd = P.CompoundAtEnd
+parse_error_number ParseError.Compound = P.Compound
+
+abbrev pub ParseErrorNumber : ParseError → ℕ → Type 0
+ParseErrorNumber error n = n ≡ parse_error_number error

@@ -3,25 +3,27 @@
 #![tactic(auto)]
 
 ghost use Rattle.std.specs.Prelude.{[], ◌∷◌, ◌+◌, ◌*◌, ◌≤◌, length};
+ghost use Rattle.definition.specs.Numbers.{tag_number};
 ghost use Rattle.fallible.specs.Lists.{unpack, errs};
 ghost use Rattle.error_fields.specs.Contract.{GoodErrors, Fielded, TokenFields};
 
-use definition::tag;
-use fallible::entry;
+use definition::kind::Kind;
+use definition::tag::Tag;
+use fallible::packed;
 use node::{Numbers, place_at, wide, write_bare};
 
 // Writes the field of one error, which is packed into one number.
-fn error_field(file: &mut [u8], pos: usize, tag: u8, e: usize) -> usize
+fn error_field(file: &mut [u8], pos: usize, tag: Tag, e: usize) -> usize
     requires { pos + 23 ≤ length file.old }
-    ensures { Fielded (unpack e ∷ []) file pos tag result }
+    ensures { Fielded (unpack e ∷ []) file pos (tag_number tag) result }
 {
     write_bare(file, &e.to_be_bytes(), pos, tag, Numbers::None, 1, 7)
 }
 
 // Writes the fields of a list of `count` errors.
-pub fn error_fields(file: &mut [u8], pos: usize, tag: u8, list: &[usize], count: usize) -> usize
+pub fn error_fields(file: &mut [u8], pos: usize, tag: Tag, list: &[usize], count: usize) -> usize
     requires { (pos + 10 * count + 13 ≤ length file.old) × (count ≤ length list.now) }
-    ensures { Fielded (errs list.now count) file pos tag result }
+    ensures { Fielded (errs list.now count) file pos (tag_number tag) result }
 {
     let mut p = pos;
     for e in &list[..count] {
@@ -39,8 +41,9 @@ pub fn token_error_fields(file: &mut [u8], pos: usize, errors: &[u32], count: us
     for i in 0..count {
         let k = 4 * i;
         let place = place_at(errors[k + 1], errors[k + 2]);
-        let e = entry(wide(errors[k]), place, 0, 0);
-        p = error_field(file, p, tag::TOKEN_ERROR, e);
+        // Not read as a `TokenError`: the records are valid, so that would add an arm that none takes.
+        let e = packed(wide(errors[k]), place, Kind::End, Kind::End);
+        p = error_field(file, p, Tag::TokenError, e);
     }
     p
 }

@@ -2,6 +2,7 @@
 #![tactic(auto)]
 
 ghost use Rattle.std.specs.Prelude.{◌≡◌, ◌<◌, ◌≤◌};
+ghost use Rattle.definition.specs.Numbers.{tag_number};
 ghost use Rattle.definition.specs.Parser as P;
 ghost use Rattle.leaves.specs.Leaves.{listed_of, level_of};
 ghost use Rattle.definition.specs.Places.{unpack_place};
@@ -9,8 +10,10 @@ ghost use Rattle.expression_laws.specs.Post.{operators_on};
 ghost use Rattle.steps.specs.Contract.{Asked, GoesOn, Parses, ParsesOn};
 ghost use Rattle.expression_laws.specs.Contract.{NameRoom, BareNamed, ReadsTyped, TypedOn, ReadsList};
 
+use definition::kind::Kind;
+use definition::parse_error::ParseError;
 use definition::refusal::Refusal;
-use definition::{kind, parse_error, tag};
+use definition::tag::Tag;
 use fallible::parser::{Parser, State};
 use fallible::{Stop, abandon, entry, recover};
 use leaves::{
@@ -56,9 +59,9 @@ fn boolean(
     };
     let before = parser.state;
     let t = tokens.peek(before.at);
-    if t.kind != kind::DOUBLE_AMPERSAND {
+    let Kind::DoubleAmpersand = t.kind else {
         return a;
-    }
+    };
     parser.state.at = t.next;
     let b = comparison(tokens, file, parser, nesting);
     let c = abandon(&mut parser.reported, &mut parser.state, b, from, before);
@@ -68,7 +71,7 @@ fn boolean(
         &mut parser.state,
         c,
         t.place,
-        tag::BOOLEAN_AND,
+        Tag::BooleanAnd,
         Numbers::None,
     )
 }
@@ -91,21 +94,20 @@ fn comparison(
     };
     let before = parser.state;
     let t = tokens.peek(before.at);
-    let op = comparison_operator(t.kind);
-    if op == 0 {
+    let Some(op) = comparison_operator(t.kind) else {
         return a;
-    }
+    };
     parser.state.at = t.next;
     let b = bit_or(tokens, file, parser, nesting);
     let c = abandon(&mut parser.reported, &mut parser.state, b, from, before);
-    let numbers = Numbers::Byte(op - 1);
+    let numbers = Numbers::Byte(op);
     write_node(
         file,
         tokens.text,
         &mut parser.state,
         c,
         t.place,
-        tag::COMPARISON_BIN_OP,
+        Tag::ComparisonBinOp,
         numbers,
     )
 }
@@ -139,6 +141,8 @@ fn bit_or(
     }
     a
 }
+
+// The levels below are functions that call one another, as the project asks, and not one with the level as a parameter.
 
 // parse_bitwise_xor: bit_and {`^` bit_and}
 #[cycle(expression)]
@@ -258,21 +262,20 @@ fn operators(
         };
         let before = parser.state;
         let t = tokens.peek(before.at);
-        let op = operator(level, t.kind);
-        if op == 0 {
+        let Some(op) = operator(level, t.kind) else {
             return a;
-        }
+        };
         parser.state.at = t.next;
         let b = cascade(tokens, file, parser, level, nesting);
         let c = abandon(&mut parser.reported, &mut parser.state, b, from, before);
-        let numbers = Numbers::Byte(op - 1);
+        let numbers = Numbers::Byte(op);
         a = write_node(
             file,
             tokens.text,
             &mut parser.state,
             c,
             t.place,
-            tag::ARITHMETIC_BIN_OP,
+            Tag::ArithmeticBinOp,
             numbers,
         );
     }
@@ -292,9 +295,9 @@ fn cast(tokens: Tokens, file: &mut [u8], parser: &mut Parser, nesting: usize) ->
         };
         let before = parser.state;
         let t = tokens.peek(before.at);
-        if t.kind != kind::KW_AS {
+        let Kind::KwAs = t.kind else {
             return a;
-        }
+        };
         parser.state.at = t.next;
         let b = ty(tokens, file, parser, nesting);
         let c = abandon(&mut parser.reported, &mut parser.state, b, from, before);
@@ -304,7 +307,7 @@ fn cast(tokens: Tokens, file: &mut [u8], parser: &mut Parser, nesting: usize) ->
             &mut parser.state,
             c,
             t.place,
-            tag::CAST,
+            Tag::Cast,
             Numbers::None,
         );
     }
@@ -344,10 +347,9 @@ fn unary(
         return Err(parser.state.refuse(tokens.count, Refusal::Nesting));
     }
     let t = tokens.peek(parser.state.at);
-    let tag = prefix(t.kind);
-    if tag == 0 {
+    let Some(tag) = prefix(t.kind) else {
         return call(tokens, file, parser, nesting - 1);
-    }
+    };
     parser.state.at = t.next;
     let place = unary(tokens, file, parser, nesting - 1)?;
     write_node(
@@ -370,9 +372,9 @@ fn call(tokens: Tokens, file: &mut [u8], parser: &mut Parser, nesting: usize) ->
     let place = sizeof(tokens, file, parser, nesting)?;
     let reported = parser.state.reported;
     let t = tokens.peek(parser.state.at);
-    if t.kind != kind::L_PAREN {
+    let Kind::LParen = t.kind else {
         return Ok(place);
-    }
+    };
     let b = list(tokens, file, parser, Listed::Arguments, nesting);
     parser.state.reported = reported;
     let count = b?;
@@ -382,7 +384,7 @@ fn call(tokens: Tokens, file: &mut [u8], parser: &mut Parser, nesting: usize) ->
         &mut parser.state,
         Ok(place),
         place,
-        tag::CALL,
+        Tag::Call,
         Numbers::Two(count),
     )
 }
@@ -400,20 +402,20 @@ fn sizeof(
 {
     let from = parser.state;
     let t = tokens.peek(from.at);
-    if t.kind != kind::KW_SIZEOF {
+    let Kind::KwSizeof = t.kind else {
         return access(tokens, file, parser, nesting);
-    }
+    };
     parser.state.at = t.next;
-    expect(tokens, parser, kind::L_PAREN)?;
+    expect(tokens, parser, Kind::LParen)?;
     let b = ty(tokens, file, parser, nesting);
-    let c = expect_after(tokens, parser, b, kind::R_PAREN, from);
+    let c = expect_after(tokens, parser, b, Kind::RParen, from);
     write_node(
         file,
         tokens.text,
         &mut parser.state,
         c,
         t.place,
-        tag::SIZEOF,
+        Tag::Sizeof,
         Numbers::None,
     )
 }
@@ -437,31 +439,31 @@ fn access(
         };
         let before = parser.state;
         let t = tokens.peek(before.at);
-        if t.kind == kind::DOT {
+        if let Kind::Dot = t.kind {
             let u = tokens.peek(t.next);
-            if u.kind == kind::END {
+            if let Kind::End = u.kind {
                 return Err(parser.state.refuse(tokens.count, Refusal::EndAfterWord));
             }
             parser.state.at = u.next;
-            if u.kind != kind::IDENTIFIER {
-                let error = entry(parse_error::IDENTIFIER, u.place, 0, 0);
+            let Kind::Identifier = u.kind else {
+                let error = entry(ParseError::Identifier, u.place, Kind::End, Kind::End);
                 parser.note(tokens.count, error)?;
                 return a;
-            }
+            };
             a = write_text_node(
                 file,
                 tokens.text,
                 &mut parser.state,
                 a,
                 t.place,
-                tag::FIELD_ACCESS,
+                Tag::FieldAccess,
                 Numbers::None,
                 u.start,
                 u.len,
             );
             continue;
         }
-        if t.kind == kind::DOT_STAR {
+        if let Kind::DotStar = t.kind {
             parser.state.at = t.next;
             a = write_node(
                 file,
@@ -469,25 +471,25 @@ fn access(
                 &mut parser.state,
                 a,
                 t.place,
-                tag::POINTER_DEREFERENCE,
+                Tag::PointerDereference,
                 Numbers::None,
             );
             continue;
         }
-        if t.kind != kind::L_BRACKET {
+        let Kind::LBracket = t.kind else {
             return a;
-        }
+        };
         parser.state.at = t.next;
         let b = expression(tokens, file, parser, nesting);
         let c = abandon(&mut parser.reported, &mut parser.state, b, from, before);
-        let d = expect_after(tokens, parser, c, kind::R_BRACKET, from);
+        let d = expect_after(tokens, parser, c, Kind::RBracket, from);
         a = write_node(
             file,
             tokens.text,
             &mut parser.state,
             d,
             t.place,
-            tag::INDEX,
+            Tag::Index,
             Numbers::None,
         );
     }
@@ -500,9 +502,9 @@ fn atom(tokens: Tokens, file: &mut [u8], parser: &mut Parser, nesting: usize) ->
     ensures { Parses P.parse_atom tokens file parser nesting result }
 {
     let t = tokens.peek(parser.state.at);
-    if t.kind != kind::L_PAREN {
+    let Kind::LParen = t.kind else {
         return literal(tokens, file, parser);
-    }
+    };
     parser.state.at = t.next;
     let a = expression(tokens, file, parser, nesting);
     close(tokens, parser, a)
@@ -517,15 +519,15 @@ fn bare_name(
     file: &mut [u8],
     state: &mut State,
     called: Result<usize, Stop>,
-    tag: u8,
+    tag: Tag,
     at: usize,
 ) -> Result<usize, Stop>
     requires { NameRoom tokens file state called at }
-    ensures { BareNamed tokens file state called tag at result }
+    ensures { BareNamed tokens file state called (tag_number tag) at result }
 {
     called?;
     let t = tokens.peek(at);
-    if t.kind == kind::IDENTIFIER {
+    if let Kind::Identifier = t.kind {
         state.pos = write_bare(
             file,
             tokens.text,
@@ -560,55 +562,54 @@ pub fn ty(
     let reported = parser.state.reported;
     let t = tokens.peek(parser.state.at);
     parser.state.at = t.next;
-    if t.kind == kind::IDENTIFIER {
-        return write_text_node(
+    match t.kind {
+        Kind::Identifier => write_text_node(
             file,
             tokens.text,
             &mut parser.state,
             Ok(t.place),
             t.place,
-            tag::NAME,
+            Tag::Name,
             Numbers::None,
             t.start,
             t.len,
-        );
+        ),
+        Kind::Star => {
+            let a = ty(tokens, file, parser, nesting - 1);
+            write_node(
+                file,
+                tokens.text,
+                &mut parser.state,
+                a,
+                t.place,
+                Tag::Pointer,
+                Numbers::None,
+            )
+        }
+        Kind::LBracket => array(tokens, file, parser, t.place, nesting - 1),
+        Kind::KwStruct => {
+            let a = list(tokens, file, parser, Listed::StructFields, nesting - 1);
+            parser.state.reported = reported;
+            let count = a?;
+            write_node(
+                file,
+                tokens.text,
+                &mut parser.state,
+                Ok(t.place),
+                t.place,
+                Tag::Struct,
+                Numbers::Two(count),
+            )
+        }
+        Kind::End => {
+            let error = entry(ParseError::TypeAtEnd, 0, Kind::End, Kind::End);
+            Err(parser.raise(tokens.count, error))
+        }
+        _ => {
+            let error = entry(ParseError::Type, t.place, Kind::End, t.kind);
+            Err(parser.raise(tokens.count, error))
+        }
     }
-    if t.kind == kind::STAR {
-        let a = ty(tokens, file, parser, nesting - 1);
-        return write_node(
-            file,
-            tokens.text,
-            &mut parser.state,
-            a,
-            t.place,
-            tag::POINTER,
-            Numbers::None,
-        );
-    }
-    if t.kind == kind::L_BRACKET {
-        return array(tokens, file, parser, t.place, nesting - 1);
-    }
-    if t.kind == kind::KW_STRUCT {
-        let a = list(tokens, file, parser, Listed::StructFields, nesting - 1);
-        parser.state.reported = reported;
-        let count = a?;
-        let numbers = Numbers::Two(count);
-        return write_node(
-            file,
-            tokens.text,
-            &mut parser.state,
-            Ok(t.place),
-            t.place,
-            tag::STRUCT,
-            numbers,
-        );
-    }
-    if t.kind == kind::END {
-        let error = entry(parse_error::TYPE_AT_END, 0, 0, 0);
-        return Err(parser.raise(tokens.count, error));
-    }
-    let error = entry(parse_error::TYPE, t.place, 0, t.kind);
-    Err(parser.raise(tokens.count, error))
 }
 
 // Parses what follows the `[` of an array type: size `]` type. Errors in the size are at `place`.
@@ -625,16 +626,16 @@ fn array(
 {
     let t = tokens.peek(parser.state.at);
     parser.state.at = t.next;
-    if t.kind != kind::INTEGER {
-        let error = entry(parse_error::ARRAY_SIZE, place, 0, 0);
+    let Kind::Integer = t.kind else {
+        let error = entry(ParseError::ArraySize, place, Kind::End, Kind::End);
         return Err(parser.raise(tokens.count, error));
-    }
+    };
     let size = array_size(tokens.text, t.start, t.len, t.base);
     if !size.fits {
-        let error = entry(parse_error::ARRAY_SIZE_POSITIVE, place, 0, 0);
+        let error = entry(ParseError::ArraySizePositive, place, Kind::End, Kind::End);
         return Err(parser.raise(tokens.count, error));
     }
-    expect(tokens, parser, kind::R_BRACKET)?;
+    expect(tokens, parser, Kind::RBracket)?;
     let b = ty(tokens, file, parser, nesting);
     let numbers = Numbers::Eight(size.number);
     write_node(
@@ -643,7 +644,7 @@ fn array(
         &mut parser.state,
         b,
         place,
-        tag::ARRAY,
+        Tag::Array,
         numbers,
     )
 }
@@ -662,7 +663,7 @@ fn typed(
     ensures { TypedOn tokens file parser from nesting result }
 {
     let before = parser.state;
-    let a = expect(tokens, parser, kind::COLON);
+    let a = expect(tokens, parser, Kind::Colon);
     let b = abandon(&mut parser.reported, &mut parser.state, a, from, before);
     let Ok(_) = b else {
         return b;
@@ -686,16 +687,18 @@ pub fn typed_name(
     let from = parser.state;
     let t = tokens.peek(from.at);
     parser.state.at = t.next;
-    if t.kind == kind::IDENTIFIER {
-        return typed(tokens, file, parser, from, nesting);
+    match t.kind {
+        Kind::Identifier => typed(tokens, file, parser, from, nesting),
+        Kind::End => {
+            let error = entry(ParseError::EndOfFile, 0, Kind::End, Kind::End);
+            Err(parser.raise(tokens.count, error))
+        }
+        _ => {
+            let error = entry(ParseError::Identifier, t.place, Kind::End, Kind::End);
+            parser.note(tokens.count, error)?;
+            typed(tokens, file, parser, from, nesting)
+        }
     }
-    if t.kind == kind::END {
-        let error = entry(parse_error::END_OF_FILE, 0, 0, 0);
-        return Err(parser.raise(tokens.count, error));
-    }
-    let error = entry(parse_error::IDENTIFIER, t.place, 0, 0);
-    parser.note(tokens.count, error)?;
-    typed(tokens, file, parser, from, nesting)
 }
 
 // ---- lists
@@ -713,7 +716,7 @@ fn named(
 {
     let at = parser.state.at;
     let a = typed_name(tokens, file, parser, nesting);
-    bare_name(tokens, file, &mut parser.state, a, tag::NAMED_TYPE, at)
+    bare_name(tokens, file, &mut parser.state, a, Tag::NamedType, at)
 }
 
 // parse_compound_struct_field: name `=` expression
@@ -730,7 +733,7 @@ fn field(
     let from = parser.state;
     let t = tokens.peek(from.at);
     let a = expect_identifier(tokens, parser);
-    let b = expect_after(tokens, parser, a, kind::EQUALS, from);
+    let b = expect_after(tokens, parser, a, Kind::Equals, from);
     let Ok(place) = b else {
         return b;
     };
@@ -741,7 +744,7 @@ fn field(
         &mut parser.state,
         c,
         place,
-        tag::COMPOUND_FIELD,
+        Tag::CompoundField,
         Numbers::None,
         t.start,
         t.len,
@@ -786,8 +789,8 @@ pub fn list(
     let mut count = 0;
     loop {
         let t = tokens.peek(parser.state.at);
-        if t.kind == kind::END {
-            let error = entry(parse_error::LIST_AT_END, 0, 0, 0);
+        if let Kind::End = t.kind {
+            let error = entry(ParseError::ListAtEnd, 0, Kind::End, Kind::End);
             parser.note(tokens.count, error)?;
             return Ok(count);
         }

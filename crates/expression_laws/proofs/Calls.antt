@@ -6,7 +6,7 @@ use Prim.Native.Nat.{ℕ, min, ◌+◌, ◌*◌, ◌-◌, ◌≤◌, ◌<◌}
 use native.Mathlib.Omega.{arith}
 use lib.ListN.{length, take}
 use lib.Seq.{length-take-le}
-use borrow.Author.Tests.{eq-eqb, ne_eqb}
+use Rattle.definition.specs.Numbers.{kind_number, tag_number}
 use Rattle.definition.specs.Source.{Place}
 use Rattle.definition.specs.Node.{Num, two, Rec, recs_bytes}
 use Rattle.definition.specs.Fallible.{Err, Fallible, Ans, ok, fatal}
@@ -17,6 +17,7 @@ use Rattle.definition.specs.Act.{Act, done, Node, Unary, Arguments, Consumed, Ro
 use Rattle.definition.specs.Parser as P
 use Rattle.definition.specs.Go.{go}
 use Rattle.definition.proofs.Flat.{go_bind}
+use Rattle.definition.specs.declared.tag.Tag.{Tag}
 use Rattle.fallible.proofs.Grown.{errs_length}
 use Rattle.fallible.specs.declared.parser.State.{State}
 use Rattle.fallible.specs.Answer.{Status, Done, Fatal, Refused, Answer}
@@ -33,7 +34,10 @@ use Rattle.steps.proofs.Moves.{asks_moved, fore_moved, moved_trans}
 use Rattle.steps.proofs.Answers.{Stopped, say, good_of, stops, follows, wrapped, writes_node, tree_join, errs_join}
 use Rattle.steps.proofs.Constructs.{down}
 use Rattle.steps.proofs.Following.{expecting, expects_after}
-use Rattle.leaves.specs.Leaves.{Prefix, ClosingOf, Closing, ClosedOf, Closed}
+use Rattle.std.specs.Prelude.{Option, Some}
+use Rattle.std.specs.Prelude as Std
+use Rattle.leaves.proofs.Choices.{none_found, one_found, operator_real, unary_finds}
+use Rattle.leaves.specs.Leaves.{operator_of, number_of, prefixes, ClosingOf, Closing, ClosedOf, Closed}
 use Rattle.expression_laws.specs.Post.{ReadsList}
 use Rattle.expression_laws.proofs.Types.{past, drops, dropping}
 use Rattle.expression_laws.proofs.Joins.{goes_none}
@@ -42,12 +46,12 @@ use Rattle.expression_laws.proofs.Joins.{goes_none}
 
 module _ {A : Type 0} {K : View A} {w x : List ℕ} {n d : ℕ} {o r f o1 r1 f1 o2 : List ℕ} {s : State} {b y : Answer} {t : Token} {v : Record} {m : Act (Ans A)} {M : Act (Ans Node)} (p : A → Place) (ns : A → List Num) (text : List ℕ)
     (q : Asked w x n o r f s) (u : Seen w n s.at t) (B : Reads K w x n d m o r f (fore s t) o1 r1 f1 b) (F : NodeWritten x o1 b v o2 y)
-    (paid : size_of v ≤ 16 * min t.kind 1 + t.len) (made : (i : A) → K.fine b.place b.count i → rec_of x v ≡ record { tag = v.tag; place = some (p i); numbers = ns i; text = text }) where
+    (paid : size_of v ≤ 16 * min (kind_number t.kind) 1 + t.len) (made : (i : A) → K.fine b.place b.count i → rec_of x v ≡ record { tag = tag_number v.tag; place = some (p i); numbers = ns i; text = text }) where
   -- an act that reads the token t, then m, and writes the record v, reads a node
   pub wraps_token : (rd' : List Consumed → List Consumed)
       → ((rd : List Consumed)
       → go d M (st_of w x n f rd s)
-      ≡ go d (m >>? wrapped K [] [] v.tag p ns text) (st_of w x n f (rd' rd) (fore s t)))
+      ≡ go d (m >>? wrapped K [] [] (tag_number v.tag) p ns text) (st_of w x n f (rd' rd) (fore s t)))
       → Reads node w x n d M o r f s o2 r1 f1 y
   wraps_token rd' step =
       let e : budget w n y.state.at ≡ budget w n b.state.at = ap (λ (k : ℕ). budget w n k) F.at in
@@ -65,35 +69,35 @@ module _ {A : Type 0} {K : View A} {w x : List ℕ} {n d : ℕ} {o r f o1 r1 f1 
             };
         on = omega (arith, F.at, u.on, u.present, B.moved.at);
         is =
-            λ rd. say (step rd ∙ go_bind d m (or_return (wrapped K [] [] v.tag p ns text)) _)
+            λ rd. say (step rd ∙ go_bind d m (or_return (wrapped K [] [] (tag_number v.tag) p ns text)) _)
             (writes_node d p ns text F made (B.is (rd' rd)));
       }
 
 -- ---- prefixes
 
-module _ {w x : List ℕ} {n d : ℕ} {o r f : List ℕ} {s : State} {t : Token} {tag : ℕ} (q : Asked w x n o r f s)
-    (nz : d ≡ 0 → ⊥) (u : Seen w n s.at t) (k : Prefix t.kind tag) where
+module _ {w x : List ℕ} {n d : ℕ} {o r f : List ℕ} {s : State} {t : Token} {tag : Option Tag} (q : Asked w x n o r f s)
+    (nz : d ≡ 0 → ⊥) (u : Seen w n s.at t) (k : number_of tag ≡ operator_of prefixes (kind_number t.kind)) where
   -- no prefix operator: a call; else the prefix, its operand and its record
-  pub unary_none : {o1 r1 f1 : List ℕ} {a : Answer} → tag ≡ 0 → Reads node w x n (d - 1) P.parse_call o r f s o1 r1 f1 a
+  pub unary_none : {o1 r1 f1 : List ℕ} {a : Answer} → tag ≡ Std.None → Reads node w x n (d - 1) P.parse_call o r f s o1 r1 f1 a
       → Reads node w x n d P.parse_unary o r f s o1 r1 f1 a
   unary_none h B =
       down Unary nz (record {
         moved = B.moved;
         on = B.on;
-        is = λ rd. say (k.is (d - 1) (st_of w x n f rd s) (u.kind x) ∙ rw (eq-eqb tag 0 h)) (B.is rd);
+        is = λ rd. say (unary_finds (d - 1) (st_of w x n f rd s) ∙ none_found (next_token (rest w x n s.at)) _ (u.kind x) P.prefix P.parse_call (d - 1) (st_of w x n f rd s) prefixes k (ap number_of h)) (B.is rd);
       })
 
-  pub unary_prefix : {o1 r1 f1 o2 : List ℕ} {a y : Answer} → (tag ≡ 0 → ⊥)
+  pub unary_prefix : {m : Tag} {o1 r1 f1 o2 : List ℕ} {a y : Answer} → tag ≡ Some m
       → Reads node w x n (d - 1) P.parse_unary o r f (fore s t) o1 r1 f1 a
       → NodeWritten x o1 a
-      (record { tag = tag; place = a.place; numbers = None; start = 0; len = 0 }) o2 y
+      (record { tag = m; place = a.place; numbers = None; start = 0; len = 0 }) o2 y
       → Reads node w x n d P.parse_unary o r f s o2 r1 f1 y
   unfolding go run P.prefix
-  unary_prefix {a = a} h B F =
+  unary_prefix {m} {a = a} h B F =
       down Unary nz
-      (wraps_token (λ i. i.place) (λ _. []) [] q u B F (omega (arith, k.real)) (λ i e. rw e) (past w x n s.at)
-      (λ rd. k.is (d - 1) (st_of w x n f rd s) (u.kind x) ∙ rw (ne_eqb tag 0 h)
-      (ap (λ (S : St). go (d - 1) (P.parse_unary >>? wrapped node [] [] tag (λ i. i.place) (λ _. []) []) S)
+      (wraps_token (λ i. i.place) (λ _. []) [] q u B F (omega (arith, operator_real prefixes (kind_number t.kind) refl k (ap number_of h))) (λ i e. rw e) (past w x n s.at)
+      (λ rd. unary_finds (d - 1) (st_of w x n f rd s) ∙ one_found (next_token (rest w x n s.at)) _ (u.kind x) P.prefix P.parse_call (d - 1) (st_of w x n f rd s) prefixes k (ap number_of h) ∙
+      (ap (λ (S : St). go (d - 1) (P.parse_unary >>? wrapped node [] [] (tag_number m) (λ i. i.place) (λ _. []) []) S)
       (adv s u (λ _. plain) f rd _))))
 
 -- ---- calls: the arguments after what is called; their errors are dropped
@@ -128,12 +132,12 @@ module _ {A : Type 0} {K : View A} {w x : List ℕ} {n : ℕ} {o r f : List ℕ}
 module _ {w x : List ℕ} {n d i j : ℕ} {o r f : List ℕ} {a : Answer} {t : Token} (q : GoesOn w x n o r f a i j)
     (z : a.status ≡ Done) (u : Seen w n a.state.at t) where
   -- no `(` follows
-  pub call_none : (t.kind ≡ 41 → ⊥) → Goes node node w x n d call_on i j o r f a o r f a
+  pub call_none : (kind_number t.kind ≡ 41 → ⊥) → Goes node node w x n d call_on i j o r f a o r f a
   unfolding go run
   call_none h = goes_none q z (λ e rd. rw (run, no u h))
 
-  module _ {o1 r1 f1 o2 : List ℕ} {b y : Answer} (h : t.kind ≡ 41) (B : ReadsList w x n d Arguments o r f a.state o1 r1 f1 b)
-      (F : NodeWritten x o1 (silent b a.state.reported) (record { tag = 0x24; place = a.place; numbers = Two b.count; start = 0; len = 0 }) o2 y) where
+  module _ {o1 r1 f1 o2 : List ℕ} {b y : Answer} (h : kind_number t.kind ≡ 41) (B : ReadsList w x n d Arguments o r f a.state o1 r1 f1 b)
+      (F : NodeWritten x o1 (silent b a.state.reported) (record { tag = Tag.Call; place = a.place; numbers = Two b.count; start = 0; len = 0 }) o2 y) where
     pub call_moved : Moved w n i j a.state y.state
     call_moved =
         let e : budget w n y.state.at ≡ budget w n b.state.at = ap (λ (k : ℕ). budget w n k) F.at in
@@ -167,7 +171,7 @@ module _ {w x : List ℕ} {n d i j : ℕ} {o r f : List ℕ} {a : Answer} {t : T
 
 -- what the list requires: a later token, and room for the record after it
 pub call_later : {w x : List ℕ} {n d : ℕ} {m : Act (Ans Node)} {o r f o1 r1 f1 : List ℕ} {s : State} {a : Answer} {t : Token}
-    → Asked w x n o r f s → Reads node w x n d m o r f s o1 r1 f1 a → Seen w n a.state.at t → t.kind ≡ 41
+    → Asked w x n o r f s → Reads node w x n d m o r f s o1 r1 f1 a → Seen w n a.state.at t → kind_number t.kind ≡ 41
     → s.at < a.state.at
 call_later {n = n} {s = s} q B u h =
     omega (arith, B.on, present_before n s.at (omega (arith, B.moved.at, u.on, u.end, h)))
@@ -200,7 +204,7 @@ expect_seam d role k g (refused n) = refl
 abbrev sized : Tok → Fallible Node → Act (Ans Node)
 sized op ty = P.good (P.node ty.item.recs 0x2F op.place [] []) ty.errors
 
-sizeof_step : {w : List ℕ} {n : ℕ} {t : Token} (d : ℕ) (f : List ℕ) (s : State) → Seen w n s.at t → t.kind ≡ 17
+sizeof_step : {w : List ℕ} {n : ℕ} {t : Token} (d : ℕ) (f : List ℕ) (s : State) → Seen w n s.at t → kind_number t.kind ≡ 17
     → (rd : List Consumed) (x : List ℕ)
     → go d P.parse_sizeof (st_of w x n f rd s)
     ≡ after (go d (P.expect_as plain 41) (st_of w x n f (past w x n s.at rd) (fore s t))) (λ z S. go d
@@ -217,13 +221,13 @@ sizeof_step {w} {n} d f s u h rd x =
 
 module _ {w x : List ℕ} {n d : ℕ} {o r f : List ℕ} {s : State} {t : Token} (q : Asked w x n o r f s) (u : Seen w n s.at t) where
   -- no `sizeof` follows
-  pub sizeof_other : {o1 r1 f1 : List ℕ} {a : Answer} → (t.kind ≡ 17 → ⊥)
+  pub sizeof_other : {o1 r1 f1 : List ℕ} {a : Answer} → (kind_number t.kind ≡ 17 → ⊥)
       → Reads node w x n d P.parse_field_access_or_index o r f s o1 r1 f1 a
       → Reads node w x n d P.parse_sizeof o r f s o1 r1 f1 a
   unfolding go run P.parse_sizeof
   sizeof_other h B = record { moved = B.moved; on = B.on; is = λ rd. say (rw (run, no u h)) (B.is rd) }
 
-  module _ {r1 f1 : List ℕ} {a : Answer} (h : t.kind ≡ 17) (X : Expects w n (λ role. P.expect_as role 41) r f (fore s t) r1 f1 a) where
+  module _ {r1 f1 : List ℕ} {a : Answer} (h : kind_number t.kind ≡ 17) (X : Expects w n (λ role. P.expect_as role 41) r f (fore s t) r1 f1 a) where
     -- `sizeof` with no `(` after it
     pub sizeof_stop : Stopped a → Reads node w x n d P.parse_sizeof o r f s o r1 f1 a
     sizeof_stop nd =
@@ -250,7 +254,7 @@ module _ {w x : List ℕ} {n d : ℕ} {o r f : List ℕ} {s : State} {t : Token}
         → Reads node w x n d P.parse_type o r1 f1 a.state o1 r2 f2 b → length r2 ≡ length r
         → length f2 ≡ length f → Expected w n 42 s.pos s.reported r2 f2 b r3 f3 c
         → NodeWritten x o1 c
-        (record { tag = 0x2F; place = t.place; numbers = None; start = 0; len = 0 }) o2 y
+        (record { tag = Tag.Sizeof; place = t.place; numbers = None; start = 0; len = 0 }) o2 y
         → Reads node w x n d P.parse_sizeof o r f s o2 r3 f3 y
     sizeof_done {o1} {r2} {f2} {r3} {f3} {o2} {b} {c} {y} z B lr lf C F =
         let e : budget w n y.state.at ≡ budget w n c.state.at = ap (λ (k : ℕ). budget w n k) F.at in
@@ -405,7 +409,7 @@ module _ {w x : List ℕ} {n : ℕ} {o r f r1 f1 : List ℕ} {a y : Answer} (d :
 
 module _ {w x : List ℕ} {n d : ℕ} {o r f : List ℕ} {s : State} {t : Token} (q : Asked w x n o r f s) (u : Seen w n s.at t) where
   -- parse_atom of a group
-  pub atom_group : {o1 r1 f1 r2 f2 : List ℕ} {a y : Answer} → t.kind ≡ 41
+  pub atom_group : {o1 r1 f1 r2 f2 : List ℕ} {a y : Answer} → kind_number t.kind ≡ 41
       → Reads node w x n d P.parse_expression o r f (fore s t) o1 r1 f1 a → Closed w n r1 f1 a r2 f2 y
       → Reads node w x n d P.parse_atom o r f s o1 r2 f2 y
   unfolding go run P.parse_atom P.parse_group

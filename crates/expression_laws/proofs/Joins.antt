@@ -6,6 +6,7 @@ use mathlib.Core.List.{List, []}
 use Prim.Native.Nat.{ℕ, min, ◌+◌, ◌*◌, ◌≤◌}
 use native.Mathlib.Omega.{arith}
 use lib.ListN.{length}
+use Rattle.definition.specs.Numbers.{kind_number, tag_number}
 use Rattle.definition.specs.Source.{Place}
 use Rattle.definition.specs.Node.{Num}
 use Rattle.definition.specs.Fallible.{Err, Fallible, Ans, ok}
@@ -85,7 +86,7 @@ module _ {w x : List ℕ} {n i j : ℕ} {o r f : List ℕ} {a : Answer} (q : Goe
 -- ---- another operand, and the record of both
 
 module _ {A : Type 0} {K : View A} {w x : List ℕ} {n d i j : ℕ} {o r f o1 r1 f1 r2 o2 : List ℕ} {a b c y : Answer} {t : Token} {v : Record} {m : Act (Ans A)}
-    (q : GoesOn w x n o r f a i j) (u : Seen w n a.state.at t) (B : Reads K w x n d m o r f (fore a.state t) o1 r1 f1 b) (C : Abandoned r1 b i j a.state.reported r2 c) (F : NodeWritten x o1 c v o2 y) (paid : size_of v ≤ 16 * min t.kind 1) where
+    (q : GoesOn w x n o r f a i j) (u : Seen w n a.state.at t) (B : Reads K w x n d m o r f (fore a.state t) o1 r1 f1 b) (C : Abandoned r1 b i j a.state.reported r2 c) (F : NodeWritten x o1 c v o2 y) (paid : size_of v ≤ 16 * min (kind_number t.kind) 1) where
   pub joined_moved : Moved w n i j a.state y.state
   joined_moved =
       let e : budget w n y.state.at ≡ budget w n b.state.at = ap (λ (k : ℕ). budget w n k) (F.at ∙ C.at) in
@@ -109,10 +110,10 @@ module _ {A : Type 0} {K : View A} {w x : List ℕ} {n d i j : ℕ} {o r f o1 r1
     (q : GoesOn w x n o r f a i j) (z : a.status ≡ Done) (u : Seen w n a.state.at t)
     (B : Reads K w x n d m o r f (fore a.state t) o1 r1 f1 b)
     (C : Abandoned r1 b i j a.state.reported r2 c) (F : NodeWritten x o1 c v o2 y)
-    (paid : size_of v ≤ 16 * min t.kind 1) (made : rec_of x v ≡ record { tag = v.tag; place = some p; numbers = ns; text = [] }) where
+    (paid : size_of v ≤ 16 * min (kind_number t.kind) 1) (made : rec_of x v ≡ record { tag = tag_number v.tag; place = some p; numbers = ns; text = [] }) where
   -- the node of the operand e and the other
   abbrev pub both : Fallible Node → Fallible A → Act (Ans Node)
-  both e = wrapped K e.item.recs e.errors v.tag (λ _. p) (λ _. ns) []
+  both e = wrapped K e.item.recs e.errors (tag_number v.tag) (λ _. p) (λ _. ns) []
 
   -- the joined answer represents the second operand and the record of both
   pub joined : {T : List ℕ} {E : List Err} {h : Res (Ans Node)} → length T ≡ i → length E ≡ j

@@ -1,20 +1,23 @@
 -- The levels of an expression: boolean and, comparison, arithmetic operators, casts. Assumes nothing.
 use mathlib.Core.Path.{◌≡◌, refl, ap, ◌∙◌}
 use mathlib.Core.List.{List, [], ◌∷◌}
-use Prim.Native.Nat.{ℕ, zero, suc, ◌+◌, ◌-◌, ◌<◌, ◌≤◌}
+use Prim.Native.Nat.{ℕ, zero, suc, ◌+◌, ◌<◌, ◌≤◌}
 use native.Mathlib.Numerals.{add-one}
 use native.Mathlib.Omega.{arith}
 use lib.ListN.{length}
-use borrow.Author.Tests.{eq-eqb, ne_eqb}
+use Rattle.definition.specs.Numbers.{kind_number}
+use Rattle.std.specs.Prelude.{Option, Some}
+use Rattle.std.specs.Prelude as Std
 use Rattle.definition.specs.Node.{byte}
 use Rattle.definition.specs.Fallible.{Fallible, Ans, ok}
 use Rattle.definition.specs.Kind as K
-use Rattle.definition.specs.Token.{Tok, next_token, ◌is◌}
+use Rattle.definition.specs.Token.{next_token, ◌is◌}
 use Rattle.definition.specs.Act as A
 use Rattle.definition.specs.Act.{Act, done, Operators, Casts, Node, plain, St, run, next, ◌>>?◌}
 use Rattle.definition.specs.Parser as P
 use Rattle.definition.specs.Go.{go}
 use Rattle.definition.proofs.Flat.{go_loop}
+use Rattle.definition.specs.declared.tag.Tag.{Tag}
 use Rattle.fallible.specs.declared.parser.State.{State}
 use Rattle.fallible.specs.Answer.{Done, Answer}
 use Rattle.fallible.specs.Answers.{Abandoned}
@@ -24,7 +27,8 @@ use Rattle.steps.specs.Tokens.{rest, Seen}
 use Rattle.steps.specs.Shows.{st_of, Asked, Reads, Goes, GoesOn, node, NodeWritten}
 pub use Rattle.steps.specs.Shows.{untexted as at-operator}
 use Rattle.steps.proofs.Records.{yes, no, fore, adv}
-use Rattle.leaves.specs.Leaves.{level_at, Operator}
+use Rattle.leaves.specs.Leaves.{level_at, operator_of}
+use Rattle.leaves.proofs.Choices.{none_found, one_found, operator_real, level_end}
 use Rattle.expression_laws.specs.Post.{operators_on, levels_at, casts_on}
 use Rattle.expression_laws.proofs.Types.{past}
 use Rattle.expression_laws.proofs.Joins.{then_asked, goes_none, goes_joined, goes_turn, goes_further}
@@ -45,26 +49,22 @@ compare_on e = A.peek λ t. P.find t P.comparisons (compared e) (done (ok e))
 abbrev operated : A.Level → Fallible Node → ℕ → Act (Ans Node)
 operated l e o = next λ op. P.cascade l >>? λ r. operators_on l (P.binary 0x2D (byte o ∷ []) op.place e r)
 
--- which branch the definition takes at a token
-module _ {ops : List P.Op} {c op : ℕ} (k : Operator ops c op) (t : Tok) (e : t.kind ≡ c) (d : ℕ)
-    (found : ℕ → Act (Ans Node)) (other : Act (Ans Node)) (S : St) where
-  none_found : op ≡ 0 → go d (P.find t ops found other) S ≡ go d other S
-  none_found h = k.is t e found other d S ∙ rw (eq-eqb op 0 h)
-
-  one_found : (op ≡ 0 → ⊥) → go d (P.find t ops found other) S ≡ go d (found (op - 1)) S
-  one_found h = k.is t e found other d S ∙ rw (ne_eqb op 0 h)
+-- a kind that is no operator
+pub not_some : {A : Type 0} (r : Option A) → ((o : A) → r ≡ Some o → ⊥) → r ≡ Std.None
+not_some Std.None n = refl
+not_some (Some o) n = absurd (n o refl)
 
 module _ {w x : List ℕ} {n d i j : ℕ} {o r f : List ℕ} {a : Answer} {t : Token} (q : GoesOn w x n o r f a i j)
     (z : a.status ≡ Done) (u : Seen w n a.state.at t) where
   -- ---- `&&`
 
-  pub and_none : (t.kind ≡ 29 → ⊥) → Goes node node w x n d and_on i j o r f a o r f a
+  pub and_none : (kind_number t.kind ≡ 29 → ⊥) → Goes node node w x n d and_on i j o r f a o r f a
   unfolding go run
   and_none h = goes_none q z (λ e rd. rw (run, no u h))
 
-  pub and_found : {o1 r1 f1 r2 o2 : List ℕ} {b c y : Answer} → t.kind ≡ 29
+  pub and_found : {o1 r1 f1 r2 o2 : List ℕ} {b c y : Answer} → kind_number t.kind ≡ 29
       → Reads node w x n d P.parse_comparison o r f (fore a.state t) o1 r1 f1 b
-      → Abandoned r1 b i j a.state.reported r2 c → NodeWritten x o1 c (at-operator t.place 0x2C None) o2 y
+      → Abandoned r1 b i j a.state.reported r2 c → NodeWritten x o1 c (at-operator t.place Tag.BooleanAnd None) o2 y
       → Goes node node w x n d and_on i j o r f a o2 r2 f1 y
   unfolding go run
   and_found h B C F =
@@ -75,60 +75,60 @@ module _ {w x : List ℕ} {n d i j : ℕ} {o r f : List ℕ} {a : Answer} {t : T
 
   -- ---- comparisons and operators of a level
 
-  pub compare_none : {op : ℕ} → Operator P.comparisons t.kind op → op ≡ 0 → Goes node node w x n d compare_on i j o r f a o r f a
+  pub compare_none : {op : Option ℕ} → op ≡ operator_of P.comparisons (kind_number t.kind) → op ≡ Std.None → Goes node node w x n d compare_on i j o r f a o r f a
   unfolding go run
   compare_none k h =
       goes_none q z
-      (λ e rd. none_found k (next_token (rest w x n a.state.at)) (u.kind x) d (compared e) (done (ok e))
-      (st_of w x n f rd a.state) h)
+      (λ e rd. none_found (next_token (rest w x n a.state.at)) _ (u.kind x) (compared e) (done (ok e)) d
+      (st_of w x n f rd a.state) P.comparisons k h)
 
-  pub compare_found : {op : ℕ} {o1 r1 f1 r2 o2 : List ℕ} {b c y : Answer} → Operator P.comparisons t.kind op → (op ≡ 0 → ⊥)
+  pub compare_found : {op : Option ℕ} {m : ℕ} {o1 r1 f1 r2 o2 : List ℕ} {b c y : Answer} → op ≡ operator_of P.comparisons (kind_number t.kind) → op ≡ Some m
       → Reads node w x n d P.parse_bitwise_or o r f (fore a.state t) o1 r1 f1 b
-      → Abandoned r1 b i j a.state.reported r2 c → NodeWritten x o1 c (at-operator t.place 0x2E (Byte (op - 1))) o2 y
+      → Abandoned r1 b i j a.state.reported r2 c → NodeWritten x o1 c (at-operator t.place Tag.ComparisonBinOp (Byte m)) o2 y
       → Goes node node w x n d compare_on i j o r f a o2 r2 f1 y
   unfolding go run
-  compare_found {op} k h B C F =
-      goes_joined (next_token (rest w x n a.state.at)).place (byte (op - 1) ∷ []) q z u B C F
-      (omega (arith, k.real)) (rw u.place) (past w x n a.state.at)
-      (λ e rd. one_found k (next_token (rest w x n a.state.at)) (u.kind x) d (compared e) (done (ok e))
-      (st_of w x n f rd a.state) h ∙ ap (λ (S : St). go d (P.parse_bitwise_or >>? λ r. done
-      (ok (P.binary 0x2E (byte (op - 1) ∷ []) (next_token (rest w x n a.state.at)).place e r))) S)
+  compare_found {op} {m} k h B C F =
+      goes_joined (next_token (rest w x n a.state.at)).place (byte m ∷ []) q z u B C F
+      (omega (arith, operator_real P.comparisons (kind_number t.kind) refl k h)) (rw u.place) (past w x n a.state.at)
+      (λ e rd. one_found (next_token (rest w x n a.state.at)) _ (u.kind x) (compared e) (done (ok e)) d
+      (st_of w x n f rd a.state) P.comparisons k h ∙ ap (λ (S : St). go d (P.parse_bitwise_or >>? λ r. done
+      (ok (P.binary 0x2E (byte m ∷ []) (next_token (rest w x n a.state.at)).place e r))) S)
       (adv a.state u (λ _. plain) f rd _))
 
-  module _ (l : A.Level) {op : ℕ} (k : Operator (P.mapping l) t.kind op) where
-    pub operators_none : op ≡ 0 → Goes node node w x n d (operators_on l) i j o r f a o r f a
+  module _ (l : A.Level) {op : Option ℕ} (k : op ≡ operator_of (P.mapping l) (kind_number t.kind)) where
+    pub operators_none : op ≡ Std.None → Goes node node w x n d (operators_on l) i j o r f a o r f a
     unfolding go run P.operators_turn
     operators_none h =
-        goes_none q z (λ e rd. go_loop d (Operators l e) (st_of w x n f rd a.state) ∙ none_found k
-        (next_token (rest w x n a.state.at)) (u.kind x) d (operated l e) (done (ok e))
-        (st_of w x n f rd a.state) h)
+        goes_none q z (λ e rd. go_loop d (Operators l e) (st_of w x n f rd a.state) ∙ none_found
+        (next_token (rest w x n a.state.at)) _ (u.kind x) (operated l e) (done (ok e)) d
+        (st_of w x n f rd a.state) (P.mapping l) k h)
 
-    pub operators_more : {o1 r1 f1 r2 o2 o3 r3 f3 : List ℕ} {b c y y' : Answer} → (op ≡ 0 → ⊥)
+    pub operators_more : {m : ℕ} {o1 r1 f1 r2 o2 o3 r3 f3 : List ℕ} {b c y y' : Answer} → op ≡ Some m
         → Reads node w x n d (P.cascade l) o r f (fore a.state t) o1 r1 f1 b
         → Abandoned r1 b i j a.state.reported r2 c
-        → NodeWritten x o1 c (at-operator t.place 0x2D (Byte (op - 1))) o2 y
+        → NodeWritten x o1 c (at-operator t.place Tag.ArithmeticBinOp (Byte m)) o2 y
         → Goes node node w x n d (operators_on l) i j o2 r2 f1 y o3 r3 f3 y'
         → Goes node node w x n d (operators_on l) i j o r f a o3 r3 f3 y'
     unfolding go run P.operators_turn
-    operators_more h B C F G =
-        goes_turn (next_token (rest w x n a.state.at)).place (byte (op - 1) ∷ []) q z u B C F
-        (omega (arith, k.real)) (rw u.place) (past w x n a.state.at)
-        (λ e b. P.binary 0x2D (byte (op - 1) ∷ []) (next_token (rest w x n a.state.at)).place e b) (λ e b. refl)
-        (λ e rd. go_loop d (Operators l e) (st_of w x n f rd a.state) ∙ one_found k
-        (next_token (rest w x n a.state.at)) (u.kind x) d (operated l e) (done (ok e))
-        (st_of w x n f rd a.state) h ∙ ap (λ (S : St). go d (P.cascade l >>? λ b. operators_on l
-        (P.binary 0x2D (byte (op - 1) ∷ []) (next_token (rest w x n a.state.at)).place e b)) S)
+    operators_more {m} h B C F G =
+        goes_turn (next_token (rest w x n a.state.at)).place (byte m ∷ []) q z u B C F
+        (omega (arith, operator_real (P.mapping l) (kind_number t.kind) (level_end l) k h)) (rw u.place) (past w x n a.state.at)
+        (λ e b. P.binary 0x2D (byte m ∷ []) (next_token (rest w x n a.state.at)).place e b) (λ e b. refl)
+        (λ e rd. go_loop d (Operators l e) (st_of w x n f rd a.state) ∙ one_found
+        (next_token (rest w x n a.state.at)) _ (u.kind x) (operated l e) (done (ok e)) d
+        (st_of w x n f rd a.state) (P.mapping l) k h ∙ ap (λ (S : St). go d (P.cascade l >>? λ b. operators_on l
+        (P.binary 0x2D (byte m ∷ []) (next_token (rest w x n a.state.at)).place e b)) S)
         (adv a.state u (λ _. plain) f rd _)) G
 
   -- ---- casts
 
-  pub casts_none : (t.kind ≡ 14 → ⊥) → Goes node node w x n d casts_on i j o r f a o r f a
+  pub casts_none : (kind_number t.kind ≡ 14 → ⊥) → Goes node node w x n d casts_on i j o r f a o r f a
   unfolding go run P.casts_turn
   casts_none h = goes_none q z (λ e rd. go_loop d (Casts e) (st_of w x n f rd a.state) ∙ rw (run, no u h))
 
-  pub casts_more : {o1 r1 f1 r2 o2 o3 r3 f3 : List ℕ} {b c y y' : Answer} → t.kind ≡ 14
+  pub casts_more : {o1 r1 f1 r2 o2 o3 r3 f3 : List ℕ} {b c y y' : Answer} → kind_number t.kind ≡ 14
       → Reads node w x n d P.parse_type o r f (fore a.state t) o1 r1 f1 b
-      → Abandoned r1 b i j a.state.reported r2 c → NodeWritten x o1 c (at-operator t.place 0x26 None) o2 y
+      → Abandoned r1 b i j a.state.reported r2 c → NodeWritten x o1 c (at-operator t.place Tag.Cast None) o2 y
       → Goes node node w x n d casts_on i j o2 r2 f1 y o3 r3 f3 y' → Goes node node w x n d casts_on i j o r f a o3 r3 f3 y'
   unfolding go run P.casts_turn
   casts_more h B C F G =

@@ -4,6 +4,7 @@ use mathlib.Core.List.{List, [], append-nil}
 use Prim.Native.Nat.{ℕ, ◌≤◌, ◌<◌}
 use native.Mathlib.Omega.{arith}
 use lib.ListN.{length, take}
+use Rattle.definition.specs.Numbers.{kind_number}
 use Rattle.definition.specs.Node.{recs_bytes}
 use Rattle.definition.specs.Fallible.{Err, Ans}
 use Rattle.definition.specs.Token.{Tok, next_token}
@@ -75,7 +76,7 @@ listing k d S =
     one (refused m) = refl
 
 module _ {w x : List ℕ} {n wanted : ℕ} (k : A.Listed) {o r f r1 f1 : List ℕ} {s : State} {a : Answer}
-    (q : Asked w x n o r f s) (c : (wanted ≡ P.opener k) × ((0 < wanted) × (wanted < 256)))
+    (q : Asked w x n o r f s) (c : (wanted ≡ P.opener k) × (0 < wanted))
     (e : Expects w n (λ role. P.expect_as role wanted) r f s r1 f1 a) where
   opens : (d : ℕ) (rd : List Consumed)
       → Shows (token (next_token (rest w x n s.at))) (take s.pos o) (errs r s.reported) [] [] w x n o r1 f1 a
@@ -122,7 +123,7 @@ module _ {w x : List ℕ} {n wanted : ℕ} (k : A.Listed) {o r f r1 f1 : List �
 
 module _ {w x : List ℕ} {n count : ℕ} (k : A.Listed) {o r f : List ℕ} {s : State} {t : Token}
     (q : Asked w x n o r f s × (count ≤ s.at)) (v : Seen w n s.at t) where
-  pub rest_end : {d e : ℕ} {r1 f1 : List ℕ} {b : Answer} → t.kind ≡ 0 → unpack e ≡ error_at 14 0 0 0
+  pub rest_end : {d e : ℕ} {r1 f1 : List ℕ} {b : Answer} → kind_number t.kind ≡ 0 → unpack e ≡ error_at 14 0 0 0
       → Raised (noted n s) r f s e r1 f1 b
       → LoopOn (listed_on k) w x n d count o r f s o r1 f1
       (record { status = b.status; state = b.state; place = 0; count = count })
@@ -131,8 +132,8 @@ module _ {w x : List ℕ} {n count : ℕ} (k : A.Listed) {o r f : List ℕ} {s :
       loop_ended (listed_on k) q v g (λ rd l. go_loop d (ListOf k l) (st_of w x n f rd s) ∙ rw (run, yes v z)
       (ap (λ (X : Err). go d (make X (done (P.with_error l X))) (st_of w x n f rd s)) (sym i)))
 
-  module _ {close : ℕ} (m0 : t.kind ≡ 0 → ⊥) (c : close ≡ P.closer k) where
-    pub rest_closed : {d : ℕ} → t.kind ≡ close
+  module _ {close : ℕ} (m0 : kind_number t.kind ≡ 0 → ⊥) (c : close ≡ P.closer k) where
+    pub rest_closed : {d : ℕ} → kind_number t.kind ≡ close
         → LoopOn (listed_on k) w x n d count o r f s o r f
         (record { status = Done; state = fore s t; place = 0; count = count })
     unfolding go run P.list_turn
@@ -141,7 +142,7 @@ module _ {w x : List ℕ} {n count : ℕ} (k : A.Listed) {o r f : List ℕ} {s :
         (λ rd l. go_loop d (ListOf k l) (st_of w x n f rd s) ∙ rw (run, no v m0, yes v (z ∙ c))
         (ap (λ (S : St). gives l S) (adv s v (λ _. plain) f rd _)))
 
-    module _ {d : ℕ} {o1 r1 f1 : List ℕ} {b : Answer} (mc : t.kind ≡ close → ⊥)
+    module _ {d : ℕ} {o1 r1 f1 : List ℕ} {b : Answer} (mc : kind_number t.kind ≡ close → ⊥)
         (u : Reads node w x n d (P.item k) o r f s o1 r1 f1 b) where
       -- a turn that reads an item
       item_turn : (rd : List Consumed) (l : Items)
@@ -196,7 +197,7 @@ module _ {w x : List ℕ} {n count : ℕ} (k : A.Listed) {o r f : List ℕ} {s :
 -- ---- what their calls require
 
 module _ {w x : List ℕ} {n d count : ℕ} {act : Act (Ans Node)} {o r f o1 r1 f1 : List ℕ} {s : State} {t : Token}
-    {b : Answer} (q : Asked w x n o r f s × (count ≤ s.at)) (v : Seen w n s.at t) (m0 : t.kind ≡ 0 → ⊥)
+    {b : Answer} (q : Asked w x n o r f s × (count ≤ s.at)) (v : Seen w n s.at t) (m0 : kind_number t.kind ≡ 0 → ⊥)
     (u : Reads node w x n d act o r f s o1 r1 f1 b) where
   pub comma_asks : length r1 ≡ length r → length f1 ≡ length f → Asks w n r1 f1 b.state
   comma_asks l g = asks_moved q.0.asks u.moved l g

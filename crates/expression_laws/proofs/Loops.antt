@@ -4,6 +4,7 @@ use mathlib.Core.List.{List, [], ◌∷◌, ◌++◌}
 use Prim.Native.Nat.{ℕ, ◌≤◌}
 use native.Mathlib.Omega.{arith}
 use lib.ListN.{length, take}
+use Rattle.definition.specs.Numbers.{kind_number}
 use Rattle.definition.specs.Node.{recs_bytes}
 use Rattle.definition.specs.Fallible.{Err, Ans, ok, fatal}
 use Rattle.definition.specs.Act.{Act, Items, Node, done, make, Consumed, Res, gives, refused, after, run, ◌>>=◌}
@@ -183,7 +184,7 @@ module _ {w x : List ℕ} {n d : ℕ} {o r f o1 r1 f1 : List ℕ} {s : State} {b
 -- what the next turn requires: an item consumes the token that begins it
 pub loop_asked : {w x : List ℕ} {n d count k : ℕ} {m : Act (Ans Node)} {o r f o1 r1 f1 : List ℕ} {s : State} {b : Answer}
     {t : Token}
-    → Asked w x n o r f s × (count ≤ s.at) → Seen w n s.at t → (t.kind ≡ 0 → ⊥)
+    → Asked w x n o r f s × (count ≤ s.at) → Seen w n s.at t → (kind_number t.kind ≡ 0 → ⊥)
     → Reads node w x n d m o r f s o1 r1 f1 b → Counted b.status count k → length o1 ≡ length o
     → length r1 ≡ length r → length f1 ≡ length f
     → Asked w x n o1 r1 f1 b.state × (k ≤ b.state.at)

@@ -6,6 +6,7 @@ use native.Mathlib.Omega.{arith}
 use lib.ListN.{length, take, drop, length-drop}
 use lib.Seq.{length-take-le}
 use borrow.Author.Tests.{eq-eqb, ne_eqb}
+use Rattle.definition.specs.Numbers.{kind_number}
 use Rattle.definition.specs.Ascii.{ascii}
 use Rattle.definition.specs.Node.{recs_bytes}
 use Rattle.definition.specs.Fallible.{Err, Fallible, Ans, ok}
@@ -14,6 +15,7 @@ use Rattle.definition.specs.Act.{Node, Act, make, plain, Consumed, St, Res, give
 use Rattle.definition.specs.Parser as P
 use Rattle.definition.specs.Go.{go}
 use Rattle.definition.proofs.Flat.{go_bind}
+use Rattle.definition.specs.declared.tag.Tag.{Tag}
 use Rattle.node.specs.Put.{Room, Wrote, bare_of, bare_size}
 use Rattle.node.specs.declared.Numbers.TheVariants.{None}
 use Rattle.fallible.specs.declared.parser.State.{State}
@@ -24,7 +26,7 @@ use Rattle.fallible.proofs.Grown.{errs_length}
 use Rattle.steps.specs.declared.tokens.Token.{Token}
 use Rattle.steps.specs.Tokens.{rest, budget, Parts, Seen}
 use Rattle.steps.specs.Shows.{st_of, Asks, Asked, Moved, View, Good, ShowsOf, Shows, node, typed, token, Reads, Expects, NodeWritten, Follows, Followed, ExpectedOf, Expected}
-use Rattle.steps.proofs.Records.{yes, no, fore, adv}
+use Rattle.steps.proofs.Records.{yes, no, other, fore, adv}
 use Rattle.steps.proofs.Moves.{spent, refused_moved, asks_fore, asks_moved, fore_moved, making_moved, moved_trans, asked_moved, abandoned_moved}
 use Rattle.steps.proofs.OneToken.{making_pos}
 use Rattle.steps.proofs.Answers.{alike, Stopped, say, good_of, not_done, done_le, stops, follows, abandons, wrote, wrapped, raise_same}
@@ -75,7 +77,7 @@ module _ {w x : List ℕ} {n : ℕ} {o : List ℕ} {a : Answer} {tag at : ℕ} (
           is = rw (z, e) (refl, (record { end = omega (arith, u.end); is = u.is }, refl));
         }
 
-    pub bare_name : {o' : List ℕ} {p : ℕ} → t.kind ≡ 1
+    pub bare_name : {o' : List ℕ} {p : ℕ} → kind_number t.kind ≡ 1
         → Wrote o a.state.pos (bare_of tag None (take t.len (drop t.start x))) (bare_size None t.len)
         o' p
         → BareNamed w x n o a tag at o' (record {
@@ -89,7 +91,7 @@ module _ {w x : List ℕ} {n : ℕ} {o : List ℕ} {a : Answer} {tag at : ℕ} (
         let g = ap length (v.text x) in
         named (rw (eq-eqb _ _ (v.kind x ∙ y)) (v.text x)) (omega arith) (omega arith) u
 
-    pub bare_unknown : {o' : List ℕ} {p : ℕ} → (t.kind ≡ 1 → ⊥)
+    pub bare_unknown : {o' : List ℕ} {p : ℕ} → (kind_number t.kind ≡ 1 → ⊥)
         → Wrote o a.state.pos (bare_of tag None (take 3 (drop 0 unknown))) (bare_size None 3) o' p
         → BareNamed w x n o a tag at o' (record {
           status = a.status;
@@ -232,7 +234,7 @@ error_same d p q = rw (p, q)
 
 module _ {w x : List ℕ} {n : ℕ} {o r f : List ℕ} {s : State} {t : Token} (q : Asked w x n o r f s) (v : Seen w n s.at t) where
   -- the first token is an identifier, the end, or another token: error 4 is refused or noted
-  pub identifier_name : {d : ℕ} {o1 r1 f1 : List ℕ} {a : Answer} → t.kind ≡ 1
+  pub identifier_name : {d : ℕ} {o1 r1 f1 : List ℕ} {a : Answer} → kind_number t.kind ≡ 1
       → TypedOn w x n d s.reported o r f (fore s t) o1 r1 f1 a → ReadsTyped w x n d o r f s o1 r1 f1 a
   unfolding go run P.parse_typed_identifier
   identifier_name {d} {a = a} z u = record {
@@ -246,63 +248,62 @@ module _ {w x : List ℕ} {n : ℕ} {o r f : List ℕ} {s : State} {t : Token} (
         (sym (append-nil _))));
   }
 
-  module _ (m1 : t.kind ≡ 1 → ⊥) where
-    pub identifier_end : {d e : ℕ} {r' f' : List ℕ} {a : Answer} → t.kind ≡ 0 → unpack e ≡ error_at 5 0 0 0
-        → Raised (raised n (fore s t)) r f (fore s t) e r' f' a → ReadsTyped w x n d o r f s o r' f' a
+  pub identifier_end : {d e : ℕ} {r' f' : List ℕ} {a : Answer} → kind_number t.kind ≡ 0 → unpack e ≡ error_at 5 0 0 0
+      → Raised (raised n (fore s t)) r f (fore s t) e r' f' a → ReadsTyped w x n d o r f s o r' f' a
+  unfolding go run P.parse_typed_identifier
+  identifier_end {d} {a = a} z i g =
+      let u : Reads (typed (name_of (next_token (rest w x n s.at)))) w x n d P.parse_typed_identifier o r f s o _ _ a =
+      raise_reads q.asks v plain g d
+      (λ rd. rw (run, other v z 1 refl, yes v z) (raise_same d (sym i) (adv s v (λ _. plain) f rd _))) in
+      record {
+        moved = u.moved;
+        on = u.on;
+        spare =
+            made_so Fatal n (fore s t)
+            (λ y. y.state.pos + budget w n y.state.at + 32 * done_of y.status + length
+            (next_token (rest w x n s.at)).text ≤ s.pos + budget w n s.at) g.is
+            (λ _. omega (arith, text_length q.parts v, v.pays))
+            (λ _. omega (arith, text_length q.parts v, v.pays, spent w n));
+        is = u.is;
+      }
+
+  module _ {e : ℕ} {r1 f1 : List ℕ} {b : Answer} (m1 : kind_number t.kind ≡ 1 → ⊥) (m0 : kind_number t.kind ≡ 0 → ⊥)
+      (i : unpack e ≡ error_at 4 t.place 0 0)
+      (g : Raised (noted n (fore s t)) r f (fore s t) e r1 f1 b) where
+    -- the definition makes error 4
+    unnamed : (d : ℕ) (rd : List Consumed)
+        → go d P.parse_typed_identifier (st_of w x n f rd s)
+        ≡ go d (make (unpack e) (P.typed (ascii "<?>") (unpack e ∷ [])))
+        (st_of w x n f (past w x n s.at rd) (fore s t))
     unfolding go run P.parse_typed_identifier
-    identifier_end {d} {a = a} z i g =
-        let u : Reads (typed (name_of (next_token (rest w x n s.at)))) w x n d P.parse_typed_identifier o r f s o _ _ a =
-        raise_reads q.asks v plain g d
-        (λ rd. rw (run, no v m1, yes v z) (raise_same d (sym i) (adv s v (λ _. plain) f rd _))) in
+    unnamed d rd = rw (run, no v m1, no v m0) (error_same d (rw v.place (sym i)) (adv s v (λ _. plain) f rd _))
+
+    pub identifier_refused : {d : ℕ} → Stopped b → ReadsTyped w x n d o r f s o r1 f1 b
+    identifier_refused {d} nd =
+        let h = note_none n g nd in
+        rw h.1 (record {
+          moved = moved_trans (fore_moved q.asks v) (refused_moved (asks_fore q.asks v) 12);
+          on = omega (arith, v.present, v.on, v.end);
+          spare = omega (arith, text_length q.parts v, v.pays, spent w n);
+          is = λ rd. record { told = unnamed d rd ∙ makes_none (asks_fore q.asks v) g d _ _ x h.0 };
+        })
+
+    pub identifier_noted : {d : ℕ} {o2 r2 f2 : List ℕ} {a : Answer} → b.status ≡ Done
+        → TypedOn w x n d s.reported o r1 f1 b.state o2 r2 f2 a → ReadsTyped w x n d o r f s o2 r2 f2 a
+    identifier_noted {d} {o2} {r2} {f2} {a} z u =
+        let h = note_there n g z in
+        let k : TypedOn w x n d s.reported o r1 f1 (one_more (fore s t)) o2 r2 f2 a = rw h.1 at u in
+        let m : Moved w n s.pos s.reported s a.state = omega (arith, v, k.moved) in
         record {
-          moved = u.moved;
-          on = u.on;
-          spare =
-              made_so Fatal n (fore s t)
-              (λ y. y.state.pos + budget w n y.state.at + 32 * done_of y.status + length
-              (next_token (rest w x n s.at)).text ≤ s.pos + budget w n s.at) g.is
-              (λ _. omega (arith, text_length q.parts v, v.pays))
-              (λ _. omega (arith, text_length q.parts v, v.pays, spent w n));
-          is = u.is;
+          moved = m;
+          on = omega (arith, v.present, v.on, k.moved.at);
+          spare = omega (arith, text_length q.parts v, v.pays, k.spare, done_le a.status);
+          is =
+              λ rd. renamed {u' = ascii "<?>"} (rw (ne_eqb _ _ (λ y. m1 (sym (v.kind x) ∙ y))))
+              (say (unnamed d rd ∙ makes (asks_fore q.asks v) g d _ _ x h.0)
+              (k.is (past w x n s.at rd) (ascii "<?>") (errs r s.reported) (unpack e ∷ []) (len_reported q)
+              (g.reported h.0)));
         }
-
-    module _ {e : ℕ} {r1 f1 : List ℕ} {b : Answer} (m0 : t.kind ≡ 0 → ⊥)
-        (i : unpack e ≡ error_at 4 t.place 0 0)
-        (g : Raised (noted n (fore s t)) r f (fore s t) e r1 f1 b) where
-      -- the definition makes error 4
-      unnamed : (d : ℕ) (rd : List Consumed)
-          → go d P.parse_typed_identifier (st_of w x n f rd s)
-          ≡ go d (make (unpack e) (P.typed (ascii "<?>") (unpack e ∷ [])))
-          (st_of w x n f (past w x n s.at rd) (fore s t))
-      unfolding go run P.parse_typed_identifier
-      unnamed d rd = rw (run, no v m1, no v m0) (error_same d (rw v.place (sym i)) (adv s v (λ _. plain) f rd _))
-
-      pub identifier_refused : {d : ℕ} → Stopped b → ReadsTyped w x n d o r f s o r1 f1 b
-      identifier_refused {d} nd =
-          let h = note_none n g nd in
-          rw h.1 (record {
-            moved = moved_trans (fore_moved q.asks v) (refused_moved (asks_fore q.asks v) 12);
-            on = omega (arith, v.present, v.on, v.end);
-            spare = omega (arith, text_length q.parts v, v.pays, spent w n);
-            is = λ rd. record { told = unnamed d rd ∙ makes_none (asks_fore q.asks v) g d _ _ x h.0 };
-          })
-
-      pub identifier_noted : {d : ℕ} {o2 r2 f2 : List ℕ} {a : Answer} → b.status ≡ Done
-          → TypedOn w x n d s.reported o r1 f1 b.state o2 r2 f2 a → ReadsTyped w x n d o r f s o2 r2 f2 a
-      identifier_noted {d} {o2} {r2} {f2} {a} z u =
-          let h = note_there n g z in
-          let k : TypedOn w x n d s.reported o r1 f1 (one_more (fore s t)) o2 r2 f2 a = rw h.1 at u in
-          let m : Moved w n s.pos s.reported s a.state = omega (arith, v, k.moved) in
-          record {
-            moved = m;
-            on = omega (arith, v.present, v.on, k.moved.at);
-            spare = omega (arith, text_length q.parts v, v.pays, k.spare, done_le a.status);
-            is =
-                λ rd. renamed {u' = ascii "<?>"} (rw (ne_eqb _ _ (λ y. m1 (sym (v.kind x) ∙ y))))
-                (say (unnamed d rd ∙ makes (asks_fore q.asks v) g d _ _ x h.0)
-                (k.is (past w x n s.at rd) (ascii "<?>") (errs r s.reported) (unpack e ∷ []) (len_reported q)
-                (g.reported h.0)));
-          }
 
 -- ---- `named`
 
@@ -488,7 +489,7 @@ module _ {w x : List ℕ} {n : ℕ} {o r f r1 f1 : List ℕ} {s : State} {t : To
 
       pub field_done : {o4 : List ℕ} {y : Answer}
           → NodeWritten x o3 c (record {
-            tag = 50;
+            tag = Tag.CompoundField;
             place = b.place;
             numbers = None;
             start = t.start;

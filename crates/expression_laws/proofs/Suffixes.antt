@@ -5,6 +5,7 @@ use mathlib.Core.List.{List, [], ◌∷◌, ◌++◌}
 use Prim.Native.Nat.{ℕ}
 use native.Mathlib.Omega.{arith}
 use lib.ListN.{length, take}
+use Rattle.definition.specs.Numbers.{kind_number, tag_number}
 use Rattle.definition.specs.Source.{Place}
 use Rattle.definition.specs.Fallible.{Err, Fallible, Ans, ok}
 use Rattle.definition.specs.Kind as K
@@ -14,6 +15,7 @@ use Rattle.definition.specs.Act.{Act, Suffixes, Node, Consumed, plain, St, Res, 
 use Rattle.definition.specs.Parser as P
 use Rattle.definition.specs.Go.{go}
 use Rattle.definition.proofs.Flat.{go_bind, go_loop}
+use Rattle.definition.specs.declared.tag.Tag.{Tag}
 use Rattle.fallible.proofs.Grown.{errs_length}
 use Rattle.fallible.specs.declared.parser.State.{State}
 use Rattle.fallible.specs.Answer.{Done, Answer}
@@ -25,7 +27,7 @@ use Rattle.node.specs.declared.Record.{Record}
 use Rattle.steps.specs.declared.tokens.Token.{Token}
 use Rattle.steps.specs.Tokens.{rest, budget, Seen}
 use Rattle.steps.specs.Shows.{st_of, Asks, Moved, Shows, Reads, Goes, GoesOn, node, Follows, Expected, NodeWritten}
-use Rattle.steps.proofs.Records.{yes, no, fore, adv}
+use Rattle.steps.proofs.Records.{yes, no, other, fore, adv}
 use Rattle.steps.proofs.Moves.{asks_fore, fore_moved, refused_moved, making_moved, moved_trans, asks_moved}
 use Rattle.steps.proofs.Answers.{say, good_of, is_good, follows, abandons, wrapped, writes_node, errs_join}
 use Rattle.steps.proofs.Constructs.{seam}
@@ -47,7 +49,7 @@ dotted p e n =
     (Act.when◌then◌else◌ (n is K.Identifier) (suffixes_on (P.wrap 0x29 p n.text e))
     (Act.make (P.error 4 n.place 0 0) (P.good e.item (e.errors ++ (P.error 4 n.place 0 0 ∷ [])))))
 
-dot_step : {w : List ℕ} {n : ℕ} {t : Token} (d : ℕ) (f : List ℕ) (s : State) → Seen w n s.at t → t.kind ≡ 34
+dot_step : {w : List ℕ} {n : ℕ} {t : Token} (d : ℕ) (f : List ℕ) (s : State) → Seen w n s.at t → kind_number t.kind ≡ 34
     → (e : Fallible Node) (rd : List Consumed) (x : List ℕ)
     → go d (suffixes_on e) (st_of w x n f rd s)
     ≡ go d (Act.next (dotted (next_token (rest w x n s.at)).place e))
@@ -61,13 +63,13 @@ dot_step {w} {n} d f s u h e rd x =
 -- ---- a record after the operand alone, and the next turn
 
 module _ {w x : List ℕ} {n d i j : ℕ} {o r f o2 o3 r3 f3 : List ℕ} {a y y' : Answer} {on : State} {v : Record} (p : Place) (text : List ℕ) (q : GoesOn w x n o r f a i j) (z : a.status ≡ Done)
-    (F : NodeWritten x o (record { status = a.status; state = on; place = a.place; count = a.count }) v o2 y) (made : rec_of x v ≡ record { tag = v.tag; place = some p; numbers = []; text = text }) where
+    (F : NodeWritten x o (record { status = a.status; state = on; place = a.place; count = a.count }) v o2 y) (made : rec_of x v ≡ record { tag = tag_number v.tag; place = some p; numbers = []; text = text }) where
   -- the operand gets the record v, and the loop continues
   pub goes_wrapped : (rd' : List Consumed → List Consumed) → on.pos ≡ a.state.pos → on.reported ≡ a.state.reported
       → on.full ≡ a.state.full → Moved w n i j a.state y.state
       → ((e : Fallible Node) (rd : List Consumed)
       → go d (suffixes_on e) (st_of w x n f rd a.state)
-      ≡ go d (suffixes_on (P.wrap v.tag p text e)) (st_of w x n f (rd' rd) on))
+      ≡ go d (suffixes_on (P.wrap (tag_number v.tag) p text e)) (st_of w x n f (rd' rd) on))
       → Goes node node w x n d suffixes_on i j o2 r f y o3 r3 f3 y'
       → Goes node node w x n d suffixes_on i j o r f a o3 r3 f3 y'
   unfolding go run
@@ -91,9 +93,9 @@ module _ {w x : List ℕ} {n d i j : ℕ} {o r f o2 o3 r3 f3 : List ℕ} {a y y'
 -- how the state moves in a turn without an index
 module _ {w x : List ℕ} {n i j : ℕ} {o r f : List ℕ} {a : Answer} {t : Token} (q : GoesOn w x n o r f a i j)
     (u : Seen w n a.state.at t) where
-  pub star_moved : {o2 : List ℕ} {y : Answer} → t.kind ≡ 35
+  pub star_moved : {o2 : List ℕ} {y : Answer} → kind_number t.kind ≡ 35
       → NodeWritten x o (record { status = a.status; state = fore a.state t; place = a.place; count = a.count })
-      (record { tag = 0x28; place = t.place; numbers = None; start = 0; len = 0 }) o2 y
+      (record { tag = Tag.PointerDereference; place = t.place; numbers = None; start = 0; len = 0 }) o2 y
       → Moved w n i j a.state y.state
   star_moved {y = y} k F =
       let e : budget w n y.state.at ≡ budget w n t.next = ap (λ (k : ℕ). budget w n k) F.at in
@@ -108,10 +110,10 @@ module _ {w x : List ℕ} {n i j : ℕ} {o r f : List ℕ} {a : Answer} {t : Tok
         few = omega (arith, F.full, q.asked.asks.few);
       }
 
-  pub dot_moved : {v : Token} {o2 : List ℕ} {y : Answer} → Seen w n t.next v → v.kind ≡ 1
+  pub dot_moved : {v : Token} {o2 : List ℕ} {y : Answer} → Seen w n t.next v → kind_number v.kind ≡ 1
       → NodeWritten x o
       (record { status = a.status; state = fore (fore a.state t) v; place = a.place; count = a.count })
-      (record { tag = 0x29; place = t.place; numbers = None; start = v.start; len = v.len })
+      (record { tag = Tag.FieldAccess; place = t.place; numbers = None; start = v.start; len = v.len })
       o2 y
       → Moved w n i j a.state y.state
   dot_moved {v} {y = y} s k F =
@@ -130,29 +132,29 @@ module _ {w x : List ℕ} {n i j : ℕ} {o r f : List ℕ} {a : Answer} {t : Tok
 module _ {w x : List ℕ} {n d i j : ℕ} {o r f : List ℕ} {a : Answer} {t : Token} (q : GoesOn w x n o r f a i j)
     (z : a.status ≡ Done) (u : Seen w n a.state.at t) where
   -- no suffix follows
-  pub suffix_none : (t.kind ≡ 34 → ⊥) → (t.kind ≡ 35 → ⊥) → (t.kind ≡ 43 → ⊥) → Goes node node w x n d suffixes_on i j o r f a o r f a
+  pub suffix_none : (kind_number t.kind ≡ 34 → ⊥) → (kind_number t.kind ≡ 35 → ⊥) → (kind_number t.kind ≡ 43 → ⊥) → Goes node node w x n d suffixes_on i j o r f a o r f a
   unfolding go run P.suffixes_turn
   suffix_none h k l = goes_none q z (λ e rd. go_loop d (Suffixes e) (st_of w x n f rd a.state) ∙ rw (run, no u h, no u k, no u l))
 
   -- ---- `.*`
 
-  pub suffix_star : {o2 o3 r3 f3 : List ℕ} {y y' : Answer} → (t.kind ≡ 34 → ⊥) → t.kind ≡ 35
+  pub suffix_star : {o2 o3 r3 f3 : List ℕ} {y y' : Answer} → kind_number t.kind ≡ 35
       → NodeWritten x o (record { status = a.status; state = fore a.state t; place = a.place; count = a.count })
-      (record { tag = 0x28; place = t.place; numbers = None; start = 0; len = 0 }) o2 y
+      (record { tag = Tag.PointerDereference; place = t.place; numbers = None; start = 0; len = 0 }) o2 y
       → Goes node node w x n d suffixes_on i j o2 r f y o3 r3 f3 y' → Goes node node w x n d suffixes_on i j o r f a o3 r3 f3 y'
   unfolding go run P.suffixes_turn
-  suffix_star h k F G =
+  suffix_star k F G =
       goes_wrapped (next_token (rest w x n a.state.at)).place [] q z F (rw u.place) (past w x n a.state.at) refl refl refl
       (star_moved q u k F)
-      (λ e rd. go_loop d (Suffixes e) (st_of w x n f rd a.state) ∙ rw (run, no u h, yes u k)
+      (λ e rd. go_loop d (Suffixes e) (st_of w x n f rd a.state) ∙ rw (run, other u k 34 refl, yes u k)
       (ap (λ (S : St). go d (suffixes_on (P.wrap 0x28 (next_token (rest w x n a.state.at)).place [] e)) S)
       (adv a.state u (λ _. plain) f rd _))) G
 
   -- ---- `.name`
 
-  module _ {v : Token} (h : t.kind ≡ 34) (s : Seen w n t.next v) where
+  module _ {v : Token} (h : kind_number t.kind ≡ 34) (s : Seen w n t.next v) where
     -- the end after the dot is refused
-    pub dot_end : {y : Answer} → v.kind ≡ 0 → y ≡ refused_at n a.state 11 → Goes node node w x n d suffixes_on i j o r f a o r f y
+    pub dot_end : {y : Answer} → kind_number v.kind ≡ 0 → y ≡ refused_at n a.state 11 → Goes node node w x n d suffixes_on i j o r f a o r f y
     unfolding go run P.suffixes_turn
     dot_end k e =
         rw e
@@ -178,11 +180,11 @@ module _ {w x : List ℕ} {n d i j : ℕ} {o r f : List ℕ} {a : Answer} {t : T
               };
         })
 
-    pub dot_name : {o2 o3 r3 f3 : List ℕ} {y y' : Answer} → (v.kind ≡ 0 → ⊥) → v.kind ≡ 1
+    pub dot_name : {o2 o3 r3 f3 : List ℕ} {y y' : Answer} → kind_number v.kind ≡ 1
         → NodeWritten x o
         (record { status = a.status; state = fore (fore a.state t) v; place = a.place; count = a.count })
         (record {
-          tag = 0x29;
+          tag = Tag.FieldAccess;
           place = t.place;
           numbers = None;
           start = v.start;
@@ -190,16 +192,16 @@ module _ {w x : List ℕ} {n d i j : ℕ} {o r f : List ℕ} {a : Answer} {t : T
         }) o2 y
         → Goes node node w x n d suffixes_on i j o2 r f y o3 r3 f3 y' → Goes node node w x n d suffixes_on i j o r f a o3 r3 f3 y'
     unfolding go run P.suffixes_turn
-    dot_name m k F G =
+    dot_name k F G =
         goes_wrapped (next_token (rest w x n a.state.at)).place (next_token (rest w x n t.next)).text q z F
         (rw (u.place, s.text)) (past_two w x n a.state.at t.next) refl refl refl
         (dot_moved q u s k F)
-        (λ e rd. dot_step d f a.state u h e rd x ∙ rw (run, no s m, yes s k) (ap (λ (S : St). go d (suffixes_on
+        (λ e rd. dot_step d f a.state u h e rd x ∙ rw (run, other s k 0 refl, yes s k) (ap (λ (S : St). go d (suffixes_on
         (P.wrap 0x29 (next_token (rest w x n a.state.at)).place (next_token (rest w x n t.next)).text e)) S)
         (adv (fore a.state t) s (λ _. plain) f (past w x n a.state.at rd) _))) G
 
     -- another token than a name: error 4, and the loop ends
-    pub dot_other : {e : ℕ} {r1 f1 : List ℕ} {b : Answer} → (v.kind ≡ 0 → ⊥) → (v.kind ≡ 1 → ⊥)
+    pub dot_other : {e : ℕ} {r1 f1 : List ℕ} {b : Answer} → (kind_number v.kind ≡ 0 → ⊥) → (kind_number v.kind ≡ 1 → ⊥)
         → unpack e ≡ error_at 4 v.place 0 0
         → Raised (noted n (fore (fore a.state t) v)) r f (fore (fore a.state t) v) e r1 f1 b
         → Goes node node w x n d suffixes_on i j o r f a o r1 f1
@@ -275,8 +277,8 @@ module _ {w x : List ℕ} {n d i j : ℕ} {o r f : List ℕ} {a : Answer} {t : T
         reported = C.first;
       }
 
-  module _ {o1 r1 f1 r2 r3 f3 o2 : List ℕ} {b c d1 y : Answer} (h : t.kind ≡ 43) (B : Reads node w x n d P.parse_expression o r f (fore a.state t) o1 r1 f1 b) (C : Abandoned r1 b i j a.state.reported r2 c) (lr : length r2 ≡ length r) (lf : length f1 ≡ length f)
-      (X : Expected w n 44 i j r2 f1 c r3 f3 d1) (F : NodeWritten x o1 d1 (record { tag = 0x25; place = t.place; numbers = None; start = 0; len = 0 }) o2 y) where
+  module _ {o1 r1 f1 r2 r3 f3 o2 : List ℕ} {b c d1 y : Answer} (h : kind_number t.kind ≡ 43) (B : Reads node w x n d P.parse_expression o r f (fore a.state t) o1 r1 f1 b) (C : Abandoned r1 b i j a.state.reported r2 c) (lr : length r2 ≡ length r) (lf : length f1 ≡ length f)
+      (X : Expected w n 44 i j r2 f1 c r3 f3 d1) (F : NodeWritten x o1 d1 (record { tag = Tag.Index; place = t.place; numbers = None; start = 0; len = 0 }) o2 y) where
     pub index_moved : Moved w n i j a.state y.state
     index_moved =
         let e : budget w n y.state.at ≡ budget w n d1.state.at = ap (λ (k : ℕ). budget w n k) F.at in
@@ -292,11 +294,11 @@ module _ {w x : List ℕ} {n d i j : ℕ} {o r f : List ℕ} {a : Answer} {t : T
           few = omega (arith, F.full, X.moved);
         }
 
-    pub suffix_index : {o4 r4 f4 : List ℕ} {y' : Answer} → (t.kind ≡ 34 → ⊥) → (t.kind ≡ 35 → ⊥)
+    pub suffix_index : {o4 r4 f4 : List ℕ} {y' : Answer}
         → Goes node node w x n d suffixes_on i j o2 r3 f3 y o4 r4 f4 y'
         → Goes node node w x n d suffixes_on i j o r f a o4 r4 f4 y'
     unfolding go run P.suffixes_turn
-    suffix_index k l G = record {
+    suffix_index G = record {
       moved = moved_trans index_moved G.moved;
       is = λ T E p li lj y.
           let g = good_of z y in
@@ -306,7 +308,7 @@ module _ {w x : List ℕ} {n d i j : ℕ} {o r f : List ℕ} {a : Answer} {t : T
           let q1 : Res (Ans Node) = go d P.parse_expression S1 in
           say
           (follows d suffixes_on g.is ∙ go_loop d (Suffixes e) (st_of w x n f g.read a.state)
-          ∙ rw (run, no u k, no u l, yes u h) (ap (λ (S : St). go d
+          ∙ rw (run, other u h 34 refl, other u h 35 refl, yes u h) (ap (λ (S : St). go d
           (P.parse_expression >>? λ x. P.expect_as plain 44 >>? λ _. suffixes_on (P.binary 0x25 [] pl e x)) S)
           (adv a.state u (λ _. plain) f g.read _))
           ∙ go_bind d P.parse_expression

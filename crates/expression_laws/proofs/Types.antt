@@ -9,6 +9,7 @@ use lib.Dec.{ltb}
 use lib.ListN.{length, take, drop, get_or, length-take}
 use lib.Seq.{take_at}
 use borrow.Author.Tests.{ltb-true, ltb-false}
+use Rattle.definition.specs.Numbers.{kind_number, tag_number}
 use Rattle.definition.specs.Source.{Place}
 use Rattle.definition.specs.Node.{Num, two, eight}
 use Rattle.definition.specs.Fallible.{Err, Fallible, Ans}
@@ -18,6 +19,7 @@ use Rattle.definition.specs.Parser as P
 use Rattle.definition.specs.Go.{go}
 use Rattle.definition.specs.Places.{unpack_place}
 use Rattle.definition.proofs.Flat.{go_bind}
+use Rattle.definition.specs.declared.tag.Tag.{Tag}
 use Rattle.node.specs.Put.{Room, rec_of, size_of}
 use Rattle.node.specs.declared.Record.{Record}
 use Rattle.node.specs.declared.Numbers.TheVariants.{None, Two, Eight}
@@ -29,7 +31,7 @@ use Rattle.fallible.proofs.Grown.{errs_length}
 use Rattle.steps.specs.declared.tokens.Token.{Token}
 use Rattle.steps.specs.Tokens.{rest, budget, present, Held, Seen}
 use Rattle.steps.specs.Shows.{st_of, Asked, Moved, View, Good, ShowsOf, Shows, node, items, Reads, Expects, NodeWritten, texted, untexted}
-use Rattle.steps.proofs.Records.{rest_cons, rest_nil, budget_cons, budget_nil, yes, no, fore, adv}
+use Rattle.steps.proofs.Records.{rest_cons, rest_nil, budget_cons, budget_nil, yes, no, other, fore, adv}
 use Rattle.steps.proofs.Moves.{fore_moved, asked_seen, asked_moved}
 use Rattle.steps.proofs.Answers.{Stopped, say, good_of, stops, follows, errs_take, wrapped, writes_node, raise_same}
 use Rattle.steps.proofs.Constructs.{deep, down, seam}
@@ -130,11 +132,11 @@ module _ {A : Type 0} {K : View A} {w x : List ℕ} {n d : ℕ} {m : Act (Ans No
   pub record_reads : Moved w n s.pos s.reported s b.state
       → s.at + present n s.at ≤ b.state.at
       → b.state.pos + budget w n b.state.at + size_of v ≤ s.pos + budget w n s.at
-      → ((i : A) → K.fine b.place b.count i → rec_of x v ≡ record { tag = v.tag; place = some p; numbers = ns i; text = text })
+      → ((i : A) → K.fine b.place b.count i → rec_of x v ≡ record { tag = tag_number v.tag; place = some p; numbers = ns i; text = text })
       → (q : List Consumed → Res (Ans A))
       → ((rd : List Consumed)
       → go d m (st_of w x n f rd s)
-      ≡ after (q rd) (λ z S. go d (or_return (wrapped K [] [] v.tag (λ _. p) ns text) z) S))
+      ≡ after (q rd) (λ z S. go d (or_return (wrapped K [] [] (tag_number v.tag) (λ _. p) ns text) z) S))
       → ((rd : List Consumed) → Shows K (take s.pos o) (errs r s.reported) [] [] w x n o1 r1 f1 b (q rd))
       → Reads node w x n d m o r f s o2 r1 f1 y
   record_reads mv on paid e q step h =
@@ -202,7 +204,7 @@ module _ {w x : List ℕ} {n d : ℕ} {o r f : List ℕ} {s : State} (q : Asked 
   type_deep z e = deep Type' q.asks z e
 
   module _ {t : Token} (nz : d ≡ 0 → ⊥) (v : Seen w n s.at t) where
-    pub type_name : {o' : List ℕ} {y : Answer} → t.kind ≡ 1 → NodeWritten x o (there s t) (texted t.place 16 None t.start t.len) o' y
+    pub type_name : {o' : List ℕ} {y : Answer} → kind_number t.kind ≡ 1 → NodeWritten x o (there s t) (texted t.place Tag.Name None t.start t.len) o' y
         → Reads node w x n d P.parse_type o r f s o' r f y
     unfolding go run P.type_rule
     type_name z u =
@@ -210,80 +212,78 @@ module _ {w x : List ℕ} {n d : ℕ} {o r f : List ℕ} {s : State} (q : Asked 
         (leaf_reads q.asks v [] (next_token (rest w x n s.at)).text u (omega arith) (rw (v.place, v.text))
         (d - 1) (λ rd. rw (run, yes v z)))
 
-    module _ (m1 : t.kind ≡ 1 → ⊥) where
-      -- the continuation after `*`
-      abbrev star_on : Fallible Node → Act (Ans Node)
-      star_on e = wrapped node [] [] 18 (λ _. (next_token (rest w x n s.at)).place) (λ _. []) [] e
+    -- the continuation after `*`
+    abbrev star_on : Fallible Node → Act (Ans Node)
+    star_on e = wrapped node [] [] 18 (λ _. (next_token (rest w x n s.at)).place) (λ _. []) [] e
 
-      pub type_star : {o1 r1 f1 o2 : List ℕ} {b y : Answer} → t.kind ≡ 24
-          → Reads node w x n (d - 1) P.parse_type o r f (fore s t) o1 r1 f1 b
-          → NodeWritten x o1 b (untexted t.place 18 None) o2 y → Reads node w x n d P.parse_type o r f s o2 r1 f1 y
+    pub type_star : {o1 r1 f1 o2 : List ℕ} {b y : Answer} → kind_number t.kind ≡ 24
+        → Reads node w x n (d - 1) P.parse_type o r f (fore s t) o1 r1 f1 b
+        → NodeWritten x o1 b (untexted t.place Tag.Pointer None) o2 y → Reads node w x n d P.parse_type o r f s o2 r1 f1 y
+    unfolding go run P.type_rule
+    type_star z u F = down Type' nz
+        (record_reads (next_token (rest w x n s.at)).place (λ _. []) [] F (moved_onward (fore_moved q.asks v) u.moved) (omega (arith, v.present, v.on, u.moved.at)) (omega arith) (λ _ _. rw v.place)
+        (λ rd. go (d - 1) P.parse_type (st_of w x n f (past w x n s.at rd) (fore s t)))
+        (λ rd. rw (run, other v z 1 refl, yes v z)
+        (ap (λ (S : St). go (d - 1) (P.parse_type >>? star_on) S) (adv s v (λ _. plain) f rd _)) ∙ go_bind
+        (d - 1) P.parse_type (or_return star_on) _)
+        (λ rd. u.is (past w x n s.at rd)))
+
+    pub type_array : {o1 r1 f1 : List ℕ} {b : Answer} → kind_number t.kind ≡ 43
+        → Reads node w x n (d - 1) (P.parse_array_type (unpack_place t.place)) o r f (fore s t) o1
+        r1 f1 b
+        → Reads node w x n d P.parse_type o r f s o1 r1 f1 b
+    unfolding go run P.type_rule
+    type_array z u = down Type' nz (record {
+      moved = moved_onward (fore_moved q.asks v) u.moved;
+      on = omega (arith, v.present, v.on, u.moved.at);
+      is =
+          λ rd. say (rw (run, other v z 1 refl, other v z 24 refl, yes v z, v.place)
+          (ap (λ (S : St). go (d - 1) (P.parse_array_type (unpack_place t.place)) S)
+          (adv s v (λ _. plain) f rd _))) (u.is (past w x n s.at rd));
+    })
+
+    -- the continuation after the fields
+    abbrev struct_on : Fallible Items → Act (Ans Node)
+    struct_on e = wrapped items [] [] 20 (λ _. (next_token (rest w x n s.at)).place) (λ i. two i.count ∷ []) [] e
+
+    pub type_struct : {o1 r1 f1 o2 : List ℕ} {a y : Answer} → kind_number t.kind ≡ 16
+        → ReadsList w x n (d - 1) StructFields o r f (fore s t) o1 r1 f1 a
+        → NodeWritten x o1 (silent a s.reported) (untexted t.place Tag.Struct (Two a.count)) o2 y
+        → Reads node w x n d P.parse_type o r f s o2 r1 f1 y
+    unfolding go run P.type_rule
+    type_struct {o1} {r1} {f1} {o2} {a} {y} z u F =
+        let mv = moved_onward (fore_moved q.asks v) u.moved in
+        down Type' nz
+        (record_reads {K = items} (next_token (rest w x n s.at)).place (λ i. two i.count ∷ []) [] F (record { at = mv.at; end = mv.end; pos = mv.pos; room = mv.room; reported = omega arith; less = omega arith; full = mv.full; few = mv.few }) (omega (arith, v.present, v.on, u.moved.at)) (omega arith) (λ i h. rw (v.place, h))
+        (λ rd. after (go (d - 1) (P.parse_list StructFields >>= as_answer)
+        (st_of w x n f (past w x n s.at rd) (fore s t)))
+        (λ z S. go (d - 1) (or_return (λ y. P.good y.item []) z) S))
+        (λ rd. rw (run, other v z 1 refl, other v z 24 refl, other v z 43 refl, yes v z) (ap (λ (S : St). go (d - 1)
+        (P.parse_list StructFields >>= λ i. struct_on (record { item = i; errors = [] })) S)
+        (adv s v (λ _. plain) f rd _)) ∙ dropping (d - 1) (P.parse_list StructFields) _ struct_on
+        (λ i. refl) (st_of w x n f (past w x n s.at rd) (fore s t)))
+        (λ rd. drops (d - 1) u.never (errs_length r s.reported (omega arith)) u.moved.reported
+        (u.is (past w x n s.at rd))))
+
+    module _ {e : ℕ} {r' f' : List ℕ} {y : Answer} where
+      pub type_end : kind_number t.kind ≡ 0 → unpack e ≡ error_at 12 0 0 0
+          → Raised (raised n (fore s t)) r f (fore s t) e r' f' y
+          → Reads node w x n d P.parse_type o r f s o r' f' y
       unfolding go run P.type_rule
-      type_star z u F = down Type' nz
-          (record_reads (next_token (rest w x n s.at)).place (λ _. []) [] F (moved_onward (fore_moved q.asks v) u.moved) (omega (arith, v.present, v.on, u.moved.at)) (omega arith) (λ _ _. rw v.place)
-          (λ rd. go (d - 1) P.parse_type (st_of w x n f (past w x n s.at rd) (fore s t)))
-          (λ rd. rw (run, no v m1, yes v z)
-          (ap (λ (S : St). go (d - 1) (P.parse_type >>? star_on) S) (adv s v (λ _. plain) f rd _)) ∙ go_bind
-          (d - 1) P.parse_type (or_return star_on) _)
-          (λ rd. u.is (past w x n s.at rd)))
+      type_end z i g =
+          down Type' nz (raise_reads q.asks v plain g (d - 1)
+          (λ rd. rw (run, other v z 1 refl, other v z 24 refl, other v z 43 refl, other v z 16 refl, yes v z)
+          (raise_same (d - 1) (sym i) (adv s v (λ _. plain) f rd _))))
 
-      module _ (m24 : t.kind ≡ 24 → ⊥) where
-        pub type_array : {o1 r1 f1 : List ℕ} {b : Answer} → t.kind ≡ 43
-            → Reads node w x n (d - 1) (P.parse_array_type (unpack_place t.place)) o r f (fore s t) o1
-            r1 f1 b
-            → Reads node w x n d P.parse_type o r f s o1 r1 f1 b
-        unfolding go run P.type_rule
-        type_array z u = down Type' nz (record {
-          moved = moved_onward (fore_moved q.asks v) u.moved;
-          on = omega (arith, v.present, v.on, u.moved.at);
-          is =
-              λ rd. say (rw (run, no v m1, no v m24, yes v z, v.place)
-              (ap (λ (S : St). go (d - 1) (P.parse_array_type (unpack_place t.place)) S)
-              (adv s v (λ _. plain) f rd _))) (u.is (past w x n s.at rd));
-        })
-
-        module _ (m43 : t.kind ≡ 43 → ⊥) where
-          -- the continuation after the fields
-          abbrev struct_on : Fallible Items → Act (Ans Node)
-          struct_on e = wrapped items [] [] 20 (λ _. (next_token (rest w x n s.at)).place) (λ i. two i.count ∷ []) [] e
-
-          pub type_struct : {o1 r1 f1 o2 : List ℕ} {a y : Answer} → t.kind ≡ 16
-              → ReadsList w x n (d - 1) StructFields o r f (fore s t) o1 r1 f1 a
-              → NodeWritten x o1 (silent a s.reported) (untexted t.place 20 (Two a.count)) o2 y
-              → Reads node w x n d P.parse_type o r f s o2 r1 f1 y
-          unfolding go run P.type_rule
-          type_struct {o1} {r1} {f1} {o2} {a} {y} z u F =
-              let mv = moved_onward (fore_moved q.asks v) u.moved in
-              down Type' nz
-              (record_reads {K = items} (next_token (rest w x n s.at)).place (λ i. two i.count ∷ []) [] F (record { at = mv.at; end = mv.end; pos = mv.pos; room = mv.room; reported = omega arith; less = omega arith; full = mv.full; few = mv.few }) (omega (arith, v.present, v.on, u.moved.at)) (omega arith) (λ i h. rw (v.place, h))
-              (λ rd. after (go (d - 1) (P.parse_list StructFields >>= as_answer)
-              (st_of w x n f (past w x n s.at rd) (fore s t)))
-              (λ z S. go (d - 1) (or_return (λ y. P.good y.item []) z) S))
-              (λ rd. rw (run, no v m1, no v m24, no v m43, yes v z) (ap (λ (S : St). go (d - 1)
-              (P.parse_list StructFields >>= λ i. struct_on (record { item = i; errors = [] })) S)
-              (adv s v (λ _. plain) f rd _)) ∙ dropping (d - 1) (P.parse_list StructFields) _ struct_on
-              (λ i. refl) (st_of w x n f (past w x n s.at rd) (fore s t)))
-              (λ rd. drops (d - 1) u.never (errs_length r s.reported (omega arith)) u.moved.reported
-              (u.is (past w x n s.at rd))))
-
-          module _ {e : ℕ} {r' f' : List ℕ} {y : Answer} (m16 : t.kind ≡ 16 → ⊥) where
-            pub type_end : t.kind ≡ 0 → unpack e ≡ error_at 12 0 0 0
-                → Raised (raised n (fore s t)) r f (fore s t) e r' f' y
-                → Reads node w x n d P.parse_type o r f s o r' f' y
-            unfolding go run P.type_rule
-            type_end z i g =
-                down Type' nz (raise_reads q.asks v plain g (d - 1)
-                (λ rd. rw (run, no v m1, no v m24, no v m43, no v m16, yes v z)
-                (raise_same (d - 1) (sym i) (adv s v (λ _. plain) f rd _))))
-
-            pub type_other : (t.kind ≡ 0 → ⊥) → unpack e ≡ error_at 11 t.place 0 t.kind
-                → Raised (raised n (fore s t)) r f (fore s t) e r' f' y
-                → Reads node w x n d P.parse_type o r f s o r' f' y
-            unfolding go run P.type_rule
-            type_other z i g =
-                down Type' nz (raise_reads q.asks v plain g (d - 1)
-                (λ rd. rw (run, no v m1, no v m24, no v m43, no v m16, no v z)
-                (raise_same (d - 1) (rw (v.place, v.kind) (sym i)) (adv s v (λ _. plain) f rd _))))
+      pub type_other : (kind_number t.kind ≡ 1 → ⊥) → (kind_number t.kind ≡ 24 → ⊥) → (kind_number t.kind ≡ 43 → ⊥)
+          → (kind_number t.kind ≡ 16 → ⊥) → (kind_number t.kind ≡ 0 → ⊥) → unpack e ≡ error_at 11 t.place 0 (kind_number t.kind)
+          → Raised (raised n (fore s t)) r f (fore s t) e r' f' y
+          → Reads node w x n d P.parse_type o r f s o r' f' y
+      unfolding go run P.type_rule
+      type_other m1 m24 m43 m16 z i g =
+          down Type' nz (raise_reads q.asks v plain g (d - 1)
+          (λ rd. rw (run, no v m1, no v m24, no v m43, no v m16, no v z)
+          (raise_same (d - 1) (rw (v.place, v.kind) (sym i)) (adv s v (λ _. plain) f rd _))))
 
 -- ---- `array`, after `[`; with the place of the type
 
@@ -293,7 +293,7 @@ not_false false e = sym e
 
 module _ {w x : List ℕ} {n : ℕ} (place : ℕ) {o r f : List ℕ} {s : State} {t : Token}
     (q : Asked w x n o r f s × (place < 0x100000000)) (v : Seen w n s.at t) where
-  pub array_no_integer : {d e : ℕ} {r' f' : List ℕ} {y : Answer} → (t.kind ≡ 2 → ⊥) → unpack e ≡ error_at 9 place 0 0
+  pub array_no_integer : {d e : ℕ} {r' f' : List ℕ} {y : Answer} → (kind_number t.kind ≡ 2 → ⊥) → unpack e ≡ error_at 9 place 0 0
       → Raised (raised n (fore s t)) r f (fore s t) e r' f' y
       → Reads node w x n d (P.parse_array_type (unpack_place place)) o r f s o r' f' y
   unfolding go run P.parse_array_type
@@ -301,7 +301,7 @@ module _ {w x : List ℕ} {n : ℕ} (place : ℕ) {o r f : List ℕ} {s : State}
       raise_reads q.0.asks v size g d
       (λ rd. rw (run, no v m) (raise_same d (sym i) (adv s v (λ _. size) f rd _)))
 
-  module _ {u : Size} (z : t.kind ≡ 2) (k : Valued (take t.len (drop t.start x)) t.base u) where
+  module _ {u : Size} (z : kind_number t.kind ≡ 2) (k : Valued (take t.len (drop t.start x)) t.base u) where
     -- the size, as the definition has it
     fit : unfit (next_token (rest w x n s.at)).base (next_token (rest w x n s.at)).text ≡ not u.fits
     fit = rw (v.text, v.base) k.fits
@@ -348,7 +348,7 @@ module _ {w x : List ℕ} {n : ℕ} (place : ℕ) {o r f : List ℕ} {s : State}
       pub array_done : {d : ℕ} {o2 r2 f2 o3 : List ℕ} {b y : Answer} → a.status ≡ Done
           → Reads node w x n d P.parse_type o r1 f1 a.state o2 r2 f2 b
           → NodeWritten x o2 b
-          (record { tag = 19; place = place; numbers = Eight u.number; start = 0; len = 0 })
+          (record { tag = Tag.Array; place = place; numbers = Eight u.number; start = 0; len = 0 })
           o3 y
           → Reads node w x n d (P.parse_array_type (unpack_place place)) o r f s o3 r2 f2 y
       array_done {d} {o2} {r2} {f2} {o3} {b} {y} za c F =
@@ -388,7 +388,7 @@ module _ {w x : List ℕ} {n : ℕ} {o r f : List ℕ} {s : State} (q : Asked w 
     pub array_asked : Asked w x n o r f (fore s t) × (t.place < 0x100000000)
     array_asked = (asked_seen q v, v.places)
 
-    pub size_asked : t.kind ≡ 2 → (t.start + t.len ≤ length x) × ((0 < t.base) × (t.base < 256))
+    pub size_asked : kind_number t.kind ≡ 2 → (t.start + t.len ≤ length x) × ((0 < t.base) × (t.base < 256))
     size_asked z = (v.part q.parts, (v.based z, omega (arith, v.bases)))
 
     module _ {k : ℕ} {r1 f1 : List ℕ} {a : Answer} (e : Expects w n (λ role. P.expect_as role k) r f (fore s t) r1 f1 a) where

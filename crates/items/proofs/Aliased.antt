@@ -8,6 +8,7 @@ use lib.Dec.{ltb}
 use borrow.Author.Tests.{ltb-true, ltb-false}
 use lib.ListN.{length}
 use lib.Seq.{length-take-le}
+use Rattle.definition.specs.Numbers.{kind_number}
 use Rattle.definition.specs.Source.{Place}
 use Rattle.definition.specs.Node.{byte}
 use Rattle.definition.specs.Fallible.{Err, Fallible, Ans}
@@ -19,6 +20,7 @@ use Rattle.definition.specs.Parser as P
 use Rattle.definition.specs.Go.{go}
 use Rattle.definition.specs.Places.{unpack_place}
 use Rattle.definition.proofs.Flat.{go_bind, go_loop}
+use Rattle.definition.specs.declared.tag.Tag.{Tag}
 use Rattle.fallible.proofs.Grown.{errs_length}
 use Rattle.fallible.specs.declared.parser.State.{State}
 use Rattle.fallible.specs.Answer.{Done, Answer}
@@ -29,7 +31,7 @@ use Rattle.node.specs.declared.Numbers.TheVariants.{None, Byte}
 use Rattle.steps.specs.declared.tokens.Token.{Token}
 use Rattle.steps.specs.Tokens.{rest, budget, present, Seen}
 use Rattle.steps.specs.Shows.{st_of, Asked, Moved, Good, Reads, node, token, Expects, Expected, Follows, NodeWritten}
-use Rattle.steps.proofs.Records.{present_within, yes, no, fore, adv}
+use Rattle.steps.proofs.Records.{present_within, yes, no, other, fore, adv}
 use Rattle.steps.proofs.Moves.{refused_moved, asks_moved, fore_moved, moved_trans}
 use Rattle.steps.proofs.Answers.{Stopped, say, good_of, stops, follows, wrapped, raise_same}
 use Rattle.steps.proofs.Following.{expecting, expects_after}
@@ -44,7 +46,7 @@ use Rattle.items.specs.Items.{Modified}
 -- ---- `modifiers`
 
 module _ {w : List ℕ} {n distinct internal at : ℕ} {t : Token} (u : Seen w n at t) where
-  pub modifiers_none : at ≤ n → (t.kind ≡ 20 → ⊥) → (t.kind ≡ 21 → ⊥) → Modified w n distinct internal at (record { words = distinct + internal; next = at })
+  pub modifiers_none : at ≤ n → (kind_number t.kind ≡ 20 → ⊥) → (kind_number t.kind ≡ 21 → ⊥) → Modified w n distinct internal at (record { words = distinct + internal; next = at })
   unfolding go run P.modifiers_turn
   modifiers_none h m20 m21 = record {
     words = record { distinct = distinct; internal = internal };
@@ -80,13 +82,13 @@ module _ {w : List ℕ} {n distinct internal at : ℕ} {t : Token} (u : Seen w n
           es;
     }
 
-    pub modifiers_distinct : t.kind ≡ 20 → Modified w n 1 internal t.next m → Modified w n distinct internal at m
+    pub modifiers_distinct : kind_number t.kind ≡ 20 → Modified w n 1 internal t.next m → Modified w n distinct internal at m
     unfolding go run P.modifiers_turn
     modifiers_distinct h M = modifiers_on M (λ x d rd es. rw (run, yes u h, u.tail))
 
-    pub modifiers_internal : (t.kind ≡ 20 → ⊥) → t.kind ≡ 21 → Modified w n distinct 2 t.next m → Modified w n distinct internal at m
+    pub modifiers_internal : kind_number t.kind ≡ 21 → Modified w n distinct 2 t.next m → Modified w n distinct internal at m
     unfolding go run P.modifiers_turn
-    modifiers_internal m20 h M = modifiers_on M (λ x d rd es. rw (run, no u m20, yes u h, u.tail))
+    modifiers_internal h M = modifiers_on M (λ x d rd es. rw (run, other u h 20 refl, yes u h, u.tail))
 
 -- ---- a keyword, and what follows it
 
@@ -119,7 +121,7 @@ by k e m = next λ n. when◌then◌else◌ (n is K.End) panic (when◌then◌el
 
 module _ (d k number : ℕ) (m : Tok → Act (Ans Node)) {w x : List ℕ} {n : ℕ} {o r f : List ℕ} {s : State}
     {t : Token} (q : Asked w x n o r f s) (u : Seen w n s.at t) where
-  by_end : {y : Answer} → t.kind ≡ 0 → y ≡ refused_at n s 11 → Reads node w x n d (by k number m) o r f s o r f y
+  by_end : {y : Answer} → kind_number t.kind ≡ 0 → y ≡ refused_at n s 11 → Reads node w x n d (by k number m) o r f s o r f y
   unfolding go run
   by_end h e =
       rw e (record {
@@ -128,7 +130,7 @@ module _ (d k number : ℕ) (m : Tok → Act (Ans Node)) {w x : List ℕ} {n : �
         is = λ rd. record { told = rw (run, yes u h) };
       })
 
-  by_other : {e : ℕ} {r1 f1 : List ℕ} {y : Answer} → (t.kind ≡ 0 → ⊥) → (t.kind ≡ k → ⊥)
+  by_other : {e : ℕ} {r1 f1 : List ℕ} {y : Answer} → (kind_number t.kind ≡ 0 → ⊥) → (kind_number t.kind ≡ k → ⊥)
       → unpack e ≡ error_at number t.place 0 0
       → Raised (raised n (fore s t)) r f (fore s t) e r1 f1 y
       → Reads node w x n d (by k number m) o r f s o r1 f1 y
@@ -137,7 +139,7 @@ module _ (d k number : ℕ) (m : Tok → Act (Ans Node)) {w x : List ℕ} {n : �
       raise_reads q.asks u plain g d
       (λ rd. rw (run, no u m0, no u mk) (raise_same d (rw u.place (sym i)) (adv s u (λ _. plain) f rd _)))
 
-  by_there : 0 < k → t.kind ≡ k → (rd : List Consumed)
+  by_there : 0 < k → kind_number t.kind ≡ k → (rd : List Consumed)
       → go d (by k number m) (st_of w x n f rd s)
       ≡ go d (m (next_token (rest w x n s.at))) (st_of w x n f (past w x n s.at rd) (fore s t))
   unfolding go run
@@ -171,7 +173,7 @@ module _ {w x : List ℕ} {n d : ℕ} {o r f r1 f1 o1 r2 f2 : List ℕ} {s : Sta
         reported = omega (arith, B.moved, (X.kept z).0);
       }
 
-  module _ {r3 f3 : List ℕ} {c : Answer} (h : t.kind ≡ 1) (C : Expected w n 50 s.pos s.reported r2 f2 b r3 f3 c) where
+  module _ {r3 f3 : List ℕ} {c : Answer} (h : kind_number t.kind ≡ 1) (C : Expected w n 50 s.pos s.reported r2 f2 b r3 f3 c) where
     alias_paid : c.state.pos + budget w n c.state.at + (16 + t.len) ≤ s.pos + budget w n s.at
     alias_paid = omega (arith, C.moved.room, B.moved.room, X.moved.room, u.pays, h)
 
@@ -180,18 +182,18 @@ module _ {w x : List ℕ} {n d : ℕ} {o r f r1 f1 o1 r2 f2 : List ℕ} {s : Sta
 
 module _ (d words place : ℕ) {w x : List ℕ} {n : ℕ} {o r f : List ℕ} {s : State} {t : Token}
     (q : Asked w x n o r f s) (u : Seen w n s.at t) where
-  pub alias_end : {y : Answer} → t.kind ≡ 0 → y ≡ refused_at n s 11
+  pub alias_end : {y : Answer} → kind_number t.kind ≡ 0 → y ≡ refused_at n s 11
       → Reads node w x n d (alias_rule words (unpack_place place)) o r f s o r f y
   unfolding alias_rule
   alias_end h e = by_end d 1 16 (name_on words (unpack_place place)) q u h e
 
-  pub alias_other : {e : ℕ} {r1 f1 : List ℕ} {y : Answer} → (t.kind ≡ 0 → ⊥) → (t.kind ≡ 1 → ⊥)
+  pub alias_other : {e : ℕ} {r1 f1 : List ℕ} {y : Answer} → (kind_number t.kind ≡ 0 → ⊥) → (kind_number t.kind ≡ 1 → ⊥)
       → unpack e ≡ error_at 16 t.place 0 0 → Raised (raised n (fore s t)) r f (fore s t) e r1 f1 y
       → Reads node w x n d (alias_rule words (unpack_place place)) o r f s o r1 f1 y
   unfolding alias_rule
   alias_other m0 m1 i g = by_other d 1 16 (name_on words (unpack_place place)) q u m0 m1 i g
 
-  module _ {r1 f1 : List ℕ} {a : Answer} (h : t.kind ≡ 1) (X : Expects w n (λ role. P.expect_as role 26) r f (fore s t) r1 f1 a) where
+  module _ {r1 f1 : List ℕ} {a : Answer} (h : kind_number t.kind ≡ 1) (X : Expects w n (λ role. P.expect_as role 26) r f (fore s t) r1 f1 a) where
     alias_named : (rd : List Consumed)
         → go d (alias_rule words (unpack_place place)) (st_of w x n f rd s)
         ≡ after (go d (P.expect 26) (st_of w x n f (past w x n s.at rd) (fore s t)))
@@ -215,7 +217,7 @@ module _ (d words place : ℕ) {w x : List ℕ} {n : ℕ} {o r f : List ℕ} {s 
         → Reads node w x n d P.parse_type o r1 f1 a.state o1 r2 f2 b → length r2 ≡ length r
         → length f2 ≡ length f → Expected w n 50 s.pos s.reported r2 f2 b r3 f3 c
         → NodeWritten x o1 c (record {
-          tag = 0x51;
+          tag = Tag.TypeAlias;
           place = place;
           numbers = Byte words;
           start = t.start;
@@ -310,7 +312,7 @@ string_on p n = P.expect 50 >>? λ _. P.good (P.node [] 0x52 p [] n.text) []
 
 -- the string accounts for the record after it
 module _ {w x : List ℕ} {n : ℕ} {o r f r1 f1 : List ℕ} {s : State} {t : Token} {a : Answer}
-    (q : Asked w x n o r f s) (u : Seen w n s.at t) (h : t.kind ≡ 3)
+    (q : Asked w x n o r f s) (u : Seen w n s.at t) (h : kind_number t.kind ≡ 3)
     (X : Expects w n (λ role. P.expect_as role 50) r f (fore s t) r1 f1 a) where
   path_paid : a.state.pos + budget w n a.state.at + (16 + t.len) ≤ s.pos + budget w n s.at
   path_paid = omega (arith, X.moved.room, u.pays, h)
@@ -320,20 +322,20 @@ module _ {w x : List ℕ} {n : ℕ} {o r f r1 f1 : List ℕ} {s : State} {t : To
 
 module _ (d place : ℕ) {w x : List ℕ} {n : ℕ} {o r f : List ℕ} {s : State} {t : Token}
     (q : Asked w x n o r f s) (u : Seen w n s.at t) where
-  pub path_end : {y : Answer} → t.kind ≡ 0 → y ≡ refused_at n s 11 → Reads node w x n d (path_rule (unpack_place place)) o r f s o r f y
+  pub path_end : {y : Answer} → kind_number t.kind ≡ 0 → y ≡ refused_at n s 11 → Reads node w x n d (path_rule (unpack_place place)) o r f s o r f y
   unfolding path_rule
   path_end h e = by_end d 3 17 (string_on (unpack_place place)) q u h e
 
-  pub path_other : {e : ℕ} {r1 f1 : List ℕ} {y : Answer} → (t.kind ≡ 0 → ⊥) → (t.kind ≡ 3 → ⊥)
+  pub path_other : {e : ℕ} {r1 f1 : List ℕ} {y : Answer} → (kind_number t.kind ≡ 0 → ⊥) → (kind_number t.kind ≡ 3 → ⊥)
       → unpack e ≡ error_at 17 t.place 0 0 → Raised (raised n (fore s t)) r f (fore s t) e r1 f1 y
       → Reads node w x n d (path_rule (unpack_place place)) o r f s o r1 f1 y
   unfolding path_rule
   path_other m0 m3 i g = by_other d 3 17 (string_on (unpack_place place)) q u m0 m3 i g
 
-  module _ {r1 f1 : List ℕ} {a : Answer} (h : t.kind ≡ 3) (X : Expects w n (λ role. P.expect_as role 50) r f (fore s t) r1 f1 a) where
+  module _ {r1 f1 : List ℕ} {a : Answer} (h : kind_number t.kind ≡ 3) (X : Expects w n (λ role. P.expect_as role 50) r f (fore s t) r1 f1 a) where
     pub path_done : {o1 : List ℕ} {y : Answer}
         → NodeWritten x o a
-        (record { tag = 0x52; place = place; numbers = None; start = t.start; len = t.len }) o1
+        (record { tag = Tag.Use; place = place; numbers = None; start = t.start; len = t.len }) o1
         y
         → Reads node w x n d (path_rule (unpack_place place)) o r f s o1 r1 f1 y
     unfolding path_rule

@@ -6,6 +6,7 @@ use Prim.Native.Nat.{ℕ, ◌+◌, ◌≤◌}
 use native.Mathlib.Omega.{arith}
 use lib.ListN.{length, take}
 use lib.Seq.{length-take-le}
+use Rattle.definition.specs.Numbers.{kind_number}
 use Rattle.definition.specs.Source.{Place}
 use Rattle.definition.specs.Node.{byte, two, Rec}
 use Rattle.definition.specs.Fallible.{Err, Fallible, Ans, ok, fatal}
@@ -18,6 +19,7 @@ use Rattle.definition.specs.Parser.{parse}
 use Rattle.definition.specs.Go.{go}
 use Rattle.definition.specs.Places.{unpack_place}
 use Rattle.definition.proofs.Flat.{go_bind}
+use Rattle.definition.specs.declared.tag.Tag.{Tag}
 use Rattle.fallible.proofs.Grown.{errs_length}
 use Rattle.fallible.specs.declared.parser.State.{State}
 use Rattle.fallible.specs.Answer.{Done, done_of, Answer}
@@ -64,7 +66,7 @@ module _ {w x : List ℕ} {n name i j : ℕ} {o r f : List ℕ} {a : Answer} (q 
 
     pub external_on : {o2 : List ℕ} {y : Answer} {place : ℕ} (d : ℕ)
         → NodeWritten x o b (record {
-          tag = 0x50;
+          tag = Tag.FunctionDefinition;
           place = place;
           numbers = ByteTwo 1 a.count;
           start = t.start;
@@ -180,13 +182,13 @@ module _ {w x : List ℕ} {n d name i j : ℕ} {o r f : List ℕ} {a : Answer} (
     )
 
 module _ {w x : List ℕ} {n d name i j place : ℕ} {o r f : List ℕ} {a : Answer} (q : FunctionAsked w x n o r f name a i j) {o1 r1 f1 o2 : List ℕ} {b c : Answer} {t : Token} (z : a.status ≡ Done) (B : ReadsBody w x n d o r f a.state o1 r1 f1 b)
-    (F : NodeWritten x o1 b (record { tag = 0x40; place = place; numbers = Two b.count; start = 0; len = 0 }) o2 c) (u : Seen w n name t) where
+    (F : NodeWritten x o1 b (record { tag = Tag.Block; place = place; numbers = Two b.count; start = 0; len = 0 }) o2 c) (u : Seen w n name t) where
   pub whole_room : length o2 ≡ length o → Room o2 x c.state.pos (16 + t.len) t.start t.len
   whole_room l = record { room = omega (arith, q.room, B.moved.room, F.high, text_length q.asked.parts u, l); part = u.part q.asked.parts }
 
   module _ {r2 o3 : List ℕ} {y : Answer} (h : b.status ≡ Done)
       (X : Exchanged r1 j a.state.reported b.state.reported r2)
-      (G : NodeWritten x o2 c (record { tag = 0x50; place = place; numbers = ByteTwo 0 a.count; start = t.start; len = t.len }) o3 y) where
+      (G : NodeWritten x o2 c (record { tag = Tag.FunctionDefinition; place = place; numbers = ByteTwo 0 a.count; start = t.start; len = t.len }) o3 y) where
     whole_moved : Moved w n i j (up (19 + length (next_token (rest w x n name)).text) a.state) y.state
     whole_moved =
         let e : budget w n y.state.at ≡ budget w n b.state.at = ap (λ (k : ℕ). budget w n k) (G.at ∙ F.at) in
@@ -426,7 +428,7 @@ module _ {w x : List ℕ} {n d : ℕ} {o r f r1 f1 : List ℕ} {s : State} {a : 
 -- ---- `function_definition`
 
 module _ {w x : List ℕ} {n d : ℕ} {o r f o1 r1 f1 : List ℕ} {s : State} {t : Token} {y : Answer} (u : Seen w n s.at t) where
-  pub definition_external : t.kind ≡ 19
+  pub definition_external : kind_number t.kind ≡ 19
       → Reads node w x n d (P.function (unpack_place t.place) 1) o r f (fore s t) o1 r1 f1 y
       → Reads node w x n d P.parse_function_definition o r f s o1 r1 f1 y
   unfolding go run P.parse_function_definition
@@ -440,7 +442,7 @@ module _ {w x : List ℕ} {n d : ℕ} {o r f o1 r1 f1 : List ℕ} {s : State} {t
         (B.is (past w x n s.at rd));
   }
 
-  pub definition_whole : (t.kind ≡ 19 → ⊥) → Reads node w x n d (P.function (unpack_place t.place) 0) o r f s o1 r1 f1 y
+  pub definition_whole : (kind_number t.kind ≡ 19 → ⊥) → Reads node w x n d (P.function (unpack_place t.place) 0) o r f s o1 r1 f1 y
       → Reads node w x n d P.parse_function_definition o r f s o1 r1 f1 y
   unfolding go run P.parse_function_definition
   definition_whole m B =

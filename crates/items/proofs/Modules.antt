@@ -1,16 +1,18 @@
 -- The items of a module, and the module: one law for each return of the functions. Assumes nothing.
 use mathlib.Core.Path.{◌≡◌, refl, sym, ap, ◌∙◌}
-use mathlib.Core.Bool.{Bool, true, false, ◌||◌}
 use mathlib.Core.List.{List, []}
 use Prim.Native.Nat.{ℕ, ◌≤◌}
 use native.Mathlib.Omega.{arith}
-use lib.Dec.{eqb}
+use mathlib.Core.Logic.{◌⊎◌, inl, inr}
+use Rattle.definition.specs.Numbers.{kind_number}
+use Rattle.definition.specs.declared.kind.Kind.{Kind}
 use Rattle.definition.specs.Node.{recs_bytes}
-use Rattle.definition.specs.Token.{next_token, ◌is◌}
+use Rattle.definition.specs.Token.{next_token}
 use Rattle.definition.specs.Act.{Items, Module, plain, Consumed, Res, gives, after, run, ◌>>=◌}
 use Rattle.definition.specs.Parser as P
 use Rattle.definition.specs.Go.{go}
 use Rattle.definition.proofs.Flat.{go_bind, go_loop}
+use Rattle.definition.specs.declared.tag.Tag.{Tag}
 use Rattle.fallible.specs.declared.parser.State.{State}
 use Rattle.fallible.specs.Answer.{Done, Answer}
 use Rattle.fallible.specs.Lists.{unpack, error_at, errs}
@@ -19,7 +21,8 @@ use Rattle.node.specs.declared.Numbers.TheVariants.{None}
 use Rattle.steps.specs.declared.tokens.Token.{Token}
 use Rattle.steps.specs.Tokens.{rest, Seen}
 use Rattle.steps.specs.Shows.{st_of, Asked, Reads, node, NodeWritten, texted}
-use Rattle.steps.proofs.Records.{yes, no, fore, adv}
+use Rattle.steps.proofs.SameKind.{same_number}
+use Rattle.steps.proofs.Records.{yes, no, other, fore, adv}
 use Rattle.steps.proofs.Moves.{stays}
 use Rattle.steps.proofs.Answers.{say, raise_same}
 use Rattle.leaves.specs.Leaves.{there, Counted}
@@ -32,77 +35,121 @@ use Rattle.items.specs.Items.{ReadsModule}
 
 -- ---- `top_level_item`
 
--- a token of one of two kinds, or of three
-module _ {w : List ℕ} {n at : ℕ} {t : Token} {c : Bool} (u : Seen w n at t) where
-  either : (i j : ℕ) → (eqb t.kind i || eqb t.kind j) ≡ c
-      → (x : List ℕ) → (next_token (rest w x n at) is i || next_token (rest w x n at) is j) ≡ c
-  either i j h x = rw u.kind h
-
-  any : (i j k : ℕ) → ((eqb t.kind i || eqb t.kind j) || eqb t.kind k) ≡ c
-      → (x : List ℕ) → ((next_token (rest w x n at) is i || next_token (rest w x n at) is j) || next_token (rest w x n at) is k) ≡ c
-  any i j k h x = rw u.kind h
-
 module _ {w x : List ℕ} {n d : ℕ} {o r f : List ℕ} {s : State} {t : Token} (u : Seen w n s.at t) where
-  pub item_function : {o1 r1 f1 : List ℕ} {y : Answer} → (eqb t.kind 4 || eqb t.kind 19) ≡ true
+  pub item_function : {o1 r1 f1 : List ℕ} {y : Answer} → (t.kind ≡ Kind.KwFn) ⊎ (t.kind ≡ Kind.KwExtern)
       → Reads node w x n d P.parse_function_definition o r f s o1 r1 f1 y
       → Reads node w x n d P.parse_top_level_item o r f s o1 r1 f1 y
   unfolding go run P.parse_top_level_item
-  item_function h B = record { moved = B.moved; on = B.on; is = λ rd. say (rw (run, either u 4 19 h)) (B.is rd) }
+  item_function (inl e) B =
+      record { moved = B.moved; on = B.on; is = λ rd. say (rw (run, yes u (same_number e))) (B.is rd) }
+  item_function (inr e) B =
+      let h = same_number e in
+      record { moved = B.moved; on = B.on; is = λ rd. say (rw (run, other u h 4 refl, yes u h)) (B.is rd) }
 
-  module _ (mf : (eqb t.kind 4 || eqb t.kind 19) ≡ false) where
-    pub item_alias : {o1 r1 f1 : List ℕ} {y : Answer} → ((eqb t.kind 15 || eqb t.kind 20) || eqb t.kind 21) ≡ true
-        → Reads node w x n d P.parse_type_alias o r f s o1 r1 f1 y
-        → Reads node w x n d P.parse_top_level_item o r f s o1 r1 f1 y
+  pub item_alias : {o1 r1 f1 : List ℕ} {y : Answer}
+      → (t.kind ≡ Kind.KwType) ⊎ ((t.kind ≡ Kind.KwDistinct) ⊎ (t.kind ≡ Kind.KwInternal))
+      → Reads node w x n d P.parse_type_alias o r f s o1 r1 f1 y
+      → Reads node w x n d P.parse_top_level_item o r f s o1 r1 f1 y
+  unfolding go run P.parse_top_level_item
+  item_alias (inl e) B =
+      let h = same_number e in
+      record {
+        moved = B.moved;
+        on = B.on;
+        is = λ rd. say (rw (run, other u h 4 refl, other u h 19 refl, yes u h)) (B.is rd);
+      }
+  item_alias (inr (inl e)) B =
+      let h = same_number e in
+      record {
+        moved = B.moved;
+        on = B.on;
+        is = λ rd. say (rw (run, other u h 4 refl, other u h 19 refl, other u h 15 refl, yes u h)) (B.is rd);
+      }
+  item_alias (inr (inr e)) B =
+      let h = same_number e in
+      record {
+        moved = B.moved;
+        on = B.on;
+        is = λ rd. say (rw (run, other u h 4 refl, other u h 19 refl, other u h 15 refl, other u h 20 refl, yes u h)) (B.is rd);
+      }
+
+  pub item_use : {o1 r1 f1 : List ℕ} {y : Answer} → kind_number t.kind ≡ 18 → Reads node w x n d P.parse_use o r f s o1 r1 f1 y
+      → Reads node w x n d P.parse_top_level_item o r f s o1 r1 f1 y
+  unfolding go run P.parse_top_level_item
+  item_use h B =
+      record {
+        moved = B.moved;
+        on = B.on;
+        is = λ rd. say
+            (rw (
+              run,
+              other u h 4 refl,
+              other u h 19 refl,
+              other u h 15 refl,
+              other u h 20 refl,
+              other u h 21 refl,
+              yes u h,
+            )) (B.is rd);
+      }
+
+  pub item_variable : {o1 r1 f1 : List ℕ} {y : Answer} → kind_number t.kind ≡ 5
+      → Reads node w x n d P.parse_top_level_var_declaration o r f s o1 r1 f1 y
+      → Reads node w x n d P.parse_top_level_item o r f s o1 r1 f1 y
+  unfolding go run P.parse_top_level_item
+  item_variable h B =
+      record {
+        moved = B.moved;
+        on = B.on;
+        is = λ rd. say
+            (rw (
+              run,
+              other u h 4 refl,
+              other u h 19 refl,
+              other u h 15 refl,
+              other u h 20 refl,
+              other u h 21 refl,
+              other u h 18 refl,
+              yes u h,
+            )) (B.is rd);
+      }
+
+  module _ (q : Asked w x n o r f s) where
+    pub item_assembly : {o1 : List ℕ} {y : Answer} → kind_number t.kind ≡ 54 → NodeWritten x o (there s t) (texted t.place Tag.TopLevelAssembly None t.start t.len) o1 y
+        → Reads node w x n d P.parse_top_level_item o r f s o1 r f y
     unfolding go run P.parse_top_level_item
-    item_alias h B = record { moved = B.moved; on = B.on; is = λ rd. say (rw (run, either u 4 19 mf, any u 15 20 21 h)) (B.is rd) }
+    item_assembly h F =
+        leaf_reads q.asks u [] (next_token (rest w x n s.at)).text F (omega (arith, h))
+        (rw (u.place, u.text)) d
+        (λ rd. rw (
+          run,
+          other u h 4 refl,
+          other u h 19 refl,
+          other u h 15 refl,
+          other u h 20 refl,
+          other u h 21 refl,
+          other u h 18 refl,
+          other u h 5 refl,
+          yes u h,
+        ))
 
-    module _ (ma : ((eqb t.kind 15 || eqb t.kind 20) || eqb t.kind 21) ≡ false) where
-      pub item_use : {o1 r1 f1 : List ℕ} {y : Answer} → t.kind ≡ 18 → Reads node w x n d P.parse_use o r f s o1 r1 f1 y
-          → Reads node w x n d P.parse_top_level_item o r f s o1 r1 f1 y
-      unfolding go run P.parse_top_level_item
-      item_use h B =
-          record {
-            moved = B.moved;
-            on = B.on;
-            is = λ rd. say (rw (run, either u 4 19 mf, any u 15 20 21 ma, yes u h)) (B.is rd);
-          }
-
-      module _ (m18 : t.kind ≡ 18 → ⊥) where
-        pub item_variable : {o1 r1 f1 : List ℕ} {y : Answer} → t.kind ≡ 5
-            → Reads node w x n d P.parse_top_level_var_declaration o r f s o1 r1 f1 y
-            → Reads node w x n d P.parse_top_level_item o r f s o1 r1 f1 y
-        unfolding go run P.parse_top_level_item
-        item_variable h B =
-            record {
-              moved = B.moved;
-              on = B.on;
-              is = λ rd. say (rw (run, either u 4 19 mf, any u 15 20 21 ma, no u m18, yes u h)) (B.is rd);
-            }
-
-        module _ (m5 : t.kind ≡ 5 → ⊥) (q : Asked w x n o r f s) where
-          pub item_assembly : {o1 : List ℕ} {y : Answer} → t.kind ≡ 54 → NodeWritten x o (there s t) (texted t.place 0x54 None t.start t.len) o1 y
-              → Reads node w x n d P.parse_top_level_item o r f s o1 r f y
-          unfolding go run P.parse_top_level_item
-          item_assembly h F =
-              leaf_reads q.asks u [] (next_token (rest w x n s.at)).text F (omega (arith, h))
-              (rw (u.place, u.text)) d
-              (λ rd. rw (run, either u 4 19 mf, any u 15 20 21 ma, no u m18, no u m5, yes u h))
-
-          pub item_other : {e : ℕ} {r1 f1 : List ℕ} {y : Answer} → (t.kind ≡ 54 → ⊥)
-              → unpack e ≡ error_at 1 t.place 0 t.kind
-              → Raised (raised n (fore s t)) r f (fore s t) e r1 f1 y
-              → Reads node w x n d P.parse_top_level_item o r f s o r1 f1 y
-          unfolding go run P.parse_top_level_item
-          item_other m54 i g =
-              raise_reads q.asks u plain g d
-              (λ rd. rw (run, either u 4 19 mf, any u 15 20 21 ma, no u m18, no u m5, no u m54)
-              (raise_same d (rw (u.place, u.kind) (sym i)) (adv s u (λ _. plain) f rd _)))
+    pub item_other : {e : ℕ} {r1 f1 : List ℕ} {y : Answer} → (kind_number t.kind ≡ 4 → ⊥) → (kind_number t.kind ≡ 19 → ⊥)
+        → (kind_number t.kind ≡ 15 → ⊥) → (kind_number t.kind ≡ 20 → ⊥) → (kind_number t.kind ≡ 21 → ⊥)
+        → (kind_number t.kind ≡ 18 → ⊥) → (kind_number t.kind ≡ 5 → ⊥) → (kind_number t.kind ≡ 54 → ⊥)
+        → unpack e ≡ error_at 1 t.place 0 (kind_number t.kind)
+        → Raised (raised n (fore s t)) r f (fore s t) e r1 f1 y
+        → Reads node w x n d P.parse_top_level_item o r f s o r1 f1 y
+    unfolding go run P.parse_top_level_item
+    item_other m4 m19 m15 m20 m21 m18 m5 m54 i g =
+        raise_reads q.asks u plain g d
+        (λ rd. rw
+        (run, no u m4, no u m19, no u m15, no u m20, no u m21, no u m18, no u m5, no u m54)
+        (raise_same d (rw (u.place, u.kind) (sym i)) (adv s u (λ _. plain) f rd _)))
 
 -- ---- the loop of `module`
 
 module _ {w x : List ℕ} {n d count : ℕ} {o r f : List ℕ} {s : State} {t : Token}
     (q : Asked w x n o r f s × (count ≤ s.at)) (v : Seen w n s.at t) where
-  pub module_end : t.kind ≡ 0 → LoopOn items_on w x n d count o r f s o r f (record { status = Done; state = s; place = 0; count = count })
+  pub module_end : kind_number t.kind ≡ 0 → LoopOn items_on w x n d count o r f s o r f (record { status = Done; state = s; place = 0; count = count })
   unfolding go run P.module_turn
   module_end z = record {
     moved = stays q.0.asks;
@@ -124,7 +171,7 @@ module _ {w x : List ℕ} {n d count : ℕ} {o r f : List ℕ} {s : State} {t : 
         };
   }
 
-  module _ {o1 r1 f1 : List ℕ} {b : Answer} (m0 : t.kind ≡ 0 → ⊥) (u : Reads node w x n d P.parse_top_level_item o r f s o1 r1 f1 b) where
+  module _ {o1 r1 f1 : List ℕ} {b : Answer} (m0 : kind_number t.kind ≡ 0 → ⊥) (u : Reads node w x n d P.parse_top_level_item o r f s o1 r1 f1 b) where
     -- a turn that parses an item
     item_turn : (rd : List Consumed) (l : Items)
         → go d (items_on l) (st_of w x n f rd s)

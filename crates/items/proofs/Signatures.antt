@@ -5,6 +5,7 @@ use Prim.Native.Nat.{ℕ, ◌≤◌}
 use native.Mathlib.Omega.{arith}
 use lib.ListN.{length, take}
 use lib.Seq.{length-take-le}
+use Rattle.definition.specs.Numbers.{kind_number}
 use Rattle.definition.specs.Source.{Place}
 use Rattle.definition.specs.Node.{recs_bytes}
 use Rattle.definition.specs.Fallible.{Fallible, Ans, ok}
@@ -14,6 +15,7 @@ use Rattle.definition.specs.Parser as P
 use Rattle.definition.specs.Go.{go}
 use Rattle.definition.specs.Places.{unpack_place}
 use Rattle.definition.proofs.Flat.{go_bind}
+use Rattle.definition.specs.declared.tag.Tag.{Tag}
 use Rattle.fallible.proofs.Grown.{errs_length}
 use Rattle.fallible.specs.declared.parser.State.{State}
 use Rattle.fallible.specs.Answer.{Done, Answer}
@@ -36,7 +38,7 @@ use Rattle.items.proofs.Orders.{answered, still, turned}
 -- ---- `return_type`
 
 module _ {w x : List ℕ} {n d : ℕ} {o r f : List ℕ} {s : State} {t : Token} (u : Seen w n s.at t) where
-  pub type_given : {o1 r1 f1 : List ℕ} {y : Answer} {p : Place} → t.kind ≡ 51
+  pub type_given : {o1 r1 f1 : List ℕ} {y : Answer} {p : Place} → kind_number t.kind ≡ 51
       → Reads node w x n d P.parse_type o r f (fore s t) o1 r1 f1 y
       → ReadsType w x n d p o r f s o1 r1 f1 y
   unfolding go run
@@ -55,9 +57,9 @@ module _ {w x : List ℕ} {n d : ℕ} {o r f : List ℕ} {s : State} {t : Token}
     is = λ rd. say (rw (run, yes u h) (ap (λ (S : St). go d P.parse_type S) (adv s u (λ _. plain) f rd _))) (B.is (past w x n s.at rd));
   }
 
-  pub type_none : {o2 : List ℕ} {y : Answer} {place : ℕ} → Asked w x n o r f s → (t.kind ≡ 51 → ⊥)
+  pub type_none : {o2 : List ℕ} {y : Answer} {place : ℕ} → Asked w x n o r f s → (kind_number t.kind ≡ 51 → ⊥)
       → NodeWritten x o (record { status = Done; state = s; place = place; count = 0 })
-      (record { tag = 0x11; place = place; numbers = None; start = 0; len = 0 }) o2 y
+      (record { tag = Tag.Void; place = place; numbers = None; start = 0; len = 0 }) o2 y
       → ReadsType w x n d (unpack_place place) o r f s o2 r f y
   unfolding go run recs_bytes
   type_none {o2} {y} {place} q m F =

@@ -6,7 +6,8 @@ ghost use Rattle.items.specs.Items.{flag};
 ghost use Rattle.steps.specs.Contract.{Asked, Parses};
 ghost use Rattle.items.specs.Contract.{ReadsType, ReadsSignature, FunctionAsked, FunctionOn};
 
-use definition::{kind, tag};
+use definition::kind::Kind;
+use definition::tag::Tag;
 use expression::{list, ty};
 use fallible::parser::{Parser, State};
 use fallible::{Stop, abandon, exchange};
@@ -28,7 +29,7 @@ fn return_type(
     ensures { ReadsType (unpack_place place) tokens file parser nesting result }
 {
     let t = tokens.peek(parser.state.at);
-    if t.kind == kind::R_ARROW {
+    if let Kind::RArrow = t.kind {
         parser.state.at = t.next;
         return ty(tokens, file, parser, nesting);
     }
@@ -38,7 +39,7 @@ fn return_type(
         &mut parser.state,
         Ok(place),
         place,
-        tag::VOID,
+        Tag::Void,
         Numbers::None,
     )
 }
@@ -83,14 +84,14 @@ fn external_function(
     ensures { (d : ℕ) → FunctionOn 1 (unpack_place place) tokens file parser name count from d result }
 {
     let t = tokens.peek(name);
-    let b = expect_after(tokens, parser, Ok(count), kind::SEMICOLON, from);
+    let b = expect_after(tokens, parser, Ok(count), Kind::Semicolon, from);
     write_text_node(
         file,
         tokens.text,
         &mut parser.state,
         b,
         place,
-        tag::FUNCTION_DEFINITION,
+        Tag::FunctionDefinition,
         Numbers::ByteTwo(1, count),
         t.start,
         t.len,
@@ -126,7 +127,7 @@ fn whole_function(
         &mut parser.state,
         Ok(place),
         place,
-        tag::BLOCK,
+        Tag::Block,
         numbers,
     );
     let t = tokens.peek(name);
@@ -136,7 +137,7 @@ fn whole_function(
         &mut parser.state,
         c,
         place,
-        tag::FUNCTION_DEFINITION,
+        Tag::FunctionDefinition,
         Numbers::ByteTwo(0, count),
         t.start,
         t.len,
@@ -156,7 +157,7 @@ fn function(
     ensures { Parses (P.function (unpack_place place) (flag external)) tokens file parser nesting result }
 {
     let from = parser.state;
-    expect(tokens, parser, kind::KW_FN)?;
+    expect(tokens, parser, Kind::KwFn)?;
     let name = parser.state.at;
     expect_identifier(tokens, parser)?;
     let count = signature(tokens, file, parser, place, nesting)?;
@@ -177,7 +178,7 @@ pub fn function_definition(
     ensures { Parses P.parse_function_definition tokens file parser nesting result }
 {
     let t = tokens.peek(parser.state.at);
-    if t.kind == kind::KW_EXTERN {
+    if let Kind::KwExtern = t.kind {
         parser.state.at = t.next;
         return function(tokens, file, parser, true, t.place, nesting);
     }

@@ -9,8 +9,10 @@ ghost use Rattle.steps.specs.Contract.{Asked, Parses};
 ghost use Rattle.expression_laws.specs.Contract.{LoopOn};
 ghost use Rattle.items.specs.Rules.{items_on};
 
+use definition::kind::Kind;
+use definition::parse_error::ParseError;
 use definition::refusal::Refusal;
-use definition::{kind, parse_error, tag};
+use definition::tag::Tag;
 use fallible::parser::Parser;
 use fallible::{Stop, entry, recover};
 use functions::function_definition;
@@ -30,25 +32,23 @@ fn top_level_item(
     ensures { Parses P.parse_top_level_item tokens file parser nesting result }
 {
     let t = tokens.peek(parser.state.at);
-    if (t.kind == kind::KW_FN) | (t.kind == kind::KW_EXTERN) {
-        return function_definition(tokens, file, parser, nesting);
+    match t.kind {
+        Kind::KwFn | Kind::KwExtern => function_definition(tokens, file, parser, nesting),
+        Kind::KwType | Kind::KwDistinct | Kind::KwInternal => {
+            type_alias(tokens, file, parser, nesting)
+        }
+        Kind::KwUse => use_path(tokens, file, parser),
+        Kind::KwVar => top_level_var_declaration(tokens, file, parser, nesting),
+        Kind::InlineAssemblyFragment => {
+            let tag = Tag::TopLevelAssembly;
+            Ok(leaf(file, tokens.text, &mut parser.state, t, tag, Numbers::None))
+        }
+        _ => {
+            parser.state.at = t.next;
+            let error = entry(ParseError::TopLevel, t.place, Kind::End, t.kind);
+            Err(parser.raise(tokens.count, error))
+        }
     }
-    if (t.kind == kind::KW_TYPE) | (t.kind == kind::KW_DISTINCT) | (t.kind == kind::KW_INTERNAL) {
-        return type_alias(tokens, file, parser, nesting);
-    }
-    if t.kind == kind::KW_USE {
-        return use_path(tokens, file, parser);
-    }
-    if t.kind == kind::KW_VAR {
-        return top_level_var_declaration(tokens, file, parser, nesting);
-    }
-    if t.kind == kind::INLINE_ASSEMBLY_FRAGMENT {
-        let tag = tag::TOP_LEVEL_ASSEMBLY;
-        return Ok(leaf(file, tokens.text, &mut parser.state, t, tag, Numbers::None));
-    }
-    parser.state.at = t.next;
-    let error = entry(parse_error::TOP_LEVEL, t.place, 0, t.kind);
-    Err(parser.raise(tokens.count, error))
 }
 
 // ---- the module
@@ -67,7 +67,7 @@ pub fn module(
     let mut count = 0;
     loop {
         let t = tokens.peek(parser.state.at);
-        if t.kind == kind::END {
+        if let Kind::End = t.kind {
             return Ok(count);
         }
         let b = top_level_item(tokens, file, parser, nesting);

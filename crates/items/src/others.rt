@@ -7,8 +7,10 @@ ghost use Rattle.items.specs.Items.{Modified};
 ghost use Rattle.items.specs.Rules.{alias_rule, path_rule};
 ghost use Rattle.steps.specs.Contract.{Asked, Parses};
 
+use definition::kind::Kind;
+use definition::parse_error::ParseError;
 use definition::refusal::Refusal;
-use definition::{kind, parse_error, tag};
+use definition::tag::Tag;
 use expression::ty;
 use fallible::parser::Parser;
 use fallible::{Stop, entry};
@@ -34,12 +36,12 @@ fn modifiers(tokens: Tokens, from: usize) -> AliasWords
     let mut at = from;
     loop {
         let t = tokens.peek(at);
-        if t.kind == kind::KW_DISTINCT {
+        if let Kind::KwDistinct = t.kind {
             distinct = 1;
             at = t.next;
             continue;
         }
-        if t.kind == kind::KW_INTERNAL {
+        if let Kind::KwInternal = t.kind {
             internal = 2;
             at = t.next;
             continue;
@@ -65,17 +67,17 @@ fn alias(
 {
     let from = parser.state;
     let t = tokens.peek(from.at);
-    if t.kind == kind::END {
+    if let Kind::End = t.kind {
         return Err(parser.state.refuse(tokens.count, Refusal::EndAfterWord));
     }
     parser.state.at = t.next;
-    if t.kind != kind::IDENTIFIER {
-        let error = entry(parse_error::NAME_AFTER_TYPE, t.place, 0, 0);
+    let Kind::Identifier = t.kind else {
+        let error = entry(ParseError::NameAfterType, t.place, Kind::End, Kind::End);
         return Err(parser.raise(tokens.count, error));
-    }
-    expect(tokens, parser, kind::EQUALS)?;
+    };
+    expect(tokens, parser, Kind::Equals)?;
     let b = ty(tokens, file, parser, nesting);
-    let c = expect_after(tokens, parser, b, kind::SEMICOLON, from);
+    let c = expect_after(tokens, parser, b, Kind::Semicolon, from);
     let numbers = Numbers::Byte(words);
     write_text_node(
         file,
@@ -83,7 +85,7 @@ fn alias(
         &mut parser.state,
         c,
         place,
-        tag::TYPE_ALIAS,
+        Tag::TypeAlias,
         numbers,
         t.start,
         t.len,
@@ -104,7 +106,7 @@ pub fn type_alias(
     let t = tokens.peek(at);
     let m = modifiers(tokens, at);
     parser.state.at = m.next;
-    expect(tokens, parser, kind::KW_TYPE)?;
+    expect(tokens, parser, Kind::KwType)?;
     alias(tokens, file, parser, m.words, t.place, nesting)
 }
 
@@ -114,22 +116,22 @@ fn path(tokens: Tokens, file: &mut [u8], parser: &mut Parser, place: usize) -> R
     ensures { (d : ℕ) → Parses (path_rule (unpack_place place)) tokens file parser d result }
 {
     let t = tokens.peek(parser.state.at);
-    if t.kind == kind::END {
+    if let Kind::End = t.kind {
         return Err(parser.state.refuse(tokens.count, Refusal::EndAfterWord));
     }
     parser.state.at = t.next;
-    if t.kind != kind::STRING {
-        let error = entry(parse_error::PATH_AFTER_USE, t.place, 0, 0);
+    let Kind::String = t.kind else {
+        let error = entry(ParseError::PathAfterUse, t.place, Kind::End, Kind::End);
         return Err(parser.raise(tokens.count, error));
-    }
-    let a = expect(tokens, parser, kind::SEMICOLON);
+    };
+    let a = expect(tokens, parser, Kind::Semicolon);
     write_text_node(
         file,
         tokens.text,
         &mut parser.state,
         a,
         place,
-        tag::USE,
+        Tag::Use,
         Numbers::None,
         t.start,
         t.len,
@@ -142,7 +144,7 @@ pub fn use_path(tokens: Tokens, file: &mut [u8], parser: &mut Parser) -> Result<
     ensures { (d : ℕ) → Parses P.parse_use tokens file parser d result }
 {
     let t = tokens.peek(parser.state.at);
-    expect(tokens, parser, kind::KW_USE)?;
+    expect(tokens, parser, Kind::KwUse)?;
     path(tokens, file, parser, t.place)
 }
 
@@ -157,12 +159,12 @@ pub fn top_level_var_declaration(
     ensures { Parses P.parse_top_level_var_declaration tokens file parser nesting result }
 {
     let t = tokens.peek(parser.state.at);
-    expect(tokens, parser, kind::KW_VAR)?;
+    expect(tokens, parser, Kind::KwVar)?;
     declaration(
         tokens,
         file,
         parser,
-        tag::TOP_LEVEL_VARIABLE,
+        Tag::TopLevelVariable,
         t.place,
         nesting,
     )

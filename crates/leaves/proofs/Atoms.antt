@@ -9,8 +9,10 @@ use Rattle.definition.specs.Node.{Num, byte, recs_bytes}
 use Rattle.definition.specs.Fallible.{Ans, ok}
 use Rattle.definition.specs.Token.{next_token}
 use Rattle.definition.specs.Act.{Node, Act, plain, Consumed, St, gives, advance, now_read, run}
+use Rattle.definition.specs.Numbers.{kind_number, tag_number}
 use Rattle.definition.specs.Parser as P
 use Rattle.definition.specs.Go.{go}
+use Rattle.definition.specs.declared.tag.Tag.{Tag}
 use Rattle.node.specs.Put.{rec_of, size_of}
 use Rattle.node.specs.declared.Record.{Record}
 use Rattle.node.specs.declared.Numbers.TheVariants.{None, Byte}
@@ -21,7 +23,7 @@ use Rattle.fallible.specs.Answers.{raised, Raised}
 use Rattle.steps.specs.declared.tokens.Token.{Token}
 use Rattle.steps.specs.Tokens.{rest, budget, Seen}
 use Rattle.steps.specs.Shows.{st_of, Asks, node, token, Reads, Expects, NodeWritten, texted, untexted}
-use Rattle.steps.proofs.Records.{yes, no, fore, adv}
+use Rattle.steps.proofs.Records.{yes, no, other, fore, adv}
 use Rattle.steps.proofs.Moves.{stays}
 use Rattle.steps.proofs.Answers.{say, writes_node, raise_same}
 use Rattle.leaves.specs.Leaves.{there, identifier, Literal, ClosingOf, ClosedOf, Closed}
@@ -33,13 +35,13 @@ module _ {w x : List ℕ} {n : ℕ} {o o' r f : List ℕ} {s : State} {t : Token
     {m : Act (Ans Node)} (q : Asks w n r f s) (v : Seen w n s.at t) (ns : List Num) (text : List ℕ)
     (u : NodeWritten x o (there s t) z o' y) where
   -- an act that reads the token and writes its record reads a node
-  pub leaf_reads : size_of z ≤ 16 * min t.kind 1 + t.len
+  pub leaf_reads : size_of z ≤ 16 * min (kind_number t.kind) 1 + t.len
       → rec_of x z
-      ≡ record { tag = z.tag; place = some (next_token (rest w x n s.at)).place; numbers = ns; text = text }
+      ≡ record { tag = tag_number z.tag; place = some (next_token (rest w x n s.at)).place; numbers = ns; text = text }
       → (d : ℕ)
       → ((rd : List Consumed)
       → go d m (st_of w x n f rd s)
-      ≡ go d (P.good (P.node [] z.tag (next_token (rest w x n s.at)).place ns text) [])
+      ≡ go d (P.good (P.node [] (tag_number z.tag) (next_token (rest w x n s.at)).place ns text) [])
       (advance (λ _. plain) (st_of w x n f rd s)))
       → Reads node w x n d m o r f s o' r f y
   unfolding recs_bytes
@@ -59,7 +61,7 @@ module _ {w x : List ℕ} {n : ℕ} {o o' r f : List ℕ} {s : State} {t : Token
     on = omega (arith, v.present, v.on, u.at);
     is =
         λ rd. say (g rd
-        ∙ ap (λ (S : St). go d (P.good (P.node [] z.tag (next_token (rest w x n s.at)).place ns text) []) S)
+        ∙ ap (λ (S : St). go d (P.good (P.node [] (tag_number z.tag) (next_token (rest w x n s.at)).place ns text) []) S)
         (adv s v (λ _. plain) f rd _))
         (writes_node {K = token (next_token (rest w x n s.at))} {rs = []} {es = []} {q = gives (ok (record { item = next_token (rest w x n s.at); errors = [] })) (st_of w x n f (rd ++ now_read (λ _. plain) (rest w x n s.at)) (fore s t))} d (λ _. (next_token (rest w x n s.at)).place) (λ _. ns) text u (λ _ _. e)
         (record {
@@ -82,8 +84,8 @@ abbrev pub Atom : List ℕ → List ℕ → ℕ → List ℕ → List ℕ → Li
 Atom w x n o r f s o' r' f' y = (d : ℕ) → Reads node w x n d P.parse_atom o r f s o' r' f' y
 
 module _ {w x : List ℕ} {n : ℕ} {o r f : List ℕ} {s : State} {t : Token} (q : Literal w x n o r f s) (v : Seen w n s.at t) where
-  pub integer_reads : {o' : List ℕ} {y : Answer} → t.kind ≡ 2
-      → NodeWritten x o (there s t) (texted t.place 33 (Byte (t.base % 256)) t.start t.len) o' y → Atom w x n o r f s o' r f y
+  pub integer_reads : {o' : List ℕ} {y : Answer} → kind_number t.kind ≡ 2
+      → NodeWritten x o (there s t) (texted t.place Tag.Integer (Byte (t.base % 256)) t.start t.len) o' y → Atom w x n o r f s o' r f y
   unfolding go run P.parse_atom
   integer_reads z u d =
       let b : t.base % 256 ≡ t.base = omega (arith, v.bases) in
@@ -91,52 +93,48 @@ module _ {w x : List ℕ} {n : ℕ} {o r f : List ℕ} {s : State} {t : Token} (
       (next_token (rest w x n s.at)).text u (omega arith) (rw (v.place, v.text, v.base, b)) d
       (λ rd. rw (run, yes v z))
 
-  module _ (m2 : t.kind ≡ 2 → ⊥) where
-    pub name_reads : {o' : List ℕ} {y : Answer} → t.kind ≡ 1 → NodeWritten x o (there s t) (identifier t) o' y → Atom w x n o r f s o' r f y
+  pub name_reads : {o' : List ℕ} {y : Answer} → kind_number t.kind ≡ 1 → NodeWritten x o (there s t) (identifier t) o' y → Atom w x n o r f s o' r f y
+  unfolding go run P.parse_atom
+  name_reads z u d =
+      leaf_reads q.asked.asks v [] (next_token (rest w x n s.at)).text u (omega arith)
+      (rw (v.place, v.text)) d (λ rd. rw (run, other v z 2 refl, yes v z))
+
+  pub string_reads : {o' : List ℕ} {y : Answer} → kind_number t.kind ≡ 3 → NodeWritten x o (there s t) (texted t.place Tag.String None t.start t.len) o' y
+      → Atom w x n o r f s o' r f y
+  unfolding go run P.parse_atom
+  string_reads z u d =
+      leaf_reads q.asked.asks v [] (next_token (rest w x n s.at)).text u (omega arith)
+      (rw (v.place, v.text)) d (λ rd. rw (run, other v z 2 refl, other v z 1 refl, yes v z))
+
+  pub true_reads : {o' : List ℕ} {y : Answer} → kind_number t.kind ≡ 12 → NodeWritten x o (there s t) (untexted t.place Tag.Boolean (Byte 1)) o' y
+      → Atom w x n o r f s o' r f y
+  unfolding go run P.parse_atom
+  true_reads z u d =
+      leaf_reads q.asked.asks v (byte 1 ∷ []) [] u (omega arith) (rw v.place) d
+      (λ rd. rw (run, other v z 2 refl, other v z 1 refl, other v z 3 refl, yes v z))
+
+  pub false_reads : {o' : List ℕ} {y : Answer} → kind_number t.kind ≡ 13 → NodeWritten x o (there s t) (untexted t.place Tag.Boolean (Byte 0)) o' y
+      → Atom w x n o r f s o' r f y
+  unfolding go run P.parse_atom
+  false_reads z u d =
+      leaf_reads q.asked.asks v (byte 0 ∷ []) [] u (omega arith) (rw v.place) d
+      (λ rd. rw (run, other v z 2 refl, other v z 1 refl, other v z 3 refl, other v z 12 refl, yes v z))
+
+  module _ {e : ℕ} {r' f' : List ℕ} {y : Answer} (g : Raised (raised n (fore s t)) r f (fore s t) e r' f' y) where
+    pub end_reads : kind_number t.kind ≡ 0 → unpack e ≡ error_at 8 0 0 0 → Atom w x n o r f s o r' f' y
     unfolding go run P.parse_atom
-    name_reads z u d =
-        leaf_reads q.asked.asks v [] (next_token (rest w x n s.at)).text u (omega arith)
-        (rw (v.place, v.text)) d (λ rd. rw (run, no v m2, yes v z))
+    end_reads z i d =
+        raise_reads q.asked.asks v plain g d (λ rd. rw
+        (run, other v z 2 refl, other v z 1 refl, other v z 3 refl, other v z 12 refl, other v z 13 refl, other v z 41 refl, yes v z)
+        (raise_same d (sym i) (adv s v (λ _. plain) f rd _)))
 
-    module _ (m1 : t.kind ≡ 1 → ⊥) where
-      pub string_reads : {o' : List ℕ} {y : Answer} → t.kind ≡ 3 → NodeWritten x o (there s t) (texted t.place 35 None t.start t.len) o' y
-          → Atom w x n o r f s o' r f y
-      unfolding go run P.parse_atom
-      string_reads z u d =
-          leaf_reads q.asked.asks v [] (next_token (rest w x n s.at)).text u (omega arith)
-          (rw (v.place, v.text)) d (λ rd. rw (run, no v m2, no v m1, yes v z))
-
-      module _ (m3 : t.kind ≡ 3 → ⊥) where
-        pub true_reads : {o' : List ℕ} {y : Answer} → t.kind ≡ 12 → NodeWritten x o (there s t) (untexted t.place 34 (Byte 1)) o' y
-            → Atom w x n o r f s o' r f y
-        unfolding go run P.parse_atom
-        true_reads z u d =
-            leaf_reads q.asked.asks v (byte 1 ∷ []) [] u (omega arith) (rw v.place) d
-            (λ rd. rw (run, no v m2, no v m1, no v m3, yes v z))
-
-        module _ (m12 : t.kind ≡ 12 → ⊥) where
-          pub false_reads : {o' : List ℕ} {y : Answer} → t.kind ≡ 13 → NodeWritten x o (there s t) (untexted t.place 34 (Byte 0)) o' y
-              → Atom w x n o r f s o' r f y
-          unfolding go run P.parse_atom
-          false_reads z u d =
-              leaf_reads q.asked.asks v (byte 0 ∷ []) [] u (omega arith) (rw v.place) d
-              (λ rd. rw (run, no v m2, no v m1, no v m3, no v m12, yes v z))
-
-          module _ {e : ℕ} {r' f' : List ℕ} {y : Answer} (m13 : t.kind ≡ 13 → ⊥)
-              (g : Raised (raised n (fore s t)) r f (fore s t) e r' f' y) where
-            pub end_reads : t.kind ≡ 0 → unpack e ≡ error_at 8 0 0 0 → Atom w x n o r f s o r' f' y
-            unfolding go run P.parse_atom
-            end_reads z i d =
-                raise_reads q.asked.asks v plain g d (λ rd. rw
-                (run, no v m2, no v m1, no v m3, no v m12, no v m13, no v (λ b. q.bare (v.kind x ∙ b)), yes v z)
-                (raise_same d (sym i) (adv s v (λ _. plain) f rd _)))
-
-            pub other_reads : (t.kind ≡ 0 → ⊥) → unpack e ≡ error_at 7 t.place 0 t.kind → Atom w x n o r f s o r' f' y
-            unfolding go run P.parse_atom
-            other_reads z i d =
-                raise_reads q.asked.asks v plain g d (λ rd. rw
-                (run, no v m2, no v m1, no v m3, no v m12, no v m13, no v (λ b. q.bare (v.kind x ∙ b)), no v z)
-                (raise_same d (rw (v.place, v.kind) (sym i)) (adv s v (λ _. plain) f rd _)))
+    pub other_reads : (kind_number t.kind ≡ 2 → ⊥) → (kind_number t.kind ≡ 1 → ⊥) → (kind_number t.kind ≡ 3 → ⊥) → (kind_number t.kind ≡ 12 → ⊥) → (kind_number t.kind ≡ 13 → ⊥)
+        → (kind_number t.kind ≡ 0 → ⊥) → unpack e ≡ error_at 7 t.place 0 (kind_number t.kind) → Atom w x n o r f s o r' f' y
+    unfolding go run P.parse_atom
+    other_reads m2 m1 m3 m12 m13 z i d =
+        raise_reads q.asked.asks v plain g d (λ rd. rw
+        (run, no v m2, no v m1, no v m3, no v m12, no v m13, no v (λ b. q.bare (v.kind x ∙ b)), no v z)
+        (raise_same d (rw (v.place, v.kind) (sym i)) (adv s v (λ _. plain) f rd _)))
 
 -- ---- `close`
 

@@ -1,11 +1,13 @@
 -- Which operator, comparison or prefix a kind is. Assumes nothing.
-use mathlib.Core.Path.{◌≡◌, refl, sym, ◌∙◌, subst}
+use mathlib.Core.Path.{◌≡◌, refl, sym, ◌∙◌}
 use mathlib.Core.Bool.{Bool, true, false, not, ◌||◌}
 use mathlib.Core.List.{List, [], ◌∷◌}
-use Prim.Native.Nat.{ℕ, min, ◌+◌, ◌-◌, ◌≤◌}
+use Prim.Native.Nat.{ℕ, zero, suc, ◌<◌}
 use native.Mathlib.Omega.{arith}
 use lib.Dec.{eqb}
-use borrow.Author.Tests.{eq-eqb, ne_eqb, eqb-true, eqb-false, not-true}
+use borrow.Author.Tests.{eqb-true, eqb-false, not-true}
+use Rattle.std.specs.Prelude.{Option, Some, None}
+use Rattle.definition.specs.Choice.{pick}
 use Rattle.definition.specs.Fallible.{Ans}
 use Rattle.definition.specs.Token.{Tok, next_token}
 use Rattle.definition.specs.Act as A
@@ -14,38 +16,44 @@ use Rattle.definition.specs.Kind as K
 use Rattle.definition.specs.Parser as P
 use Rattle.definition.specs.Go.{go}
 use Rattle.definition.proofs.Tests.{clash, parts_true}
-use Rattle.leaves.specs.declared.Level.{Level}
-use Rattle.leaves.specs.Leaves.{level_of, Operator, is_arithmetic, Prefix, is_name_alone}
+use Rattle.leaves.specs.Leaves.{operator_of, is_arithmetic, prefixes, is_name_alone}
 
--- the table has the kind k with the number r - 1, or does not have it and r is 0
-pub record Finds (ops : List P.Op) (k r : ℕ) : Type 0 where
-  pub is : (t : Tok) → t.kind ≡ k → (found : ℕ → Act (Ans Node)) (other : Act (Ans Node)) (d : ℕ) (S : St)
-      → go d (P.find t ops found other) S ≡ go d (elim (eqb r 0) [ true ↦ other | false ↦ found (r - 1) ]) S
+-- ---- the search in a table
 
--- the search in a table: its end, an entry of this kind, an entry of another
-pub none : {k : ℕ} → Finds [] k 0
-none = record { is = λ t e found other d S. refl }
-
-module _ {k c p : ℕ} {ops : List P.Op} where
-  pub hit : k ≡ c → Finds (P.on c p ∷ ops) k (p + 1)
+module _ (t : Tok) (k : ℕ) (e : t.kind ≡ k) (found : ℕ → Act (Ans Node)) (other : Act (Ans Node)) (d : ℕ) (S : St) where
+  finds : (ops : List P.Op) → go d (P.find t ops found other) S
+      ≡ go d (elim (operator_of ops k) [ None ↦ other | Some o ↦ found o ]) S
   unfolding go run
-  hit z =
-      record {
-        is = λ t e found other d S. let s : p + 1 - 1 ≡ p = omega arith in
-            rw (run, eq-eqb t.kind c (e ∙ z), ne_eqb (p + 1) 0 (λ y. omega arith), s);
-      }
+  finds [] = refl
+  finds (o ∷ os) = one (finds os) (eqb k o.kind) refl
+    where
+      one : go d (P.find t os found other) S ≡ go d (elim (operator_of os k) [ None ↦ other | Some o ↦ found o ]) S
+          → (b : Bool) → eqb k o.kind ≡ b → go d (P.find t (o ∷ os) found other) S
+          ≡ go d (elim (pick b (Some o.op) (operator_of os k)) [ None ↦ other | Some o ↦ found o ]) S
+      one i true h = rw (run, e, h)
+      one i false h = rw (run, e, h) i
 
-  pub miss : {r : ℕ} → (k ≡ c → ⊥) → Finds ops k r → Finds (P.on c p ∷ ops) k r
-  unfolding go run
-  miss z h = record { is = λ t e found other d S. rw (run, ne_eqb t.kind c (λ y. z (sym e ∙ y))) (h.is t e found other d S) }
+  module _ (ops : List P.Op) {r : Option ℕ} (g : r ≡ operator_of ops k) where
+    -- the kind is no operator of the table, or it is one
+    pub none_found : r ≡ None → go d (P.find t ops found other) S ≡ go d other S
+    none_found h = finds ops ∙ rw (sym g ∙ h)
 
-pub finds : {ops : List P.Op} {k r : ℕ} → r ≤ 8 → min r 1 ≤ k → Finds ops k r → Operator ops k r
-finds h g i = record { small = h; real = g; is = i.is }
+    pub one_found : {o : ℕ} → r ≡ Some o → go d (P.find t ops found other) S ≡ go d (found o) S
+    one_found h = finds ops ∙ rw (sym g ∙ h)
 
--- for a level of the code
-pub at_level : {v v' : Level} {k r : ℕ} → v ≡ v' → r ≤ 8 → min r 1 ≤ k → Finds (P.mapping (level_of v')) k r
-    → Operator (P.mapping (level_of v)) k r
-at_level {v} {v'} {k} {r} e h g i = subst (λ (z : Level). Operator (P.mapping (level_of z)) k r) (sym e) (finds h g i)
+-- the end is no operator
+pub operator_real : (ops : List P.Op) (k : ℕ) {r : Option ℕ} {o : ℕ} → operator_of ops 0 ≡ None → r ≡ operator_of ops k → r ≡ Some o
+    → 0 < k
+operator_real ops zero z g h = cc (z, g, h)
+operator_real ops (suc k) z g h = omega arith
+
+pub level_end : (l : A.Level) → operator_of (P.mapping l) 0 ≡ None
+level_end A.BitOr = refl
+level_end A.BitXor = refl
+level_end A.BitAnd = refl
+level_end A.Shift = refl
+level_end A.AddSub = refl
+level_end A.Mul = refl
 
 -- ---- no operator of any level
 
@@ -53,18 +61,7 @@ pub neither : (a b : Bool) → (a || b) ≡ false → (a ≡ false) × (b ≡ fa
 neither true b e = clash e
 neither false b e = (refl, e)
 
-module _ {k : ℕ} (bar : k ≡ K.Bar → ⊥) (caret : k ≡ K.Caret → ⊥) (ampersand : k ≡ K.Ampersand → ⊥)
-    (left : k ≡ K.LeftShift → ⊥) (right : k ≡ K.RightShift → ⊥) (plus : k ≡ K.Plus → ⊥)
-    (minus : k ≡ K.Minus → ⊥) (star : k ≡ K.Star → ⊥) where
-  nowhere : (l : A.Level) → Finds (P.mapping l) k 0
-  nowhere A.BitOr = miss bar none
-  nowhere A.BitXor = miss caret none
-  nowhere A.BitAnd = miss ampersand none
-  nowhere A.Shift = miss left (miss right none)
-  nowhere A.AddSub = miss plus (miss minus none)
-  nowhere A.Mul = miss star none
-
-pub no_operator : (k : ℕ) → is_arithmetic k ≡ false → (l : A.Level) → Operator (P.mapping l) k 0
+pub no_operator : (k : ℕ) → is_arithmetic k ≡ false → (l : A.Level) → operator_of (P.mapping l) k ≡ None
 no_operator k e l =
     let star = neither _ (eqb k K.Star) e in
     let minus = neither _ (eqb k K.Minus) star.0 in
@@ -73,35 +70,28 @@ no_operator k e l =
     let left = neither _ (eqb k K.LeftShift) right.0 in
     let ampersand = neither _ (eqb k K.Ampersand) left.0 in
     let caret = neither _ (eqb k K.Caret) ampersand.0 in
-    finds (omega arith) (omega arith)
-    (nowhere (eqb-false k K.Bar caret.0) (eqb-false k K.Caret caret.1)
-    (eqb-false k K.Ampersand ampersand.1) (eqb-false k K.LeftShift left.1)
-    (eqb-false k K.RightShift right.1) (eqb-false k K.Plus plus.1) (eqb-false k K.Minus minus.1)
-    (eqb-false k K.Star star.1) l)
-
--- the prefix operators as a table of their tags
-abbrev pub prefixes : List P.Op
-prefixes = P.on K.Ampersand 0x26 ∷ P.on K.Star 0x27 ∷ P.on K.Tilde 0x29 ∷ P.on K.Bang 0x2A ∷ []
-
-pub prefixed : {k r : ℕ} → r ≤ 0x2B → min r 1 ≤ k → Finds prefixes k r → Prefix k r
-unfolding go run P.unary_rule
-prefixed {k} {r} h g i =
-    record {
-      small = h;
-      real = g;
-      is = λ d S e. i.is (next_token S.tokens) e (λ o. P.prefix (o + 1)) P.parse_call d S ∙ one (eqb r 0) refl d S;
-    }
+    nowhere caret.0 caret.1 ampersand.1 left.1 right.1 plus.1 minus.1 star.1 l
   where
-    one : (b : Bool) → eqb r 0 ≡ b → (d : ℕ) (S : St)
-        → go {A = Ans Node} d (elim b [ true ↦ P.parse_call | false ↦ P.prefix (r - 1 + 1) ]) S
-        ≡ go {A = Ans Node} d (elim b [ true ↦ P.parse_call | false ↦ P.prefix r ]) S
-    one true e d S = refl
-    one false e d S = let z = eqb-false r 0 e in let s : r - 1 + 1 ≡ r = omega arith in rw s
+    nowhere : eqb k K.Bar ≡ false → eqb k K.Caret ≡ false → eqb k K.Ampersand ≡ false → eqb k K.LeftShift ≡ false
+        → eqb k K.RightShift ≡ false → eqb k K.Plus ≡ false → eqb k K.Minus ≡ false → eqb k K.Star ≡ false
+        → (l : A.Level) → operator_of (P.mapping l) k ≡ None
+    nowhere bar caret ampersand left right plus minus star A.BitOr = rw bar
+    nowhere bar caret ampersand left right plus minus star A.BitXor = rw caret
+    nowhere bar caret ampersand left right plus minus star A.BitAnd = rw ampersand
+    nowhere bar caret ampersand left right plus minus star A.Shift = rw (left, right)
+    nowhere bar caret ampersand left right plus minus star A.AddSub = rw (plus, minus)
+    nowhere bar caret ampersand left right plus minus star A.Mul = rw star
 
-pub no_prefix : {k : ℕ} → k ≡ K.Identifier → Prefix k 0
-no_prefix z =
-    prefixed (omega arith) (omega arith)
-    (miss (λ e. omega arith) (miss (λ e. omega arith) (miss (λ e. omega arith) (miss (λ e. omega arith) none))))
+-- ---- prefixes
+
+-- an operand begins with a prefix, or is a call
+pub unary_finds : (d : ℕ) (S : St)
+    → go d P.unary_rule S ≡ go d (P.find (next_token S.tokens) prefixes P.prefix P.parse_call) S
+unfolding go run P.unary_rule
+unary_finds d S = refl
+
+pub no_prefix : {k : ℕ} → k ≡ K.Identifier → None ≡ operator_of prefixes k
+no_prefix z = rw z
 
 -- ---- a name alone
 

@@ -5,6 +5,7 @@ use Prim.Native.Nat.{ℕ, ◌+◌}
 use native.Mathlib.Omega.{arith}
 use Rattle.definition.specs.Fallible.{Err}
 use Rattle.definition.specs.Act.{Items, Listed, done, make, loop, ListOf, plain, Consumed, St, now_read, run}
+use Rattle.definition.specs.Numbers.{kind_number}
 use Rattle.definition.specs.Parser as P
 use Rattle.definition.specs.Go.{go}
 use Rattle.fallible.specs.declared.parser.State.{State}
@@ -43,24 +44,24 @@ module _ {w : List ℕ} {n : ℕ} {r f : List ℕ} {s : State} {close : ℕ} {t 
             record { errors = []; read = read x k rd; is = h x k ck d rd i ∙ rw append-nil; reported = rw (e, append-nil) };
       }
 
-  pub comma_there : t.kind ≡ 53 → Commas w n r f s close r f (record { status = Done; state = fore s t; place = 0; count = 0 })
+  pub comma_there : kind_number t.kind ≡ 53 → Commas w n r f s close r f (record { status = Done; state = fore s t; place = 0; count = 0 })
   unfolding go run P.after_item
   comma_there z =
       goes (λ x k rd. rd ++ now_read (P.comma_role k) (rest w x n s.at)) (fore_moved q v) refl refl
       (λ x k ck d rd i. rw (run, yes v z, v.tail))
 
-  module _ (m : t.kind ≡ 53 → ⊥) where
-    pub comma_close : t.kind ≡ close → Commas w n r f s close r f (record { status = Done; state = s; place = 0; count = 0 })
+  module _ (m : kind_number t.kind ≡ 53 → ⊥) where
+    pub comma_close : kind_number t.kind ≡ close → Commas w n r f s close r f (record { status = Done; state = s; place = 0; count = 0 })
     unfolding go run P.after_item
     comma_close z = goes (λ x k rd. rd) (stays q) refl refl (λ x k ck d rd i. rw (run, no v m, yes v (z ∙ sym ck)))
 
-    module _ (mc : t.kind ≡ close → ⊥) where
-      pub comma_end : t.kind ≡ 0 → Commas w n r f s close r f (record { status = Done; state = s; place = 0; count = 0 })
+    module _ (mc : kind_number t.kind ≡ close → ⊥) where
+      pub comma_end : kind_number t.kind ≡ 0 → Commas w n r f s close r f (record { status = Done; state = s; place = 0; count = 0 })
       unfolding go run P.after_item
       comma_end z = goes (λ x k rd. rd) (stays q) refl refl (λ x k ck d rd i. rw (run, no v m, no v (λ y. mc (y ∙ ck)), yes v z))
 
-      module _ {e : ℕ} {r' f' : List ℕ} {a : Answer} (z : t.kind ≡ 0 → ⊥)
-          (u : unpack e ≡ error_at 15 t.place 0 t.kind)
+      module _ {e : ℕ} {r' f' : List ℕ} {a : Answer} (z : kind_number t.kind ≡ 0 → ⊥)
+          (u : unpack e ≡ error_at 15 t.place 0 (kind_number t.kind))
           (g : Raised (noted n (fore s t)) r f (fore s t) e r' f' a) where
         -- the token is consumed, and the error made
         passed : (x : List ℕ) (k : Listed) → P.closer k ≡ close → (d : ℕ) (rd : List Consumed) (i : Items)

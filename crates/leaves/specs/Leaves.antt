@@ -1,15 +1,17 @@
 -- What the functions of `leaves` ensure. Assumes nothing.
-use Rattle.std.specs.Prelude.{◌≡◌, Bool, true, false, ◌&&◌, ◌||◌, not, List, ◌++◌, ℕ, min, ◌+◌, ◌-◌, ◌^◌, ◌≤◌, eqb, ltb}
-use Rattle.definition.specs.Tag as Tag
+use Rattle.std.specs.Prelude.{◌≡◌, Bool, true, ◌&&◌, ◌||◌, not, List, [], ◌∷◌, ◌++◌, ℕ, ◌+◌, ◌^◌, ◌≤◌, eqb, ltb, Option, Some, None}
+use Rattle.definition.specs.Tag as T
 use Rattle.definition.specs.Choice.{pick}
-use Rattle.definition.specs.Fallible.{Err, Ans}
-use Rattle.definition.specs.Token.{Tok, next_token, dashed, number}
+use Rattle.definition.specs.Fallible.{Err}
+use Rattle.definition.specs.Token.{next_token, dashed, number}
 use Rattle.definition.specs.Act as A
-use Rattle.definition.specs.Act.{Items, Node, Act, done, loop, ListOf, Consumed, St, refused}
+use Rattle.definition.specs.Act.{Items, done, loop, ListOf, Consumed, refused}
 use Rattle.definition.specs.Kind as K
 use Rattle.definition.specs.Parser as P
+use Rattle.definition.specs.Numbers.{tag_number}
+use Rattle.definition.specs.declared.tag.Tag.{Tag}
 use Rattle.definition.specs.Go.{go}
-use Rattle.node.specs.declared.Numbers.TheVariants.{None}
+use Rattle.node.specs.declared.Numbers.TheVariants as Numbers
 use Rattle.node.specs.declared.Record.{Record}
 use Rattle.fallible.specs.declared.parser.State.{State}
 use Rattle.fallible.specs.Answer.{Status, Done, Fatal, Refused, Answer}
@@ -87,21 +89,23 @@ level_of Lv.Mul = A.Mul
 abbrev pub level_at : ℕ → A.Level
 level_at k = pick (eqb k 0) A.Mul (pick (eqb k 1) A.AddSub (pick (eqb k 2) A.Shift (pick (eqb k 3) A.BitAnd (pick (eqb k 4) A.BitXor A.BitOr))))
 
--- the kind k is the operator r - 1 of the table, or none if r is 0: which branch the definition takes
-pub record Operator (ops : List P.Op) (k r : ℕ) : Type 0 where
-  pub small : r ≤ 8
-  pub real : min r 1 ≤ k
-  pub is : (t : Tok) → t.kind ≡ k → (found : ℕ → Act (Ans Node)) (other : Act (Ans Node)) (d : ℕ) (S : St) → go d (P.find t ops found other) S ≡ go d (elim (eqb r 0) [ true ↦ other | false ↦ found (r - 1) ]) S
+-- the number that a table of operators gives a kind, if it has the kind
+abbrev pub operator_of : List P.Op → ℕ → Option ℕ
+operator_of [] k = None
+operator_of (o ∷ os) k = pick (eqb k o.kind) (Some o.op) (operator_of os k)
 
 -- the kind k is an operator of a level
 abbrev pub is_arithmetic : ℕ → Bool
 is_arithmetic k = eqb k K.Bar || eqb k K.Caret || eqb k K.Ampersand || eqb k K.LeftShift || eqb k K.RightShift || eqb k K.Plus || eqb k K.Minus || eqb k K.Star
 
--- the kind k has the prefix tag r, or none if r is 0
-pub record Prefix (k r : ℕ) : Type 0 where
-  pub small : r ≤ Tag.BooleanNot
-  pub real : min r 1 ≤ k
-  pub is : (d : ℕ) (S : St) → (next_token S.tokens).kind ≡ k → go d P.unary_rule S ≡ go d (elim (eqb r 0) [ true ↦ P.parse_call | false ↦ P.prefix r ]) S
+-- the prefix operators, and their tags as numbers
+abbrev pub prefixes : List P.Op
+prefixes = P.on K.Ampersand T.PointerTake ∷ P.on K.Star T.PointerDereference ∷ P.on K.Tilde T.BitwiseNot ∷ P.on K.Bang T.BooleanNot ∷ []
+
+-- the number of a tag, if there is one
+abbrev pub number_of : Option Tag → Option ℕ
+number_of None = None
+number_of (Some tag) = Some (tag_number tag)
 
 -- ---- literals, groups
 
@@ -111,7 +115,7 @@ there s t = record { status = Done; state = record { at = t.next; pos = s.pos; r
 
 -- the record of an identifier
 abbrev pub identifier : Token → Record
-identifier t = texted t.place Tag.Identifier None t.start t.len
+identifier t = texted t.place Tag.Identifier Numbers.None t.start t.len
 
 -- an identifier, and the next token neither a suffix nor the `(` of a call
 abbrev pub is_name_alone : ℕ → ℕ → Bool

@@ -2,23 +2,26 @@
 #![tactic(auto)]
 
 ghost use Rattle.std.specs.Prelude.{◌≡◌, ℕ, ◌+◌, ◌<◌, ◌≤◌, length, take, drop};
+ghost use Rattle.definition.specs.Numbers.{kind_number};
 ghost use Rattle.definition.specs.Parser as P;
 ghost use Rattle.definition.specs.Token.{digit};
 ghost use Rattle.node.specs.Contract.{Room};
 ghost use Rattle.steps.specs.Shows.{texted};
-ghost use Rattle.leaves.specs.Leaves.{is_arithmetic, listed_of, Valued, level_of, level_at, Operator, Prefix, identifier, is_name_alone};
+ghost use Rattle.leaves.specs.Leaves.{is_arithmetic, listed_of, Valued, level_of, level_at, operator_of, number_of, prefixes, identifier, is_name_alone};
 ghost use Rattle.steps.specs.Contract.{Asks, Parses};
 ghost use Rattle.leaves.specs.Contract.{Counted, Literal, Commas, Closed, WritesNode};
 
+use definition::kind::Kind;
+use definition::parse_error::ParseError;
 use definition::refusal::Refusal;
-use definition::{kind, parse_error, tag};
+use definition::tag::Tag;
 use fallible::parser::{Parser, State};
 use fallible::{Stop, entry, recover};
 use node::{Numbers, Record, write_record};
 use steps::expect;
 use steps::tokens::{Token, Tokens};
 
-// The kinds of lists that parse_bounded_list_of parses.
+// The kinds of lists that parse_bounded_list_of parses. An enum, as the project asks; the Rust takes a closure.
 #[derive(Clone, Copy)]
 pub enum Listed {
     Parameters,
@@ -28,7 +31,7 @@ pub enum Listed {
     StructValues,
 }
 
-// The levels of parse_arithmetic_binop, the loosest first.
+// The levels of parse_arithmetic_binop, the loosest first. An enum, as the project asks; the Rust takes a closure.
 #[derive(Clone, Copy)]
 pub enum Level {
     BitwiseOr,
@@ -40,28 +43,28 @@ pub enum Level {
 }
 
 // The kind of the token that opens a list.
-pub fn opener(what: Listed) -> u32
-    ensures { (result ≡ P.opener (listed_of what)) × ((0 < result) × (result < 256)) }
+pub fn opener(what: Listed) -> Kind
+    ensures { (kind_number result ≡ P.opener (listed_of what)) × (0 < kind_number result) }
 {
     match what {
-        Listed::Parameters => kind::L_PAREN,
-        Listed::Arguments => kind::L_PAREN,
-        Listed::StructFields => kind::L_BRACE,
-        Listed::ArrayValues => kind::L_BRACKET,
-        Listed::StructValues => kind::L_BRACE,
+        Listed::Parameters => Kind::LParen,
+        Listed::Arguments => Kind::LParen,
+        Listed::StructFields => Kind::LBrace,
+        Listed::ArrayValues => Kind::LBracket,
+        Listed::StructValues => Kind::LBrace,
     }
 }
 
 // The kind of the token that closes a list.
-pub fn closer(what: Listed) -> u32
-    ensures { result ≡ P.closer (listed_of what) }
+pub fn closer(what: Listed) -> Kind
+    ensures { kind_number result ≡ P.closer (listed_of what) }
 {
     match what {
-        Listed::Parameters => kind::R_PAREN,
-        Listed::Arguments => kind::R_PAREN,
-        Listed::StructFields => kind::R_BRACE,
-        Listed::ArrayValues => kind::R_BRACKET,
-        Listed::StructValues => kind::R_BRACE,
+        Listed::Parameters => Kind::RParen,
+        Listed::Arguments => Kind::RParen,
+        Listed::StructFields => Kind::RBrace,
+        Listed::ArrayValues => Kind::RBracket,
+        Listed::StructValues => Kind::RBrace,
     }
 }
 
@@ -77,23 +80,23 @@ pub fn counted(item: Option<usize>, count: usize) -> usize
 }
 
 // Parses the separator after a list item: a comma; the closer or the end is left; another token is an error.
-pub fn comma(tokens: Tokens, parser: &mut Parser, close: u32) -> Result<(), Refusal>
+pub fn comma(tokens: Tokens, parser: &mut Parser, close: Kind) -> Result<(), Refusal>
     requires { Asks tokens parser }
-    ensures { Commas close tokens parser result }
+    ensures { Commas (kind_number close) tokens parser result }
 {
     let t = tokens.peek(parser.state.at);
-    if t.kind == kind::COMMA {
+    if let Kind::Comma = t.kind {
         parser.state.at = t.next;
         return Ok(());
     }
     if t.kind == close {
         return Ok(());
     }
-    if t.kind == kind::END {
+    if let Kind::End = t.kind {
         return Ok(());
     }
     parser.state.at = t.next;
-    let error = entry(parse_error::IN_LIST, t.place, 0, t.kind);
+    let error = entry(ParseError::InList, t.place, Kind::End, t.kind);
     parser.note(tokens.count, error)
 }
 
@@ -153,27 +156,37 @@ pub fn array_size(text: &[u8], start: usize, len: usize, base: usize) -> Size
     Size { fits: true, number }
 }
 
-// The operator of a level for a kind: its position in `ArithmeticBinOp` plus 1, or 0 if the kind is none.
-pub fn operator(level: Level, k: u32) -> u8
-    ensures { Operator (P.mapping (level_of level)) k result }
+// The operator of a level for a kind: its position in `ArithmeticBinOp`.
+pub fn operator(level: Level, k: Kind) -> Option<u8>
+    ensures { result ≡ operator_of (P.mapping (level_of level)) (kind_number k) }
 {
     match level {
-        Level::BitwiseOr => if k == kind::BAR { 6 } else { 0 },
-        Level::BitwiseXor => if k == kind::CARET { 5 } else { 0 },
-        Level::BitwiseAnd => if k == kind::AMPERSAND { 4 } else { 0 },
-        Level::BitShift => {
-            if k == kind::LEFT_SHIFT {
-                return 7;
-            }
-            if k == kind::RIGHT_SHIFT { 8 } else { 0 }
-        }
-        Level::AddSub => {
-            if k == kind::PLUS {
-                return 1;
-            }
-            if k == kind::MINUS { 2 } else { 0 }
-        }
-        Level::Mul => if k == kind::STAR { 3 } else { 0 },
+        Level::BitwiseOr => match k {
+            Kind::Bar => Some(5),
+            _ => None,
+        },
+        Level::BitwiseXor => match k {
+            Kind::Caret => Some(4),
+            _ => None,
+        },
+        Level::BitwiseAnd => match k {
+            Kind::Ampersand => Some(3),
+            _ => None,
+        },
+        Level::BitShift => match k {
+            Kind::LeftShift => Some(6),
+            Kind::RightShift => Some(7),
+            _ => None,
+        },
+        Level::AddSub => match k {
+            Kind::Plus => Some(0),
+            Kind::Minus => Some(1),
+            _ => None,
+        },
+        Level::Mul => match k {
+            Kind::Star => Some(2),
+            _ => None,
+        },
     }
 }
 
@@ -202,52 +215,47 @@ pub fn level_at(k: usize) -> Level
 }
 
 // Whether a kind is an operator of some level.
-pub fn arithmetic(k: u32) -> bool
-    ensures { result ≡ is_arithmetic k }
+pub fn arithmetic(k: Kind) -> bool
+    ensures { result ≡ is_arithmetic (kind_number k) }
 {
-    (k == kind::BAR)
-        | (k == kind::CARET)
-        | (k == kind::AMPERSAND)
-        | (k == kind::LEFT_SHIFT)
-        | (k == kind::RIGHT_SHIFT)
-        | (k == kind::PLUS)
-        | (k == kind::MINUS)
-        | (k == kind::STAR)
+    matches!(
+        k,
+        Kind::Bar
+            | Kind::Caret
+            | Kind::Ampersand
+            | Kind::LeftShift
+            | Kind::RightShift
+            | Kind::Plus
+            | Kind::Minus
+            | Kind::Star
+    )
 }
 
-// The comparison for a kind: its position in `ComparisonBinOp` plus 1, or 0 if the kind is none.
-pub fn comparison_operator(k: u32) -> u8
-    ensures { Operator P.comparisons k result }
+// The comparison for a kind: its position in `ComparisonBinOp`.
+pub fn comparison_operator(k: Kind) -> Option<u8>
+    ensures { result ≡ operator_of P.comparisons (kind_number k) }
 {
-    if k == kind::DOUBLE_EQUALS {
-        return 1;
+    match k {
+        Kind::DoubleEquals => Some(0),
+        Kind::LAngle => Some(3),
+        Kind::LAngleEquals => Some(4),
+        Kind::RAngle => Some(1),
+        Kind::RAngleEquals => Some(2),
+        _ => None,
     }
-    if k == kind::L_ANGLE {
-        return 4;
-    }
-    if k == kind::L_ANGLE_EQUALS {
-        return 5;
-    }
-    if k == kind::R_ANGLE {
-        return 2;
-    }
-    if k == kind::R_ANGLE_EQUALS { 3 } else { 0 }
 }
 
-// The tag of the prefix operator of a kind, or 0 if the kind is none.
-pub fn prefix(k: u32) -> u8
-    ensures { Prefix k result }
+// The tag of the prefix operator of a kind.
+pub fn prefix(k: Kind) -> Option<Tag>
+    ensures { number_of result ≡ operator_of prefixes (kind_number k) }
 {
-    if k == kind::AMPERSAND {
-        return tag::POINTER_TAKE;
+    match k {
+        Kind::Ampersand => Some(Tag::PointerTake),
+        Kind::Star => Some(Tag::PointerDereference),
+        Kind::Tilde => Some(Tag::BitwiseNot),
+        Kind::Bang => Some(Tag::BooleanNot),
+        _ => None,
     }
-    if k == kind::STAR {
-        return tag::POINTER_DEREFERENCE;
-    }
-    if k == kind::TILDE {
-        return tag::BITWISE_NOT;
-    }
-    if k == kind::BANG { tag::BOOLEAN_NOT } else { 0 }
 }
 
 // Consumes the token `t` and writes its record.
@@ -256,7 +264,7 @@ pub fn leaf(
     text: &[u8],
     state: &mut State,
     t: Token,
-    tag: u8,
+    tag: Tag,
     numbers: Numbers,
 ) -> usize
     requires { Room file text state.old.pos (16 + t.len) t.start t.len }
@@ -279,18 +287,18 @@ pub fn name(file: &mut [u8], text: &[u8], state: &mut State, t: Token) -> usize
     requires { Room file text state.old.pos (16 + t.len) t.start t.len }
     ensures { WritesNode (identifier t) file text t state result }
 {
-    leaf(file, text, state, t, tag::IDENTIFIER, Numbers::None)
+    leaf(file, text, state, t, Tag::Identifier, Numbers::None)
 }
 
 // Whether the kind `k` is an identifier and `next`, the kind after it, neither a suffix nor the `(` of a call.
-pub fn name_alone(k: u32, next: u32) -> bool
-    ensures { result ≡ is_name_alone k next }
+pub fn name_alone(k: Kind, next: Kind) -> bool
+    ensures { result ≡ is_name_alone (kind_number k) (kind_number next) }
 {
-    (k == kind::IDENTIFIER)
-        & (next != kind::DOT)
-        & (next != kind::DOT_STAR)
-        & (next != kind::L_BRACKET)
-        & (next != kind::L_PAREN)
+    matches!(k, Kind::Identifier)
+        && !matches!(
+            next,
+            Kind::Dot | Kind::DotStar | Kind::LBracket | Kind::LParen
+        )
 }
 
 // parse_atom without its group: integer | identifier | string | `true` | `false`
@@ -300,55 +308,52 @@ pub fn literal(tokens: Tokens, file: &mut [u8], parser: &mut Parser) -> Result<u
 {
     let t = tokens.peek(parser.state.at);
     let state = &mut parser.state;
-    if t.kind == kind::INTEGER {
-        let base = (t.base % 256) as u8;
-        return Ok(leaf(
-            file,
-            tokens.text,
-            state,
-            t,
-            tag::INTEGER,
-            Numbers::Byte(base),
-        ));
-    }
-    if t.kind == kind::IDENTIFIER {
-        return Ok(name(file, tokens.text, state, t));
-    }
-    if t.kind == kind::STRING {
-        return Ok(leaf(file, tokens.text, state, t, tag::STRING, Numbers::None));
-    }
     let bare = Token {
         start: 0,
         len: 0,
         ..t
     };
-    if t.kind == kind::KW_TRUE {
-        return Ok(leaf(
+    match t.kind {
+        Kind::Integer => {
+            let base = (t.base % 256) as u8;
+            Ok(leaf(
+                file,
+                tokens.text,
+                state,
+                t,
+                Tag::Integer,
+                Numbers::Byte(base),
+            ))
+        }
+        Kind::Identifier => Ok(name(file, tokens.text, state, t)),
+        Kind::String => Ok(leaf(file, tokens.text, state, t, Tag::String, Numbers::None)),
+        Kind::KwTrue => Ok(leaf(
             file,
             tokens.text,
             state,
             bare,
-            tag::BOOLEAN,
+            Tag::Boolean,
             Numbers::Byte(1),
-        ));
-    }
-    if t.kind == kind::KW_FALSE {
-        return Ok(leaf(
+        )),
+        Kind::KwFalse => Ok(leaf(
             file,
             tokens.text,
             state,
             bare,
-            tag::BOOLEAN,
+            Tag::Boolean,
             Numbers::Byte(0),
-        ));
+        )),
+        Kind::End => {
+            state.at = t.next;
+            let error = entry(ParseError::ExpressionAtEnd, 0, Kind::End, Kind::End);
+            Err(parser.raise(tokens.count, error))
+        }
+        _ => {
+            state.at = t.next;
+            let error = entry(ParseError::Expression, t.place, Kind::End, t.kind);
+            Err(parser.raise(tokens.count, error))
+        }
     }
-    parser.state.at = t.next;
-    if t.kind == kind::END {
-        let error = entry(parse_error::EXPRESSION_AT_END, 0, 0, 0);
-        return Err(parser.raise(tokens.count, error));
-    }
-    let error = entry(parse_error::EXPRESSION, t.place, 0, t.kind);
-    Err(parser.raise(tokens.count, error))
 }
 
 // Parses the `)` of a group. Keeps the item and errors of `called`, also if it is fatal, and adds the errors of the `)`.
@@ -361,6 +366,6 @@ pub fn close(
     ensures { Closed tokens parser called result }
 {
     recover(called)?;
-    recover(expect(tokens, parser, kind::R_PAREN))?;
+    recover(expect(tokens, parser, Kind::RParen))?;
     called
 }

@@ -3,6 +3,7 @@ use Rattle.std.specs.Prelude.{◌≡◌, List, [], ◌∷◌, ◌++◌, ℕ, ◌
 use Rattle.std.proofs.Math.Option.{none, some}
 use Rattle.definition.specs.Places.{unpack_place}
 use Rattle.definition.specs.Node.{Num, byte, two, eight, Rec, rec_bytes}
+use Rattle.definition.specs.Numbers.{tag_number}
 use Rattle.node.specs.declared.Numbers.{Numbers}
 use Rattle.node.specs.declared.Numbers.TheVariants.{None, Byte, Two, Eight, ByteTwo}
 use Rattle.node.specs.declared.Record.{Record}
@@ -29,7 +30,7 @@ width_of (ByteTwo b n) = 3
 
 -- a record as the definition has it, and its length in bytes
 abbrev pub rec_of : List ℕ → Record → Rec
-rec_of x r = record { tag = r.tag; place = some (unpack_place r.place); numbers = nums_of r.numbers; text = take r.len (drop r.start x) }
+rec_of x r = record { tag = tag_number r.tag; place = some (unpack_place r.place); numbers = nums_of r.numbers; text = take r.len (drop r.start x) }
 
 abbrev pub size_of : Record → ℕ
 size_of r = 7 + width_of r.numbers + r.len

@@ -6,10 +6,12 @@ ghost use Rattle.std.specs.Prelude.{◌≡◌, ◌+◌, ◌<◌, ◌≤◌, leng
 ghost use Rattle.definition.specs.Source.{place_at};
 ghost use Rattle.definition.specs.Places.{unpack_place};
 ghost use Rattle.definition.specs.Node.{u16, nums_bytes};
+ghost use Rattle.definition.specs.Numbers.{tag_number};
 ghost use Rattle.slices.specs.Contract.{Put};
 ghost use Rattle.node.specs.Put.{nums_of, width_of, rec_of, size_of, bare_of, bare_size};
 ghost use Rattle.node.specs.Contract.{Room, part, Wrote};
 
+use definition::tag::Tag;
 use slices::Writer;
 
 // The numbers in a record: none, one byte, two bytes, eight bytes, or one byte and two.
@@ -40,7 +42,7 @@ impl Numbers {
 // A record with a place. Its text is a part of a text slice.
 #[derive(Clone, Copy)]
 pub struct Record {
-    pub tag: u8,
+    pub tag: Tag,
     pub place: usize,
     pub numbers: Numbers,
     pub start: usize,
@@ -94,7 +96,7 @@ pub fn write_record(file: &mut [u8], text: &[u8], pos: usize, r: Record) -> usiz
     ensures { Wrote (rec_of text.now r) (size_of r) file pos result }
 {
     let mut w = Writer { out: file, at: pos };
-    w.put(r.tag);
+    w.put(u8::from(r.tag));
     put_two(&mut w, 4 + r.numbers.width() + r.len);
     put_two(&mut w, r.place / 0x1_0000);
     put_two(&mut w, r.place % 0x1_0000);
@@ -108,16 +110,16 @@ pub fn write_bare(
     file: &mut [u8],
     text: &[u8],
     pos: usize,
-    tag: u8,
+    tag: Tag,
     numbers: Numbers,
     start: usize,
     len: usize,
 ) -> usize
     requires { Room file text pos (16 + len) start len }
-    ensures { Wrote (bare_of tag numbers (part text start len)) (bare_size numbers len) file pos result }
+    ensures { Wrote (bare_of (tag_number tag) numbers (part text start len)) (bare_size numbers len) file pos result }
 {
     let mut w = Writer { out: file, at: pos };
-    w.put(tag);
+    w.put(u8::from(tag));
     put_two(&mut w, numbers.width() + len);
     put_numbers(&mut w, numbers);
     w.put_all(&text[start..start + len]);

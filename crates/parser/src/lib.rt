@@ -6,8 +6,9 @@ ghost use Rattle.definition.specs.Operations as O;
 ghost use Rattle.parser.specs.Answer.{answer};
 ghost use Rattle.parser.specs.Contract.{RestRoom, RestWritten, Accepted, ReadValidated};
 
+use definition::limit;
 use definition::refusal::Refusal;
-use definition::{limit, tag};
+use definition::tag::Tag;
 use error_fields::{error_fields, token_error_fields};
 use fallible::parser::Parser;
 use items::module;
@@ -29,10 +30,10 @@ fn end_file(
     ensures { RestWritten file count errors error_count parser result }
 {
     let s = parser.state;
-    let p = write_bare(file, b"", s.pos, tag::MODULE, Numbers::Two(count), 0, 0);
+    let p = write_bare(file, b"", s.pos, Tag::Module, Numbers::Two(count), 0, 0);
     let q = token_error_fields(file, p, errors, error_count);
-    let r = error_fields(file, q, tag::REPORTED_ERROR, &parser.reported, s.reported);
-    let end = error_fields(file, r, tag::FULL_ERROR, &parser.full, s.full);
+    let r = error_fields(file, q, Tag::ReportedError, &parser.reported, s.reported);
+    let end = error_fields(file, r, Tag::FullError, &parser.full, s.full);
     fill_from(file, end, 0);
     end
 }

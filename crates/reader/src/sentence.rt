@@ -8,8 +8,9 @@ ghost use Rattle.parser.specs.Answer.{answer};
 ghost use Rattle.reader.specs.Found.{Held, found_in, ExamineAsks, ExaminesLent, list_sentence};
 
 use crate::number_and_bytes;
+use definition::limit;
 use definition::refusal::Refusal;
-use definition::{limit, tag};
+use definition::tag::Tag;
 use fallible::parser::Parser;
 use items::module;
 use sentences::{say_parser_error, say_token_error};
@@ -74,16 +75,16 @@ impl<'a> Found<'a> {
         ensures { Said (S.sentence_at (found_in self.now) list position) out 0 result }
     {
         let state = self.parser.state;
-        if list == tag::TOKEN_ERROR as u32 {
+        if list == Tag::TokenError as u32 {
             if self.error_count <= position {
                 return 0;
             }
             return say_token_error(out, self.script, self.errors, position);
         }
-        if list == tag::REPORTED_ERROR as u32 {
+        if list == Tag::ReportedError as u32 {
             return self.say_at(out, &self.parser.reported, state.reported, position);
         }
-        if list == tag::FULL_ERROR as u32 {
+        if list == Tag::FullError as u32 {
             return self.say_at(out, &self.parser.full, state.full, position);
         }
         0
@@ -142,6 +143,7 @@ fn sentence_of_valid(
 }
 
 // Writes the sentence of the error at a position, from 0, of the list with the tag `list`. Gives the count of its bytes.
+// `list` stays the number that C passes: a number of no list is answered too, with no sentence.
 pub fn sentence(script: &[u8], list: u32, position: usize, out: &mut [u8]) -> Result<usize, Refusal>
     ensures { answer result out.new ≡ S.sentence script.now list position out.old }
 {

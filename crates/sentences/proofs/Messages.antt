@@ -8,6 +8,7 @@ use borrow.Author.Tests.{eqb-true, eq-eqb, ne_eqb}
 use lib.ListN.{length, get_or, take, drop}
 use lib.Seq.{drop-cons}
 use native.Mathlib.Numerals.{add-one}
+use Rattle.definition.specs.Numbers.{kind_number}
 use Rattle.definition.specs.Kind as K
 use Rattle.definition.specs.TokenError as TokenError
 use Rattle.definition.specs.Source.{Place, place_at, same_place, lead}
@@ -71,19 +72,19 @@ pub seeking_start : {w : List ℕ} {n place : ℕ} → Seeking w n place 0
 seeking_start = record { within = omega arith; same = λ x. refl }
 
 -- past the last token
-none_left : {w : List ℕ} {n i : ℕ} {t : Token} (x : List ℕ) → Seen w n i t → t.kind ≡ 0 → rest w x n i ≡ []
+none_left : {w : List ℕ} {n i : ℕ} {t : Token} (x : List ℕ) → Seen w n i t → kind_number t.kind ≡ 0 → rest w x n i ≡ []
 unfolding present
 none_left {w} {n} {i} x u z = rest_nil w x n i (omega (arith, u.present, z))
 
 module _ {w : List ℕ} {n place i : ℕ} {t : Token} (q : Seeking w n place i) (u : Seen w n i t) where
-  pub seeking_none : t.kind ≡ 0 → (x : List ℕ) → Parts w x n
+  pub seeking_none : kind_number t.kind ≡ 0 → (x : List ℕ) → Parts w x n
       → Decodes x (token_at (unpack_place place) (rest w x n 0)) t
   unfolding token_at
   seeking_none z x p =
       let e = none_left x u z in
       decodes u p (q.same x ∙ ap (token_at (unpack_place place)) e ∙ ap next_token (sym e))
 
-  module _ (nz : t.kind ≡ 0 → ⊥) where
+  module _ (nz : kind_number t.kind ≡ 0 → ⊥) where
     -- there is a token
     there : (x : List ℕ) → (next_token (rest w x n i)).kind ≡ 0 → ⊥
     there x e = nz (sym (u.kind x) ∙ e)
@@ -105,7 +106,7 @@ module _ {w : List ℕ} {n place i : ℕ} {t : Token} (q : Seeking w n place i) 
     }
 
 -- the search goes on
-pub onward : {w : List ℕ} {n i : ℕ} {t : Token} → Seen w n i t → (t.kind ≡ 0 → ⊥) → n - t.next < n - i
+pub onward : {w : List ℕ} {n i : ℕ} {t : Token} → Seen w n i t → (kind_number t.kind ≡ 0 → ⊥) → n - t.next < n - i
 onward u h = omega (arith, u.on, u.end, h)
 
 -- ---- the token got

@@ -17,7 +17,7 @@ ghost use Rattle.sentences.specs.Messages.{Decodes, Quotable, StandsAt, Names};
 ghost use Rattle.sentences.specs.Messages.{parser_sentence, token_sentence};
 ghost use Rattle.sentences.specs.Contract.{Said};
 
-use definition::kind;
+use definition::kind::Kind;
 use definition::token_error::TokenError;
 use message::{Meaning, say_parser_message, say_token_message};
 use source::{Cursor, step};
@@ -35,7 +35,7 @@ fn token_at(tokens: Tokens, place: usize) -> Token
     let mut i = 0;
     loop {
         let t = tokens.peek(i);
-        if t.kind == kind::END {
+        if let Kind::End = t.kind {
             return t;
         }
         if t.place == place {
@@ -51,7 +51,7 @@ fn token_got(tokens: Tokens, place: usize, got: u32) -> Token
     ensures { (x : List ℕ) → Parts tokens.entry.records.now x tokens.entry.count
         → Decodes x (S.token_got (rest tokens.entry.records.now x tokens.entry.count 0) (L.error_at 0 place 0 got)) result }
 {
-    if got == kind::END {
+    if got == Kind::End as u32 {
         return tokens.peek(tokens.count);
     }
     token_at(tokens, place)
@@ -121,8 +121,8 @@ pub fn say_token_error(out: &mut [u8], script: &[u8], errors: &[u32], i: usize) 
     let number = errors[4 * i];
     let m = Meaning {
         number,
-        expected: kind::END,
-        got: kind::END,
+        expected: Kind::End as u32,
+        got: Kind::End as u32,
         text: character_of(script, number, errors[4 * i + 1], errors[4 * i + 2]),
         base: 0,
     };

@@ -7,7 +7,7 @@ ghost use Rattle.sentences.specs.Messages.{entry};
 ghost use Rattle.sentences.specs.Contract.{Told};
 
 use crate::write::Sentence;
-use definition::kind;
+use definition::kind::Kind;
 use std::str::from_utf8;
 use token_records::has_text;
 
@@ -160,7 +160,7 @@ impl<'a> Sentence<'a> {
     fn say_base(&mut self, kind: u32, base: usize)
         ensures { Told (S.base_part kind base) self.old self.new }
     {
-        if kind == kind::INTEGER {
+        if kind == Kind::Integer as u32 {
             self.say_all(b", ");
             self.say_number(10, base);
         }

@@ -6,6 +6,7 @@ use Prim.Native.Nat.{ℕ, ◌+◌, ◌*◌, ◌≤◌, ◌<◌}
 use native.Mathlib.Omega.{arith}
 use lib.ListN.{length, take, length-append}
 use lib.Seq.{length-take-le}
+use Rattle.definition.specs.Numbers.{kind_number, tag_number}
 use Rattle.definition.specs.Source.{Place}
 use Rattle.definition.specs.Fallible.{Err, Fallible, Ans, ok}
 use Rattle.definition.specs.Act.{Act, done, when◌then◌else◌, Node, Consumed, plain, St, gives, or_return, run, ◌>>?◌}
@@ -13,6 +14,7 @@ use Rattle.definition.specs.Parser as P
 use Rattle.definition.specs.Go.{go}
 use Rattle.definition.specs.Places.{unpack_place}
 use Rattle.definition.proofs.Flat.{go_bind}
+use Rattle.definition.specs.declared.tag.Tag.{Tag}
 use Rattle.fallible.proofs.Grown.{errs_length}
 use Rattle.fallible.specs.declared.parser.State.{State}
 use Rattle.fallible.specs.Answer.{Status, Done, Fatal, Refused, done_of, Answer}
@@ -35,7 +37,7 @@ use Rattle.statement.specs.Post.{ReadsAfter}
 use Rattle.statement.proofs.Spare.{expression_spares}
 
 -- the record of a statement at a place
-abbrev pub placed : ℕ → ℕ → Record
+abbrev pub placed : Tag → ℕ → Record
 placed tag place = record { tag = tag; place = place; numbers = None; start = 0; len = 0 }
 
 -- ---- after the expression
@@ -47,13 +49,13 @@ any_node = record { recs = λ y. y.recs; fine = λ l c y. Unit {0} }
 module _ {w x : List ℕ} {n d : ℕ} {o r f : List ℕ} {s : State} {t : Token} {i place : ℕ}
     (q : Asked w x n o r f s) (hi : i ≤ s.pos) (u : Seen w n s.at t) where
   -- `=` or `<-`, a value parsed by m, `;`
-  module _ {o1 r1 f1 r2 r3 f2 o2 : List ℕ} {a b c y : Answer} {m : Act (Ans Node)} (tag : ℕ) (B : Reads node w x n d m o r f (fore s t) o1 r1 f1 a) (C : Abandoned r1 a i s.reported s.reported r2 b) (lr : length r2 ≡ length r) (lf : length f1 ≡ length f)
+  module _ {o1 r1 f1 r2 r3 f2 o2 : List ℕ} {a b c y : Answer} {m : Act (Ans Node)} (tag : Tag) (B : Reads node w x n d m o r f (fore s t) o1 r1 f1 a) (C : Abandoned r1 a i s.reported s.reported r2 b) (lr : length r2 ≡ length r) (lf : length f1 ≡ length f)
       (X : Expected w n 50 i s.reported r2 f1 b r3 f2 c) (F : NodeWritten x o1 c (placed tag place) o2 y) where
-    assigned_after : 0 < t.kind
+    assigned_after : 0 < kind_number t.kind
         → ((e : Node) (rd : List Consumed)
         → go d (P.after_expression (unpack_place place) e) (st_of w x n f rd s)
         ≡ go d
-        (m >>? λ v. P.expect 50 >>? λ _. wrapped node e.recs [] tag (λ _. unpack_place place) (λ _. []) [] v)
+        (m >>? λ v. P.expect 50 >>? λ _. wrapped node e.recs [] (tag_number tag) (λ _. unpack_place place) (λ _. []) [] v)
         (st_of w x n f (past w x n s.at rd) (fore s t)))
         → ReadsAfter w x n d (P.after_expression (unpack_place place)) i o r f s o2 r3 f2 y
     assigned_after k step =
@@ -72,7 +74,7 @@ module _ {w x : List ℕ} {n d : ℕ} {o r f : List ℕ} {s : State} {t : Token}
                 few = omega (arith, F.full, X.moved);
               };
           is = λ rd T e li tree.
-              let v : Fallible Node → Act (Ans Node) = wrapped node e.recs [] tag (λ _. unpack_place place) (λ _. []) [] in
+              let v : Fallible Node → Act (Ans Node) = wrapped node e.recs [] (tag_number tag) (λ _. unpack_place place) (λ _. []) [] in
               let lj : length (errs r s.reported) ≡ s.reported = errs_length r s.reported (omega (arith, q.asks)) in
               say (step e rd ∙ go_bind d m (or_return (λ z. P.expect 50 >>? λ _. v z)) _
               ∙ expect_seam d plain 50 v (go d m (st_of w x n f (past w x n s.at rd) (fore s t))))
@@ -82,21 +84,21 @@ module _ {w x : List ℕ} {n d : ℕ} {o r f : List ℕ} {s : State} {t : Token}
               lj C (omega (arith, B.moved.pos, hi)) B.moved.reported (B.is (past w x n s.at rd)))));
         }
 
-  module _ {o1 r1 f1 r2 r3 f2 o2 : List ℕ} {a b c y : Answer} (h : t.kind ≡ 26) (B : Reads node w x n d P.parse_expression o r f (fore s t) o1 r1 f1 a) (C : Abandoned r1 a i s.reported s.reported r2 b) (lr : length r2 ≡ length r) (lf : length f1 ≡ length f)
-      (X : Expected w n 50 i s.reported r2 f1 b r3 f2 c) (F : NodeWritten x o1 c (placed 0x43 place) o2 y) where
+  module _ {o1 r1 f1 r2 r3 f2 o2 : List ℕ} {a b c y : Answer} (h : kind_number t.kind ≡ 26) (B : Reads node w x n d P.parse_expression o r f (fore s t) o1 r1 f1 a) (C : Abandoned r1 a i s.reported s.reported r2 b) (lr : length r2 ≡ length r) (lf : length f1 ≡ length f)
+      (X : Expected w n 50 i s.reported r2 f1 b r3 f2 c) (F : NodeWritten x o1 c (placed Tag.Assignment place) o2 y) where
     pub assignment_after : ReadsAfter w x n d (P.after_expression (unpack_place place)) i o r f s o2 r3 f2 y
     unfolding go run P.after_expression
     assignment_after =
-        assigned_after 0x43 B C lr lf X F (omega (arith, h)) (λ e rd. rw (run, yes u h)
+        assigned_after Tag.Assignment B C lr lf X F (omega (arith, h)) (λ e rd. rw (run, yes u h)
         (ap (λ (S : St). go d (P.parse_expression >>? λ v. P.expect 50 >>? λ _. wrapped node e.recs [] 0x43
         (λ _. unpack_place place) (λ _. []) [] v) S) (adv s u (λ _. plain) f rd _)))
 
-  module _ {o1 r1 f1 r2 r3 f2 o2 : List ℕ} {a b c y : Answer} (h : t.kind ≡ 52) (B : Reads node w x n d P.parse_compound o r f (fore s t) o1 r1 f1 a) (C : Abandoned r1 a i s.reported s.reported r2 b) (lr : length r2 ≡ length r) (lf : length f1 ≡ length f)
-      (X : Expected w n 50 i s.reported r2 f1 b r3 f2 c) (F : NodeWritten x o1 c (placed 0x44 place) o2 y) where
+  module _ {o1 r1 f1 r2 r3 f2 o2 : List ℕ} {a b c y : Answer} (h : kind_number t.kind ≡ 52) (B : Reads node w x n d P.parse_compound o r f (fore s t) o1 r1 f1 a) (C : Abandoned r1 a i s.reported s.reported r2 b) (lr : length r2 ≡ length r) (lf : length f1 ≡ length f)
+      (X : Expected w n 50 i s.reported r2 f1 b r3 f2 c) (F : NodeWritten x o1 c (placed Tag.CompoundAssignment place) o2 y) where
     pub compound_after : ReadsAfter w x n d (P.after_expression (unpack_place place)) i o r f s o2 r3 f2 y
     unfolding go run P.after_expression
     compound_after =
-        assigned_after 0x44 B C lr lf X F (omega (arith, h))
+        assigned_after Tag.CompoundAssignment B C lr lf X F (omega (arith, h))
         (λ e rd. rw (run, no {k = 26} u (λ e. omega (arith, h)), yes u h)
         (ap (λ (S : St). go d (P.parse_compound >>? λ v. P.expect 50 >>? λ _. wrapped node e.recs [] 0x44
         (λ _. unpack_place place) (λ _. []) [] v) S) (adv s u (λ _. plain) f rd _)))
@@ -127,7 +129,7 @@ module _ {w x : List ℕ} {n d : ℕ} {o r f : List ℕ} {s : State} {t : Token}
       assigned_room X l = record { room = omega (arith, q.room, assigned_moved.room, X.high); part = omega arith }
 
 -- a record is written only after a good answer
-node_written_high : {x o o' : List ℕ} {b y : Answer} {tag place : ℕ} → NodeWritten x o b (placed tag place) o' y
+node_written_high : {x o o' : List ℕ} {b y : Answer} {tag : Tag} {place : ℕ} → NodeWritten x o b (placed tag place) o' y
     → y.state.pos ≤ b.state.pos + 7 * done_of b.status
 node_written_high {x} {o} {o'} {b} {y} {tag} {place} F = one b.status F.is
   where
@@ -140,8 +142,8 @@ node_written_high {x} {o} {o'} {b} {y} {tag} {place} F = one b.status F.is
 module _ {w x : List ℕ} {n d : ℕ} {o r f : List ℕ} {t : Token} {i place : ℕ} {a : Answer}
     (q : Asked w x n o r f a.state) (hi : i ≤ a.state.pos) (u : Seen w n a.state.at t)
     (z : a.status ≡ Done) where
-  pub expression_after : {r1 f1 o2 : List ℕ} {b y : Answer} → (t.kind ≡ 26 → ⊥) → (t.kind ≡ 52 → ⊥)
-      → Expected w n 50 i a.state.reported r f a r1 f1 b → NodeWritten x o b (placed 0x41 place) o2 y
+  pub expression_after : {r1 f1 o2 : List ℕ} {b y : Answer} → (kind_number t.kind ≡ 26 → ⊥) → (kind_number t.kind ≡ 52 → ⊥)
+      → Expected w n 50 i a.state.reported r f a r1 f1 b → NodeWritten x o b (placed Tag.Expression place) o2 y
       → ReadsAfter w x n d (P.after_expression (unpack_place place)) i o r f a.state o2 r1 f1 y
   unfolding go run P.after_expression
   expression_after {b = b} {y = y} m26 m52 X F =
@@ -209,7 +211,7 @@ module _ {w x : List ℕ} {n d : ℕ} {o r f o1 r1 f1 : List ℕ} {s : State} {a
     module _ (z : a.status ≡ Done) (lo : length o1 ≡ length o) (lr : length r1 ≡ length r) where
       -- the expression has errors: the statement ends with it; else `after_expression` continues
       pub statement_errors : {o2 : List ℕ} {y : Answer} → s.reported < a.state.reported
-          → NodeWritten x o1 a (placed 0x41 place) o2 y
+          → NodeWritten x o1 a (placed Tag.Expression place) o2 y
           → Reads node w x n d (P.expression_statement (unpack_place place)) o r f s o2 r1 f1 y
       unfolding go run P.expression_statement
       statement_errors {o2} {y} h F =

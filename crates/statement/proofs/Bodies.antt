@@ -4,6 +4,7 @@ use mathlib.Core.List.{List, [], append-nil}
 use Prim.Native.Nat.{ℕ, ◌≤◌}
 use native.Mathlib.Omega.{arith}
 use lib.ListN.{take}
+use Rattle.definition.specs.Numbers.{kind_number}
 use Rattle.definition.specs.Node.{recs_bytes}
 use Rattle.definition.specs.Fallible.{Err, Ans}
 use Rattle.definition.specs.Token.{Tok, next_token}
@@ -18,7 +19,7 @@ use Rattle.fallible.specs.Answers.{noted, Raised}
 use Rattle.steps.specs.declared.tokens.Token.{Token}
 use Rattle.steps.specs.Tokens.{rest, Seen}
 use Rattle.steps.specs.Shows.{st_of, Asked, View, Good, Bad, ShowsOf, Shows, Reads, Expects, node, token, items}
-use Rattle.steps.proofs.Records.{yes, no, fore, adv}
+use Rattle.steps.proofs.Records.{yes, no, other, fore, adv}
 use Rattle.steps.proofs.Answers.{say, good_of}
 use Rattle.leaves.specs.Leaves.{Counted}
 use Rattle.leaves.proofs.Atoms.{Ended, Alive}
@@ -114,7 +115,7 @@ module _ {w x : List ℕ} {n d : ℕ} {o r f r1 f1 : List ℕ} {s : State} {a : 
 
 module _ {w x : List ℕ} {n count : ℕ} {o r f : List ℕ} {s : State} {t : Token}
     (q : Asked w x n o r f s × (count ≤ s.at)) (v : Seen w n s.at t) where
-  pub rest_closed : {d : ℕ} → t.kind ≡ 40
+  pub rest_closed : {d : ℕ} → kind_number t.kind ≡ 40
       → LoopOn statements_on w x n d count o r f s o r f
       (record { status = Done; state = fore s t; place = 0; count = count })
   unfolding go run P.body_turn
@@ -122,30 +123,29 @@ module _ {w x : List ℕ} {n count : ℕ} {o r f : List ℕ} {s : State} {t : To
       loop_closed statements_on q v (λ rd l. go_loop d (Body l) (st_of w x n f rd s) ∙ rw (run, yes v z)
       (ap (λ (S : St). gives l S) (adv s v (λ _. plain) f rd _)))
 
-  module _ (m40 : t.kind ≡ 40 → ⊥) where
-    pub rest_end : {d e : ℕ} {r1 f1 : List ℕ} {b : Answer} → t.kind ≡ 0 → unpack e ≡ error_at 13 0 0 0
-        → Raised (noted n s) r f s e r1 f1 b
-        → LoopOn statements_on w x n d count o r f s o r1 f1
-        (record { status = b.status; state = b.state; place = 0; count = count })
-    unfolding go run P.body_turn
-    rest_end {d} z i g =
-        loop_ended statements_on q v g
-        (λ rd l. go_loop d (Body l) (st_of w x n f rd s) ∙ rw (run, no v m40, yes v z)
-        (ap (λ (X : Err). go d (make X (done (P.with_error l X))) (st_of w x n f rd s)) (sym i)))
+  pub rest_end : {d e : ℕ} {r1 f1 : List ℕ} {b : Answer} → kind_number t.kind ≡ 0 → unpack e ≡ error_at 13 0 0 0
+      → Raised (noted n s) r f s e r1 f1 b
+      → LoopOn statements_on w x n d count o r f s o r1 f1
+      (record { status = b.status; state = b.state; place = 0; count = count })
+  unfolding go run P.body_turn
+  rest_end {d} z i g =
+      loop_ended statements_on q v g
+      (λ rd l. go_loop d (Body l) (st_of w x n f rd s) ∙ rw (run, other v z 40 refl, yes v z)
+      (ap (λ (X : Err). go d (make X (done (P.with_error l X))) (st_of w x n f rd s)) (sym i)))
 
-    module _ {d : ℕ} {o1 r1 f1 : List ℕ} {b : Answer} (m0 : t.kind ≡ 0 → ⊥)
-        (u : Reads node w x n d P.parse_statement o r f s o1 r1 f1 b) where
-      -- a turn that parses a statement
-      statement_turn : (rd : List Consumed) (l : Items)
-          → go d (statements_on l) (st_of w x n f rd s)
-          ≡ go d (P.parse_statement >>= λ a. statements_on (P.integrate l a)) (st_of w x n f rd s)
-      unfolding go run P.body_turn ◌>>=◌
-      statement_turn rd l = go_loop d (Body l) (st_of w x n f rd s) ∙ rw (run, no v m40, no v m0)
+  module _ {d : ℕ} {o1 r1 f1 : List ℕ} {b : Answer} (m40 : kind_number t.kind ≡ 40 → ⊥) (m0 : kind_number t.kind ≡ 0 → ⊥)
+      (u : Reads node w x n d P.parse_statement o r f s o1 r1 f1 b) where
+    -- a turn that parses a statement
+    statement_turn : (rd : List Consumed) (l : Items)
+        → go d (statements_on l) (st_of w x n f rd s)
+        ≡ go d (P.parse_statement >>= λ a. statements_on (P.integrate l a)) (st_of w x n f rd s)
+    unfolding go run P.body_turn ◌>>=◌
+    statement_turn rd l = go_loop d (Body l) (st_of w x n f rd s) ∙ rw (run, no v m40, no v m0)
 
-      pub rest_refused : Ended b → LoopOn statements_on w x n d count o r f s o1 r1 f1 b
-      rest_refused h = loop_refused statements_on statements_on P.parse_statement statement_turn u h
+    pub rest_refused : Ended b → LoopOn statements_on w x n d count o r f s o1 r1 f1 b
+    rest_refused h = loop_refused statements_on statements_on P.parse_statement statement_turn u h
 
-      pub rest_next : {k : ℕ} {o3 r3 f3 : List ℕ} {y : Answer} → Alive b → Counted b.status count k
-          → LoopOn statements_on w x n d k o1 r1 f1 b.state o3 r3 f3 y
-          → LoopOn statements_on w x n d count o r f s o3 r3 f3 y
-      rest_next h c l = loop_next statements_on P.parse_statement statement_turn u h c l
+    pub rest_next : {k : ℕ} {o3 r3 f3 : List ℕ} {y : Answer} → Alive b → Counted b.status count k
+        → LoopOn statements_on w x n d k o1 r1 f1 b.state o3 r3 f3 y
+        → LoopOn statements_on w x n d count o r f s o3 r3 f3 y
+    rest_next h c l = loop_next statements_on P.parse_statement statement_turn u h c l

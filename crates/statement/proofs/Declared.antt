@@ -6,6 +6,7 @@ use native.Mathlib.Omega.{arith}
 use lib.Dec.{eqb}
 use lib.ListN.{length, take, drop, length-drop}
 use lib.Seq.{length-take-le}
+use Rattle.definition.specs.Numbers.{kind_number, tag_number}
 use Rattle.definition.specs.Ascii.{ascii}
 use Rattle.definition.specs.Source.{Place, nowhere}
 use Rattle.definition.specs.Node.{two}
@@ -17,6 +18,7 @@ use Rattle.definition.specs.Parser as P
 use Rattle.definition.specs.Go.{go}
 use Rattle.definition.specs.Places.{unpack_place}
 use Rattle.definition.proofs.Flat.{go_bind}
+use Rattle.definition.specs.declared.tag.Tag.{Tag}
 use Rattle.fallible.proofs.Grown.{errs_length}
 use Rattle.fallible.specs.declared.parser.State.{State}
 use Rattle.fallible.specs.Answer.{Status, Done, Fatal, Refused, done_of, Answer}
@@ -46,9 +48,9 @@ opens A.StructFields = omega arith
 opens A.ArrayValues = omega arith
 opens A.StructValues = omega arith
 
-module _ {w x : List ℕ} {n d : ℕ} {o r f o1 r1 f1 o2 : List ℕ} {s : State} {b y : Answer} (k : A.Listed) (tag place : ℕ) (q : Starts (P.opener k) w x n o r f s) (B : ReadsList w x n d k o r f s o1 r1 f1 b)
+module _ {w x : List ℕ} {n d : ℕ} {o r f o1 r1 f1 o2 : List ℕ} {s : State} {b y : Answer} (k : A.Listed) (tag : Tag) (place : ℕ) (q : Starts (P.opener k) w x n o r f s) (B : ReadsList w x n d k o r f s o1 r1 f1 b)
     (F : NodeWritten x o1 b (record { tag = tag; place = place; numbers = Two b.count; start = 0; len = 0 }) o2 y) where
-  pub values_reads : Reads node w x n d (values_rule k tag (unpack_place place)) o r f s o2 r1 f1 y
+  pub values_reads : Reads node w x n d (values_rule k (tag_number tag) (unpack_place place)) o r f s o2 r1 f1 y
   values_reads =
       let e : budget w n y.state.at ≡ budget w n b.state.at = ap (λ (k : ℕ). budget w n k) F.at in
       record {
@@ -66,7 +68,7 @@ module _ {w x : List ℕ} {n d : ℕ} {o r f o1 r1 f1 o2 : List ℕ} {s : State}
         on = omega (arith, F.at, B.on);
         is = λ rd.
             say (through d (P.parse_list k) _
-            (wrapped items [] [] tag (λ _. unpack_place place) (λ i. two i.count ∷ []) []) (λ i. refl)
+            (wrapped items [] [] (tag_number tag) (λ _. unpack_place place) (λ i. two i.count ∷ []) []) (λ i. refl)
             (st_of w x n f rd s))
             (writes_node d (λ _. unpack_place place) (λ i. two i.count ∷ []) [] F (λ i e. rw e) (B.is rd));
       }
@@ -129,7 +131,7 @@ module _ {w x : List ℕ} {n d : ℕ} {o r f r1 f1 : List ℕ} {s : State} {a : 
         }
 
     module _ {t : Token} (u : Seen w n a.state.at t) where
-      pub compound_array : {o1 r2 f2 : List ℕ} {y : Answer} → t.kind ≡ 43
+      pub compound_array : {o1 r2 f2 : List ℕ} {y : Answer} → kind_number t.kind ≡ 43
           → Reads node w x n d (values_rule A.ArrayValues 0x30 (unpack_place t.place)) o r1 f1
           a.state o1 r2 f2 y
           → Reads node w x n d P.parse_compound o r f s o1 r2 f2 y
@@ -140,7 +142,7 @@ module _ {w x : List ℕ} {n d : ℕ} {o r f r1 f1 : List ℕ} {s : State} {a : 
           (ap (λ (p : Place). go d (values_rule A.ArrayValues 0x30 p) (st_of w x n f1 rd a.state)) (u.place x)))
           B.moved B.is
 
-      pub compound_struct : {o1 r2 f2 : List ℕ} {y : Answer} → t.kind ≡ 39
+      pub compound_struct : {o1 r2 f2 : List ℕ} {y : Answer} → kind_number t.kind ≡ 39
           → Reads node w x n d (values_rule A.StructValues 0x31 (unpack_place t.place)) o r1 f1
           a.state o1 r2 f2 y
           → Reads node w x n d P.parse_compound o r f s o1 r2 f2 y
@@ -159,12 +161,12 @@ module _ {w x : List ℕ} {n d : ℕ} {o r f r1 f1 : List ℕ} {s : State} {a : 
             → Reads node w x n d P.parse_compound o r f s o r2 f2 y
         failed step = compound_on (P.raise (unpack e)) step (rw g.is (making_moved q Fatal)) (λ rd. raise_shows node q g d rd o)
 
-        pub compound_end : t.kind ≡ 0 → unpack e ≡ error_at 18 0 0 0 → Reads node w x n d P.parse_compound o r f s o r2 f2 y
+        pub compound_end : kind_number t.kind ≡ 0 → unpack e ≡ error_at 18 0 0 0 → Reads node w x n d P.parse_compound o r f s o r2 f2 y
         unfolding go run
         compound_end z i = failed (λ rd. rw (run, yes u z) (raise_same d {S = st_of w x n f1 rd a.state} (sym i) refl))
 
-        pub compound_other : (t.kind ≡ 0 → ⊥) → (t.kind ≡ 43 → ⊥) → (t.kind ≡ 39 → ⊥)
-            → unpack e ≡ error_at 19 t.place 0 t.kind
+        pub compound_other : (kind_number t.kind ≡ 0 → ⊥) → (kind_number t.kind ≡ 43 → ⊥) → (kind_number t.kind ≡ 39 → ⊥)
+            → unpack e ≡ error_at 19 t.place 0 (kind_number t.kind)
             → Reads node w x n d P.parse_compound o r f s o r2 f2 y
         unfolding go run
         compound_other m0 m43 m39 i =
@@ -190,14 +192,14 @@ named_stops {w} {x} {n} {o} {a} {tag} {place} {p} nd =
     one Fatal z = (refl, refl)
     one (Refused m) z = (refl, refl)
 
-module _ {w x : List ℕ} {n : ℕ} {o o2 : List ℕ} {a y : Answer} {tag place p : ℕ} {t : Token}
+module _ {w x : List ℕ} {n : ℕ} {o o2 : List ℕ} {a y : Answer} {tag : Tag} {place p : ℕ} {t : Token}
     (z : a.status ≡ Done) (u : Seen w n p t) where
   -- the record has the name
   named_so : (X : List ℕ) (start len : ℕ) → name_of (next_token (rest w x n p)) ≡ take len (drop start X)
       → length (name_of (next_token (rest w x n p))) ≡ len → len ≤ 3 + length (next_token (rest w x n p)).text
       → NodeWritten X o a
       (record { tag = tag; place = place; numbers = None; start = start; len = len }) o2 y
-      → Named w x n o a tag place p o2 y
+      → Named w x n o a (tag_number tag) place p o2 y
   named_so X start len e l h F =
       let one : done_of a.status ≡ 1 = rw z in
       let m = subst (λ (k : Status). NodeWrittenOf k X o a
@@ -209,25 +211,25 @@ module _ {w x : List ℕ} {n : ℕ} {o o2 : List ℕ} {a y : Answer} {tag place 
         full = F.full;
         low = F.low;
         high = omega (arith, F.high, one, h);
-        is = subst (λ (k : Status). NamedOf k w x n o a tag place p o2 y) (sym z)
+        is = subst (λ (k : Status). NamedOf k w x n o a (tag_number tag) place p o2 y) (sym z)
             (m.0, (rw (l, e) m.1.0, m.1.1));
       }
 
   -- the token is an identifier, or not: then the name is `<?>`
-  pub named_there : Parts w x n → t.kind ≡ 1
+  pub named_there : Parts w x n → kind_number t.kind ≡ 1
       → NodeWritten x o a
       (record { tag = tag; place = place; numbers = None; start = t.start; len = t.len }) o2 y
-      → Named w x n o a tag place p o2 y
+      → Named w x n o a (tag_number tag) place p o2 y
   named_there parts h F =
       let i : name_of (next_token (rest w x n p)) ≡ (next_token (rest w x n p)).text = rw (yes u h) in
       let l : length (take t.len (drop t.start x)) ≡ t.len = length-take-le t.len (drop t.start x)
       (simp length-drop (omega (arith, u.part parts))) in
       named_so x t.start t.len (i ∙ u.text x) (ap length (i ∙ u.text x) ∙ l) (omega (arith, ap length (u.text x) ∙ l)) F
 
-  pub named_none : (t.kind ≡ 1 → ⊥)
+  pub named_none : (kind_number t.kind ≡ 1 → ⊥)
       → NodeWritten (60 ∷ 63 ∷ 62 ∷ []) o a
       (record { tag = tag; place = place; numbers = None; start = 0; len = 3 }) o2 y
-      → Named w x n o a tag place p o2 y
+      → Named w x n o a (tag_number tag) place p o2 y
   unfolding ascii
   named_none h F =
       named_so (60 ∷ 63 ∷ 62 ∷ []) 0 3 (rw (no u h))

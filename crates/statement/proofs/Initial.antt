@@ -4,6 +4,7 @@ use mathlib.Core.List.{List, [], ◌∷◌, ◌++◌, append-nil, append_assoc}
 use Prim.Native.Nat.{ℕ, ◌≤◌, ◌<◌}
 use native.Mathlib.Omega.{arith}
 use lib.Seq.{length-take-le}
+use Rattle.definition.specs.Numbers.{kind_number}
 use Rattle.definition.specs.Node.{Rec, recs_bytes}
 use Rattle.definition.specs.Fallible.{Err, Fallible, Ans, ok}
 use Rattle.definition.specs.Act.{Act, Node, plain, Consumed, St, Res, gives, after, or_return, run, ◌>>?◌}
@@ -123,7 +124,7 @@ module _ {w x : List ℕ} {n d i j : ℕ} {o r f : List ℕ} {a : Answer} (q : G
     module _ {o1 r1 f1 r2 o2 : List ℕ} {b c y : Answer} {m : Act (Ans Node)} {tag : ℕ}
         (B : Reads node w x n d m o r f (fore a.state t) o1 r1 f1 b)
         (C : Abandoned r1 b i j a.state.reported r2 c) (G : Bared o1 c tag o2 y) where
-      given : 0 < t.kind
+      given : 0 < kind_number t.kind
           → ((X : Fallible P.Typed) (rd : List Consumed)
           → go d (value_on X) (st_of w x n f rd a.state)
           ≡ go d (m >>? λ e. P.declared X (P.bare e.item.recs tag []) e.errors)
@@ -157,7 +158,7 @@ module _ {w x : List ℕ} {n d i j : ℕ} {o r f : List ℕ} {a : Answer} (q : G
                 (B.is (past w x n a.state.at g.read))));
           }
 
-    pub value_assigned : {o1 r1 f1 r2 o2 : List ℕ} {b c y : Answer} → t.kind ≡ 26
+    pub value_assigned : {o1 r1 f1 r2 o2 : List ℕ} {b c y : Answer} → kind_number t.kind ≡ 26
         → Reads node w x n d P.parse_expression o r f (fore a.state t) o1 r1 f1 b
         → Abandoned r1 b i j a.state.reported r2 c → Bared o1 c 0x34 o2 y
         → ValueOn w x n d i j o r f a o2 r2 f1 y
@@ -167,7 +168,7 @@ module _ {w x : List ℕ} {n d i j : ℕ} {o r f : List ℕ} {a : Answer} (q : G
         (λ (S : St). go d (P.parse_expression >>? λ e. P.declared X (P.bare e.item.recs 0x34 []) e.errors)
         S) (adv a.state u (λ _. plain) f rd _))) (done_le y.status)
 
-    pub value_compound : {o1 r1 f1 r2 o2 : List ℕ} {b c y : Answer} → t.kind ≡ 52
+    pub value_compound : {o1 r1 f1 r2 o2 : List ℕ} {b c y : Answer} → kind_number t.kind ≡ 52
         → Reads node w x n d P.parse_compound o r f (fore a.state t) o1 r1 f1 b
         → Abandoned r1 b i j a.state.reported r2 c → Bared o1 c 0x35 o2 y
         → ValueOn w x n d i j o r f a o2 r2 f1 y
@@ -177,7 +178,7 @@ module _ {w x : List ℕ} {n d i j : ℕ} {o r f : List ℕ} {a : Answer} (q : G
         (λ (S : St). go d (P.parse_compound >>? λ e. P.declared X (P.bare e.item.recs 0x35 []) e.errors) S)
         (adv a.state u (λ _. plain) f rd _))) (done_le y.status)
 
-    pub value_none : {o2 : List ℕ} {y : Answer} → (t.kind ≡ 26 → ⊥) → (t.kind ≡ 52 → ⊥) → Bared o a 0x33 o2 y
+    pub value_none : {o2 : List ℕ} {y : Answer} → (kind_number t.kind ≡ 26 → ⊥) → (kind_number t.kind ≡ 52 → ⊥) → Bared o a 0x33 o2 y
         → ValueOn w x n d i j o r f a o2 r f y
     unfolding go run
     value_none {o2} {y} m26 m52 G =

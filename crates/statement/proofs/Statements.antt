@@ -7,6 +7,7 @@ use native.Mathlib.Omega.{arith}
 use lib.ListN.{length, take}
 use lib.Seq.{length-take-le}
 use borrow.Author.Tests.{eq-eqb, ne_eqb}
+use Rattle.definition.specs.Numbers.{kind_number}
 use Rattle.definition.specs.Source.{Place}
 use Rattle.definition.specs.Node.{byte, two, recs_bytes}
 use Rattle.definition.specs.Fallible.{Err, Fallible, Ans, ok, fatal}
@@ -17,6 +18,7 @@ use Rattle.definition.specs.Parser as P
 use Rattle.definition.specs.Go.{go}
 use Rattle.definition.specs.Places.{unpack_place}
 use Rattle.definition.proofs.Flat.{go_bind}
+use Rattle.definition.specs.declared.tag.Tag.{Tag}
 use Rattle.fallible.proofs.Grown.{errs_length}
 use Rattle.fallible.specs.declared.parser.State.{State}
 use Rattle.fallible.specs.Answer.{Status, Done, Fatal, Refused, Answer}
@@ -27,7 +29,7 @@ use Rattle.node.specs.declared.Numbers.TheVariants.{None, Byte, Two}
 use Rattle.steps.specs.declared.tokens.Token.{Token}
 use Rattle.steps.specs.Tokens.{rest, budget, present, Seen}
 use Rattle.steps.specs.Shows.{st_of, Asked, Moved, ShowsOf, Shows, Reads, node, items, token, Expects, Expected, NodeWritten, texted, untexted}
-use Rattle.steps.proofs.Records.{present_kind, yes, no, fore, adv}
+use Rattle.steps.proofs.Records.{present_kind, yes, no, other, fore, adv}
 use Rattle.steps.proofs.Moves.{making_moved, fore_moved, moved_trans, asks_moved, asked_seen, asked_moved}
 use Rattle.steps.proofs.Answers.{Stopped, say, good_of, stops, follows, abandons, wrapped, writes_node, raise_shows, raise_same}
 use Rattle.steps.proofs.Constructs.{then_stops}
@@ -242,22 +244,22 @@ clean d k f g e S =
 -- ---- the functions
 
 pub begins : {w x : List ℕ} {n k : ℕ} {o r f : List ℕ} {s : State} {t : Token} → Asked w x n o r f s
-    → Seen w n s.at t → t.kind ≡ k → Starts k w x n o r f s
+    → Seen w n s.at t → kind_number t.kind ≡ k → Starts k w x n o r f s
 begins {x = x} q u h = record { asked = q; kind = u.kind x ∙ h }
 
 pub starts_kind : {w x : List ℕ} {n k : ℕ} {o r f : List ℕ} {s : State} {t : Token} → Starts k w x n o r f s
-    → Seen w n s.at t → t.kind ≡ k
+    → Seen w n s.at t → kind_number t.kind ≡ k
 starts_kind {x = x} q u = sym (u.kind x) ∙ q.kind
 
 -- at the end no token is consumed
-ended_on : {w : List ℕ} {n i j : ℕ} {s s' : State} {t : Token} → Moved w n i j s s' → Seen w n s.at t → t.kind ≡ 0
+ended_on : {w : List ℕ} {n i j : ℕ} {s s' : State} {t : Token} → Moved w n i j s s' → Seen w n s.at t → kind_number t.kind ≡ 0
     → s.at + present n s.at ≤ s'.at
 ended_on m u z = omega (arith, m.at, u.present, z)
 
 module _ {w x : List ℕ} {n d : ℕ} {o r f : List ℕ} {s : State} {t : Token} (u : Seen w n s.at t) where
   pub loop_reads : {o1 r1 f1 o2 : List ℕ} {b y : Answer} → Starts K.KwLoop w x n o r f s
       → Reads node w x n d P.parse_statement o r f (fore s t) o1 r1 f1 b
-      → NodeWritten x o1 b (untexted t.place 0x46 None) o2 y → Reads node w x n d P.statement_rule o r f s o2 r1 f1 y
+      → NodeWritten x o1 b (untexted t.place Tag.Loop None) o2 y → Reads node w x n d P.statement_rule o r f s o2 r1 f1 y
   loop_reads q B F =
       wraps_token (λ _. here w x n s) (λ _. []) [] q.asked u B F (omega (arith, q.kind, u.kind x))
       (λ i e. rw u.place) (past w x n s.at)
@@ -267,7 +269,7 @@ module _ {w x : List ℕ} {n d : ℕ} {o r f : List ℕ} {s : State} {t : Token}
 
   pub while_reads : {o1 r1 f1 o2 : List ℕ} {b y : Answer} → Starts K.KwWhile w x n o r f s
       → Reads node w x n d guarded_rule o r f (fore s t) o1 r1 f1 b
-      → NodeWritten x o1 b (untexted t.place 0x47 None) o2 y → Reads node w x n d P.statement_rule o r f s o2 r1 f1 y
+      → NodeWritten x o1 b (untexted t.place Tag.While None) o2 y → Reads node w x n d P.statement_rule o r f s o2 r1 f1 y
   while_reads q B F =
       wraps_token (λ _. here w x n s) (λ _. []) [] q.asked u B F (omega (arith, q.kind, u.kind x))
       (λ i e. rw u.place) (past w x n s.at)
@@ -278,8 +280,8 @@ module _ {w x : List ℕ} {n d : ℕ} {o r f : List ℕ} {s : State} {t : Token}
       (λ (S : St). go d (guarded_rule >>? wrapped node [] [] 0x47 (λ _. here w x n s) (λ _. []) []) S)
       (adv s u (λ _. plain) f rd _))
 
-  pub assembly_reads : {o2 : List ℕ} {y : Answer} → Asked w x n o r f s → t.kind ≡ K.InlineAssemblyFragment
-      → NodeWritten x o (there s t) (texted t.place 0x4A None t.start t.len) o2 y
+  pub assembly_reads : {o2 : List ℕ} {y : Answer} → Asked w x n o r f s → kind_number t.kind ≡ K.InlineAssemblyFragment
+      → NodeWritten x o (there s t) (texted t.place Tag.InlineAssembly None t.start t.len) o2 y
       → Reads node w x n d P.statement_rule o r f s o2 r f y
   assembly_reads q h F =
       leaf_reads q.asks u [] (next_token (rest w x n s.at)).text F (omega (arith, h))
@@ -287,7 +289,7 @@ module _ {w x : List ℕ} {n d : ℕ} {o r f : List ℕ} {s : State} {t : Token}
 
   pub break_reads : {r1 f1 o2 : List ℕ} {a y : Answer} → Starts K.KwBreak w x n o r f s
       → Expects w n (λ role. P.expect_as role 50) r f (fore s t) r1 f1 a
-      → NodeWritten x o a (untexted t.place 0x48 None) o2 y → Reads node w x n d P.statement_rule o r f s o2 r1 f1 y
+      → NodeWritten x o a (untexted t.place Tag.Break None) o2 y → Reads node w x n d P.statement_rule o r f s o2 r1 f1 y
   break_reads {a = a} {y = y} q X F =
       let e : budget w n y.state.at ≡ budget w n a.state.at = ap (λ (k : ℕ). budget w n k) F.at in
       let k : Fallible Tok → Act (Ans Node) = wrapped (token (next_token (rest w x n t.next))) [] [] 0x48 (λ _. here w x n s) (λ _. []) [] in
@@ -329,40 +331,52 @@ module _ {w x : List ℕ} {n d : ℕ} {o r f : List ℕ} {s : State} {t : Token}
         (u.place x)) (B.is (past w x n s.at rd));
   }
 
-  module _ (m6 : t.kind ≡ 6 → ⊥) (m5 : t.kind ≡ 5 → ⊥) (m39 : t.kind ≡ 39 → ⊥) (m7 : t.kind ≡ 7 → ⊥)
-      (m8 : t.kind ≡ 8 → ⊥) (m9 : t.kind ≡ 9 → ⊥) (m10 : t.kind ≡ 10 → ⊥) (m54 : t.kind ≡ 54 → ⊥) where
-    pub end_reads : {e : ℕ} {r1 f1 : List ℕ} {y : Answer} → Asked w x n o r f s → t.kind ≡ 0
-        → unpack e ≡ error_at 6 0 0 0 → Raised (raised n s) r f s e r1 f1 y
-        → Reads node w x n d P.statement_rule o r f s o r1 f1 y
-    unfolding go run P.statement_rule
-    end_reads {e} {y = y} q z i g =
-        let M : Moved w n s.pos s.reported s y.state = rw g.is (making_moved q.asks Fatal) in
-        record {
-          moved = M;
-          on = ended_on M u z;
-          is = λ rd. say
-              (rw (run, no u m6, no u m5, no u m39, no u m7, no u m8, no u m9, no u m10, no u m54, yes u z)
-              (raise_same d {S = st_of w x n f rd s} (sym i) refl)) (raise_shows node q.asks g d rd o);
-        }
+  pub end_reads : {e : ℕ} {r1 f1 : List ℕ} {y : Answer} → Asked w x n o r f s → kind_number t.kind ≡ 0
+      → unpack e ≡ error_at 6 0 0 0 → Raised (raised n s) r f s e r1 f1 y
+      → Reads node w x n d P.statement_rule o r f s o r1 f1 y
+  unfolding go run P.statement_rule
+  end_reads {e} {y = y} q z i g =
+      let M : Moved w n s.pos s.reported s y.state = rw g.is (making_moved q.asks Fatal) in
+      record {
+        moved = M;
+        on = ended_on M u z;
+        is = λ rd. say
+            (rw (
+              run,
+              other u z 6 refl,
+              other u z 5 refl,
+              other u z 39 refl,
+              other u z 7 refl,
+              other u z 8 refl,
+              other u z 9 refl,
+              other u z 10 refl,
+              other u z 54 refl,
+              yes u z,
+            )
+            (raise_same d {S = st_of w x n f rd s} (sym i) refl)) (raise_shows node q.asks g d rd o);
+      }
 
-    pub other_reads : {o1 r1 f1 : List ℕ} {y : Answer} → (t.kind ≡ 0 → ⊥)
-        → Reads node w x n d (P.expression_statement (unpack_place t.place)) o r f s o1 r1 f1 y
-        → Reads node w x n d P.statement_rule o r f s o1 r1 f1 y
-    unfolding go run P.statement_rule
-    other_reads z B =
-        record {
-          moved = B.moved;
-          on = B.on;
-          is = λ rd. say
-              (rw (run, no u m6, no u m5, no u m39, no u m7, no u m8, no u m9, no u m10, no u m54, no u z)
-              (ap (λ (p : Place). go d (P.expression_statement p) (st_of w x n f rd s)) (u.place x))) (B.is rd);
-        }
+  pub other_reads : {o1 r1 f1 : List ℕ} {y : Answer} → (kind_number t.kind ≡ 6 → ⊥) → (kind_number t.kind ≡ 5 → ⊥)
+      → (kind_number t.kind ≡ 39 → ⊥) → (kind_number t.kind ≡ 7 → ⊥) → (kind_number t.kind ≡ 8 → ⊥)
+      → (kind_number t.kind ≡ 9 → ⊥) → (kind_number t.kind ≡ 10 → ⊥) → (kind_number t.kind ≡ 54 → ⊥)
+      → (kind_number t.kind ≡ 0 → ⊥)
+      → Reads node w x n d (P.expression_statement (unpack_place t.place)) o r f s o1 r1 f1 y
+      → Reads node w x n d P.statement_rule o r f s o1 r1 f1 y
+  unfolding go run P.statement_rule
+  other_reads m6 m5 m39 m7 m8 m9 m10 m54 z B =
+      record {
+        moved = B.moved;
+        on = B.on;
+        is = λ rd. say
+            (rw (run, no u m6, no u m5, no u m39, no u m7, no u m8, no u m9, no u m10, no u m54, no u z)
+            (ap (λ (p : Place). go d (P.expression_statement p) (st_of w x n f rd s)) (u.place x))) (B.is rd);
+      }
 
   -- ---- `return`
 
-  pub return_none : {t2 : Token} {o2 : List ℕ} {y : Answer} → Starts K.KwReturn w x n o r f s → Seen w n t.next t2 → t2.kind ≡ 50
+  pub return_none : {t2 : Token} {o2 : List ℕ} {y : Answer} → Starts K.KwReturn w x n o r f s → Seen w n t.next t2 → kind_number t2.kind ≡ 50
       → NodeWritten x o (record { status = Done; state = fore (fore s t) t2; place = t.place; count = 0 })
-      (untexted t.place 0x45 (Byte 0)) o2 y
+      (untexted t.place Tag.Return (Byte 0)) o2 y
       → Reads node w x n d P.statement_rule o r f s o2 r f y
   unfolding go run P.parse_return recs_bytes
   return_none {t2} {o2} {y} q v h F =
@@ -401,11 +415,11 @@ module _ {w x : List ℕ} {n d : ℕ} {o r f : List ℕ} {s : State} {t : Token}
       }
 
   pub return_value : {t2 : Token} {o1 r1 f1 r2 f2 o2 : List ℕ} {b c y : Answer} → Starts K.KwReturn w x n o r f s
-      → Seen w n t.next t2 → (t2.kind ≡ 50 → ⊥)
+      → Seen w n t.next t2 → (kind_number t2.kind ≡ 50 → ⊥)
       → Reads node w x n d P.parse_expression o r f (fore s t) o1 r1 f1 b → length r1 ≡ length r
       → length f1 ≡ length f
       → Expected w n 50 s.pos s.reported r1 f1 b r2 f2 c
-      → NodeWritten x o1 c (untexted t.place 0x45 (Byte 1)) o2 y → Reads node w x n d P.statement_rule o r f s o2 r2 f2 y
+      → NodeWritten x o1 c (untexted t.place Tag.Return (Byte 1)) o2 y → Reads node w x n d P.statement_rule o r f s o2 r2 f2 y
   unfolding go run P.parse_return
   return_value {b = b} {c = c} {y = y} q v h B lr lf C F =
       let e : budget w n y.state.at ≡ budget w n c.state.at = ap (λ (k : ℕ). budget w n k) F.at in
@@ -441,7 +455,7 @@ module _ {w x : List ℕ} {n d : ℕ} {o r f : List ℕ} {s : State} {t : Token}
   -- ---- a block: a body as a statement
 
   pub block_reads : {o1 r1 f1 o2 : List ℕ} {b y : Answer} → Starts K.LBrace w x n o r f s
-      → ReadsBody w x n d o r f s o1 r1 f1 b → NodeWritten x o1 b (untexted t.place 0x40 (Two b.count)) o2 y
+      → ReadsBody w x n d o r f s o1 r1 f1 b → NodeWritten x o1 b (untexted t.place Tag.Block (Two b.count)) o2 y
       → Reads node w x n d P.statement_rule o r f s o2 r1 f1 y
   unfolding go run
   block_reads {b = b} {y = y} q B F =
@@ -494,7 +508,7 @@ module _ {w x : List ℕ} {n d : ℕ} {o r f : List ℕ} {s : State} {t : Token}
 
     module _ {t2 : Token} (z : a.status ≡ Done) (v : Seen w n a.state.at t2) where
       -- without `else`, and with it
-      pub if_two : {o2 : List ℕ} {y : Answer} → (t2.kind ≡ 11 → ⊥) → NodeWritten x o1 a (untexted t.place 0x49 (Byte 2)) o2 y
+      pub if_two : {o2 : List ℕ} {y : Answer} → (kind_number t2.kind ≡ 11 → ⊥) → NodeWritten x o1 a (untexted t.place Tag.If (Byte 2)) o2 y
           → Reads node w x n d P.statement_rule o r f s o2 r1 f1 y
       unfolding go run
       if_two {o2} {y} h F =
@@ -523,10 +537,10 @@ module _ {w x : List ℕ} {n d : ℕ} {o r f : List ℕ} {s : State} {t : Token}
                 (B.is (past w x n s.at rd)));
           }
 
-      pub if_three : {o2 r2 f2 r3 o3 : List ℕ} {b c y : Answer} → t2.kind ≡ 11
+      pub if_three : {o2 r2 f2 r3 o3 : List ℕ} {b c y : Answer} → kind_number t2.kind ≡ 11
           → Reads node w x n d P.parse_statement o1 r1 f1 (fore a.state t2) o2 r2 f2 b → length r1 ≡ length r
           → Abandoned r2 b s.pos s.reported a.state.reported r3 c
-          → NodeWritten x o2 c (untexted t.place 0x49 (Byte 3)) o3 y → Reads node w x n d P.statement_rule o r f s o3 r3 f2 y
+          → NodeWritten x o2 c (untexted t.place Tag.If (Byte 3)) o3 y → Reads node w x n d P.statement_rule o r f s o3 r3 f2 y
       unfolding go run
       if_three {b = b} {c = c} {y = y} h D lr C F =
           let e : budget w n y.state.at ≡ budget w n b.state.at = ap (λ (k : ℕ). budget w n k) (F.at ∙ C.at) in

@@ -1,4 +1,5 @@
 // Compounds and declarations: the functions of parser.rs that statements and items share.
+ghost use Rattle.definition.specs.Numbers.{tag_number};
 ghost use Rattle.definition.specs.Parser as P;
 ghost use Rattle.node.specs.Contract.{Room};
 ghost use Rattle.leaves.specs.Leaves.{listed_of};
@@ -8,7 +9,9 @@ ghost use Rattle.steps.specs.Contract.{Asked, GoesOn, Parses};
 ghost use Rattle.expression_laws.specs.Contract.{NameRoom};
 ghost use Rattle.statement.specs.Contract.{Starts, Bared, ValueOn, ReadsDeclared, Named};
 
-use definition::{kind, parse_error, tag};
+use definition::kind::Kind;
+use definition::parse_error::ParseError;
+use definition::tag::Tag;
 use expression::{expression, list, typed_name};
 use fallible::parser::{Parser, State};
 use fallible::{Stop, abandon, entry};
@@ -27,38 +30,36 @@ pub fn compound(
     requires { Asked tokens file parser }
     ensures { Parses P.parse_compound tokens file parser nesting result }
 {
-    expect(tokens, parser, kind::HASH)?;
+    expect(tokens, parser, Kind::Hash)?;
     let t = tokens.peek(parser.state.at);
-    if t.kind == kind::END {
-        let error = entry(parse_error::COMPOUND_AT_END, 0, 0, 0);
-        return Err(parser.raise(tokens.count, error));
-    }
-    if t.kind == kind::L_BRACKET {
-        let what = Listed::ArrayValues;
-        return values(
+    match t.kind {
+        Kind::LBracket => values(
             tokens,
             file,
             parser,
-            what,
-            tag::COMPOUND_ARRAY,
+            Listed::ArrayValues,
+            Tag::CompoundArray,
             t.place,
             nesting,
-        );
-    }
-    if t.kind == kind::L_BRACE {
-        let what = Listed::StructValues;
-        return values(
+        ),
+        Kind::LBrace => values(
             tokens,
             file,
             parser,
-            what,
-            tag::COMPOUND_STRUCT,
+            Listed::StructValues,
+            Tag::CompoundStruct,
             t.place,
             nesting,
-        );
+        ),
+        Kind::End => {
+            let error = entry(ParseError::CompoundAtEnd, 0, Kind::End, Kind::End);
+            Err(parser.raise(tokens.count, error))
+        }
+        _ => {
+            let error = entry(ParseError::Compound, t.place, Kind::End, t.kind);
+            Err(parser.raise(tokens.count, error))
+        }
     }
-    let error = entry(parse_error::COMPOUND, t.place, 0, t.kind);
-    Err(parser.raise(tokens.count, error))
 }
 
 // Parses the values of a compound: a list that opens with `[` or `{`.
@@ -67,12 +68,12 @@ fn values(
     file: &mut [u8],
     parser: &mut Parser,
     what: Listed,
-    tag: u8,
+    tag: Tag,
     place: usize,
     nesting: usize,
 ) -> Result<usize, Stop>
     requires { Starts (P.opener (listed_of what)) tokens file parser }
-    ensures { Parses (values_rule (listed_of what) tag (unpack_place place)) tokens file parser nesting result }
+    ensures { Parses (values_rule (listed_of what) (tag_number tag) (unpack_place place)) tokens file parser nesting result }
 {
     let count = list(tokens, file, parser, what, nesting)?;
     write_node(
@@ -92,10 +93,10 @@ fn bare(
     text: &[u8],
     state: &mut State,
     called: Result<usize, Stop>,
-    tag: u8,
+    tag: Tag,
 ) -> Result<usize, Stop>
     requires { Room file text state.old.pos 16 0 0 }
-    ensures { Bared file state called tag result }
+    ensures { Bared file state called (tag_number tag) result }
 {
     called?;
     state.pos = write_bare(file, text, state.pos, tag, Numbers::None, 0, 0);
@@ -119,19 +120,21 @@ fn initial_value(
     };
     let before = parser.state;
     let t = tokens.peek(before.at);
-    if t.kind == kind::EQUALS {
-        parser.state.at = t.next;
-        let b = expression(tokens, file, parser, nesting);
-        let c = abandon(&mut parser.reported, &mut parser.state, b, from, before);
-        return bare(file, tokens.text, &mut parser.state, c, tag::ASSIGNED_VALUE);
+    match t.kind {
+        Kind::Equals => {
+            parser.state.at = t.next;
+            let b = expression(tokens, file, parser, nesting);
+            let c = abandon(&mut parser.reported, &mut parser.state, b, from, before);
+            bare(file, tokens.text, &mut parser.state, c, Tag::AssignedValue)
+        }
+        Kind::LArrow => {
+            parser.state.at = t.next;
+            let b = compound(tokens, file, parser, nesting);
+            let c = abandon(&mut parser.reported, &mut parser.state, b, from, before);
+            bare(file, tokens.text, &mut parser.state, c, Tag::CompoundValue)
+        }
+        _ => bare(file, tokens.text, &mut parser.state, called, Tag::NoValue),
     }
-    if t.kind == kind::L_ARROW {
-        parser.state.at = t.next;
-        let b = compound(tokens, file, parser, nesting);
-        let c = abandon(&mut parser.reported, &mut parser.state, b, from, before);
-        return bare(file, tokens.text, &mut parser.state, c, tag::COMPOUND_VALUE);
-    }
-    bare(file, tokens.text, &mut parser.state, called, tag::NO_VALUE)
 }
 
 // parse_var_like_declaration: typed_name initial_value. The caller takes the name from the first token.
@@ -156,18 +159,18 @@ fn named(
     file: &mut [u8],
     state: &mut State,
     called: Result<usize, Stop>,
-    tag: u8,
+    tag: Tag,
     place: usize,
     at: usize,
 ) -> Result<usize, Stop>
     requires { NameRoom tokens file state called at }
-    ensures { Named tokens file state called tag place at result }
+    ensures { Named tokens file state called (tag_number tag) place at result }
 {
     let Ok(_) = called else {
         return called;
     };
     let t = tokens.peek(at);
-    if t.kind == kind::IDENTIFIER {
+    if let Kind::Identifier = t.kind {
         return write_text_node(
             file,
             tokens.text,
@@ -188,15 +191,15 @@ pub fn declaration(
     tokens: Tokens,
     file: &mut [u8],
     parser: &mut Parser,
-    tag: u8,
+    tag: Tag,
     place: usize,
     nesting: usize,
 ) -> Result<usize, Stop>
     requires { Asked tokens file parser }
-    ensures { Parses (P.declaration tag (unpack_place place)) tokens file parser nesting result }
+    ensures { Parses (P.declaration (tag_number tag) (unpack_place place)) tokens file parser nesting result }
 {
     let from = parser.state;
     let a = var_like_declaration(tokens, file, parser, nesting);
-    let b = expect_after(tokens, parser, a, kind::SEMICOLON, from);
+    let b = expect_after(tokens, parser, a, Kind::Semicolon, from);
     named(tokens, file, &mut parser.state, b, tag, place, from.at)
 }

@@ -12,8 +12,10 @@ ghost use Rattle.steps.specs.Contract.{Asked, Parses};
 ghost use Rattle.expression_laws.specs.Contract.{LoopOn};
 ghost use Rattle.statement.specs.Contract.{Starts, ReadsBody};
 
+use definition::kind::Kind;
+use definition::parse_error::ParseError;
 use definition::refusal::Refusal;
-use definition::{kind, parse_error, tag};
+use definition::tag::Tag;
 use expression::expression;
 use fallible::parser::Parser;
 use fallible::{Stop, abandon, entry, recover};
@@ -36,13 +38,14 @@ pub fn body(
     requires { Asked tokens file parser }
     ensures { ReadsBody tokens file parser nesting result }
 {
-    match recover(expect(tokens, parser, kind::L_BRACE))? {
+    match recover(expect(tokens, parser, Kind::LBrace))? {
         Some(_) => body_rest(tokens, file, parser, nesting),
         None => Ok(0),
     }
 }
 
-// The loop of parse_body, after `{`: {statement} `}`
+// The loop of parse_body, after `{`: {statement} `}`. Apart from the loops of a list and of a module: each ends in a way
+// of its own, and a shared one would take closures for the item, for what stands between two, and for the end.
 #[cycle(statement)]
 fn body_rest(
     tokens: Tokens,
@@ -56,12 +59,12 @@ fn body_rest(
     let mut count = 0;
     loop {
         let t = tokens.peek(parser.state.at);
-        if t.kind == kind::R_BRACE {
+        if let Kind::RBrace = t.kind {
             parser.state.at = t.next;
             return Ok(count);
         }
-        if t.kind == kind::END {
-            let error = entry(parse_error::BODY_AT_END, 0, 0, 0);
+        if let Kind::End = t.kind {
+            let error = entry(ParseError::BodyAtEnd, 0, Kind::End, Kind::End);
             parser.note(tokens.count, error)?;
             return Ok(count);
         }
@@ -92,7 +95,7 @@ fn block(
         &mut parser.state,
         Ok(t.place),
         t.place,
-        tag::BLOCK,
+        Tag::Block,
         Numbers::Two(count),
     )
 }
@@ -117,7 +120,7 @@ fn loop_statement(
         &mut parser.state,
         a,
         t.place,
-        tag::LOOP,
+        Tag::Loop,
         Numbers::None,
     )
 }
@@ -160,7 +163,7 @@ fn while_statement(
         &mut parser.state,
         a,
         t.place,
-        tag::WHILE,
+        Tag::While,
         Numbers::None,
     )
 }
@@ -185,17 +188,17 @@ fn if_statement(
     };
     let before = parser.state;
     let u = tokens.peek(before.at);
-    if u.kind != kind::KW_ELSE {
+    let Kind::KwElse = u.kind else {
         return write_node(
             file,
             tokens.text,
             &mut parser.state,
             a,
             t.place,
-            tag::IF,
+            Tag::If,
             Numbers::Byte(2),
         );
-    }
+    };
     parser.state.at = u.next;
     let b = statement(tokens, file, parser, nesting);
     let c = abandon(&mut parser.reported, &mut parser.state, b, from, before);
@@ -205,7 +208,7 @@ fn if_statement(
         &mut parser.state,
         c,
         t.place,
-        tag::IF,
+        Tag::If,
         Numbers::Byte(3),
     )
 }
@@ -222,36 +225,24 @@ fn statement_rule(
     ensures { Parses P.statement_rule tokens file parser nesting result }
 {
     let t = tokens.peek(parser.state.at);
-    if t.kind == kind::KW_RETURN {
-        return return_statement(tokens, file, parser, nesting);
+    match t.kind {
+        Kind::KwReturn => return_statement(tokens, file, parser, nesting),
+        Kind::KwVar => var_statement(tokens, file, parser, nesting),
+        Kind::LBrace => block(tokens, file, parser, nesting),
+        Kind::KwLoop => loop_statement(tokens, file, parser, nesting),
+        Kind::KwWhile => while_statement(tokens, file, parser, nesting),
+        Kind::KwBreak => break_statement(tokens, file, parser),
+        Kind::KwIf => if_statement(tokens, file, parser, nesting),
+        Kind::InlineAssemblyFragment => {
+            let tag = Tag::InlineAssembly;
+            Ok(leaf(file, tokens.text, &mut parser.state, t, tag, Numbers::None))
+        }
+        Kind::End => {
+            let error = entry(ParseError::StatementAtEnd, 0, Kind::End, Kind::End);
+            Err(parser.raise(tokens.count, error))
+        }
+        _ => expression_statement(tokens, file, parser, t.place, nesting),
     }
-    if t.kind == kind::KW_VAR {
-        return var_statement(tokens, file, parser, nesting);
-    }
-    if t.kind == kind::L_BRACE {
-        return block(tokens, file, parser, nesting);
-    }
-    if t.kind == kind::KW_LOOP {
-        return loop_statement(tokens, file, parser, nesting);
-    }
-    if t.kind == kind::KW_WHILE {
-        return while_statement(tokens, file, parser, nesting);
-    }
-    if t.kind == kind::KW_BREAK {
-        return break_statement(tokens, file, parser);
-    }
-    if t.kind == kind::KW_IF {
-        return if_statement(tokens, file, parser, nesting);
-    }
-    if t.kind == kind::INLINE_ASSEMBLY_FRAGMENT {
-        let tag = tag::INLINE_ASSEMBLY;
-        return Ok(leaf(file, tokens.text, &mut parser.state, t, tag, Numbers::None));
-    }
-    if t.kind == kind::END {
-        let error = entry(parse_error::STATEMENT_AT_END, 0, 0, 0);
-        return Err(parser.raise(tokens.count, error));
-    }
-    expression_statement(tokens, file, parser, t.place, nesting)
 }
 
 // parse_statement, one of the four functions whose open calls are counted: refuses where `nesting` is 0.

@@ -7,7 +7,8 @@ ghost use Rattle.steps.specs.Contract.{Asked, Parses};
 ghost use Rattle.statement.specs.Contract.{Starts, ReadsAfter};
 
 use crate::declarations::{compound, declaration};
-use definition::{kind, tag};
+use definition::kind::Kind;
+use definition::tag::Tag;
 use expression::expression;
 use fallible::parser::{Parser, State};
 use fallible::{Stop, abandon};
@@ -28,7 +29,7 @@ pub fn return_statement(
     let from = parser.state;
     let t = tokens.peek(from.at);
     let u = tokens.peek(t.next);
-    if u.kind == kind::SEMICOLON {
+    if let Kind::Semicolon = u.kind {
         parser.state.at = u.next;
         return write_node(
             file,
@@ -36,20 +37,20 @@ pub fn return_statement(
             &mut parser.state,
             Ok(t.place),
             t.place,
-            tag::RETURN,
+            Tag::Return,
             Numbers::Byte(0),
         );
     }
     parser.state.at = t.next;
     let a = expression(tokens, file, parser, nesting);
-    let b = expect_after(tokens, parser, a, kind::SEMICOLON, from);
+    let b = expect_after(tokens, parser, a, Kind::Semicolon, from);
     write_node(
         file,
         tokens.text,
         &mut parser.state,
         b,
         t.place,
-        tag::RETURN,
+        Tag::Return,
         Numbers::Byte(1),
     )
 }
@@ -70,7 +71,7 @@ pub fn var_statement(
         tokens,
         file,
         parser,
-        tag::VARIABLE_DECLARATION,
+        Tag::VariableDeclaration,
         t.place,
         nesting,
     )
@@ -83,14 +84,14 @@ pub fn break_statement(tokens: Tokens, file: &mut [u8], parser: &mut Parser) -> 
 {
     let t = tokens.peek(parser.state.at);
     parser.state.at = t.next;
-    let a = expect(tokens, parser, kind::SEMICOLON);
+    let a = expect(tokens, parser, Kind::Semicolon);
     write_node(
         file,
         tokens.text,
         &mut parser.state,
         a,
         t.place,
-        tag::BREAK,
+        Tag::Break,
         Numbers::None,
     )
 }
@@ -112,14 +113,14 @@ fn assignment(
     parser.state.at = t.next;
     let a = expression(tokens, file, parser, nesting);
     let b = abandon(&mut parser.reported, &mut parser.state, a, from, before);
-    let c = expect_after(tokens, parser, b, kind::SEMICOLON, from);
+    let c = expect_after(tokens, parser, b, Kind::Semicolon, from);
     write_node(
         file,
         tokens.text,
         &mut parser.state,
         c,
         place,
-        tag::ASSIGNMENT,
+        Tag::Assignment,
         Numbers::None,
     )
 }
@@ -141,14 +142,14 @@ fn compound_assignment(
     parser.state.at = t.next;
     let a = compound(tokens, file, parser, nesting);
     let b = abandon(&mut parser.reported, &mut parser.state, a, from, before);
-    let c = expect_after(tokens, parser, b, kind::SEMICOLON, from);
+    let c = expect_after(tokens, parser, b, Kind::Semicolon, from);
     write_node(
         file,
         tokens.text,
         &mut parser.state,
         c,
         place,
-        tag::COMPOUND_ASSIGNMENT,
+        Tag::CompoundAssignment,
         Numbers::None,
     )
 }
@@ -167,22 +168,22 @@ fn after_expression(
     ensures { ReadsAfter (P.after_expression (unpack_place place)) tokens file parser from nesting result }
 {
     let t = tokens.peek(parser.state.at);
-    if t.kind == kind::EQUALS {
-        return assignment(tokens, file, parser, place, from, nesting);
+    match t.kind {
+        Kind::Equals => assignment(tokens, file, parser, place, from, nesting),
+        Kind::LArrow => compound_assignment(tokens, file, parser, place, from, nesting),
+        _ => {
+            let b = expect_after(tokens, parser, Ok(place), Kind::Semicolon, from);
+            write_node(
+                file,
+                tokens.text,
+                &mut parser.state,
+                b,
+                place,
+                Tag::Expression,
+                Numbers::None,
+            )
+        }
     }
-    if t.kind == kind::L_ARROW {
-        return compound_assignment(tokens, file, parser, place, from, nesting);
-    }
-    let b = expect_after(tokens, parser, Ok(place), kind::SEMICOLON, from);
-    write_node(
-        file,
-        tokens.text,
-        &mut parser.state,
-        b,
-        place,
-        tag::EXPRESSION,
-        Numbers::None,
-    )
 }
 
 // expression after_expression. If the expression has errors, the statement ends with it.
@@ -208,7 +209,7 @@ pub fn expression_statement(
             &mut parser.state,
             a,
             place,
-            tag::EXPRESSION,
+            Tag::Expression,
             Numbers::None,
         );
     }

@@ -13,6 +13,7 @@ use borrow.Author.Tests.{ltb-true}
 use Rattle.definition.specs.Choice.{pick}
 use Rattle.definition.specs.Source.{Place, nowhere}
 use Rattle.definition.specs.Node.{Num, Rec, rec_bytes, recs_bytes}
+use Rattle.definition.specs.Numbers.{tag_number}
 use Rattle.definition.specs.Fallible.{Err, Fallible, Ans, ok, fatal}
 use Rattle.definition.specs.Act.{Act, Node, Consumed, St, Res, gives, after, or_return, run}
 use Rattle.definition.specs.Parser as P
@@ -237,18 +238,18 @@ module _ {A : Type 0} {K : View A} {T : List ℕ} {E : List Err} {rs : List Rec}
     (ns : A → List Num) (text : List ℕ) (u : NodeWritten x o a v o' y) where
   -- writing a record after an answer represents wrapping its item
   pub writes_done : (a.status ≡ Done → (i : A) → K.fine a.place a.count i
-      → rec_of x v ≡ record { tag = v.tag; place = some (p i); numbers = ns i; text = text })
+      → rec_of x v ≡ record { tag = tag_number v.tag; place = some (p i); numbers = ns i; text = text })
       → Shows K T E rs es w x n o r f a q
-      → Shows node T E [] [] w x n o' r f y (after q (λ z S. go d (or_return (wrapped K rs es v.tag p ns text) z) S))
+      → Shows node T E [] [] w x n o' r f y (after q (λ z S. go d (or_return (wrapped K rs es (tag_number v.tag) p ns text) z) S))
   unfolding go run place_of
   writes_done e h = record { told = one a.status refl u.is h.told }
     where
       one : (k : Status) → a.status ≡ k → NodeWrittenOf k x o a v o' y → ShowsOf k K T E rs es w x n o r f a q
           → ShowsOf y.status node T E [] [] w x n o' r f y
-          (after q (λ z S. go d (or_return (wrapped K rs es v.tag p ns text) z) S))
+          (after q (λ z S. go d (or_return (wrapped K rs es (tag_number v.tag) p ns text) z) S))
       one Done z m g =
           rw m.0 (record {
-            item = P.node (rs ++ K.recs g.item) v.tag (p g.item) (ns g.item) text;
+            item = P.node (rs ++ K.recs g.item) (tag_number v.tag) (p g.item) (ns g.item) text;
             errors = es ++ g.errors;
             read = g.read;
             is = rw (g.is, u.at, u.full);
@@ -261,7 +262,7 @@ module _ {A : Type 0} {K : View A} {T : List ℕ} {E : List Err} {rs : List Rec}
 
   -- the same where the record does not depend on the status
   pub writes_node : ((i : A) → K.fine a.place a.count i
-      → rec_of x v ≡ record { tag = v.tag; place = some (p i); numbers = ns i; text = text })
+      → rec_of x v ≡ record { tag = tag_number v.tag; place = some (p i); numbers = ns i; text = text })
       → Shows K T E rs es w x n o r f a q
-      → Shows node T E [] [] w x n o' r f y (after q (λ z S. go d (or_return (wrapped K rs es v.tag p ns text) z) S))
+      → Shows node T E [] [] w x n o' r f y (after q (λ z S. go d (or_return (wrapped K rs es (tag_number v.tag) p ns text) z) S))
   writes_node e h = writes_done (λ _. e) h

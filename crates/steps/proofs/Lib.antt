@@ -4,3 +4,4 @@ pub mod Answers
 pub mod OneToken
 pub mod Constructs
 pub mod Following
+pub mod SameKind

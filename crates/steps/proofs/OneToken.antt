@@ -11,6 +11,7 @@ use Rattle.definition.specs.Node.{recs_bytes}
 use Rattle.definition.specs.Fallible.{Ans}
 use Rattle.definition.specs.Token.{Tok, next_token}
 use Rattle.definition.specs.Act.{Act, Role, plain, Consumed, now_read, run}
+use Rattle.definition.specs.Numbers.{kind_number}
 use Rattle.definition.specs.Parser as P
 use Rattle.definition.specs.Go.{go}
 use Rattle.std.specs.Prelude.{Result, Ok, Err}
@@ -24,7 +25,7 @@ use Rattle.node.specs.declared.Record.{Record}
 use Rattle.steps.specs.declared.tokens.Token.{Token}
 use Rattle.steps.specs.Tokens.{rest, budget, Seen}
 use Rattle.steps.specs.Shows.{st_of, Asks, Moved, token, Expects, Follows, ExpectedOf, Expected, NodeWrittenOf, NodeWritten}
-use Rattle.steps.proofs.Records.{yes, no, fore, adv}
+use Rattle.steps.proofs.Records.{yes, no, other, fore, adv}
 use Rattle.steps.proofs.Moves.{asks_fore, fore_moved, making_moved, moved_trans, abandoned_moved}
 use Rattle.steps.proofs.Answers.{Stopped, say, not_done, raise_same, raise_shows}
 
@@ -47,7 +48,7 @@ making_pos h n s = go (ltb s.full 255)
 
 module _ {w : List ℕ} {n : ℕ} {r f : List ℕ} {s : State} {t : Token} (q : Asks w n r f s) (v : Seen w n s.at t) where
   -- the token is there
-  there : {m : Role → Act (Ans Tok)} {k : ℕ} (of : Role → Role) → 0 < k → t.kind ≡ k
+  there : {m : Role → Act (Ans Tok)} {k : ℕ} (of : Role → Role) → 0 < k → kind_number t.kind ≡ k
       → ((x : List ℕ) (role : Role) (d : ℕ) (rd : List Consumed)
       → go d (m role) (st_of w x n f rd s)
       ≡ go d (P.good (next_token (rest w x n s.at)) [])
@@ -102,18 +103,18 @@ module _ {w : List ℕ} {n : ℕ} {r f : List ℕ} {s : State} {t : Token} (q : 
 
   -- ---- `expect`
 
-  pub expect_there : {k : ℕ} → 0 < k → t.kind ≡ k
+  pub expect_there : {k : ℕ} → 0 < k → kind_number t.kind ≡ k
       → Expects w n (λ role. P.expect_as role k) r f s r f
       (record { status = Done; state = fore s t; place = t.place; count = 0 })
   unfolding go run
   expect_there {k} g z = there (λ role. role) g z (λ x role d rd. rw (run, yes v z, v.tail))
 
-  module _ {k e : ℕ} {r' f' : List ℕ} {a : Answer} (m : t.kind ≡ k → ⊥) (g : Raised (raised n (fore s t)) r f (fore s t) e r' f' a) where
-    pub expect_end : t.kind ≡ 0 → unpack e ≡ error_at 3 0 k 0 → Expects w n (λ role. P.expect_as role k) r f s r' f' a
+  module _ {k e : ℕ} {r' f' : List ℕ} {a : Answer} (m : kind_number t.kind ≡ k → ⊥) (g : Raised (raised n (fore s t)) r f (fore s t) e r' f' a) where
+    pub expect_end : kind_number t.kind ≡ 0 → unpack e ≡ error_at 3 0 k 0 → Expects w n (λ role. P.expect_as role k) r f s r' f' a
     unfolding go run
     expect_end z i = missing (λ role. role) g (λ x role d rd. rw (run, no v m, yes v z) (raise_same d (sym i) (adv s v (λ _. role) f rd _)))
 
-    pub expect_other : (t.kind ≡ 0 → ⊥) → unpack e ≡ error_at 2 t.place k t.kind
+    pub expect_other : (kind_number t.kind ≡ 0 → ⊥) → unpack e ≡ error_at 2 t.place k (kind_number t.kind)
         → Expects w n (λ role. P.expect_as role k) r f s r' f' a
     unfolding go run
     expect_other z i =
@@ -122,23 +123,23 @@ module _ {w : List ℕ} {n : ℕ} {r f : List ℕ} {s : State} {t : Token} (q : 
 
   -- ---- `expect_identifier`
 
-  pub identifier_there : t.kind ≡ 1
+  pub identifier_there : kind_number t.kind ≡ 1
       → Expects w n (λ role. P.expect_identifier) r f s r f
       (record { status = Done; state = fore s t; place = t.place; count = 0 })
   unfolding go run
   identifier_there z = there (λ role. plain) (omega arith) z (λ x role d rd. rw (run, yes v z, v.tail))
 
-  module _ {e : ℕ} {r' f' : List ℕ} {a : Answer} (m : t.kind ≡ 1 → ⊥) (g : Raised (raised n (fore s t)) r f (fore s t) e r' f' a) where
-    pub identifier_end : t.kind ≡ 0 → unpack e ≡ error_at 5 0 0 0 → Expects w n (λ role. P.expect_identifier) r f s r' f' a
+  module _ {e : ℕ} {r' f' : List ℕ} {a : Answer} (g : Raised (raised n (fore s t)) r f (fore s t) e r' f' a) where
+    pub identifier_end : kind_number t.kind ≡ 0 → unpack e ≡ error_at 5 0 0 0 → Expects w n (λ role. P.expect_identifier) r f s r' f' a
     unfolding go run
     identifier_end z i =
         missing (λ role. plain) g
-        (λ x role d rd. rw (run, no v m, yes v z) (raise_same d (sym i) (adv s v (λ _. plain) f rd _)))
+        (λ x role d rd. rw (run, other v z 1 refl, yes v z) (raise_same d (sym i) (adv s v (λ _. plain) f rd _)))
 
-    pub identifier_other : (t.kind ≡ 0 → ⊥) → unpack e ≡ error_at 4 t.place 0 0
+    pub identifier_other : (kind_number t.kind ≡ 1 → ⊥) → (kind_number t.kind ≡ 0 → ⊥) → unpack e ≡ error_at 4 t.place 0 0
         → Expects w n (λ role. P.expect_identifier) r f s r' f' a
     unfolding go run
-    identifier_other z i =
+    identifier_other m z i =
         missing (λ role. plain) g
         (λ x role d rd. rw (run, no v m, no v z) (raise_same d (rw v.place (sym i)) (adv s v (λ _. plain) f rd _)))
 

@@ -5,11 +5,17 @@ use mathlib.Core.List.{List, [], ◌∷◌, ◌++◌}
 use Prim.Native.Nat.{ℕ, zero, suc, min, ◌+◌, ◌*◌, ◌-◌, ◌≤◌, ◌<◌}
 use native.Mathlib.Omega.{arith}
 use native.Mathlib.Decide.{dec_le}
+use lib.Dec.{eqb}
 use lib.ListN.{length, take, drop, get_or, length-drop}
 use lib.Seq.{length-take-le}
 use borrow.Author.Tests.{eq-eqb, ne_eqb}
 use Rattle.definition.specs.Source.{place_at}
+use Rattle.definition.specs.Numbers.{kind_number, KindOf}
 use Rattle.definition.specs.Places.{unpack_place}
+use Rattle.definition.specs.declared.kind.Kind.{Kind}
+use Rattle.definition.specs.declared.kind.NoKind.{NoKind}
+use Rattle.std.specs.Prelude.{Result, Ok, Err}
+use Rattle.std.specs.Result.{result_unwrap_or}
 use Rattle.definition.specs.Token.{Tok, next_token, ◌is◌}
 unfoldable use Rattle.definition.specs.Cost.{spend}
 use Rattle.definition.specs.Act.{Role, Consumed, advance, now_read}
@@ -74,12 +80,18 @@ pub present_within : (n i : ℕ) → i ≤ n → i + present n i ≤ n
 unfolding present
 present_within n i h = omega arith
 
+-- the number of a record that can be read is that of a kind
+pub kind_read : (r : Result Kind NoKind) {n : ℕ} {k : Kind} → k ≡ result_unwrap_or r Kind.End → KindOf n r → n ≤ 54
+    → kind_number k ≡ n
+kind_read (Ok j) e q h = rw e q.0
+kind_read (Err j) e q h = absurd (omega (arith, q.1))
+
 -- ---- what `peek` gives within the tokens, and at the end
 
-pub seen_there : {w : List ℕ} {n at : ℕ} (place : ℕ) → Held w n → at < n
+pub seen_there : {w : List ℕ} {n at : ℕ} {k : Kind} (place : ℕ) → Held w n → at < n → kind_number k ≡ get_or w (8 * at) 0
     → (unpack_place place ≡ place_at (get_or w (8 * at + 1) 0) (get_or w (8 * at + 2) 0)) × (place < 0x100000000)
     → Seen w n at (record {
-      kind = get_or w (8 * at) 0;
+      kind = k;
       place = place;
       start = get_or w (8 * at + 3) 0;
       len = get_or w (8 * at + 4) 0;
@@ -87,34 +99,33 @@ pub seen_there : {w : List ℕ} {n at : ℕ} (place : ℕ) → Held w n → at <
       next = at + 1;
     })
 unfolding present
-seen_there {w} {n} {at} place q h p =
+seen_there {w} {n} {at} place q h e p =
     let s = q.each at h in
     record {
-      kind = λ x. rw (rest_cons w x n at h);
+      kind = λ x. rw (rest_cons w x n at h) (sym e);
       place = λ x. rw (rest_cons w x n at h) (sym p.0);
       text = λ x. rw (rest_cons w x n at h);
       base = λ x. rw (rest_cons w x n at h);
       tail = λ x. rw (rest_cons w x n at h);
       part = λ {x} parts. parts.each at h;
-      pays = omega (arith, budget_cons w n at h);
-      present = omega arith;
-      on = omega arith;
+      pays = omega (arith, budget_cons w n at h, e);
+      present = omega (arith, e, s.real);
+      on = omega (arith, e);
       up = omega arith;
       end = omega arith;
-      kinds = s.kind;
       places = p.1;
       bases = s.base;
-      based = s.based;
+      based = λ z. s.based (sym e ∙ z);
     }
 
-pub seen_wide : {w : List ℕ} {n at b e u : ℕ} (place : ℕ) → Held w n → at < n
+pub seen_wide : {w : List ℕ} {n at b e u : ℕ} {k : Kind} (place : ℕ) → Held w n → at < n → kind_number k ≡ get_or w (8 * at) 0
     → (unpack_place place ≡ place_at (get_or w (8 * at + 1) 0) (get_or w (8 * at + 2) 0)) × (place < 0x100000000)
     → b ≡ get_or w (8 * at + 3) 0 → e ≡ get_or w (8 * at + 4) 0 → u ≡ get_or w (8 * at + 5) 0
-    → Seen w n at (record { kind = get_or w (8 * at) 0; place = place; start = b; len = e; base = u; next = at + 1 })
-seen_wide place q h p k m o = rw (k, m, o) (seen_there place q h p)
+    → Seen w n at (record { kind = k; place = place; start = b; len = e; base = u; next = at + 1 })
+seen_wide place q h e p k m o = rw (k, m, o) (seen_there place q h e p)
 
 pub seen_end : {w : List ℕ} {n at : ℕ} → at ≤ n → n ≤ at
-    → Seen w n at (record { kind = 0; place = 0; start = 0; len = 0; base = 0; next = at })
+    → Seen w n at (record { kind = Kind.End; place = 0; start = 0; len = 0; base = 0; next = at })
 unfolding present
 seen_end {w} {n} {at} g h =
     record {
@@ -129,20 +140,24 @@ seen_end {w} {n} {at} g h =
       on = omega arith;
       up = omega arith;
       end = omega arith;
-      kinds = omega arith;
       places = omega arith;
       bases = omega arith;
       based = λ z. omega arith;
     }
 
 -- a test of the kind in the code decides that of the definition
-pub yes : {w : List ℕ} {n at k : ℕ} {t : Token} → Seen w n at t → t.kind ≡ k
+pub yes : {w : List ℕ} {n at k : ℕ} {t : Token} → Seen w n at t → kind_number t.kind ≡ k
     → (x : List ℕ) → next_token (rest w x n at) is k ≡ true
 yes v e x = eq-eqb _ _ (v.kind x ∙ e)
 
-pub no : {w : List ℕ} {n at k : ℕ} {t : Token} → Seen w n at t → (t.kind ≡ k → ⊥)
+pub no : {w : List ℕ} {n at k : ℕ} {t : Token} → Seen w n at t → (kind_number t.kind ≡ k → ⊥)
     → (x : List ℕ) → next_token (rest w x n at) is k ≡ false
 no v e x = ne_eqb _ _ (λ z. e (sym (v.kind x) ∙ z))
+
+-- a token of one kind is of no other
+pub other : {w : List ℕ} {n at k : ℕ} {t : Token} → Seen w n at t → kind_number t.kind ≡ k → (j : ℕ) → eqb k j ≡ false
+    → (x : List ℕ) → next_token (rest w x n at) is j ≡ false
+other v e j h x = rw (v.kind x, e) h
 
 -- the state after a token
 abbrev pub fore : State → Token → State

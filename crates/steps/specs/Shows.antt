@@ -10,6 +10,7 @@ use Rattle.definition.specs.Act.{Act, Consumed, Items, Node, Role, St, Res, give
 use Rattle.definition.specs.Parser as P
 use Rattle.definition.specs.Go.{go}
 use Rattle.definition.specs.Places.{unpack_place}
+use Rattle.definition.specs.declared.tag.Tag.{Tag}
 use Rattle.node.specs.Put.{Wrote, rec_of, size_of}
 use Rattle.node.specs.declared.Numbers.{Numbers}
 use Rattle.node.specs.declared.Record.{Record}
@@ -162,10 +163,10 @@ pub record Expected (w : List ℕ) (n k i j : ℕ) (r f : List ℕ) (a : Answer)
 -- ---- a record after an answer
 
 -- a record at a place, with a part of the text or with none
-abbrev pub texted : ℕ → ℕ → Numbers → ℕ → ℕ → Record
+abbrev pub texted : ℕ → Tag → Numbers → ℕ → ℕ → Record
 texted place tag ns start len = record { tag = tag; place = place; numbers = ns; start = start; len = len }
 
-abbrev pub untexted : ℕ → ℕ → Numbers → Record
+abbrev pub untexted : ℕ → Tag → Numbers → Record
 untexted place tag ns = texted place tag ns 0 0
 
 abbrev pub NodeWrittenOf : Status → List ℕ → List ℕ → Answer → Record → List ℕ → Answer → Type 0

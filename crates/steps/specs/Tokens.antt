@@ -1,6 +1,7 @@
 -- The tokens that the records in lent slices encode, and what decoding one ensures. Assumes nothing.
 use Rattle.std.specs.Prelude.{◌≡◌, List, [], ◌∷◌, ℕ, zero, suc, min, ◌+◌, ◌*◌, ◌-◌, ◌<◌, ◌≤◌, length, take, drop, get_or}
 use Rattle.definition.specs.Kind as K
+use Rattle.definition.specs.Numbers.{kind_number}
 use Rattle.definition.specs.Token.{Tok, next_token, tail}
 use Rattle.definition.specs.Records.{words_at, token_of}
 use Rattle.definition.specs.Places.{unpack_place}
@@ -52,18 +53,17 @@ pub record Parts (w x : List ℕ) (n : ℕ) : Type 0 where
 
 -- what `peek` ensures, whatever the text holds
 pub record Seen (w : List ℕ) (n at : ℕ) (t : Token) : Type 0 where
-  pub kind : (x : List ℕ) → (next_token (rest w x n at)).kind ≡ t.kind
+  pub kind : (x : List ℕ) → (next_token (rest w x n at)).kind ≡ kind_number t.kind
   pub place : (x : List ℕ) → (next_token (rest w x n at)).place ≡ unpack_place t.place
   pub text : (x : List ℕ) → (next_token (rest w x n at)).text ≡ take t.len (drop t.start x)
   pub base : (x : List ℕ) → (next_token (rest w x n at)).base ≡ t.base
   pub tail : (x : List ℕ) → tail (rest w x n at) ≡ rest w x n t.next
   pub part : {x : List ℕ} → Parts w x n → t.start + t.len ≤ length x
-  pub pays : budget w n t.next + 16 * min t.kind 1 + t.len ≡ budget w n at
-  pub present : present n at ≡ min t.kind 1
-  pub on : at + min t.kind 1 ≤ t.next
+  pub pays : budget w n t.next + 16 * min (kind_number t.kind) 1 + t.len ≡ budget w n at
+  pub present : present n at ≡ min (kind_number t.kind) 1
+  pub on : at + min (kind_number t.kind) 1 ≤ t.next
   pub up : at ≤ t.next
   pub end : t.next ≤ n
-  pub kinds : t.kind ≤ K.InlineAssemblyFragment
   pub places : t.place < 0x100000000
   pub bases : t.base ≤ 16
-  pub based : t.kind ≡ K.Integer → 0 < t.base
+  pub based : kind_number t.kind ≡ K.Integer → 0 < t.base

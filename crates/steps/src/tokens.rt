@@ -2,13 +2,13 @@
 ghost use Rattle.std.specs.Prelude.{◌≤◌};
 ghost use Rattle.steps.specs.Tokens.{Held, Seen};
 
-use definition::kind;
+use definition::kind::Kind;
 use node::{place_at, wide};
 
-// A token, decoded from its record, and the index of the next token. At the end all fields but `next` are 0.
+// A token, decoded from its record, and the index of the next token. At the end the kind is `End`, and all other fields but `next` are 0.
 #[derive(Clone, Copy)]
 pub struct Token {
-    pub kind: u32,
+    pub kind: Kind,
     pub place: usize,
     pub start: usize,
     pub len: usize,
@@ -34,7 +34,7 @@ impl Tokens<'_> {
             let i = 8 * at;
             let words = self.records;
             Token {
-                kind: words[i],
+                kind: Kind::try_from(words[i]).unwrap_or(Kind::End),
                 place: place_at(words[i + 1], words[i + 2]),
                 start: wide(words[i + 3]),
                 len: wide(words[i + 4]),
@@ -43,7 +43,7 @@ impl Tokens<'_> {
             }
         } else {
             Token {
-                kind: kind::END,
+                kind: Kind::End,
                 place: 0,
                 start: 0,
                 len: 0,

@@ -1,4 +1,5 @@
-use mathlib.Core.Path.{refl, sym, ◌∙◌}
+use mathlib.Core.Path.{ap, refl, sym, ◌∙◌}
+use Rattle.steps.proofs.SameKind.{same_number, other_number, equal_kinds, unequal_kinds}
 use Rattle.steps.proofs.Moves.{asked_seen, room_token, asks_fore, asks_moved, fore_moved, moved_trans, asked_moved}
 use Rattle.expression_laws.specs.Post.{suffixes_on, operators_on, casts_on}
 use Rattle.expression_laws.proofs.Joins.{then_asked, goes_on, goes_stops, join_cuts, turn_on, join_room, joined_on, room_at}
@@ -8,8 +9,10 @@ use native.Mathlib.Omega.{arith}
 use Rattle.definition.specs.Act.{AddSub, BitAnd, BitXor, Expression, Mul, Shift, Unary}
 use Rattle.expression_laws.proofs.Types.{array_no_integer, array_no_size, array_open, array_done, size_asked, bracket_asked, array_room, type_deep, type_name, type_star, type_array, type_struct, type_end, type_other, star_room, struct_room, array_asked}
 use Rattle.expression_laws.proofs.Calls.{atom_group, call_on, call_none, call_found, call_later, call_room, sizeof_other, sizeof_stop, sizeof_asks, sizeof_done, unary_none, unary_prefix}
-use Rattle.leaves.proofs.Choices.{no_operator}
-use Rattle.expression_laws.proofs.Levels.{operators_none, levels_start, levels_more, levels_end, levels_pass, and_on, and_none, and_found, casts_none, casts_more, compare_on, compare_none, compare_found, operators_more}
+use Rattle.leaves.proofs.Choices.{no_operator, operator_real, level_end}
+use Rattle.definition.specs.Numbers.{kind_number}
+use Rattle.leaves.specs.Leaves.{number_of, prefixes, level_of}
+use Rattle.expression_laws.proofs.Levels.{not_some, operators_none, levels_start, levels_more, levels_end, levels_pass, and_on, and_none, and_found, casts_none, casts_more, compare_on, compare_none, compare_found, operators_more}
 use Rattle.steps.proofs.Constructs.{then_stops, deep, down}
 use Rattle.expression_laws.proofs.Names.{field_follows, field_asked, field_stops, field_room, field_done, named_reads, named_room, typed_colon, typed_type, colon_cuts, type_asked, type_cuts, identifier_name, identifier_end, identifier_refused, identifier_noted, noted_moved, noted_asked}
 use Rattle.expression_laws.proofs.Lists.{item_parameter, item_argument, item_field, item_value, item_named_value, list_refused, list_on, rest_end, rest_closed, rest_item, rest_comma, rest_next, comma_asks, rest_asked}
@@ -43,13 +46,13 @@ access-peek-t-requires t c = (c.loop-a.invariant.0.asked.asks.held, c.loop-a.inv
 pub access-peek-u-requires : goal.access-peek-u-requires
 access-peek-u-requires t c = (c.loop-a.invariant.0.asked.asks.held, omega (arith, c.peek-t.ensures.end))
 
-pub access-returns-then-u-eq-END : goal.access-returns-then-u-eq-END
+pub access-returns-in-End : goal.access-returns-in-End
 unfolding P.parse_field_access_or_index
-access-returns-then-u-eq-END t c =
+access-returns-in-End t c =
     then_asked suffixes_on c.requires c.atom-a.ensures
     (c.loop-a.invariant.1.rest
     (dot_end c.loop-a.invariant.0 (is_done c.in-Ok.is) c.peek-t.ensures
-    c.if-t-eq-DOT.true c.peek-u.ensures c.if-u-eq-END.true c.refuse.ensures))
+    (same_number c.in-Dot.is) c.peek-u.ensures (same_number c.in-End.is) c.refuse.ensures))
 
 pub access-entry-error-requires : goal.access-entry-error-requires
 access-entry-error-requires t c = omega (arith, c.peek-u.ensures)
@@ -57,75 +60,75 @@ access-entry-error-requires t c = omega (arith, c.peek-u.ensures)
 pub access-note-requires : goal.access-note-requires
 access-note-requires t c = omega (arith, c.loop-a.invariant.0.asked.asks)
 
-pub access-returns-then-u-ne-IDENTIFIER : goal.access-returns-then-u-ne-IDENTIFIER
+pub access-returns-in_default-kind-3 : goal.access-returns-in_default-kind-3
 unfolding P.parse_field_access_or_index
-access-returns-then-u-ne-IDENTIFIER t c = then_asked suffixes_on c.requires c.atom-a.ensures
+access-returns-in_default-kind-3 t c = then_asked suffixes_on c.requires c.atom-a.ensures
     (c.loop-a.invariant.1.rest (goes_alike
     (is_done c.in-Ok.is ∙ sym (is_whole c.in_ok-note.was)) refl (λ z. (refl, refl))
     (dot_other c.loop-a.invariant.0 (is_done c.in-Ok.is) c.peek-t.ensures
-    c.if-t-eq-DOT.true c.peek-u.ensures c.if-u-eq-END.false c.if-u-ne-IDENTIFIER.true
+    (same_number c.in-Dot.is) c.peek-u.ensures (other_number c.in_default-kind-2.not-End) (other_number c.in_default-kind-3.not-Identifier)
     c.entry-error.ensures c.note.ensures)))
 
 pub access-write_text_node-a-requires : goal.access-write_text_node-a-requires
 access-write_text_node-a-requires t c =
     room_token (asked_seen c.loop-a.invariant.0.asked c.peek-t.ensures) c.peek-u.ensures
 
-pub access-loop-a-smaller-then-t-eq-DOT : goal.access-loop-a-smaller-then-t-eq-DOT
-access-loop-a-smaller-then-t-eq-DOT t c =
+pub access-loop-a-smaller-in-Dot : goal.access-loop-a-smaller-in-Dot
+access-loop-a-smaller-in-Dot t c =
     omega (
       arith,
       c.loop-a.invariant.0.asked.asks.at,
       c.peek-t.ensures,
-      c.if-t-eq-DOT.true,
+      (same_number c.in-Dot.is),
       c.peek-u.ensures,
       c.write_text_node-a.ensures.at,
     )
 
-pub access-loop-a-preserved-then-t-eq-DOT : goal.access-loop-a-preserved-then-t-eq-DOT
-access-loop-a-preserved-then-t-eq-DOT t c = (
+pub access-loop-a-preserved-in-Dot : goal.access-loop-a-preserved-in-Dot
+access-loop-a-preserved-in-Dot t c = (
   turn_on c.loop-a.invariant.0
       (dot_moved c.loop-a.invariant.0 c.peek-t.ensures c.peek-u.ensures
-      c.if-u-ne-IDENTIFIER.false c.write_text_node-a.ensures)
+      (same_number c.in-Identifier.is) c.write_text_node-a.ensures)
       (omega (arith, c.write_text_node-a.auto)) refl refl,
   one_turn c.loop-a.invariant.1 (omega (arith, c.write_text_node-a.auto)) refl refl
       (omega (arith, c.peek-t.ensures.up, c.peek-u.ensures.up, c.write_text_node-a.ensures.at))
       (λ _ _ _ _ g. dot_name c.loop-a.invariant.0 (is_done c.in-Ok.is)
-      c.peek-t.ensures c.if-t-eq-DOT.true c.peek-u.ensures c.if-u-eq-END.false
-      c.if-u-ne-IDENTIFIER.false c.write_text_node-a.ensures g),
+      c.peek-t.ensures (same_number c.in-Dot.is) c.peek-u.ensures
+      (same_number c.in-Identifier.is) c.write_text_node-a.ensures g),
 )
 
 pub access-write_node-a-requires : goal.access-write_node-a-requires
 access-write_node-a-requires t c =
     record { room = omega (arith, c.loop-a.invariant.0.asked.room); part = omega arith }
 
-pub access-loop-a-smaller-then-t-eq-DOT_STAR : goal.access-loop-a-smaller-then-t-eq-DOT_STAR
-access-loop-a-smaller-then-t-eq-DOT_STAR t c =
+pub access-loop-a-smaller-in-DotStar : goal.access-loop-a-smaller-in-DotStar
+access-loop-a-smaller-in-DotStar t c =
     omega (
       arith,
       c.loop-a.invariant.0.asked.asks.at,
       c.peek-t.ensures,
-      c.if-t-eq-DOT_STAR.true,
+      (same_number c.in-DotStar.is),
       c.write_node-a.ensures.at,
     )
 
-pub access-loop-a-preserved-then-t-eq-DOT_STAR : goal.access-loop-a-preserved-then-t-eq-DOT_STAR
-access-loop-a-preserved-then-t-eq-DOT_STAR t c = (
+pub access-loop-a-preserved-in-DotStar : goal.access-loop-a-preserved-in-DotStar
+access-loop-a-preserved-in-DotStar t c = (
   turn_on c.loop-a.invariant.0
-      (star_moved c.loop-a.invariant.0 c.peek-t.ensures c.if-t-eq-DOT_STAR.true c.write_node-a.ensures)
+      (star_moved c.loop-a.invariant.0 c.peek-t.ensures (same_number c.in-DotStar.is) c.write_node-a.ensures)
       (omega (arith, c.write_node-a.auto)) refl refl,
   one_turn c.loop-a.invariant.1 (omega (arith, c.write_node-a.auto)) refl refl
       (omega (arith, c.peek-t.ensures.up, c.write_node-a.ensures.at))
       (λ _ _ _ _ g. suffix_star c.loop-a.invariant.0 (is_done c.in-Ok.is)
-      c.peek-t.ensures c.if-t-eq-DOT.false c.if-t-eq-DOT_STAR.true c.write_node-a.ensures g),
+      c.peek-t.ensures (same_number c.in-DotStar.is) c.write_node-a.ensures g),
 )
 
-pub access-returns-then-t-ne-L_BRACKET : goal.access-returns-then-t-ne-L_BRACKET
+pub access-returns-in_default-kind-5 : goal.access-returns-in_default-kind-5
 unfolding P.parse_field_access_or_index
-access-returns-then-t-ne-L_BRACKET t c =
+access-returns-in_default-kind-5 t c =
     then_asked suffixes_on c.requires c.atom-a.ensures
     (c.loop-a.invariant.1.rest
     (suffix_none c.loop-a.invariant.0 (is_done c.in-Ok.is) c.peek-t.ensures
-    c.if-t-eq-DOT.false c.if-t-eq-DOT_STAR.false c.if-t-ne-L_BRACKET.true))
+    (other_number c.in_default-kind.not-Dot) (other_number c.in_default-kind-4.not-DotStar) (other_number c.in_default-kind-5.not-LBracket)))
 
 pub access-expression-b-requires : goal.access-expression-b-requires
 access-expression-b-requires t c = (
@@ -136,7 +139,7 @@ access-expression-b-requires t c = (
     c.loop-a.invariant.1.on,
     c.loop-a.invariant.0.asked.asks.at,
     c.peek-t.ensures,
-    c.if-t-ne-L_BRACKET.false,
+    (same_number c.in-LBracket.is),
   ),
   asked_seen c.loop-a.invariant.0.asked c.peek-t.ensures,
 )
@@ -152,7 +155,7 @@ access-expect_after-d-requires t c = (
       c.expression-b.ensures c.abandon-c.ensures
       (omega (arith, c.abandon-c.auto, c.expression-b.auto))
       (omega (arith, c.expression-b.auto)),
-  (omega arith, omega arith),
+  omega arith,
 )
 
 pub access-write_node-a-requires-in-loop-a : goal.access-write_node-a-requires-in-loop-a
@@ -176,7 +179,7 @@ access-loop-a-smaller t c =
       arith,
       c.loop-a.invariant.0.asked.asks.at,
       c.peek-t.ensures,
-      c.if-t-ne-L_BRACKET.false,
+      (same_number c.in-LBracket.is),
       c.expression-b.ensures.moved,
       c.abandon-c.ensures.at,
       c.expect_after-d.ensures.moved,
@@ -187,7 +190,7 @@ pub access-loop-a-preserved : goal.access-loop-a-preserved
 access-loop-a-preserved t c = (
   turn_on c.loop-a.invariant.0
       (index_moved c.loop-a.invariant.0 (is_done c.in-Ok.is) c.peek-t.ensures
-      c.if-t-ne-L_BRACKET.false c.expression-b.ensures c.abandon-c.ensures
+      (same_number c.in-LBracket.is) c.expression-b.ensures c.abandon-c.ensures
       (omega (arith, c.abandon-c.auto, c.expression-b.auto))
       (omega (arith, c.expression-b.auto)) c.expect_after-d.ensures
       c.write_node-a-in-loop-a.ensures)
@@ -207,11 +210,11 @@ access-loop-a-preserved t c = (
         c.write_node-a-in-loop-a.ensures.at,
       ))
       (λ _ _ _ _ g. suffix_index c.loop-a.invariant.0 (is_done c.in-Ok.is)
-      c.peek-t.ensures c.if-t-ne-L_BRACKET.false c.expression-b.ensures
+      c.peek-t.ensures (same_number c.in-LBracket.is) c.expression-b.ensures
       c.abandon-c.ensures
       (omega (arith, c.abandon-c.auto, c.expression-b.auto))
       (omega (arith, c.expression-b.auto)) c.expect_after-d.ensures
-      c.write_node-a-in-loop-a.ensures c.if-t-eq-DOT.false c.if-t-eq-DOT_STAR.false g),
+      c.write_node-a-in-loop-a.ensures g),
 )
 
 pub add_sub-mul-a-requires : goal.add_sub-mul-a-requires
@@ -233,22 +236,16 @@ add_sub-returns t c =
 pub array-peek-t-requires : goal.array-peek-t-requires
 array-peek-t-requires t c = (c.requires.0.asks.held, c.requires.0.asks.at)
 
-pub array-entry-error-requires : goal.array-entry-error-requires
-array-entry-error-requires t c = omega (arith, c.requires.1)
-
 pub array-raise-requires : goal.array-raise-requires
 array-raise-requires t c = omega (arith, c.requires.0.asks)
 
-pub array-returns-then-t-ne-INTEGER : goal.array-returns-then-t-ne-INTEGER
-array-returns-then-t-ne-INTEGER t c =
+pub array-returns-in_default : goal.array-returns-in_default
+array-returns-in_default t c =
     array_no_integer c.args.place c.requires
-    c.peek-t.ensures c.if-t-ne-INTEGER.true c.entry-error.ensures c.raise.ensures
+    c.peek-t.ensures (other_number c.in_default.not-Integer) c.entry-error.ensures c.raise.ensures
 
 pub array-array_size-size-requires : goal.array-array_size-size-requires
-array-array_size-size-requires t c = size_asked c.requires.0 c.peek-t.ensures c.if-t-ne-INTEGER.false
-
-pub array-entry-error-requires-then-not-size : goal.array-entry-error-requires-then-not-size
-array-entry-error-requires-then-not-size t c = omega (arith, c.requires.1)
+array-array_size-size-requires t c = size_asked c.requires.0 c.peek-t.ensures (same_number c.in-Integer.is)
 
 pub array-raise-requires-then-not-size : goal.array-raise-requires-then-not-size
 array-raise-requires-then-not-size t c = omega (arith, c.requires.0.asks)
@@ -256,16 +253,16 @@ array-raise-requires-then-not-size t c = omega (arith, c.requires.0.asks)
 pub array-returns-then-not-size : goal.array-returns-then-not-size
 array-returns-then-not-size t c =
     array_no_size c.args.place c.requires
-    c.peek-t.ensures c.if-t-ne-INTEGER.false c.array_size-size.ensures c.if-not-size.true
+    c.peek-t.ensures (same_number c.in-Integer.is) c.array_size-size.ensures c.if-not-size.true
     c.entry-error-then-not-size.ensures c.raise-then-not-size.ensures
 
 pub array-expect-requires : goal.array-expect-requires
-array-expect-requires t c = (asks_fore c.requires.0.asks c.peek-t.ensures, (omega arith, omega arith))
+array-expect-requires t c = (asks_fore c.requires.0.asks c.peek-t.ensures, omega arith)
 
 pub array-returns-in_err-expect : goal.array-returns-in_err-expect
 array-returns-in_err-expect t c = rw (passed_on c.in_err-expect.was c.from_residual.ensures.1)
     (array_open c.args.place c.requires
-    c.peek-t.ensures c.if-t-ne-INTEGER.false c.array_size-size.ensures c.if-not-size.false
+    c.peek-t.ensures (same_number c.in-Integer.is) c.array_size-size.ensures c.if-not-size.false
     c.expect.ensures (is_stop c.in_err-expect.was))
 
 pub array-ty-b-requires : goal.array-ty-b-requires
@@ -283,7 +280,7 @@ array-write_node-requires t c =
 pub array-returns : goal.array-returns
 array-returns t c =
     array_done c.args.place c.requires
-    c.peek-t.ensures c.if-t-ne-INTEGER.false c.array_size-size.ensures c.if-not-size.false
+    c.peek-t.ensures (same_number c.in-Integer.is) c.array_size-size.ensures c.if-not-size.false
     c.expect.ensures (is_done c.in_ok-expect.was) c.ty-b.ensures
     c.write_node.ensures
 
@@ -292,14 +289,14 @@ atom-peek-t-requires t c = (c.requires.asks.held, c.requires.asks.at)
 
 pub atom-literal-requires : goal.atom-literal-requires
 atom-literal-requires t c =
-    record { asked = c.requires; bare = λ e. c.if-t-ne-L_PAREN.true (sym (c.peek-t.ensures.kind _) ∙ e) }
+    record { asked = c.requires; bare = λ e. (other_number c.in_default.not-LParen) (sym (c.peek-t.ensures.kind _) ∙ e) }
 
-pub atom-returns-then-t-ne-L_PAREN : goal.atom-returns-then-t-ne-L_PAREN
-atom-returns-then-t-ne-L_PAREN t c = c.literal.ensures _
+pub atom-returns-in_default : goal.atom-returns-in_default
+atom-returns-in_default t c = c.literal.ensures _
 
 pub atom-expression-a-requires : goal.atom-expression-a-requires
 atom-expression-a-requires t c = (
-  omega (arith, c.decreases, c.requires.asks.at, c.peek-t.ensures, c.if-t-ne-L_PAREN.false),
+  omega (arith, c.decreases, c.requires.asks.at, c.peek-t.ensures, (same_number c.in-LParen.is)),
   asked_seen c.requires c.peek-t.ensures,
 )
 
@@ -311,7 +308,7 @@ atom-close-requires t c =
 
 pub atom-returns : goal.atom-returns
 atom-returns t c =
-    atom_group c.requires c.peek-t.ensures c.if-t-ne-L_PAREN.false
+    atom_group c.requires c.peek-t.ensures (same_number c.in-LParen.is)
     c.expression-a.ensures c.close.ensures
 
 pub bit_and-shift-a-requires : goal.bit_and-shift-a-requires
@@ -348,7 +345,7 @@ bit_or-returns-then-not-arithmetic t c =
     (λ l. operators_none (goes_on c.requires c.cast-a.ensures (omega (arith, c.cast-a.auto))
     (omega (arith, c.cast-a.auto)) (omega (arith, c.cast-a.auto)))
     (is_done c.in-Ok.is) c.peek-t.ensures l
-    (no_operator _ (sym c.arithmetic.ensures ∙ c.if-not-arithmetic.true) l) refl)
+    refl (no_operator _ (sym c.arithmetic.ensures ∙ c.if-not-arithmetic.true) l))
 
 pub bit_or-loop-k-init : goal.bit_or-loop-k-init
 bit_or-loop-k-init t c =
@@ -397,14 +394,14 @@ boolean-returns-in_default t c = then_stops and_on c.comparison-a.ensures (not_o
 pub boolean-peek-t-requires : goal.boolean-peek-t-requires
 boolean-peek-t-requires t c = (c.requires.asks.held, omega (arith, c.comparison-a.ensures.moved.end))
 
-pub boolean-returns-then-t-ne-DOUBLE_AMPERSAND : goal.boolean-returns-then-t-ne-DOUBLE_AMPERSAND
+pub boolean-returns-in_default-kind : goal.boolean-returns-in_default-kind
 unfolding P.expression_rule
-boolean-returns-then-t-ne-DOUBLE_AMPERSAND t c =
+boolean-returns-in_default-kind t c =
     then_asked and_on c.requires c.comparison-a.ensures
     (and_none (goes_on c.requires c.comparison-a.ensures
     (omega (arith, c.comparison-a.auto)) (omega (arith, c.comparison-a.auto))
     (omega (arith, c.comparison-a.auto))) (is_done c.in-Ok.is)
-    c.peek-t.ensures c.if-t-ne-DOUBLE_AMPERSAND.true)
+    c.peek-t.ensures (other_number c.in_default-kind.not-DoubleAmpersand))
 
 pub boolean-comparison-b-requires : goal.boolean-comparison-b-requires
 boolean-comparison-b-requires t c = (
@@ -414,7 +411,7 @@ boolean-comparison-b-requires t c = (
     c.requires.asks.at,
     c.comparison-a.ensures.moved.at,
     c.peek-t.ensures,
-    c.if-t-ne-DOUBLE_AMPERSAND.false,
+    (same_number c.in-DoubleAmpersand.is),
   ),
   asked_seen
       (asked_moved c.requires c.comparison-a.ensures.moved
@@ -448,7 +445,7 @@ boolean-returns t c =
     (and_found (goes_on c.requires c.comparison-a.ensures
     (omega (arith, c.comparison-a.auto)) (omega (arith, c.comparison-a.auto))
     (omega (arith, c.comparison-a.auto))) (is_done c.in-Ok.is)
-    c.peek-t.ensures c.if-t-ne-DOUBLE_AMPERSAND.false c.comparison-b.ensures
+    c.peek-t.ensures (same_number c.in-DoubleAmpersand.is) c.comparison-b.ensures
     c.abandon-c.ensures c.write_node.ensures)
 
 pub call-sizeof-requires : goal.call-sizeof-requires
@@ -462,13 +459,13 @@ call-returns-in_err-place t c = rw (passed_on c.in_err-place.was c.from_residual
 pub call-peek-t-requires : goal.call-peek-t-requires
 call-peek-t-requires t c = (c.requires.asks.held, omega (arith, c.sizeof.ensures.moved.end))
 
-pub call-returns-then-t-ne-L_PAREN : goal.call-returns-then-t-ne-L_PAREN
+pub call-returns-in_default : goal.call-returns-in_default
 unfolding P.parse_call
-call-returns-then-t-ne-L_PAREN t c = let a = rw c.in_ok-place.was at c.sizeof.ensures in
+call-returns-in_default t c = let a = rw c.in_ok-place.was at c.sizeof.ensures in
     then_asked call_on c.requires a
     (call_none (goes_on c.requires a (omega (arith, c.sizeof.auto))
     (omega (arith, c.sizeof.auto)) (omega (arith, c.sizeof.auto)))
-    refl c.peek-t.ensures c.if-t-ne-L_PAREN.true)
+    refl c.peek-t.ensures (other_number c.in_default.not-LParen))
 
 pub call-list-b-requires : goal.call-list-b-requires
 call-list-b-requires t c = (
@@ -477,7 +474,7 @@ call-list-b-requires t c = (
     c.decreases,
     c.sizeof.ensures.moved.end,
     call_later c.requires c.sizeof.ensures c.peek-t.ensures
-        c.if-t-ne-L_PAREN.false,
+        (same_number c.in-LParen.is),
   ),
   (asked_moved c.requires c.sizeof.ensures.moved (omega (arith, c.sizeof.auto))
       (omega (arith, c.sizeof.auto)) (omega (arith, c.sizeof.auto))),
@@ -493,7 +490,7 @@ call-returns t c = let a = rw c.in_ok-place.was at c.sizeof.ensures in
     then_asked call_on c.requires a
     (call_found (goes_on c.requires a (omega (arith, c.sizeof.auto))
     (omega (arith, c.sizeof.auto)) (omega (arith, c.sizeof.auto)))
-    refl c.peek-t.ensures c.if-t-ne-L_PAREN.false b
+    refl c.peek-t.ensures (same_number c.in-LParen.is) b
     (written_at refl refl refl c.write_node.ensures))
 
 pub cascade-bit_xor-requires : goal.cascade-bit_xor-requires
@@ -551,13 +548,13 @@ cast-returns-in_default t c =
 pub cast-peek-t-requires : goal.cast-peek-t-requires
 cast-peek-t-requires t c = (c.loop-a.invariant.0.asked.asks.held, c.loop-a.invariant.0.asked.asks.at)
 
-pub cast-returns-then-t-ne-KW_AS : goal.cast-returns-then-t-ne-KW_AS
+pub cast-returns-in_default-kind : goal.cast-returns-in_default-kind
 unfolding P.parse_cast
-cast-returns-then-t-ne-KW_AS t c =
+cast-returns-in_default-kind t c =
     then_asked casts_on c.requires c.operand-a.ensures
     (c.loop-a.invariant.1.rest
     (casts_none c.loop-a.invariant.0 (is_done c.in-Ok.is) c.peek-t.ensures
-    c.if-t-ne-KW_AS.true))
+    (other_number c.in_default-kind.not-KwAs)))
 
 pub cast-ty-b-requires : goal.cast-ty-b-requires
 cast-ty-b-requires t c = (
@@ -568,7 +565,7 @@ cast-ty-b-requires t c = (
     c.loop-a.invariant.1.on,
     c.loop-a.invariant.0.asked.asks.at,
     c.peek-t.ensures,
-    c.if-t-ne-KW_AS.false,
+    (same_number c.in-KwAs.is),
   ),
   asked_seen c.loop-a.invariant.0.asked c.peek-t.ensures,
 )
@@ -589,7 +586,7 @@ cast-loop-a-smaller t c =
       arith,
       c.loop-a.invariant.0.asked.asks.at,
       c.peek-t.ensures,
-      c.if-t-ne-KW_AS.false,
+      (same_number c.in-KwAs.is),
       c.ty-b.ensures.moved,
       c.abandon-c.ensures.at,
       c.write_node-a.ensures.at,
@@ -598,7 +595,7 @@ cast-loop-a-smaller t c =
 pub cast-loop-a-preserved : goal.cast-loop-a-preserved
 cast-loop-a-preserved t c = (
   joined_on c.loop-a.invariant.0 c.peek-t.ensures c.ty-b.ensures
-      c.abandon-c.ensures c.write_node-a.ensures (omega (arith, c.if-t-ne-KW_AS.false))
+      c.abandon-c.ensures c.write_node-a.ensures (omega (arith, (same_number c.in-KwAs.is)))
       (omega (arith, c.write_node-a.auto, c.ty-b.auto))
       (omega (arith, c.abandon-c.auto, c.ty-b.auto)) (omega (arith, c.ty-b.auto)),
   one_turn c.loop-a.invariant.1 (omega (arith, c.write_node-a.auto, c.ty-b.auto))
@@ -611,7 +608,7 @@ cast-loop-a-preserved t c = (
         c.write_node-a.ensures.at,
       ))
       (λ _ _ _ _ g. casts_more c.loop-a.invariant.0 (is_done c.in-Ok.is)
-      c.peek-t.ensures c.if-t-ne-KW_AS.false c.ty-b.ensures c.abandon-c.ensures
+      c.peek-t.ensures (same_number c.in-KwAs.is) c.ty-b.ensures c.abandon-c.ensures
       c.write_node-a.ensures g),
 )
 
@@ -625,15 +622,15 @@ comparison-returns-in_default t c = then_stops compare_on c.bit_or-a.ensures (no
 pub comparison-peek-t-requires : goal.comparison-peek-t-requires
 comparison-peek-t-requires t c = (c.requires.asks.held, omega (arith, c.bit_or-a.ensures.moved.end))
 
-pub comparison-returns-then-op-eq0 : goal.comparison-returns-then-op-eq0
+pub comparison-returns-in_default-comparison_operator : goal.comparison-returns-in_default-comparison_operator
 unfolding P.parse_comparison
-comparison-returns-then-op-eq0 t c =
+comparison-returns-in_default-comparison_operator t c =
     then_asked compare_on c.requires c.bit_or-a.ensures
     (compare_none
     (goes_on c.requires c.bit_or-a.ensures (omega (arith, c.bit_or-a.auto))
     (omega (arith, c.bit_or-a.auto)) (omega (arith, c.bit_or-a.auto)))
-    (is_done c.in-Ok.is) c.peek-t.ensures c.comparison_operator-op.ensures
-    c.if-op-eq0.true)
+    (is_done c.in-Ok.is) c.peek-t.ensures c.comparison_operator.ensures
+    (not_some _ c.in_default-comparison_operator.not-Some))
 
 pub comparison-bit_or-b-requires : goal.comparison-bit_or-b-requires
 comparison-bit_or-b-requires t c = (
@@ -643,8 +640,7 @@ comparison-bit_or-b-requires t c = (
     c.requires.asks.at,
     c.bit_or-a.ensures.moved.at,
     c.peek-t.ensures,
-    c.comparison_operator-op.ensures,
-    c.if-op-eq0.false,
+    operator_real P.comparisons (kind_number c.peek-t.result.kind) refl c.comparison_operator.ensures c.in-Some.is,
   ),
   asked_seen
       (asked_moved c.requires c.bit_or-a.ensures.moved
@@ -659,9 +655,6 @@ comparison-abandon-c-requires t c =
     (goes_on c.requires c.bit_or-a.ensures (omega (arith, c.bit_or-a.auto))
     (omega (arith, c.bit_or-a.auto)) (omega (arith, c.bit_or-a.auto)))
     c.peek-t.ensures c.bit_or-b.ensures (omega (arith, c.bit_or-b.auto))
-
-pub comparison-overflow_sub-numbers : goal.comparison-overflow_sub-numbers
-comparison-overflow_sub-numbers t c = omega arith
 
 pub comparison-write_node-requires : goal.comparison-write_node-requires
 comparison-write_node-requires t c =
@@ -679,7 +672,7 @@ comparison-returns t c =
     (goes_on c.requires c.bit_or-a.ensures (omega (arith, c.bit_or-a.auto))
     (omega (arith, c.bit_or-a.auto)) (omega (arith, c.bit_or-a.auto)))
     (is_done c.in-Ok.is) c.peek-t.ensures
-    c.comparison_operator-op.ensures c.if-op-eq0.false c.bit_or-b.ensures
+    c.comparison_operator.ensures c.in-Some.is c.bit_or-b.ensures
     c.abandon-c.ensures c.write_node.ensures)
 
 pub expression-returns-then-nesting-eq0 : goal.expression-returns-then-nesting-eq0
@@ -707,7 +700,7 @@ field-expect_after-b-requires t c = (
       c.expect_identifier-a.ensures
       (omega (arith, c.expect_identifier-a.auto))
       (omega (arith, c.expect_identifier-a.auto)),
-  (omega arith, omega arith),
+  omega arith,
 )
 
 pub field-returns-in_default : goal.field-returns-in_default
@@ -780,8 +773,8 @@ list-returns-in_err-recover t c = let g = sym c.recover.ensures ∙ c.in_err-rec
     rw (left c.from_residual.ensures.1) (rw (refused_is _ g) at
     (list_refused _ c.requires c.opener.ensures c.expect.ensures {d = c.args.nesting} (exit_refused _ g)))
 
-pub list-loop-what-init : goal.list-loop-what-init
-list-loop-what-init t c = (
+pub list-loop-error-init : goal.list-loop-error-init
+list-loop-error-init t c = (
   (
     asked_moved c.requires c.expect.ensures.moved refl
         (omega (arith, c.expect.auto)) (omega (arith, c.expect.auto)),
@@ -791,90 +784,87 @@ list-loop-what-init t c = (
 )
 
 pub list-peek-t-requires : goal.list-peek-t-requires
-list-peek-t-requires t c = (c.loop-what.invariant.0.0.asks.held, c.loop-what.invariant.0.0.asks.at)
-
-pub list-entry-error-requires : goal.list-entry-error-requires
-list-entry-error-requires t c = omega arith
+list-peek-t-requires t c = (c.loop-error.invariant.0.0.asks.held, c.loop-error.invariant.0.0.asks.at)
 
 pub list-note-requires : goal.list-note-requires
-list-note-requires t c = omega (arith, c.loop-what.invariant.0.0.asks)
+list-note-requires t c = omega (arith, c.loop-error.invariant.0.0.asks)
 
-pub list-returns-then-t-eq-END : goal.list-returns-then-t-eq-END
-list-returns-then-t-eq-END t c = list_on _ c.requires c.opener.ensures c.expect.ensures
+pub list-returns-in-End : goal.list-returns-in-End
+list-returns-in-End t c = list_on _ c.requires c.opener.ensures c.expect.ensures
     (not_refused _ (sym c.recover.ensures ∙ c.in_ok-recover.was))
-    (c.loop-what.invariant.1.rest
+    (c.loop-error.invariant.1.rest
     (loop_alike (sym (is_whole c.in_ok-note.was)) refl (λ z. (refl, refl))
-    (rest_end _ c.loop-what.invariant.0 c.peek-t.ensures c.if-t-eq-END.true
+    (rest_end _ c.loop-error.invariant.0 c.peek-t.ensures (same_number c.in-End.is)
     c.entry-error.ensures c.note.ensures)))
 
-pub list-returns-then-t-close : goal.list-returns-then-t-close
-list-returns-then-t-close t c = list_on _ c.requires c.opener.ensures c.expect.ensures
+pub list-returns-then-eq : goal.list-returns-then-eq
+list-returns-then-eq t c = list_on _ c.requires c.opener.ensures c.expect.ensures
     (not_refused _ (sym c.recover.ensures ∙ c.in_ok-recover.was))
-    (c.loop-what.invariant.1.rest
-    (rest_closed _ c.loop-what.invariant.0 c.peek-t.ensures c.if-t-eq-END.false
-    c.closer-close.ensures c.if-t-close.true))
+    (c.loop-error.invariant.1.rest
+    (rest_closed _ c.loop-error.invariant.0 c.peek-t.ensures (other_number c.in_default.not-End)
+    c.closer-close.ensures (equal_kinds c.peek-t.result.kind c.closer-close.result c.eq.ensures c.if-eq.true)))
 
 pub list-item-b-requires : goal.list-item-b-requires
 list-item-b-requires t c = (
-  omega (arith, c.decreases, c.expect.ensures.moved, c.loop-what.invariant.1.on),
-  c.loop-what.invariant.0.0,
+  omega (arith, c.decreases, c.expect.ensures.moved, c.loop-error.invariant.1.on),
+  c.loop-error.invariant.0.0,
 )
 
 pub list-returns-in_err-parsed : goal.list-returns-in_err-parsed
-list-returns-in_err-parsed t c = let g = sym c.recover-in-loop-what.ensures ∙ c.in_err-parsed.was in
+list-returns-in_err-parsed t c = let g = sym c.recover-in-loop-error.ensures ∙ c.in_err-parsed.was in
     rw (left c.from_residual-in_err-parsed.ensures.1) (rw (refused_is _ g) at (list_on _ c.requires c.opener.ensures c.expect.ensures
     (not_refused _ (sym c.recover.ensures ∙ c.in_ok-recover.was))
-    (c.loop-what.invariant.1.rest
-    (rest_item _ c.loop-what.invariant.0 c.peek-t.ensures c.if-t-eq-END.false
-    c.closer-close.ensures c.if-t-close.false c.item-b.ensures (exit_refused _ g)))))
+    (c.loop-error.invariant.1.rest
+    (rest_item _ c.loop-error.invariant.0 c.peek-t.ensures (other_number c.in_default.not-End)
+    c.closer-close.ensures (unequal_kinds c.peek-t.result.kind c.closer-close.result c.eq.ensures c.if-eq.false) c.item-b.ensures (exit_refused _ g)))))
 
 pub list-comma-requires : goal.list-comma-requires
 list-comma-requires t c =
-    comma_asks c.loop-what.invariant.0 c.peek-t.ensures c.if-t-eq-END.false
+    comma_asks c.loop-error.invariant.0 c.peek-t.ensures (other_number c.in_default.not-End)
     c.item-b.ensures (omega (arith, c.item-b.auto)) (omega (arith, c.item-b.auto))
 
 pub list-returns-in_err-comma : goal.list-returns-in_err-comma
 list-returns-in_err-comma t c = rw (left c.from_residual-in_err-comma.ensures.1) (rw c.in_err-comma.was at (list_on _ c.requires c.opener.ensures c.expect.ensures
     (not_refused _ (sym c.recover.ensures ∙ c.in_ok-recover.was))
-    (c.loop-what.invariant.1.rest
-    (rest_comma _ c.loop-what.invariant.0 c.peek-t.ensures c.if-t-eq-END.false
-    c.closer-close.ensures c.if-t-close.false c.item-b.ensures (not_refused _ (sym c.recover-in-loop-what.ensures ∙ c.in_ok-parsed.was))
+    (c.loop-error.invariant.1.rest
+    (rest_comma _ c.loop-error.invariant.0 c.peek-t.ensures (other_number c.in_default.not-End)
+    c.closer-close.ensures (unequal_kinds c.peek-t.result.kind c.closer-close.result c.eq.ensures c.if-eq.false) c.item-b.ensures (not_refused _ (sym c.recover-in-loop-error.ensures ∙ c.in_ok-parsed.was))
     c.comma.ensures (not_whole c.in_err-comma.was)))))
 
 pub list-counted-count-requires : goal.list-counted-count-requires
 list-counted-count-requires t c =
     omega (
       arith,
-      c.loop-what.invariant.0.1,
-      c.loop-what.invariant.0.0.asks.at,
-      c.loop-what.invariant.0.0.asks.held.few,
+      c.loop-error.invariant.0.1,
+      c.loop-error.invariant.0.0.asks.at,
+      c.loop-error.invariant.0.0.asks.held.few,
     )
 
-pub list-loop-what-smaller : goal.list-loop-what-smaller
-list-loop-what-smaller t c =
+pub list-loop-error-smaller : goal.list-loop-error-smaller
+list-loop-error-smaller t c =
     omega (
       arith,
-      c.loop-what.invariant.0.0.asks.at,
+      c.loop-error.invariant.0.0.asks.at,
       c.peek-t.ensures.present,
-      c.if-t-eq-END.false,
+      (other_number c.in_default.not-End),
       c.item-b.ensures.on,
       c.item-b.ensures.moved,
       c.comma.ensures.moved,
     )
 
-pub list-loop-what-preserved : goal.list-loop-what-preserved
-list-loop-what-preserved t c = let g = item_is _ (sym c.recover-in-loop-what.ensures ∙ c.in_ok-parsed.was) in
+pub list-loop-error-preserved : goal.list-loop-error-preserved
+list-loop-error-preserved t c = let g = item_is _ (sym c.recover-in-loop-error.ensures ∙ c.in_ok-parsed.was) in
     let more = rw (sym g) at c.counted-count.ensures in (
-      rest_asked c.loop-what.invariant.0 c.peek-t.ensures c.if-t-eq-END.false
+      rest_asked c.loop-error.invariant.0 c.peek-t.ensures (other_number c.in_default.not-End)
           c.item-b.ensures c.comma.ensures more
           (omega (arith, c.item-b.auto)) (omega (arith, c.comma.auto, c.item-b.auto))
           (omega (arith, c.comma.auto, c.item-b.auto)),
-      one_turn c.loop-what.invariant.1 (omega (arith, c.item-b.auto))
+      one_turn c.loop-error.invariant.1 (omega (arith, c.item-b.auto))
           (omega (arith, c.comma.auto, c.item-b.auto))
           (omega (arith, c.comma.auto, c.item-b.auto))
           (omega (arith, c.item-b.ensures.moved, c.comma.ensures.moved))
-          (λ _ _ _ _ l. rest_next _ c.loop-what.invariant.0 c.peek-t.ensures c.if-t-eq-END.false
-          c.closer-close.ensures c.if-t-close.false c.item-b.ensures (not_refused _ (sym c.recover-in-loop-what.ensures ∙ c.in_ok-parsed.was))
+          (λ _ _ _ _ l. rest_next _ c.loop-error.invariant.0 c.peek-t.ensures (other_number c.in_default.not-End)
+          c.closer-close.ensures (unequal_kinds c.peek-t.result.kind c.closer-close.result c.eq.ensures c.if-eq.false) c.item-b.ensures (not_refused _ (sym c.recover-in-loop-error.ensures ∙ c.in_ok-parsed.was))
           c.comma.ensures (is_whole c.in_ok-comma.was) more l),
     )
 
@@ -935,11 +925,11 @@ operators-returns-in_default t c = c.loop-a.invariant.1.rest (goes_stops c.loop-
 pub operators-peek-t-requires : goal.operators-peek-t-requires
 operators-peek-t-requires t c = (c.loop-a.invariant.0.asked.asks.held, c.loop-a.invariant.0.asked.asks.at)
 
-pub operators-returns-then-op-eq0 : goal.operators-returns-then-op-eq0
-operators-returns-then-op-eq0 t c =
+pub operators-returns-in_default-operator : goal.operators-returns-in_default-operator
+operators-returns-in_default-operator t c =
     c.loop-a.invariant.1.rest
     (operators_none c.loop-a.invariant.0 (is_done c.in-Ok.is) c.peek-t.ensures _
-    c.operator-op.ensures c.if-op-eq0.true)
+    c.operator.ensures (not_some _ c.in_default-operator.not-Some))
 
 pub operators-cascade-b-requires : goal.operators-cascade-b-requires
 operators-cascade-b-requires t c = (
@@ -949,8 +939,7 @@ operators-cascade-b-requires t c = (
     c.loop-a.invariant.1.on,
     c.loop-a.invariant.0.asked.asks.at,
     c.peek-t.ensures,
-    c.operator-op.ensures,
-    c.if-op-eq0.false,
+    operator_real (P.mapping (level_of c.args.level)) (kind_number c.peek-t.result.kind) (level_end _) c.operator.ensures c.in-Some.is,
   ),
   asked_seen c.loop-a.invariant.0.asked c.peek-t.ensures,
 )
@@ -959,9 +948,6 @@ pub operators-abandon-c-requires : goal.operators-abandon-c-requires
 operators-abandon-c-requires t c =
     join_cuts c.loop-a.invariant.0 c.peek-t.ensures c.cascade-b.ensures
     (omega (arith, c.cascade-b.auto))
-
-pub operators-overflow_sub-numbers : goal.operators-overflow_sub-numbers
-operators-overflow_sub-numbers t c = omega arith
 
 pub operators-write_node-a-requires : goal.operators-write_node-a-requires
 operators-write_node-a-requires t c =
@@ -974,8 +960,7 @@ operators-loop-a-smaller t c =
       arith,
       c.loop-a.invariant.0.asked.asks.at,
       c.peek-t.ensures,
-      c.operator-op.ensures,
-      c.if-op-eq0.false,
+      operator_real (P.mapping (level_of c.args.level)) (kind_number c.peek-t.result.kind) (level_end _) c.operator.ensures c.in-Some.is,
       c.cascade-b.ensures.moved,
       c.abandon-c.ensures.at,
       c.write_node-a.ensures.at,
@@ -985,7 +970,7 @@ pub operators-loop-a-preserved : goal.operators-loop-a-preserved
 operators-loop-a-preserved t c = (
   joined_on c.loop-a.invariant.0 c.peek-t.ensures c.cascade-b.ensures
       c.abandon-c.ensures c.write_node-a.ensures
-      (omega (arith, c.operator-op.ensures, c.if-op-eq0.false))
+      (omega (arith, operator_real (P.mapping (level_of c.args.level)) (kind_number c.peek-t.result.kind) (level_end _) c.operator.ensures c.in-Some.is))
       (omega (arith, c.write_node-a.auto, c.cascade-b.auto))
       (omega (arith, c.abandon-c.auto, c.cascade-b.auto))
       (omega (arith, c.cascade-b.auto)),
@@ -1000,7 +985,7 @@ operators-loop-a-preserved t c = (
         c.write_node-a.ensures.at,
       ))
       (λ _ _ _ _ g. operators_more c.loop-a.invariant.0 (is_done c.in-Ok.is)
-      c.peek-t.ensures _ c.operator-op.ensures c.if-op-eq0.false
+      c.peek-t.ensures _ c.operator.ensures c.in-Some.is
       c.cascade-b.ensures c.abandon-c.ensures c.write_node-a.ensures g),
 )
 
@@ -1026,17 +1011,17 @@ sizeof-peek-t-requires t c = (c.requires.asks.held, c.requires.asks.at)
 pub sizeof-access-requires : goal.sizeof-access-requires
 sizeof-access-requires t c = (omega (arith, c.decreases), c.requires)
 
-pub sizeof-returns-then-t-ne-KW_SIZEOF : goal.sizeof-returns-then-t-ne-KW_SIZEOF
-sizeof-returns-then-t-ne-KW_SIZEOF t c =
-    sizeof_other c.requires c.peek-t.ensures c.if-t-ne-KW_SIZEOF.true
+pub sizeof-returns-in_default : goal.sizeof-returns-in_default
+sizeof-returns-in_default t c =
+    sizeof_other c.requires c.peek-t.ensures (other_number c.in_default.not-KwSizeof)
     c.access.ensures
 
 pub sizeof-expect-requires : goal.sizeof-expect-requires
-sizeof-expect-requires t c = (asks_fore c.requires.asks c.peek-t.ensures, (omega arith, omega arith))
+sizeof-expect-requires t c = (asks_fore c.requires.asks c.peek-t.ensures, omega arith)
 
 pub sizeof-returns-in_err-expect : goal.sizeof-returns-in_err-expect
 sizeof-returns-in_err-expect t c = rw (passed_on c.in_err-expect.was c.from_residual.ensures.1)
-    (sizeof_stop c.requires c.peek-t.ensures c.if-t-ne-KW_SIZEOF.false c.expect.ensures
+    (sizeof_stop c.requires c.peek-t.ensures (same_number c.in-KwSizeof.is) c.expect.ensures
     (is_stop c.in_err-expect.was))
 
 pub sizeof-ty-b-requires : goal.sizeof-ty-b-requires
@@ -1046,7 +1031,7 @@ sizeof-ty-b-requires t c = (
     c.decreases,
     c.requires.asks.at,
     c.peek-t.ensures,
-    c.if-t-ne-KW_SIZEOF.false,
+    (same_number c.in-KwSizeof.is),
     c.expect.ensures.moved,
   ),
   asked_moved (asked_seen c.requires c.peek-t.ensures)
@@ -1056,11 +1041,11 @@ sizeof-ty-b-requires t c = (
 
 pub sizeof-expect_after-c-requires : goal.sizeof-expect_after-c-requires
 sizeof-expect_after-c-requires t c = (
-  sizeof_asks c.requires c.peek-t.ensures c.if-t-ne-KW_SIZEOF.false
+  sizeof_asks c.requires c.peek-t.ensures (same_number c.in-KwSizeof.is)
       c.expect.ensures (is_done c.in_ok-expect.was) c.ty-b.ensures
       (omega (arith, c.ty-b.auto, c.expect.auto))
       (omega (arith, c.ty-b.auto, c.expect.auto)),
-  (omega arith, omega arith),
+  omega arith,
 )
 
 pub sizeof-write_node-requires : goal.sizeof-write_node-requires
@@ -1073,7 +1058,7 @@ sizeof-write_node-requires t c =
 
 pub sizeof-returns : goal.sizeof-returns
 sizeof-returns t c =
-    sizeof_done c.requires c.peek-t.ensures c.if-t-ne-KW_SIZEOF.false c.expect.ensures
+    sizeof_done c.requires c.peek-t.ensures (same_number c.in-KwSizeof.is) c.expect.ensures
     (is_done c.in_ok-expect.was) c.ty-b.ensures
     (omega (arith, c.ty-b.auto, c.expect.auto))
     (omega (arith, c.ty-b.auto, c.expect.auto)) c.expect_after-c.ensures
@@ -1088,9 +1073,9 @@ ty-peek-t-requires t c = (c.requires.asks.held, c.requires.asks.at)
 pub ty-write_text_node-requires : goal.ty-write_text_node-requires
 ty-write_text_node-requires t c = room_token c.requires c.peek-t.ensures
 
-pub ty-returns-then-t-eq-IDENTIFIER : goal.ty-returns-then-t-eq-IDENTIFIER
-ty-returns-then-t-eq-IDENTIFIER t c =
-    type_name c.requires c.if-nesting-eq0.false c.peek-t.ensures c.if-t-eq-IDENTIFIER.true
+pub ty-returns-in-Identifier : goal.ty-returns-in-Identifier
+ty-returns-in-Identifier t c =
+    type_name c.requires c.if-nesting-eq0.false c.peek-t.ensures (same_number c.in-Identifier.is)
     c.write_text_node.ensures
 
 pub ty-overflow_sub-nesting : goal.ty-overflow_sub-nesting
@@ -1098,7 +1083,7 @@ ty-overflow_sub-nesting t c = omega arith
 
 pub ty-ty-a-requires : goal.ty-ty-a-requires
 ty-ty-a-requires t c = (
-  omega (arith, c.decreases, c.peek-t.ensures, c.if-t-eq-STAR.true),
+  omega (arith, c.decreases, c.peek-t.ensures, (same_number c.in-Star.is)),
   asked_seen c.requires c.peek-t.ensures,
 )
 
@@ -1107,69 +1092,60 @@ ty-write_node-requires t c =
     star_room c.requires c.peek-t.ensures c.ty-a.ensures
     (omega (arith, c.ty-a.auto))
 
-pub ty-returns-then-t-eq-STAR : goal.ty-returns-then-t-eq-STAR
-ty-returns-then-t-eq-STAR t c =
-    type_star c.requires c.if-nesting-eq0.false c.peek-t.ensures c.if-t-eq-IDENTIFIER.false
-    c.if-t-eq-STAR.true c.ty-a.ensures c.write_node.ensures
+pub ty-returns-in-Star : goal.ty-returns-in-Star
+ty-returns-in-Star t c =
+    type_star c.requires c.if-nesting-eq0.false c.peek-t.ensures
+    (same_number c.in-Star.is) c.ty-a.ensures c.write_node.ensures
 
-pub ty-overflow_sub-nesting-then-t-eq-L_BRACKET : goal.ty-overflow_sub-nesting-then-t-eq-L_BRACKET
-ty-overflow_sub-nesting-then-t-eq-L_BRACKET t c = omega arith
+pub ty-overflow_sub-nesting-in-LBracket : goal.ty-overflow_sub-nesting-in-LBracket
+ty-overflow_sub-nesting-in-LBracket t c = omega arith
 
 pub ty-array-requires : goal.ty-array-requires
 ty-array-requires t c = (
-  omega (arith, c.decreases, c.peek-t.ensures, c.if-t-eq-L_BRACKET.true),
+  omega (arith, c.decreases, c.peek-t.ensures, (same_number c.in-LBracket.is)),
   array_asked c.requires c.peek-t.ensures,
 )
 
-pub ty-returns-then-t-eq-L_BRACKET : goal.ty-returns-then-t-eq-L_BRACKET
-ty-returns-then-t-eq-L_BRACKET t c =
-    type_array c.requires c.if-nesting-eq0.false c.peek-t.ensures c.if-t-eq-IDENTIFIER.false
-    c.if-t-eq-STAR.false c.if-t-eq-L_BRACKET.true c.array.ensures
+pub ty-returns-in-LBracket : goal.ty-returns-in-LBracket
+ty-returns-in-LBracket t c =
+    type_array c.requires c.if-nesting-eq0.false c.peek-t.ensures (same_number c.in-LBracket.is) c.array.ensures
 
-pub ty-overflow_sub-nesting-then-t-eq-KW_STRUCT : goal.ty-overflow_sub-nesting-then-t-eq-KW_STRUCT
-ty-overflow_sub-nesting-then-t-eq-KW_STRUCT t c = omega arith
+pub ty-overflow_sub-nesting-in-KwStruct : goal.ty-overflow_sub-nesting-in-KwStruct
+ty-overflow_sub-nesting-in-KwStruct t c = omega arith
 
 pub ty-list-a-requires : goal.ty-list-a-requires
 ty-list-a-requires t c = (
-  omega (arith, c.decreases, c.peek-t.ensures, c.if-t-eq-KW_STRUCT.true),
+  omega (arith, c.decreases, c.peek-t.ensures, (same_number c.in-KwStruct.is)),
   asked_seen c.requires c.peek-t.ensures,
 )
 
-pub ty-write_node-requires-then-t-eq-KW_STRUCT : goal.ty-write_node-requires-then-t-eq-KW_STRUCT
-ty-write_node-requires-then-t-eq-KW_STRUCT t c = struct_room c.requires c.peek-t.ensures c.list-a.ensures (omega (arith, c.list-a.auto))
+pub ty-write_node-requires-in-KwStruct : goal.ty-write_node-requires-in-KwStruct
+ty-write_node-requires-in-KwStruct t c = struct_room c.requires c.peek-t.ensures c.list-a.ensures (omega (arith, c.list-a.auto))
 
-pub ty-returns-then-t-eq-KW_STRUCT : goal.ty-returns-then-t-eq-KW_STRUCT
-ty-returns-then-t-eq-KW_STRUCT t c = let a = rw c.in_ok-count.was at c.list-a.ensures in
-    type_struct c.requires c.if-nesting-eq0.false c.peek-t.ensures c.if-t-eq-IDENTIFIER.false
-    c.if-t-eq-STAR.false c.if-t-eq-L_BRACKET.false c.if-t-eq-KW_STRUCT.true a
-    (written_at refl refl refl c.write_node-then-t-eq-KW_STRUCT.ensures)
-
-pub ty-entry-error-requires : goal.ty-entry-error-requires
-ty-entry-error-requires t c = omega arith
+pub ty-returns-in_ok-count-in-KwStruct : goal.ty-returns-in_ok-count-in-KwStruct
+ty-returns-in_ok-count-in-KwStruct t c = let a = rw c.in_ok-count-in-KwStruct.was at c.list-a.ensures in
+    type_struct c.requires c.if-nesting-eq0.false c.peek-t.ensures (same_number c.in-KwStruct.is) a
+    (written_at refl refl refl c.write_node-in-KwStruct.ensures)
 
 pub ty-raise-requires : goal.ty-raise-requires
 ty-raise-requires t c = omega (arith, c.requires.asks)
 
-pub ty-returns-then-t-eq-END : goal.ty-returns-then-t-eq-END
-ty-returns-then-t-eq-END t c =
-    type_end c.requires c.if-nesting-eq0.false c.peek-t.ensures c.if-t-eq-IDENTIFIER.false
-    c.if-t-eq-STAR.false c.if-t-eq-L_BRACKET.false c.if-t-eq-KW_STRUCT.false c.if-t-eq-END.true
+pub ty-returns-in-End : goal.ty-returns-in-End
+ty-returns-in-End t c =
+    type_end c.requires c.if-nesting-eq0.false c.peek-t.ensures (same_number c.in-End.is)
     c.entry-error.ensures c.raise.ensures
 
-pub ty-entry-error-requires-2 : goal.ty-entry-error-requires-2
-ty-entry-error-requires-2 t c = omega (arith, c.peek-t.ensures)
+pub ty-raise-requires-in_default : goal.ty-raise-requires-in_default
+ty-raise-requires-in_default t c = omega (arith, c.requires.asks)
 
-pub ty-raise-requires-2 : goal.ty-raise-requires-2
-ty-raise-requires-2 t c = omega (arith, c.requires.asks)
-
-pub ty-returns : goal.ty-returns
-ty-returns t c =
-    type_other c.requires c.if-nesting-eq0.false c.peek-t.ensures c.if-t-eq-IDENTIFIER.false
-    c.if-t-eq-STAR.false c.if-t-eq-L_BRACKET.false c.if-t-eq-KW_STRUCT.false c.if-t-eq-END.false
-    c.entry-error-2.ensures c.raise-2.ensures
+pub ty-returns-in_default : goal.ty-returns-in_default
+ty-returns-in_default t c =
+    type_other c.requires c.if-nesting-eq0.false c.peek-t.ensures (other_number c.in_default.not-Identifier)
+    (other_number c.in_default.not-Star) (other_number c.in_default.not-LBracket) (other_number c.in_default.not-KwStruct) (other_number c.in_default.not-End)
+    c.entry-error-in_default.ensures c.raise-in_default.ensures
 
 pub typed-expect-a-requires : goal.typed-expect-a-requires
-typed-expect-a-requires t c = (c.requires.0.asks, (omega arith, omega arith))
+typed-expect-a-requires t c = (c.requires.0.asks, omega arith)
 
 pub typed-abandon-b-requires : goal.typed-abandon-b-requires
 typed-abandon-b-requires t c =
@@ -1213,35 +1189,32 @@ typed_name-typed-requires t c = (
   (asked_seen c.requires c.peek-t.ensures, (refl, omega arith)),
 )
 
-pub typed_name-returns-then-t-eq-IDENTIFIER : goal.typed_name-returns-then-t-eq-IDENTIFIER
-typed_name-returns-then-t-eq-IDENTIFIER t c =
-    identifier_name c.requires c.peek-t.ensures c.if-t-eq-IDENTIFIER.true
+pub typed_name-returns-in-Identifier : goal.typed_name-returns-in-Identifier
+typed_name-returns-in-Identifier t c =
+    identifier_name c.requires c.peek-t.ensures (same_number c.in-Identifier.is)
     c.typed.ensures
-
-pub typed_name-entry-error-requires : goal.typed_name-entry-error-requires
-typed_name-entry-error-requires t c = omega arith
 
 pub typed_name-raise-requires : goal.typed_name-raise-requires
 typed_name-raise-requires t c = omega (arith, c.requires.asks)
 
-pub typed_name-returns-then-t-eq-END : goal.typed_name-returns-then-t-eq-END
-typed_name-returns-then-t-eq-END t c =
-    identifier_end c.requires c.peek-t.ensures c.if-t-eq-IDENTIFIER.false c.if-t-eq-END.true
+pub typed_name-returns-in-End : goal.typed_name-returns-in-End
+typed_name-returns-in-End t c =
+    identifier_end c.requires c.peek-t.ensures (same_number c.in-End.is)
     c.entry-error.ensures c.raise.ensures
 
-pub typed_name-entry-error-requires-2 : goal.typed_name-entry-error-requires-2
-typed_name-entry-error-requires-2 t c = omega (arith, c.peek-t.ensures)
+pub typed_name-entry-error-requires-in_default : goal.typed_name-entry-error-requires-in_default
+typed_name-entry-error-requires-in_default t c = omega (arith, c.peek-t.ensures)
 
 pub typed_name-note-requires : goal.typed_name-note-requires
 typed_name-note-requires t c = omega (arith, c.requires.asks)
 
-pub typed_name-returns-in_err-note : goal.typed_name-returns-in_err-note
-typed_name-returns-in_err-note t c = rw (left c.from_residual.ensures.1) (rw c.in_err-note.was at
-    (identifier_refused c.requires c.peek-t.ensures c.if-t-eq-IDENTIFIER.false c.if-t-eq-END.false
-    c.entry-error-2.ensures c.note.ensures {d = c.args.nesting} (not_whole c.in_err-note.was)))
+pub typed_name-returns-in_err-note-in_default : goal.typed_name-returns-in_err-note-in_default
+typed_name-returns-in_err-note-in_default t c = rw (left c.from_residual.ensures.1) (rw c.in_err-note-in_default.was at
+    (identifier_refused c.requires c.peek-t.ensures (other_number c.in_default.not-Identifier) (other_number c.in_default.not-End)
+    c.entry-error-in_default.ensures c.note.ensures {d = c.args.nesting} (not_whole c.in_err-note-in_default.was)))
 
-pub typed_name-typed-requires-2 : goal.typed_name-typed-requires-2
-typed_name-typed-requires-2 t c = (
+pub typed_name-typed-requires-in_default : goal.typed_name-typed-requires-in_default
+typed_name-typed-requires-in_default t c = (
   omega (
     arith,
     c.decreases,
@@ -1252,11 +1225,11 @@ typed_name-typed-requires-2 t c = (
       (omega (arith, c.note.auto)) (omega (arith, c.note.auto)),
 )
 
-pub typed_name-returns : goal.typed_name-returns
-typed_name-returns t c =
-    identifier_noted c.requires c.peek-t.ensures c.if-t-eq-IDENTIFIER.false c.if-t-eq-END.false
-    c.entry-error-2.ensures c.note.ensures (is_whole c.in_ok-note.was)
-    c.typed-2.ensures
+pub typed_name-returns-in_ok-note-in_default : goal.typed_name-returns-in_ok-note-in_default
+typed_name-returns-in_ok-note-in_default t c =
+    identifier_noted c.requires c.peek-t.ensures (other_number c.in_default.not-Identifier) (other_number c.in_default.not-End)
+    c.entry-error-in_default.ensures c.note.ensures (is_whole c.in_ok-note-in_default.was)
+    c.typed-in_default.ensures
 
 pub unary-returns-then-nesting-eq0 : goal.unary-returns-then-nesting-eq0
 unary-returns-then-nesting-eq0 t c = deep Unary c.requires.asks c.if-nesting-eq0.true c.refuse.ensures
@@ -1270,10 +1243,10 @@ unary-overflow_sub-nesting t c = omega arith
 pub unary-call-requires : goal.unary-call-requires
 unary-call-requires t c = (omega (arith, c.decreases), c.requires)
 
-pub unary-returns-then-tag-eq0 : goal.unary-returns-then-tag-eq0
-unary-returns-then-tag-eq0 t c =
-    unary_none c.requires c.if-nesting-eq0.false c.peek-t.ensures c.prefix-tag.ensures
-    c.if-tag-eq0.true c.call.ensures
+pub unary-returns-in_default : goal.unary-returns-in_default
+unary-returns-in_default t c =
+    unary_none c.requires c.if-nesting-eq0.false c.peek-t.ensures c.prefix.ensures
+    (not_some _ c.in_default.not-Some) c.call.ensures
 
 pub unary-overflow_sub-nesting-2 : goal.unary-overflow_sub-nesting-2
 unary-overflow_sub-nesting-2 t c = omega arith
@@ -1285,8 +1258,7 @@ unary-unary-requires t c = (
     c.decreases,
     c.requires.asks.at,
     c.peek-t.ensures,
-    c.prefix-tag.ensures,
-    c.if-tag-eq0.false,
+    operator_real prefixes (kind_number c.peek-t.result.kind) refl c.prefix.ensures (ap number_of c.in-Some.is),
   ),
   asked_seen c.requires c.peek-t.ensures,
 )
@@ -1298,8 +1270,8 @@ unary-write_node-requires t c =
 
 pub unary-returns : goal.unary-returns
 unary-returns t c = let a = rw c.in_ok-place.was at c.unary.ensures in
-    unary_prefix c.requires c.if-nesting-eq0.false c.peek-t.ensures c.prefix-tag.ensures
-    c.if-tag-eq0.false a c.write_node.ensures
+    unary_prefix c.requires c.if-nesting-eq0.false c.peek-t.ensures c.prefix.ensures
+    c.in-Some.is a c.write_node.ensures
 
 pub access-returns-in_err-note : goal.access-returns-in_err-note
 unfolding P.parse_field_access_or_index
@@ -1307,15 +1279,15 @@ access-returns-in_err-note t c = rw (left c.from_residual.ensures.1) (then_asked
     (c.loop-a.invariant.1.rest (goes_alike
     (sym (is_refused c.in_err-note.was)) refl (λ z. absurd (refusal_is _ z))
     (dot_other c.loop-a.invariant.0 (is_done c.in-Ok.is) c.peek-t.ensures
-    c.if-t-eq-DOT.true c.peek-u.ensures c.if-u-eq-END.false c.if-u-ne-IDENTIFIER.true
+    (same_number c.in-Dot.is) c.peek-u.ensures (other_number c.in_default-kind-2.not-End) (other_number c.in_default-kind-3.not-Identifier)
     c.entry-error.ensures c.note.ensures))))
 
 pub list-returns-in_err-note : goal.list-returns-in_err-note
 list-returns-in_err-note t c = rw (left c.from_residual-in_err-note.ensures.1) (list_on _ c.requires c.opener.ensures c.expect.ensures
     (not_refused _ (sym c.recover.ensures ∙ c.in_ok-recover.was))
-    (c.loop-what.invariant.1.rest
+    (c.loop-error.invariant.1.rest
     (loop_alike (sym (is_refused c.in_err-note.was)) refl (λ z. absurd (refusal_is _ z))
-    (rest_end _ c.loop-what.invariant.0 c.peek-t.ensures c.if-t-eq-END.true
+    (rest_end _ c.loop-error.invariant.0 c.peek-t.ensures (same_number c.in-End.is)
     c.entry-error.ensures c.note.ensures))))
 
 pub call-returns-in_err-count : goal.call-returns-in_err-count
@@ -1325,16 +1297,15 @@ call-returns-in_err-count t c = let a = rw c.in_ok-place.was at c.sizeof.ensures
     rw (left c.from_residual-in_err-count.ensures.1) (then_asked call_on c.requires a
     (call_found (goes_on c.requires a (omega (arith, c.sizeof.auto))
     (omega (arith, c.sizeof.auto)) (omega (arith, c.sizeof.auto)))
-    refl c.peek-t.ensures c.if-t-ne-L_PAREN.false b (write_node_stop (refusal_is _))))
+    refl c.peek-t.ensures (same_number c.in-LParen.is) b (write_node_stop (refusal_is _))))
 
-pub ty-returns-in_err-count : goal.ty-returns-in_err-count
-ty-returns-in_err-count t c = let a = rw c.in_err-count.was at c.list-a.ensures in
-    rw (left c.from_residual.ensures.1) (type_struct c.requires c.if-nesting-eq0.false c.peek-t.ensures c.if-t-eq-IDENTIFIER.false
-    c.if-t-eq-STAR.false c.if-t-eq-L_BRACKET.false c.if-t-eq-KW_STRUCT.true a
+pub ty-returns-in_err-count-in-KwStruct : goal.ty-returns-in_err-count-in-KwStruct
+ty-returns-in_err-count-in-KwStruct t c = let a = rw c.in_err-count-in-KwStruct.was at c.list-a.ensures in
+    rw (left c.from_residual.ensures.1) (type_struct c.requires c.if-nesting-eq0.false c.peek-t.ensures (same_number c.in-KwStruct.is) a
     (write_node_stop (refusal_is _)))
 
 pub unary-returns-in_err-place : goal.unary-returns-in_err-place
 unary-returns-in_err-place t c = let a = rw c.in_err-place.was at c.unary.ensures in
     rw (left c.from_residual.ensures.1)
-    (unary_prefix c.requires c.if-nesting-eq0.false c.peek-t.ensures c.prefix-tag.ensures
-    c.if-tag-eq0.false a (write_node_stop (stop_is _)))
+    (unary_prefix c.requires c.if-nesting-eq0.false c.peek-t.ensures c.prefix.ensures
+    c.in-Some.is a (write_node_stop (stop_is _)))

@@ -119,8 +119,8 @@ invariant-cast-loop-a l =
 abbrev pub decreases-cast-loop-a : goal.decreases-cast-loop-a
 decreases-cast-loop-a l = l.tokens.count - l.parser.state.at
 
-abbrev pub invariant-list-loop-what : goal.invariant-list-loop-what
-invariant-list-loop-what l =
+abbrev pub invariant-list-loop-error : goal.invariant-list-loop-error
+invariant-list-loop-error l =
     let t = l.tokens in
     let p = l.initial.parser in
     let q = l.parser in
@@ -128,8 +128,8 @@ invariant-list-loop-what l =
     t.records.now t.text.now t.count l.initial.count l.initial.file p.reported p.full p.state l.count l.file
     q.reported q.full q.state
 
-abbrev pub decreases-list-loop-what : goal.decreases-list-loop-what
-decreases-list-loop-what l = l.tokens.count - l.parser.state.at
+abbrev pub decreases-list-loop-error : goal.decreases-list-loop-error
+decreases-list-loop-error l = l.tokens.count - l.parser.state.at
 
 abbrev pub invariant-operators-loop-a : goal.invariant-operators-loop-a
 invariant-operators-loop-a l =

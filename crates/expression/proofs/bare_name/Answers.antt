@@ -1,4 +1,5 @@
 use mathlib.Core.Path.{refl}
+use Rattle.steps.proofs.SameKind.{same_number, other_number}
 use Rattle.fallible.proofs.Calls.{left, stop_is}
 use Rattle.expression_laws.proofs.Names.{bare_stops, bare_name, bare_unknown, bare_room, unknown_room}
 use Rattle.expression.proofs.bare_name.Goals as goal
@@ -11,10 +12,10 @@ returns-in_err-called c =
 pub write_bare-state-requires : goal.write_bare-state-requires
 write_bare-state-requires c = bare_room (rw c.in_ok-called.was at c.requires) refl c.peek-t.ensures
 
-pub returns-then-t-eq-IDENTIFIER : goal.returns-then-t-eq-IDENTIFIER
-returns-then-t-eq-IDENTIFIER c =
+pub returns-in-Identifier : goal.returns-in-Identifier
+returns-in-Identifier c =
     let room = rw c.in_ok-called.was at c.requires in
-    rw c.in_ok-called.was (bare_name room refl c.peek-t.ensures c.if-t-eq-IDENTIFIER.true c.write_bare-state.ensures)
+    rw c.in_ok-called.was (bare_name room refl c.peek-t.ensures (same_number c.in-Identifier.is) c.write_bare-state.ensures)
 
 pub write_bare-state-requires-2 : goal.write_bare-state-requires-2
 write_bare-state-requires-2 c = unknown_room (rw c.in_ok-called.was at c.requires) refl
@@ -23,4 +24,4 @@ pub returns : goal.returns
 returns c =
     let room = rw c.in_ok-called.was at c.requires in
     rw c.in_ok-called.was
-    (bare_unknown room refl c.peek-t.ensures c.if-t-eq-IDENTIFIER.false c.write_bare-state-2.ensures)
+    (bare_unknown room refl c.peek-t.ensures (other_number c.in_default.not-Identifier) c.write_bare-state-2.ensures)

@@ -1,3 +1,4 @@
+use Rattle.steps.proofs.SameKind.{same_number, other_number}
 use Rattle.steps.proofs.OneToken.{write_node_stop, written_at}
 use Rattle.fallible.proofs.Calls.{left, passed_on, is_done, is_stop, not_ok, not_refused, item_is, refused_is, exit_refused, is_whole, is_refused, refusal_is}
 use Rattle.fallible.specs.Answer.{item_status}
@@ -28,7 +29,7 @@ block-returns t c = let a = rw c.in_ok-count.was at c.body.ensures in
     block_reads c.peek-t.ensures c.requires a (written_at refl refl refl c.write_node.ensures)
 
 pub body-expect-requires : goal.body-expect-requires
-body-expect-requires t c = (c.requires.asks, (omega arith, omega arith))
+body-expect-requires t c = (c.requires.asks, omega arith)
 
 pub body-body_rest-requires : goal.body-body_rest-requires
 body-body_rest-requires t c = (
@@ -47,70 +48,67 @@ body-returns-in_err-recover t c = let g = sym c.recover.ensures ∙ c.in_err-rec
     rw (left c.from_residual.ensures.1) (rw (refused_is _ g) at
     (body_refused {d = c.args.nesting} c.requires c.expect.ensures (exit_refused _ g)))
 
-pub body_rest-loop-t-init : goal.body_rest-loop-t-init
-body_rest-loop-t-init t c = ((c.requires, omega arith), at_start)
+pub body_rest-loop-parser-init : goal.body_rest-loop-parser-init
+body_rest-loop-parser-init t c = ((c.requires, omega arith), at_start)
 
 pub body_rest-peek-t-requires : goal.body_rest-peek-t-requires
-body_rest-peek-t-requires t c = (c.loop-t.invariant.0.0.asks.held, c.loop-t.invariant.0.0.asks.at)
+body_rest-peek-t-requires t c = (c.loop-parser.invariant.0.0.asks.held, c.loop-parser.invariant.0.0.asks.at)
 
-pub body_rest-returns-then-t-eq-R_BRACE : goal.body_rest-returns-then-t-eq-R_BRACE
-body_rest-returns-then-t-eq-R_BRACE t c =
-    c.loop-t.invariant.1.rest
-    (rest_closed c.loop-t.invariant.0 c.peek-t.ensures c.if-t-eq-R_BRACE.true)
-
-pub body_rest-entry-error-requires : goal.body_rest-entry-error-requires
-body_rest-entry-error-requires t c = omega arith
+pub body_rest-returns-in-RBrace : goal.body_rest-returns-in-RBrace
+body_rest-returns-in-RBrace t c =
+    c.loop-parser.invariant.1.rest
+    (rest_closed c.loop-parser.invariant.0 c.peek-t.ensures (same_number c.in-RBrace.is))
 
 pub body_rest-note-requires : goal.body_rest-note-requires
-body_rest-note-requires t c = omega (arith, c.loop-t.invariant.0.0.asks)
+body_rest-note-requires t c = omega (arith, c.loop-parser.invariant.0.0.asks)
 
-pub body_rest-returns-then-t-eq-END : goal.body_rest-returns-then-t-eq-END
-body_rest-returns-then-t-eq-END t c = c.loop-t.invariant.1.rest (loop_alike (sym (is_whole c.in_ok-note.was)) refl (λ z. (refl, refl))
-    (rest_end c.loop-t.invariant.0 c.peek-t.ensures c.if-t-eq-R_BRACE.false c.if-t-eq-END.true
+pub body_rest-returns-in-End : goal.body_rest-returns-in-End
+body_rest-returns-in-End t c = c.loop-parser.invariant.1.rest (loop_alike (sym (is_whole c.in_ok-note.was)) refl (λ z. (refl, refl))
+    (rest_end c.loop-parser.invariant.0 c.peek-t.ensures (same_number c.in-End.is)
     c.entry-error.ensures c.note.ensures))
 
 pub body_rest-statement-b-requires : goal.body_rest-statement-b-requires
 body_rest-statement-b-requires t c =
-    (omega (arith, c.decreases, c.loop-t.invariant.1.on), c.loop-t.invariant.0.0)
+    (omega (arith, c.decreases, c.loop-parser.invariant.1.on), c.loop-parser.invariant.0.0)
 
 pub body_rest-returns-in_err-parsed : goal.body_rest-returns-in_err-parsed
 body_rest-returns-in_err-parsed t c = let g = sym c.recover.ensures ∙ c.in_err-parsed.was in
     rw (left c.from_residual-in_err-parsed.ensures.1) (rw (refused_is _ g) at
-    (c.loop-t.invariant.1.rest
-    (rest_refused c.loop-t.invariant.0 c.peek-t.ensures c.if-t-eq-R_BRACE.false c.if-t-eq-END.false
+    (c.loop-parser.invariant.1.rest
+    (rest_refused c.loop-parser.invariant.0 c.peek-t.ensures (other_number c.in_default.not-RBrace) (other_number c.in_default-kind.not-End)
     c.statement-b.ensures (exit_refused _ g))))
 
 pub body_rest-counted-count-requires : goal.body_rest-counted-count-requires
 body_rest-counted-count-requires t c =
     omega (
       arith,
-      c.loop-t.invariant.0.1,
-      c.loop-t.invariant.0.0.asks.at,
-      c.loop-t.invariant.0.0.asks.held.few,
+      c.loop-parser.invariant.0.1,
+      c.loop-parser.invariant.0.0.asks.at,
+      c.loop-parser.invariant.0.0.asks.held.few,
     )
 
-pub body_rest-loop-t-smaller : goal.body_rest-loop-t-smaller
-body_rest-loop-t-smaller t c =
+pub body_rest-loop-parser-smaller : goal.body_rest-loop-parser-smaller
+body_rest-loop-parser-smaller t c =
     omega (
       arith,
-      c.loop-t.invariant.0.0.asks.at,
+      c.loop-parser.invariant.0.0.asks.at,
       c.peek-t.ensures.present,
-      c.if-t-eq-END.false,
+      (other_number c.in_default-kind.not-End),
       c.statement-b.ensures.on,
       c.statement-b.ensures.moved,
     )
 
-pub body_rest-loop-t-preserved : goal.body_rest-loop-t-preserved
-body_rest-loop-t-preserved t c = let h = sym c.recover.ensures ∙ c.in_ok-parsed.was in
+pub body_rest-loop-parser-preserved : goal.body_rest-loop-parser-preserved
+body_rest-loop-parser-preserved t c = let h = sym c.recover.ensures ∙ c.in_ok-parsed.was in
     let more = rw (sym (item_is _ h)) at c.counted-count.ensures in (
-      loop_asked c.loop-t.invariant.0 c.peek-t.ensures c.if-t-eq-END.false c.statement-b.ensures more
+      loop_asked c.loop-parser.invariant.0 c.peek-t.ensures (other_number c.in_default-kind.not-End) c.statement-b.ensures more
           (omega (arith, c.statement-b.auto)) (omega (arith, c.statement-b.auto))
           (omega (arith, c.statement-b.auto)),
-      one_turn c.loop-t.invariant.1 (omega (arith, c.statement-b.auto))
+      one_turn c.loop-parser.invariant.1 (omega (arith, c.statement-b.auto))
           (omega (arith, c.statement-b.auto)) (omega (arith, c.statement-b.auto))
           c.statement-b.ensures.moved.at
-          (λ _ _ _ _ l. rest_next c.loop-t.invariant.0 c.peek-t.ensures c.if-t-eq-R_BRACE.false
-          c.if-t-eq-END.false c.statement-b.ensures (not_refused _ h) more l),
+          (λ _ _ _ _ l. rest_next c.loop-parser.invariant.0 c.peek-t.ensures (other_number c.in_default.not-RBrace)
+          (other_number c.in_default-kind.not-End) c.statement-b.ensures (not_refused _ h) more l),
     )
 
 pub guarded-expression-requires : goal.guarded-expression-requires
@@ -168,10 +166,10 @@ if_statement-write_node-requires t c =
     (moved_trans (fore_moved c.requires.asked.asks c.peek-t.ensures) c.guarded-a.ensures.moved)
     (omega (arith, c.guarded-a.auto))
 
-pub if_statement-returns-then-u-ne-KW_ELSE : goal.if_statement-returns-then-u-ne-KW_ELSE
-if_statement-returns-then-u-ne-KW_ELSE t c =
+pub if_statement-returns-in_default-kind : goal.if_statement-returns-in_default-kind
+if_statement-returns-in_default-kind t c =
     if_two c.peek-t.ensures c.requires c.guarded-a.ensures
-    (is_done c.in-Ok.is) c.peek-u.ensures c.if-u-ne-KW_ELSE.true
+    (is_done c.in-Ok.is) c.peek-u.ensures (other_number c.in_default-kind.not-KwElse)
     c.write_node.ensures
 
 pub if_statement-statement-b-requires : goal.if_statement-statement-b-requires
@@ -206,7 +204,7 @@ if_statement-write_node-requires-2 t c =
 pub if_statement-returns : goal.if_statement-returns
 if_statement-returns t c =
     if_three c.peek-t.ensures c.requires c.guarded-a.ensures
-    (is_done c.in-Ok.is) c.peek-u.ensures c.if-u-ne-KW_ELSE.false
+    (is_done c.in-Ok.is) c.peek-u.ensures (same_number c.in-KwElse.is)
     c.statement-b.ensures (omega (arith, c.guarded-a.auto))
     c.abandon-c.ensures c.write_node-2.ensures
 
@@ -252,79 +250,75 @@ pub statement_rule-peek-t-requires : goal.statement_rule-peek-t-requires
 statement_rule-peek-t-requires t c = (c.requires.asks.held, c.requires.asks.at)
 
 pub statement_rule-return_statement-requires : goal.statement_rule-return_statement-requires
-statement_rule-return_statement-requires t c = begins c.requires c.peek-t.ensures c.if-t-eq-KW_RETURN.true
+statement_rule-return_statement-requires t c = begins c.requires c.peek-t.ensures (same_number c.in-KwReturn.is)
 
-pub statement_rule-returns-then-t-eq-KW_RETURN : goal.statement_rule-returns-then-t-eq-KW_RETURN
-statement_rule-returns-then-t-eq-KW_RETURN t c = c.return_statement.ensures
+pub statement_rule-returns-in-KwReturn : goal.statement_rule-returns-in-KwReturn
+statement_rule-returns-in-KwReturn t c = c.return_statement.ensures
 
 pub statement_rule-var_statement-requires : goal.statement_rule-var_statement-requires
-statement_rule-var_statement-requires t c = begins c.requires c.peek-t.ensures c.if-t-eq-KW_VAR.true
+statement_rule-var_statement-requires t c = begins c.requires c.peek-t.ensures (same_number c.in-KwVar.is)
 
-pub statement_rule-returns-then-t-eq-KW_VAR : goal.statement_rule-returns-then-t-eq-KW_VAR
-statement_rule-returns-then-t-eq-KW_VAR t c = c.var_statement.ensures
+pub statement_rule-returns-in-KwVar : goal.statement_rule-returns-in-KwVar
+statement_rule-returns-in-KwVar t c = c.var_statement.ensures
 
 pub statement_rule-block-requires : goal.statement_rule-block-requires
 statement_rule-block-requires t c =
-    (omega (arith, c.decreases), begins c.requires c.peek-t.ensures c.if-t-eq-L_BRACE.true)
+    (omega (arith, c.decreases), begins c.requires c.peek-t.ensures (same_number c.in-LBrace.is))
 
-pub statement_rule-returns-then-t-eq-L_BRACE : goal.statement_rule-returns-then-t-eq-L_BRACE
-statement_rule-returns-then-t-eq-L_BRACE t c = c.block.ensures
+pub statement_rule-returns-in-LBrace : goal.statement_rule-returns-in-LBrace
+statement_rule-returns-in-LBrace t c = c.block.ensures
 
 pub statement_rule-loop_statement-requires : goal.statement_rule-loop_statement-requires
 statement_rule-loop_statement-requires t c =
-    (omega (arith, c.decreases), begins c.requires c.peek-t.ensures c.if-t-eq-KW_LOOP.true)
+    (omega (arith, c.decreases), begins c.requires c.peek-t.ensures (same_number c.in-KwLoop.is))
 
-pub statement_rule-returns-then-t-eq-KW_LOOP : goal.statement_rule-returns-then-t-eq-KW_LOOP
-statement_rule-returns-then-t-eq-KW_LOOP t c = c.loop_statement.ensures
+pub statement_rule-returns-in-KwLoop : goal.statement_rule-returns-in-KwLoop
+statement_rule-returns-in-KwLoop t c = c.loop_statement.ensures
 
 pub statement_rule-while_statement-requires : goal.statement_rule-while_statement-requires
 statement_rule-while_statement-requires t c =
-    (omega (arith, c.decreases), begins c.requires c.peek-t.ensures c.if-t-eq-KW_WHILE.true)
+    (omega (arith, c.decreases), begins c.requires c.peek-t.ensures (same_number c.in-KwWhile.is))
 
-pub statement_rule-returns-then-t-eq-KW_WHILE : goal.statement_rule-returns-then-t-eq-KW_WHILE
-statement_rule-returns-then-t-eq-KW_WHILE t c = c.while_statement.ensures
+pub statement_rule-returns-in-KwWhile : goal.statement_rule-returns-in-KwWhile
+statement_rule-returns-in-KwWhile t c = c.while_statement.ensures
 
 pub statement_rule-break_statement-requires : goal.statement_rule-break_statement-requires
-statement_rule-break_statement-requires t c = begins c.requires c.peek-t.ensures c.if-t-eq-KW_BREAK.true
+statement_rule-break_statement-requires t c = begins c.requires c.peek-t.ensures (same_number c.in-KwBreak.is)
 
-pub statement_rule-returns-then-t-eq-KW_BREAK : goal.statement_rule-returns-then-t-eq-KW_BREAK
-statement_rule-returns-then-t-eq-KW_BREAK t c = c.break_statement.ensures _
+pub statement_rule-returns-in-KwBreak : goal.statement_rule-returns-in-KwBreak
+statement_rule-returns-in-KwBreak t c = c.break_statement.ensures _
 
 pub statement_rule-if_statement-requires : goal.statement_rule-if_statement-requires
 statement_rule-if_statement-requires t c =
-    (omega (arith, c.decreases), begins c.requires c.peek-t.ensures c.if-t-eq-KW_IF.true)
+    (omega (arith, c.decreases), begins c.requires c.peek-t.ensures (same_number c.in-KwIf.is))
 
-pub statement_rule-returns-then-t-eq-KW_IF : goal.statement_rule-returns-then-t-eq-KW_IF
-statement_rule-returns-then-t-eq-KW_IF t c = c.if_statement.ensures
+pub statement_rule-returns-in-KwIf : goal.statement_rule-returns-in-KwIf
+statement_rule-returns-in-KwIf t c = c.if_statement.ensures
 
 pub statement_rule-leaf-requires : goal.statement_rule-leaf-requires
 statement_rule-leaf-requires t c = room_token c.requires c.peek-t.ensures
 
-pub statement_rule-returns-then-t-eq-INLINE_ASSEMBLY_FRAGMENT : goal.statement_rule-returns-then-t-eq-INLINE_ASSEMBLY_FRAGMENT
-statement_rule-returns-then-t-eq-INLINE_ASSEMBLY_FRAGMENT t c =
-    assembly_reads c.peek-t.ensures c.requires c.if-t-eq-INLINE_ASSEMBLY_FRAGMENT.true
+pub statement_rule-returns-in-InlineAssemblyFragment : goal.statement_rule-returns-in-InlineAssemblyFragment
+statement_rule-returns-in-InlineAssemblyFragment t c =
+    assembly_reads c.peek-t.ensures c.requires (same_number c.in-InlineAssemblyFragment.is)
     c.leaf.ensures
-
-pub statement_rule-entry-error-requires : goal.statement_rule-entry-error-requires
-statement_rule-entry-error-requires t c = omega arith
 
 pub statement_rule-raise-requires : goal.statement_rule-raise-requires
 statement_rule-raise-requires t c = omega (arith, c.requires.asks)
 
-pub statement_rule-returns-then-t-eq-END : goal.statement_rule-returns-then-t-eq-END
-statement_rule-returns-then-t-eq-END t c =
-    end_reads c.peek-t.ensures c.if-t-eq-KW_RETURN.false c.if-t-eq-KW_VAR.false c.if-t-eq-L_BRACE.false
-    c.if-t-eq-KW_LOOP.false c.if-t-eq-KW_WHILE.false c.if-t-eq-KW_BREAK.false c.if-t-eq-KW_IF.false c.if-t-eq-INLINE_ASSEMBLY_FRAGMENT.false
-    c.requires c.if-t-eq-END.true c.entry-error.ensures c.raise.ensures
+pub statement_rule-returns-in-End : goal.statement_rule-returns-in-End
+statement_rule-returns-in-End t c =
+    end_reads c.peek-t.ensures
+    c.requires (same_number c.in-End.is) c.entry-error.ensures c.raise.ensures
 
 pub statement_rule-expression_statement-requires : goal.statement_rule-expression_statement-requires
 statement_rule-expression_statement-requires t c = c.requires
 
-pub statement_rule-returns : goal.statement_rule-returns
-statement_rule-returns t c =
-    other_reads c.peek-t.ensures c.if-t-eq-KW_RETURN.false c.if-t-eq-KW_VAR.false c.if-t-eq-L_BRACE.false
-    c.if-t-eq-KW_LOOP.false c.if-t-eq-KW_WHILE.false c.if-t-eq-KW_BREAK.false c.if-t-eq-KW_IF.false c.if-t-eq-INLINE_ASSEMBLY_FRAGMENT.false
-    c.if-t-eq-END.false c.expression_statement.ensures
+pub statement_rule-returns-in_default : goal.statement_rule-returns-in_default
+statement_rule-returns-in_default t c =
+    other_reads c.peek-t.ensures (other_number c.in_default.not-KwReturn) (other_number c.in_default.not-KwVar) (other_number c.in_default.not-LBrace)
+    (other_number c.in_default.not-KwLoop) (other_number c.in_default.not-KwWhile) (other_number c.in_default.not-KwBreak) (other_number c.in_default.not-KwIf) (other_number c.in_default.not-InlineAssemblyFragment)
+    (other_number c.in_default.not-End) c.expression_statement.ensures
 
 pub while_statement-peek-t-requires : goal.while_statement-peek-t-requires
 while_statement-peek-t-requires t c = (c.requires.asked.asks.held, c.requires.asked.asks.at)
@@ -358,6 +352,6 @@ block-returns-in_err-count t c = let a = rw c.in_err-count.was at c.body.ensures
 
 pub body_rest-returns-in_err-note : goal.body_rest-returns-in_err-note
 body_rest-returns-in_err-note t c = rw (left c.from_residual.ensures.1)
-    (c.loop-t.invariant.1.rest (loop_alike (sym (is_refused c.in_err-note.was)) refl (λ z. absurd (refusal_is _ z))
-    (rest_end c.loop-t.invariant.0 c.peek-t.ensures c.if-t-eq-R_BRACE.false c.if-t-eq-END.true
+    (c.loop-parser.invariant.1.rest (loop_alike (sym (is_refused c.in_err-note.was)) refl (λ z. absurd (refusal_is _ z))
+    (rest_end c.loop-parser.invariant.0 c.peek-t.ensures (same_number c.in-End.is)
     c.entry-error.ensures c.note.ensures)))

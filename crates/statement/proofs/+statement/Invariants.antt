@@ -31,13 +31,13 @@ decreases-statement_rule l = 32 * (l.tokens.count - l.parser.now.state.at) + 3
 abbrev pub decreases-while_statement : goal.decreases-while_statement
 decreases-while_statement l = 32 * (l.tokens.count - l.parser.now.state.at) + 2
 
-abbrev pub invariant-body_rest-loop-t : goal.invariant-body_rest-loop-t
-invariant-body_rest-loop-t l =
+abbrev pub invariant-body_rest-loop-parser : goal.invariant-body_rest-loop-parser
+invariant-body_rest-loop-parser l =
     let t = l.tokens in
     let p = l.initial.parser in
     let q = l.parser in
     ItemsTurned (LoopOn statements_on t.records.now t.text.now t.count l.nesting) t.records.now t.text.now
     t.count l.initial.count l.initial.file p.reported p.full p.state l.count l.file q.reported q.full q.state
 
-abbrev pub decreases-body_rest-loop-t : goal.decreases-body_rest-loop-t
-decreases-body_rest-loop-t l = l.tokens.count - l.parser.state.at
+abbrev pub decreases-body_rest-loop-parser : goal.decreases-body_rest-loop-parser
+decreases-body_rest-loop-parser l = l.tokens.count - l.parser.state.at

@@ -1,15 +1,17 @@
+use Rattle.steps.proofs.SameKind.{same_number, other_number}
 use Rattle.steps.proofs.OneToken.{identifier_there, identifier_end, identifier_other}
 use Rattle.steps.proofs.expect_identifier.Goals as goal
 
-pub returns-then-t-eq-IDENTIFIER : goal.returns-then-t-eq-IDENTIFIER
-returns-then-t-eq-IDENTIFIER c = identifier_there c.requires c.peek-t.ensures c.if-t-eq-IDENTIFIER.true
+pub returns-in-Identifier : goal.returns-in-Identifier
+returns-in-Identifier c = identifier_there c.requires c.peek-t.ensures (same_number c.in-Identifier.is)
 
-pub returns-then-t-eq-END : goal.returns-then-t-eq-END
-returns-then-t-eq-END c =
-    identifier_end c.requires c.peek-t.ensures c.if-t-eq-IDENTIFIER.false c.raise.ensures
-    c.if-t-eq-END.true c.entry-error.ensures
+pub returns-in-End : goal.returns-in-End
+returns-in-End c =
+    identifier_end c.requires c.peek-t.ensures c.raise.ensures (same_number c.in-End.is)
+    c.entry-error.ensures
 
-pub returns : goal.returns
-returns c =
-    identifier_other c.requires c.peek-t.ensures c.if-t-eq-IDENTIFIER.false c.raise-2.ensures
-    c.if-t-eq-END.false c.entry-error-2.ensures
+pub returns-in_default : goal.returns-in_default
+returns-in_default c =
+    identifier_other c.requires c.peek-t.ensures c.raise-in_default.ensures
+    (other_number c.in_default.not-Identifier) (other_number c.in_default.not-End)
+    c.entry-error-in_default.ensures

@@ -9,7 +9,7 @@ peek-t-requires c = (c.requires.asked.asks.held, c.requires.within)
 pub expect_after-b-requires : goal.expect_after-b-requires
 expect_after-b-requires c = (
   record { asks = c.requires.asked.asks; pos = c.requires.pos; reported = c.requires.reported },
-  (omega arith, omega arith),
+  omega arith,
 )
 
 pub write_text_node-requires : goal.write_text_node-requires

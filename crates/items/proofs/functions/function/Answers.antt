@@ -7,7 +7,7 @@ use native.Mathlib.Omega.{arith}
 use Rattle.items.proofs.functions.function.Goals as goal
 
 pub expect-requires : goal.expect-requires
-expect-requires c = (c.requires.asks, (omega arith, omega arith))
+expect-requires c = (c.requires.asks, omega arith)
 
 pub returns-in_err-expect : goal.returns-in_err-expect
 returns-in_err-expect c = rw (passed_on c.in_err-expect.was c.from_residual.ensures.1)

@@ -15,7 +15,7 @@ pub expect-requires : goal.expect-requires
 expect-requires c = (
   asks_moved c.requires.asks (modified_moved c.requires c.modifiers-m.ensures) refl
       refl,
-  (omega arith, omega arith),
+  omega arith,
 )
 
 pub returns-in_err-expect : goal.returns-in_err-expect

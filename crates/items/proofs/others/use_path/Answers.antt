@@ -9,7 +9,7 @@ pub peek-t-requires : goal.peek-t-requires
 peek-t-requires c = (c.requires.asks.held, c.requires.asks.at)
 
 pub expect-requires : goal.expect-requires
-expect-requires c = (c.requires.asks, (omega arith, omega arith))
+expect-requires c = (c.requires.asks, omega arith)
 
 pub returns-in_err-expect : goal.returns-in_err-expect
 returns-in_err-expect c = rw (passed_on c.in_err-expect.was c.from_residual.ensures.1)

@@ -15,7 +15,7 @@ expect_after-b-requires c = (
     pos = c.var_like_declaration-a.ensures.moved.pos;
     reported = c.var_like_declaration-a.ensures.moved.reported;
   },
-  (omega arith, omega arith),
+  omega arith,
 )
 
 pub named-requires : goal.named-requires

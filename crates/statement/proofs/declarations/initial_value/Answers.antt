@@ -1,3 +1,4 @@
+use Rattle.steps.proofs.SameKind.{same_number, other_number}
 use Rattle.fallible.proofs.Calls.{is_done, not_ok}
 use Rattle.statement.proofs.Initial.{value_stops, value_assigned, value_compound, value_none}
 use Rattle.steps.proofs.Moves.{asked_seen}
@@ -24,45 +25,45 @@ bare-requires c =
     join_room c.requires c.peek-t.ensures c.expression-b.ensures
     c.abandon-c.ensures (omega (arith, c.expression-b.auto))
 
-pub shape_of-file-then-t-eq-EQUALS : goal.shape_of-file-then-t-eq-EQUALS
-shape_of-file-then-t-eq-EQUALS c = omega (arith, c.bare.auto, c.abandon-c.auto, c.expression-b.auto)
+pub shape_of-file-in-Equals : goal.shape_of-file-in-Equals
+shape_of-file-in-Equals c = omega (arith, c.bare.auto, c.abandon-c.auto, c.expression-b.auto)
 
-pub returns-then-t-eq-EQUALS : goal.returns-then-t-eq-EQUALS
-returns-then-t-eq-EQUALS c =
+pub returns-in-Equals : goal.returns-in-Equals
+returns-in-Equals c =
     value_assigned c.requires (is_done c.in-Ok.is) c.peek-t.ensures
-    c.if-t-eq-EQUALS.true c.expression-b.ensures c.abandon-c.ensures
+    (same_number c.in-Equals.is) c.expression-b.ensures c.abandon-c.ensures
     c.bare.ensures
 
 pub compound-b-requires : goal.compound-b-requires
 compound-b-requires c = asked_seen c.requires.asked c.peek-t.ensures
 
-pub abandon-c-requires-then-t-eq-L_ARROW : goal.abandon-c-requires-then-t-eq-L_ARROW
-abandon-c-requires-then-t-eq-L_ARROW c =
+pub abandon-c-requires-in-LArrow : goal.abandon-c-requires-in-LArrow
+abandon-c-requires-in-LArrow c =
     join_cuts c.requires c.peek-t.ensures c.compound-b.ensures
     (omega (arith, c.compound-b.auto))
 
-pub bare-requires-then-t-eq-L_ARROW : goal.bare-requires-then-t-eq-L_ARROW
-bare-requires-then-t-eq-L_ARROW c =
+pub bare-requires-in-LArrow : goal.bare-requires-in-LArrow
+bare-requires-in-LArrow c =
     join_room c.requires c.peek-t.ensures c.compound-b.ensures
-    c.abandon-c-then-t-eq-L_ARROW.ensures (omega (arith, c.compound-b.auto))
+    c.abandon-c-in-LArrow.ensures (omega (arith, c.compound-b.auto))
 
-pub shape_of-file-then-t-eq-L_ARROW : goal.shape_of-file-then-t-eq-L_ARROW
-shape_of-file-then-t-eq-L_ARROW c =
-    omega (arith, c.bare-then-t-eq-L_ARROW.auto, c.abandon-c-then-t-eq-L_ARROW.auto, c.compound-b.auto)
+pub shape_of-file-in-LArrow : goal.shape_of-file-in-LArrow
+shape_of-file-in-LArrow c =
+    omega (arith, c.bare-in-LArrow.auto, c.abandon-c-in-LArrow.auto, c.compound-b.auto)
 
-pub returns-then-t-eq-L_ARROW : goal.returns-then-t-eq-L_ARROW
-returns-then-t-eq-L_ARROW c =
+pub returns-in-LArrow : goal.returns-in-LArrow
+returns-in-LArrow c =
     value_compound c.requires (is_done c.in-Ok.is) c.peek-t.ensures
-    c.if-t-eq-L_ARROW.true c.compound-b.ensures c.abandon-c-then-t-eq-L_ARROW.ensures
-    c.bare-then-t-eq-L_ARROW.ensures
+    (same_number c.in-LArrow.is) c.compound-b.ensures c.abandon-c-in-LArrow.ensures
+    c.bare-in-LArrow.ensures
 
-pub bare-requires-2 : goal.bare-requires-2
-bare-requires-2 c = record { room = omega (arith, c.requires.asked.room); part = omega arith }
+pub bare-requires-in_default-kind : goal.bare-requires-in_default-kind
+bare-requires-in_default-kind c = record { room = omega (arith, c.requires.asked.room); part = omega arith }
 
-pub shape_of-file : goal.shape_of-file
-shape_of-file c = omega (arith, c.bare-2.auto)
+pub shape_of-file-in_default-kind : goal.shape_of-file-in_default-kind
+shape_of-file-in_default-kind c = omega (arith, c.bare-in_default-kind.auto)
 
-pub returns : goal.returns
-returns c =
-    value_none c.requires (is_done c.in-Ok.is) c.peek-t.ensures c.if-t-eq-EQUALS.false
-    c.if-t-eq-L_ARROW.false c.bare-2.ensures
+pub returns-in_default-kind : goal.returns-in_default-kind
+returns-in_default-kind c =
+    value_none c.requires (is_done c.in-Ok.is) c.peek-t.ensures (other_number c.in_default-kind.not-Equals)
+    (other_number c.in_default-kind.not-LArrow) c.bare-in_default-kind.ensures

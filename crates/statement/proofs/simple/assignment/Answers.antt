@@ -21,7 +21,7 @@ expect_after-c-requires c = (
       c.expression-a.ensures (rw c.requires.1.1 at c.abandon-b.ensures)
       (omega (arith, c.abandon-b.auto, c.expression-a.auto))
       (omega (arith, c.expression-a.auto))),
-  (omega arith, omega arith),
+  omega arith,
 )
 
 pub write_node-requires : goal.write_node-requires

@@ -9,7 +9,7 @@ pub peek-t-requires : goal.peek-t-requires
 peek-t-requires c = (c.requires.asked.asks.held, c.requires.asked.asks.at)
 
 pub expect-a-requires : goal.expect-a-requires
-expect-a-requires c = (asks_fore c.requires.asked.asks c.peek-t.ensures, (omega arith, omega arith))
+expect-a-requires c = (asks_fore c.requires.asked.asks c.peek-t.ensures, omega arith)
 
 pub write_node-requires : goal.write_node-requires
 write_node-requires c =

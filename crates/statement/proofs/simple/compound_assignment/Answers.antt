@@ -21,7 +21,7 @@ expect_after-c-requires c = (
       c.compound-a.ensures (rw c.requires.1.1 at c.abandon-b.ensures)
       (omega (arith, c.abandon-b.auto, c.compound-a.auto))
       (omega (arith, c.compound-a.auto))),
-  (omega arith, omega arith),
+  omega arith,
 )
 
 pub write_node-requires : goal.write_node-requires

@@ -1,3 +1,4 @@
+use Rattle.steps.proofs.SameKind.{same_number, other_number}
 use Rattle.statement.proofs.Statements.{return_none, return_value}
 use Rattle.steps.proofs.Moves.{asked_seen, asks_moved, fore_moved, moved_trans}
 use Rattle.expression_laws.proofs.Joins.{room_at}
@@ -13,12 +14,12 @@ peek-u-requires c = (c.requires.asked.asks.held, c.peek-t.ensures.end)
 pub write_node-requires : goal.write_node-requires
 write_node-requires c = record { room = omega (arith, c.requires.asked.room); part = omega arith }
 
-pub shape_of-file-then-u-eq-SEMICOLON : goal.shape_of-file-then-u-eq-SEMICOLON
-shape_of-file-then-u-eq-SEMICOLON c = omega (arith, c.write_node.auto)
+pub shape_of-file-in-Semicolon : goal.shape_of-file-in-Semicolon
+shape_of-file-in-Semicolon c = omega (arith, c.write_node.auto)
 
-pub returns-then-u-eq-SEMICOLON : goal.returns-then-u-eq-SEMICOLON
-returns-then-u-eq-SEMICOLON c =
-    return_none c.peek-t.ensures c.requires c.peek-u.ensures c.if-u-eq-SEMICOLON.true
+pub returns-in-Semicolon : goal.returns-in-Semicolon
+returns-in-Semicolon c =
+    return_none c.peek-t.ensures c.requires c.peek-u.ensures (same_number c.in-Semicolon.is)
     c.write_node.ensures
 
 pub expression-a-requires : goal.expression-a-requires
@@ -34,7 +35,7 @@ expect_after-b-requires c = (
     pos = c.expression-a.ensures.moved.pos;
     reported = c.expression-a.ensures.moved.reported;
   },
-  (omega arith, omega arith),
+  omega arith,
 )
 
 pub write_node-requires-2 : goal.write_node-requires-2
@@ -55,7 +56,7 @@ shape_of-file c =
 
 pub returns : goal.returns
 returns c =
-    return_value c.peek-t.ensures c.requires c.peek-u.ensures c.if-u-eq-SEMICOLON.false
+    return_value c.peek-t.ensures c.requires c.peek-u.ensures (other_number c.in_default.not-Semicolon)
     c.expression-a.ensures (omega (arith, c.expression-a.auto))
     (omega (arith, c.expression-a.auto)) c.expect_after-b.ensures
     c.write_node-2.ensures
