@@ -237,7 +237,7 @@ module _ {w x : List ℕ} {n d : ℕ} {o r f : List ℕ} {s : State} {t : Token}
           is = λ rd. say (sizeof_step d f s u h rd x) (stops d _ _ nd (X.is x plain d (past w x n s.at rd) o));
         }
 
-    -- what `and_expect` requires after the type
+    -- what `expect_after` requires after the type
     pub sizeof_asks : {o1 r2 f2 : List ℕ} {b : Answer} → a.status ≡ Done
         → Reads node w x n d P.parse_type o r1 f1 a.state o1 r2 f2 b → length r2 ≡ length r
         → length f2 ≡ length f → Follows w n r2 f2 b s.pos s.reported

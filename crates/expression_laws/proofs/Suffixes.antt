@@ -254,7 +254,7 @@ module _ {w x : List ℕ} {n d i j : ℕ} {o r f : List ℕ} {a : Answer} {t : T
 
   -- ---- `[index]`
 
-  -- what `and_expect` requires after the index
+  -- what `expect_after` requires after the index
   pub index_asks : {o1 r1 f1 r2 : List ℕ} {b c : Answer}
       → Reads node w x n d P.parse_expression o r f (fore a.state t) o1 r1 f1 b
       → Abandoned r1 b i j a.state.reported r2 c → length r2 ≡ length r → length f1 ≡ length f
