@@ -52,12 +52,12 @@ pub no_spelling : (n : ℕ) {o : Option Kind} → option_map kind_number o ≡ n
 no_spelling n e h = ap (ltb 0) (no_kind n e h)
 
 -- a character that is none of these has the class of the tests after them
-pub no_symbol : (c d : ℕ) {u v w : Bool} {p y : Option Kind} {r : Z.Class} → v ≡ is_letter c → v ≡ false → w ≡ is_white c → w ≡ false
-    → u ≡ is_foreign c → u ≡ false → (eqb c (char "/") && eqb d (char "/")) ≡ false
+pub no_symbol : (c d : ℕ) {u v w x : Bool} {p y : Option Kind} {r : Z.Class} → v ≡ is_letter c → v ≡ false → w ≡ is_white c → w ≡ false
+    → u ≡ is_foreign c → u ≡ false → x ≡ (eqb c (char "/") && eqb d (char "/")) → x ≡ false
     → option_map kind_number p ≡ nonzero (Z.pair c d) → p ≡ None → option_map kind_number y ≡ nonzero (Z.symbol c) → y ≡ None
     → r ≡ alone c → r ≡ Z.class c d
-no_symbol c d a b e f h n g i j k l m =
-    rw (class_is, sym h ∙ n, sym e ∙ f, g, no_spelling (Z.pair c d) i j, no_spelling (Z.symbol c) k l, sym a ∙ b) m
+no_symbol c d a b e f h n o g i j k l m =
+    rw (class_is, sym h ∙ n, sym e ∙ f, sym o ∙ g, no_spelling (Z.pair c d) i j, no_spelling (Z.symbol c) k l, sym a ∙ b) m
 
 pub digit_alone : (c : ℕ) → 49 ≤ c → c ≤ 57 → Z.Digit ≡ alone c
 digit_alone c h k =

@@ -26,10 +26,6 @@ no_kind (suc n) e h = cc (ap (option_map kind_number) h)
 
 -- ---- a byte
 
-pub byte_is : (n : ℕ) {o : Option ℕ} {b : ℕ} → o ≡ nonzero n → o ≡ Some b → b ≡ n
-byte_is zero e h = cc
-byte_is (suc n) e h = cc
-
 pub no_byte : (n : ℕ) {o : Option ℕ} → o ≡ nonzero n → o ≡ None → n ≡ 0
 no_byte zero e h = refl
 no_byte (suc n) e h = cc

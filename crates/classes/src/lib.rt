@@ -4,17 +4,25 @@
 pub mod character;
 pub mod spelling;
 
-ghost use Rattle.std.specs.Prelude.{◌≡◌};
+ghost use Rattle.std.specs.Prelude.{◌≡◌, ◌&&◌, eqb, unwrap_or};
+ghost use Rattle.definition.specs.Ascii.{char};
 ghost use Rattle.definition.specs.Tokenizer as Z;
 ghost use Rattle.classes.specs.Begins.{class_of, Carries};
 
 use character::{Class, is_foreign, is_letter, is_white};
 use spelling::{pair, symbol};
 
-// The class of the character `c`, which `d` follows; 0 is the end. The most frequent classes are tested first.
-pub fn class(c: u8, d: u8) -> Class
-    ensures class { class_of result ≡ Z.class c d }
-    ensures kind { Carries result c d }
+// Whether a comment begins with `c`, where `d` follows.
+fn opens_comment(c: u8, d: Option<u8>) -> bool
+    ensures { result ≡ eqb c (char "/") && eqb (unwrap_or d 0) (char "/") }
+{
+    matches!((c, d), (b'/', Some(b'/')))
+}
+
+// The class of the character `c`, which `d` follows, if any. The most frequent classes are tested first.
+pub fn class(c: u8, d: Option<u8>) -> Class
+    ensures class { class_of result ≡ Z.class c (unwrap_or d 0) }
+    ensures kind { Carries result c (unwrap_or d 0) }
 {
     if is_letter(c) {
         return Class::Word;
@@ -25,7 +33,7 @@ pub fn class(c: u8, d: u8) -> Class
     if is_foreign(c) {
         return Class::Foreign;
     }
-    if (c == b'/') & (d == b'/') {
+    if opens_comment(c, d) {
         return Class::Comment;
     }
     if let Some(kind) = pair(c, d) {

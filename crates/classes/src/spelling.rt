@@ -1,25 +1,25 @@
 // Fixed spellings: symbols, keywords and escapes. In the definition 0 says that there is none.
-ghost use Rattle.std.specs.Prelude.{◌≡◌, option_map};
+ghost use Rattle.std.specs.Prelude.{◌≡◌, option_map, unwrap_or};
 ghost use Rattle.definition.specs.Tokenizer as Z;
 ghost use Rattle.definition.specs.Numbers.{kind_number};
 ghost use Rattle.classes.specs.Found.{nonzero};
 
 use definition::kind::Kind;
 
-// The kind of a symbol of two characters.
+// The kind of a symbol of two characters: `c`, and `d` if any follows.
 #[tactic(auto, unfolding(definition::specs::Tokenizer::pair, definition::specs::Choice::first))]
-pub fn pair(c: u8, d: u8) -> Option<Kind>
-    ensures { option_map kind_number result ≡ nonzero (Z.pair c d) }
+pub fn pair(c: u8, d: Option<u8>) -> Option<Kind>
+    ensures { option_map kind_number result ≡ nonzero (Z.pair c (unwrap_or d 0)) }
 {
     match (c, d) {
-        (b'<', b'<') => Some(Kind::LeftShift),
-        (b'<', b'-') => Some(Kind::LArrow),
-        (b'<', b'=') => Some(Kind::LAngleEquals),
-        (b'>', b'>') => Some(Kind::RightShift),
-        (b'>', b'=') => Some(Kind::RAngleEquals),
-        (b'&', b'&') => Some(Kind::DoubleAmpersand),
-        (b'.', b'*') => Some(Kind::DotStar),
-        (b'=', b'=') => Some(Kind::DoubleEquals),
+        (b'<', Some(b'<')) => Some(Kind::LeftShift),
+        (b'<', Some(b'-')) => Some(Kind::LArrow),
+        (b'<', Some(b'=')) => Some(Kind::LAngleEquals),
+        (b'>', Some(b'>')) => Some(Kind::RightShift),
+        (b'>', Some(b'=')) => Some(Kind::RAngleEquals),
+        (b'&', Some(b'&')) => Some(Kind::DoubleAmpersand),
+        (b'.', Some(b'*')) => Some(Kind::DotStar),
+        (b'=', Some(b'=')) => Some(Kind::DoubleEquals),
         _ => None,
     }
 }

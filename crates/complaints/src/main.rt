@@ -9,10 +9,10 @@ ghost use Rattle.std.specs.Prelude.{length};
 ghost use Rattle.std.specs.Iterator.{at_most};
 
 use definition::limit;
+use definition::place::Place;
 use definition::refusal::Refusal;
 use definition::tag::Tag;
 use replay_cases::whole;
-use std::fmt;
 use std::io::{self, ErrorKind, Read};
 
 // The bytes of the longest sentence.
@@ -20,25 +20,9 @@ const SENTENCE_BYTES: usize = 98333;
 
 // ---- the fields of the file
 
-// The place of an error; line 0 is the end of the script.
-#[derive(Clone, Copy)]
-struct Place {
-    line: u16,
-    column: u16,
-}
-
-impl fmt::Display for Place {
-    fn fmt<W: fmt::Write>(&self, f: &mut fmt::Formatter<W>) -> fmt::Result {
-        let Place { line, column } = *self;
-        if line == 0 {
-            return write!(f, "end of script");
-        }
-        write!(f, "{line}:{column}")
-    }
-}
-
 #[derive(Clone, Copy)]
 struct Field<'a> {
+    // A number: a file may have tags that are no `Tag` (docs/FORMAT.md).
     tag: u8,
     body: &'a [u8],
 }
@@ -48,15 +32,15 @@ impl Field<'_> {
     fn place_in(self, list: Tag) -> Option<Place> {
         match *self.body {
             [_, a, b, c, d, _, _] if self.tag == u8::from(list) => Some(Place {
-                line: u16::from_be_bytes([a, b]),
-                column: u16::from_be_bytes([c, d]),
+                line: u16::from_be_bytes([a, b]).into(),
+                column: u16::from_be_bytes([c, d]).into(),
             }),
             _ => None,
         }
     }
 }
 
-// The fields of a file, up to one that is cut short.
+// The fields of a file, up to one whose bytes the file does not hold.
 #[derive(Drop)]
 struct Fields<'a>(&'a [u8]);
 
@@ -86,8 +70,11 @@ fn write_complaint(
 ) -> io::Result<()> {
     let mut space = [0; SENTENCE_BYTES];
     let sentence = reader::sentence::sentence(script, list as u32, position, &mut space);
-    let bytes = sentence.or(Err(io::Error::from(ErrorKind::InvalidData)))?;
-    print!(rt; "{place}: ")?;
+    let bytes = sentence.map_err(|_| io::Error::from(ErrorKind::InvalidData))?;
+    match place {
+        Place::NOWHERE => print!(rt; "end of script: ")?,
+        Place { line, column } => print!(rt; "{line}:{column}: ")?,
+    }
     rt.write_all(&space[..bytes.min(SENTENCE_BYTES)])?;
     rt.write_all(b"\n")
 }
@@ -139,11 +126,11 @@ fn run(rt: &impl Print, input: &mut impl Read) -> Result<(), &'static str> {
     // One byte more than the longest script, so that a longer input is refused and not cut.
     let mut space = [0; limit::SCRIPT_BYTES + 1];
     let script = whole(input, &mut space).ok_or("standard input cannot be read to its end")?;
-    write_all(rt, script).or(Err("the complaints are not written whole"))
+    write_all(rt, script).map_err(|_| "the complaints are not written whole")
 }
 
 fn main(rt: HostRuntime) {
-    if let Err(trouble) = run(&rt, &mut rt.stdin()) {
-        let _ = eprintln!(rt; "complaints: {trouble}");
+    if let Err(message) = run(&rt, &mut rt.stdin()) {
+        let _ = eprintln!(rt; "complaints: {message}");
     }
 }

@@ -1,8 +1,5 @@
 -- The numbers of kinds. Assumes nothing.
 use mathlib.Core.Path.{◌≡◌, refl}
-use Prim.Native.Nat.{◌<◌}
-use native.Mathlib.Omega.{arith}
-use borrow.Enum.Match.{tag_small}
 use denote.Enum.Declared.{tag_of}
 use Rattle.definition.specs.Numbers.{kind_number}
 use Rattle.definition.specs.contracts.kind.Kind.{the_type}
@@ -65,9 +62,3 @@ position Kind.RArrow = refl
 position Kind.LArrow = refl
 position Kind.Comma = refl
 position Kind.InlineAssemblyFragment = refl
-
--- a kind's number is a byte
-pub kind_small : (k : Kind) → kind_number k < 256
-kind_small k =
-    let h : tag_of the_type k < 55 = tag_small the_type k in
-    omega (arith, h, position k)

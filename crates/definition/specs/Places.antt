@@ -1,7 +1,7 @@
--- Places as the code has them, in one number. Assumes nothing.
-use Rattle.std.specs.Prelude.{ℕ, ◌/◌, ◌%◌}
-use Rattle.definition.specs.Source.{Place, place_at}
+-- Places as the code has them. Assumes nothing.
+use Rattle.definition.specs.Source as S
+use Rattle.definition.specs.declared.place.Place.{Place}
 
--- 65,536 times the line, and the column
-abbrev pub unpack_place : ℕ → Place
-unpack_place p = place_at (p / 65536) (p % 65536)
+-- the definition's place
+abbrev pub place_of : Place → S.Place
+place_of p = S.place_at p.line p.column

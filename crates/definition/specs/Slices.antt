@@ -17,11 +17,11 @@ abbrev pub MutLent : Type 0
 MutLent = Both MutSlice MutSlice
 
 -- the contents at entry and at exit
-abbrev pub at_entry : Lent → List ℕ
+abbrev pub at_entry : {A : Type 0} → Both (Bor A) (Bor A) → A
 at_entry x = x.entry.now
 
-abbrev pub old : MutLent → List ℕ
+abbrev pub old : {A : Type 0} → Both (MutBor A) (MutBor A) → A
 old x = x.entry.now
 
-abbrev pub new : MutLent → List ℕ
+abbrev pub new : {A : Type 0} → Both (MutBor A) (MutBor A) → A
 new x = x.exit.now

@@ -16,12 +16,12 @@ fn run(rt: &impl Print, input: &mut impl Read) -> Result<(), &'static str> {
         Ok(bytes) => rt.write_all(&file[..bytes]),
         Err(refusal) => rt.write_all(&[0x7F, 0, 1, refusal as u8]),
     };
-    // Errors come last in the file, so one that is cut short can look clean.
-    written.or(Err("the tree file is not written whole"))
+    // Errors come last in the file, so one without its last bytes can look clean.
+    written.map_err(|_| "the tree file is not written whole")
 }
 
 fn main(rt: HostRuntime) {
-    if let Err(trouble) = run(&rt, &mut rt.stdin()) {
-        let _ = eprintln!(rt; "delta_null: {trouble}");
+    if let Err(message) = run(&rt, &mut rt.stdin()) {
+        let _ = eprintln!(rt; "delta_null: {message}");
     }
 }

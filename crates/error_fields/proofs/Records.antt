@@ -1,110 +1,60 @@
--- The errors in valid token error records, one by one, and their fields. Assumes nothing.
-use mathlib.Core.Path.{◌≡◌, refl, sym, ap, ◌∙◌}
-use mathlib.Core.Bool.{Bool, true, false, ◌&&◌}
-use mathlib.Core.Option.{Option, none, some, some-injective}
-use mathlib.Core.List.{List, [], ◌∷◌, ◌++◌}
-use Prim.Native.Nat.{ℕ, zero, suc, ◌+◌, ◌*◌, ◌≤◌, ◌<◌}
-use native.Mathlib.Numerals.{add-one}
-use native.Mathlib.Nat.{add-zero, zero-add}
+-- The errors in token error records. Assumes nothing.
+use mathlib.Core.Path.{◌≡◌, refl, ap, ◌∙◌}
+use mathlib.Core.Bool.{true}
+use mathlib.Core.Option.{Option, some, none}
+use mathlib.Core.List.{List, ◌∷◌, map}
+use Prim.Native.Nat.{ℕ, zero, suc, ◌+◌, ◌*◌, ◌<◌}
 use native.Mathlib.Omega.{arith}
 use lib.Dec.{eqb}
-use lib.ListN.{length, get_or}
+use lib.ListN.{get_or, take, drop}
+use Rattle.std.proofs.lemmas.List.{get_or-take, get_or-drop, drop-drop}
+use Rattle.std.proofs.Math.Nat.{mod-eq_of_lt}
+use Rattle.std.specs.Simd.{first_chunks}
 use Rattle.definition.specs.Classes.{between}
 use Rattle.definition.specs.Fallible.{Err}
-use Rattle.definition.specs.Source.{place_at, is_some}
-use Rattle.definition.specs.Places.{unpack_place}
 use Rattle.definition.specs.Records.{ErrorWords, error_at, valid_error, error_of, error_before, errors_of}
-use Rattle.definition.proofs.Tests.{clash, left_true, right_true, between_bounds}
-use Rattle.fallible.specs.Lists as L
-use Rattle.error_fields.specs.Errors.{Fielded, TokenFields}
-use Rattle.error_fields.proofs.Fielding.{Fielding, fields_more, fields_done}
+use Rattle.definition.proofs.Tests.{left_true, between_bounds}
+use Rattle.definition.proofs.Validated.{never, passed}
+use Rattle.error_fields.specs.Errors.{recorded}
 
--- the errors in n records from index i on
-unfoldable pub listed : List ℕ → ℕ → ℕ → List Err
-listed ws i zero = []
-listed ws i (suc n) = error_of (error_at ws i) ∷ listed ws (suc i) n
-
-listed_more : (ws : List ℕ) (i n : ℕ) → listed ws i (n + 1) ≡ listed ws i n ++ (error_of (error_at ws (i + n)) ∷ [])
-unfolding listed
-listed_more ws i n = ap (λ (k : ℕ). listed ws i k) (add-one n) ∙ go i n
+-- a valid record has a small number
+pub recorded_is : (w : List ℕ) → valid_error (error_at w 0) ≡ true → recorded w ≡ error_of (error_at w 0)
+recorded_is w h = rw (mod-eq_of_lt k) refl
   where
-    go : (i n : ℕ) → listed ws i (suc n) ≡ listed ws i n ++ (error_of (error_at ws (i + n)) ∷ [])
-    go i zero = ap (λ (k : ℕ). error_of (error_at ws k) ∷ []) (sym (add-zero i))
-    go i (suc n) =
-        let e : suc i + n ≡ i + suc n = omega arith in
-        ap (λ (x : List Err). error_of (error_at ws i) ∷ x)
-        (go (suc i) n ∙ ap (λ (k : ℕ). listed ws (suc i) n ++ (error_of (error_at ws k) ∷ [])) e)
+    e : ErrorWords
+    e = error_at w 0
 
--- the numbers of a valid record are within their bounds
-pub record Small (w : ErrorWords) : Type 0 where
-  pub number : w.number ≤ 4
-  pub line : w.line ≤ 16384
-  pub column : w.column ≤ 16384
+    number : between 1 4 e.number ≡ true
+    number = left_true _ (between 1 16384 e.line) (left_true _ (between 1 16384 e.column) (left_true _ (eqb e.fourth 0) h))
 
-small : (w : ErrorWords) → valid_error w ≡ true → Small w
-small w g =
-    let nlc = left_true (between 1 4 w.number && between 1 16384 w.line && between 1 16384 w.column) (eqb w.fourth 0) g in
-    let nl = left_true (between 1 4 w.number && between 1 16384 w.line) (between 1 16384 w.column) nlc in
-    record {
-      number = (between_bounds 1 4 w.number (left_true (between 1 4 w.number) (between 1 16384 w.line) nl)).1;
-      line = (between_bounds 1 16384 w.line (right_true (between 1 4 w.number) (between 1 16384 w.line) nl)).1;
-      column =
-          (between_bounds 1 16384 w.column
-          (right_true (between 1 4 w.number && between 1 16384 w.line) (between 1 16384 w.column) nlc)).1;
-    }
+    k : get_or w 0 0 < 256
+    k = omega (arith, (between_bounds 1 4 e.number number).1)
 
--- a valid record before valid records
-good_first : (b : Bool) (e : Err) (o : Option (List Err))
-    → is_some {A = List Err} (elim b as (λ _. Option (List Err)) [ true ↦ error_before e o | false ↦ none ])
-    ≡ true
-    → (b ≡ true) × (is_some o ≡ true)
-good_first true e none h = clash (sym h)
-good_first true e (some es) h = (refl, refl)
-good_first false e o h = clash (sym h)
+-- the errors of valid records, where f gives the error of a valid record
+module _ (f : List ℕ → Err) (same : (w : List ℕ) → valid_error (error_at w 0) ≡ true → f w ≡ error_of (error_at w 0)) (ws : List ℕ) where
+  record_is : (i : ℕ) → valid_error (error_at ws i) ≡ true → f (take 4 (drop (4 * i) ws)) ≡ error_of (error_at ws i)
+  record_is i h = same _ (ap valid_error words ∙ h) ∙ ap error_of words
+    where
+      at : (j : ℕ) → j < 4 → get_or (take 4 (drop (4 * i) ws)) j 0 ≡ get_or ws (4 * i + j) 0
+      at j g = get_or-take 4 (drop (4 * i) ws) j 0 g ∙ get_or-drop (4 * i) ws j 0
 
-good_next : (ws : List ℕ) (i n : ℕ) → is_some (errors_of ws i (suc n)) ≡ true
-    → (valid_error (error_at ws i) ≡ true) × (is_some (errors_of ws (suc i) n) ≡ true)
-unfolding errors_of
-good_next ws i n h = good_first (valid_error (error_at ws i)) (error_of (error_at ws i)) (errors_of ws (suc i) n) h
+      first : get_or ws (4 * i + 0) 0 ≡ get_or ws (4 * i) 0
+      first = let z : 4 * i + 0 ≡ 4 * i = omega arith in ap (λ m. get_or ws m 0) z
 
-small_at : (ws : List ℕ) (i n j : ℕ) → is_some (errors_of ws i n) ≡ true → j < n → Small (error_at ws (i + j))
-small_at ws i zero j h g = absurd (omega arith)
-small_at ws i (suc n) zero h g = rw add-zero (small (error_at ws i) (good_next ws i n h).0)
-small_at ws i (suc n) (suc j) h g =
-    let e : i + suc j ≡ suc i + j = omega arith in
-    rw e (small_at ws (suc i) n j (good_next ws i n h).1 (omega arith))
+      words : error_at (take 4 (drop (4 * i) ws)) 0 ≡ error_at ws i
+      words = rw (at 0 (omega arith) ∙ first, at 1 (omega arith), at 2 (omega arith), at 3 (omega arith)) refl
 
-pub listed_is : (ws : List ℕ) (i n : ℕ) → is_some (errors_of ws i n) ≡ true → errors_of ws i n ≡ some (listed ws i n)
-unfolding errors_of listed
-listed_is ws i zero h = refl
-listed_is ws i (suc n) h = let s = good_next ws i n h in rw (errors_of, s.0, listed_is ws (suc i) n s.1)
-
--- hence the decoded errors are those listed
-errors_are : (ws : List ℕ) (n : ℕ) (es : List Err) → errors_of ws 0 n ≡ some es → listed ws 0 n ≡ es
-errors_are ws n es e = some-injective (listed ws 0 n) es (sym (listed_is ws 0 n (rw e)) ∙ e)
-
--- ---- the loop
-
-module _ (ws : List ℕ) (i : ℕ) where
-  -- the numbers of record i fit an entry
-  pub place_fits : (count : ℕ) → is_some (errors_of ws 0 count) ≡ true → i < count
-      → (get_or ws (4 * i + 1) 0 < 65536) × (get_or ws (4 * i + 2) 0 < 65536)
-  place_fits count h g = let s = rw zero-add at (small_at ws 0 count i h g) in (omega (arith, s.line), omega (arith, s.column))
-
-  pub number_fits : {a : ℕ} → a ≡ get_or ws (4 * i) 0 → (count : ℕ) → is_some (errors_of ws 0 count) ≡ true → i < count → a < 256
-  number_fits na count h g = let s = rw zero-add at (small_at ws 0 count i h g) in omega (arith, s.number)
-
-  -- one more record, and the end
-  pub token_more : {a : ℕ} (place : ℕ) → a ≡ get_or ws (4 * i) 0
-      → unpack_place place ≡ place_at (get_or ws (4 * i + 1) 0) (get_or ws (4 * i + 2) 0)
-      → {o₀ o o1 : List ℕ} {pos count p q : ℕ} (x : ℕ) → Fielding (λ n. listed ws 0 n) o₀ pos 0x62 count o i p
-      → i < count → L.unpack x ≡ L.error_at a place 0 0 → Fielded o p 0x62 (L.unpack x ∷ []) o1 q
-      → length o1 ≡ length o
-      → Fielding (λ n. listed ws 0 n) o₀ pos 0x62 count o1 (i + 1) q
-  token_more place na np x h g u w s =
-      let e : error_of (error_at ws (0 + i)) ≡ L.unpack x = sym (u ∙ rw (na, np, zero-add)) in
-      fields_more h g (listed_more ws 0 i ∙ ap (λ (y : Err). listed ws 0 i ++ (y ∷ [])) e) w s
-
-pub token_done : (ws : List ℕ) {o₀ o : List ℕ} {pos count i p : ℕ} → Fielding (λ n. listed ws 0 n) o₀ pos 0x62 count o i p
-    → count ≤ i → TokenFields o₀ pos ws count o p
-token_done ws {count = count} h g es e = rw (errors_are ws count es e) at (fields_done h g)
+  pub records_are : (n i : ℕ) (es : List Err) → errors_of ws i n ≡ some es → map f (first_chunks 4 n (drop (4 * i) ws)) ≡ es
+  unfolding errors_of
+  records_are zero i es e = cc
+  records_are (suc n) i es e =
+      let c = passed (valid_error (error_at ws i)) (error_before (error_of (error_at ws i)) (errors_of ws (suc i) n)) e in
+      rw (record_is i c.0, drop-drop 4 (4 * i) ws) (more _ (λ vs. records_are n (suc i) vs) c.1)
+    where
+      more : (o : Option (List Err)) → ((vs : List Err) → o ≡ some vs → map f (first_chunks 4 n (drop (4 * suc i) ws)) ≡ vs)
+          → error_before (error_of (error_at ws i)) o ≡ some es
+          → error_of (error_at ws i) ∷ map f (first_chunks 4 n (drop (4 * i + 4) ws)) ≡ es
+      more none g q = never q
+      more (some vs) g q =
+          let k : 4 * i + 4 ≡ 4 * suc i = omega arith in
+          rw (k, g vs refl) cc

@@ -1,49 +1,82 @@
 // Writes the errors as fields after the tree: token errors (tag 62), reported errors (60) and the full list (61).
-// The body of each has seven bytes: number, line and column in two bytes each, expected kind, kind got.
 #![tactic(auto)]
 
-ghost use Rattle.std.specs.Prelude.{[], ◌∷◌, ◌+◌, ◌*◌, ◌≤◌, length};
-ghost use Rattle.definition.specs.Numbers.{tag_number};
-ghost use Rattle.fallible.specs.Lists.{unpack, errs};
-ghost use Rattle.error_fields.specs.Contract.{GoodErrors, Fielded, TokenFields};
+ghost use Rattle.std.specs.Prelude.{◌≡◌, ◌+◌, ◌*◌, ◌≤◌, length, map};
+ghost use Rattle.definition.specs.Fallible.{Err, err_body};
+ghost use Rattle.definition.specs.Numbers.{kind_number, tag_number};
+ghost use Rattle.fallible.specs.Lists.{err_of, error_at};
+ghost use Rattle.error_fields.specs.Errors.{recorded};
+ghost use Rattle.error_fields.specs.Contract.{Fielded};
 
 use definition::kind::Kind;
+use definition::place::Place;
 use definition::tag::Tag;
-use fallible::packed;
-use node::{Numbers, place_at, wide, write_bare};
+use fallible::error::Error;
+use node::{Numbers, Record, two, write_record};
 
-// Writes the field of one error, which is packed into one number.
-fn error_field(file: &mut [u8], pos: usize, tag: Tag, e: usize) -> usize
-    requires { pos + 23 ≤ length file.old }
-    ensures { Fielded (unpack e ∷ []) file pos (tag_number tag) result }
+// The body of an error's field, seven bytes: number, line and column in two bytes each, expected kind, kind got.
+fn body(number: u8, place: Place, expected: Kind, got: Kind) -> [u8; 7]
+    ensures { result ≡ err_body (error_at number place (kind_number expected) (kind_number got)) }
 {
-    write_bare(file, &e.to_be_bytes(), pos, tag, Numbers::None, 1, 7)
+    let [line_high, line_low] = two(place.line as usize);
+    let [column_high, column_low] = two(place.column as usize);
+    [
+        number,
+        line_high,
+        line_low,
+        column_high,
+        column_low,
+        expected as u8,
+        got as u8,
+    ]
 }
 
-// Writes the fields of a list of `count` errors.
-pub fn error_fields(file: &mut [u8], pos: usize, tag: Tag, list: &[usize], count: usize) -> usize
-    requires { (pos + 10 * count + 13 ≤ length file.old) × (count ≤ length list.now) }
-    ensures { Fielded (errs list.now count) file pos (tag_number tag) result }
-{
-    let mut p = pos;
-    for e in &list[..count] {
-        p = error_field(file, p, tag, *e);
+// What is written as an error's field.
+pub trait Entry {
+    ghost err: { Self → Err };
+
+    fn body(&self) -> [u8; 7]
+        ensures { result ≡ err_body (err self.now) };
+}
+
+impl Entry for Error {
+    ghost err = { err_of };
+
+    fn body(&self) -> [u8; 7] {
+        body(self.error as u8, self.place, self.expected, self.got)
     }
-    p
 }
 
-// Writes the fields of `count` token errors, whose records are valid.
-pub fn token_error_fields(file: &mut [u8], pos: usize, errors: &[u32], count: usize) -> usize
-    requires { (pos + 10 * count + 13 ≤ length file.old) × GoodErrors errors count }
-    ensures { TokenFields file pos errors count result }
+// The record of a token error. Its number is not read as a `TokenError`: the records are valid, so that would add an arm
+// that none takes.
+impl Entry for [u32; 4] {
+    ghost err = { recorded };
+
+    fn body(&self) -> [u8; 7] {
+        let [number, line, column, _] = *self;
+        body(
+            (number % 256) as u8,
+            Place { line, column },
+            Kind::End,
+            Kind::End,
+        )
+    }
+}
+
+// Writes the fields of a list of errors.
+pub fn error_fields<E: Entry>(file: &mut [u8], pos: usize, tag: Tag, list: &[E]) -> usize
+    requires { pos + 10 * length list.now + 13 ≤ length file.old }
+    ensures { Fielded (map E.err list.now) file pos (tag_number tag) result }
 {
     let mut p = pos;
-    for i in 0..count {
-        let k = 4 * i;
-        let place = place_at(errors[k + 1], errors[k + 2]);
-        // Not read as a `TokenError`: the records are valid, so that would add an arm that none takes.
-        let e = packed(wide(errors[k]), place, Kind::End, Kind::End);
-        p = error_field(file, p, Tag::TokenError, e);
+    for e in list {
+        let field = Record {
+            tag,
+            place: None,
+            numbers: Numbers::None,
+            text: &e.body(),
+        };
+        p = write_record(file, p, field);
     }
     p
 }

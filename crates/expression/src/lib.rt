@@ -1,26 +1,29 @@
 // Expressions, types and the lists in them: the functions of parser.rs that call one another in a cycle.
+// The loops go on by a token: how many a turn consumes only its parser knows, so no iterator gives the turns.
 #![tactic(auto)]
 
-ghost use Rattle.std.specs.Prelude.{◌≡◌, ◌<◌, ◌≤◌};
+ghost use Rattle.std.specs.Prelude.{◌≡◌, ◌≤◌};
 ghost use Rattle.definition.specs.Numbers.{tag_number};
 ghost use Rattle.definition.specs.Parser as P;
 ghost use Rattle.leaves.specs.Leaves.{listed_of, level_of};
-ghost use Rattle.definition.specs.Places.{unpack_place};
+ghost use Rattle.definition.specs.Places.{place_of};
 ghost use Rattle.expression_laws.specs.Post.{operators_on};
 ghost use Rattle.steps.specs.Contract.{Asked, GoesOn, Parses, ParsesOn};
 ghost use Rattle.expression_laws.specs.Contract.{NameRoom, BareNamed, ReadsTyped, TypedOn, ReadsList};
 
 use definition::kind::Kind;
 use definition::parse_error::ParseError;
+use definition::place::Place;
 use definition::refusal::Refusal;
 use definition::tag::Tag;
+use fallible::error::Error;
 use fallible::parser::{Parser, State};
-use fallible::{Stop, abandon, entry, recover};
+use fallible::{Stop, abandon, recover};
 use leaves::{
-    LEVELS, Level, Listed, arithmetic, array_size, close, closer, comma, comparison_operator,
-    counted, level_at, literal, name, name_alone, opener, operator, prefix,
+    LEVELS, Level, Listed, arithmetic, array_size, close, comma, comparison_operator, counted,
+    literal, name, name_alone, name_of, operator, prefix,
 };
-use node::{Numbers, write_bare};
+use node::{Numbers, Record, write_record};
 use steps::tokens::Tokens;
 use steps::{expect, expect_after, expect_identifier, write_node, write_text_node};
 
@@ -31,7 +34,7 @@ pub fn expression(
     file: &mut [u8],
     parser: &mut Parser,
     nesting: usize,
-) -> Result<usize, Stop>
+) -> Result<Place, Stop>
     requires { Asked tokens file parser }
     ensures { Parses P.parse_expression tokens file parser nesting result }
 {
@@ -41,6 +44,8 @@ pub fn expression(
     boolean(tokens, file, parser, nesting - 1)
 }
 
+// The levels are functions that call one another, as the project asks, and not one with the level as a parameter.
+
 // parse_boolean_combinator: comparison [`&&` comparison]
 #[cycle(expression)]
 fn boolean(
@@ -48,32 +53,28 @@ fn boolean(
     file: &mut [u8],
     parser: &mut Parser,
     nesting: usize,
-) -> Result<usize, Stop>
+) -> Result<Place, Stop>
     requires { Asked tokens file parser }
     ensures { Parses P.expression_rule tokens file parser nesting result }
 {
     let from = parser.state;
-    let a = comparison(tokens, file, parser, nesting);
-    let Ok(_) = a else {
-        return a;
-    };
+    let place = comparison(tokens, file, parser, nesting)?;
     let before = parser.state;
     let t = tokens.peek(before.at);
     let Kind::DoubleAmpersand = t.kind else {
-        return a;
+        return Ok(place);
     };
     parser.state.at = t.next;
-    let b = comparison(tokens, file, parser, nesting);
-    let c = abandon(&mut parser.reported, &mut parser.state, b, from, before);
-    write_node(
-        file,
-        tokens.text,
+    let second = comparison(tokens, file, parser, nesting);
+    abandon(
+        &mut parser.reported,
         &mut parser.state,
-        c,
-        t.place,
-        Tag::BooleanAnd,
-        Numbers::None,
-    )
+        second,
+        from,
+        before,
+    )?;
+    let tag = Tag::BooleanAnd;
+    Ok(write_node(file, &mut parser.state, t.place, tag, Numbers::None))
 }
 
 // parse_comparison: bit_or [(`==` | `<` | `<=` | `>` | `>=`) bit_or]
@@ -83,33 +84,28 @@ fn comparison(
     file: &mut [u8],
     parser: &mut Parser,
     nesting: usize,
-) -> Result<usize, Stop>
+) -> Result<Place, Stop>
     requires { Asked tokens file parser }
     ensures { Parses P.parse_comparison tokens file parser nesting result }
 {
     let from = parser.state;
-    let a = bit_or(tokens, file, parser, nesting);
-    let Ok(_) = a else {
-        return a;
-    };
+    let place = bit_or(tokens, file, parser, nesting)?;
     let before = parser.state;
     let t = tokens.peek(before.at);
     let Some(op) = comparison_operator(t.kind) else {
-        return a;
+        return Ok(place);
     };
     parser.state.at = t.next;
-    let b = bit_or(tokens, file, parser, nesting);
-    let c = abandon(&mut parser.reported, &mut parser.state, b, from, before);
-    let numbers = Numbers::Byte(op);
-    write_node(
-        file,
-        tokens.text,
+    let second = bit_or(tokens, file, parser, nesting);
+    abandon(
+        &mut parser.reported,
         &mut parser.state,
-        c,
-        t.place,
-        Tag::ComparisonBinOp,
-        numbers,
-    )
+        second,
+        from,
+        before,
+    )?;
+    let tag = Tag::ComparisonBinOp;
+    Ok(write_node(file, &mut parser.state, t.place, tag, Numbers::Byte(op)))
 }
 
 // parse_bitwise_or: bit_xor {`|` bit_xor}. The six levels share their first operand, so it is parsed once; if an
@@ -120,29 +116,21 @@ fn bit_or(
     file: &mut [u8],
     parser: &mut Parser,
     nesting: usize,
-) -> Result<usize, Stop>
+) -> Result<Place, Stop>
     requires { Asked tokens file parser }
     ensures { Parses P.parse_bitwise_or tokens file parser nesting result }
 {
     let from = parser.state;
-    let mut a = cast(tokens, file, parser, nesting);
-    let Ok(_) = a else {
-        return a;
-    };
+    let mut place = cast(tokens, file, parser, nesting)?;
     let t = tokens.peek(parser.state.at);
     if !arithmetic(t.kind) {
-        return a;
+        return Ok(place);
     }
-    let mut k = 0;
-    while k < LEVELS {
-        let level = level_at(k);
-        a = operators(tokens, file, parser, level, a, from, nesting);
-        k += 1;
+    for level in &LEVELS {
+        place = operators(tokens, file, parser, *level, place, from, nesting)?;
     }
-    a
+    Ok(place)
 }
-
-// The levels below are functions that call one another, as the project asks, and not one with the level as a parameter.
 
 // parse_bitwise_xor: bit_and {`^` bit_and}
 #[cycle(expression)]
@@ -151,13 +139,21 @@ fn bit_xor(
     file: &mut [u8],
     parser: &mut Parser,
     nesting: usize,
-) -> Result<usize, Stop>
+) -> Result<Place, Stop>
     requires { Asked tokens file parser }
     ensures { Parses P.parse_bitwise_xor tokens file parser nesting result }
 {
     let from = parser.state;
-    let a = bit_and(tokens, file, parser, nesting);
-    operators(tokens, file, parser, Level::BitwiseXor, a, from, nesting)
+    let first = bit_and(tokens, file, parser, nesting)?;
+    operators(
+        tokens,
+        file,
+        parser,
+        Level::BitwiseXor,
+        first,
+        from,
+        nesting,
+    )
 }
 
 // parse_bitwise_and: shift {`&` shift}
@@ -167,13 +163,21 @@ fn bit_and(
     file: &mut [u8],
     parser: &mut Parser,
     nesting: usize,
-) -> Result<usize, Stop>
+) -> Result<Place, Stop>
     requires { Asked tokens file parser }
     ensures { Parses P.parse_bitwise_and tokens file parser nesting result }
 {
     let from = parser.state;
-    let a = shift(tokens, file, parser, nesting);
-    operators(tokens, file, parser, Level::BitwiseAnd, a, from, nesting)
+    let first = shift(tokens, file, parser, nesting)?;
+    operators(
+        tokens,
+        file,
+        parser,
+        Level::BitwiseAnd,
+        first,
+        from,
+        nesting,
+    )
 }
 
 // parse_bit_shift: add_sub {(`<<` | `>>`) add_sub}
@@ -183,13 +187,13 @@ fn shift(
     file: &mut [u8],
     parser: &mut Parser,
     nesting: usize,
-) -> Result<usize, Stop>
+) -> Result<Place, Stop>
     requires { Asked tokens file parser }
     ensures { Parses P.parse_bit_shift tokens file parser nesting result }
 {
     let from = parser.state;
-    let a = add_sub(tokens, file, parser, nesting);
-    operators(tokens, file, parser, Level::BitShift, a, from, nesting)
+    let first = add_sub(tokens, file, parser, nesting)?;
+    operators(tokens, file, parser, Level::BitShift, first, from, nesting)
 }
 
 // parse_add_sub: mul {(`+` | `-`) mul}
@@ -199,24 +203,24 @@ fn add_sub(
     file: &mut [u8],
     parser: &mut Parser,
     nesting: usize,
-) -> Result<usize, Stop>
+) -> Result<Place, Stop>
     requires { Asked tokens file parser }
     ensures { Parses P.parse_add_sub tokens file parser nesting result }
 {
     let from = parser.state;
-    let a = mul(tokens, file, parser, nesting);
-    operators(tokens, file, parser, Level::AddSub, a, from, nesting)
+    let first = mul(tokens, file, parser, nesting)?;
+    operators(tokens, file, parser, Level::AddSub, first, from, nesting)
 }
 
 // parse_mul: cast {`*` cast}
 #[cycle(expression)]
-fn mul(tokens: Tokens, file: &mut [u8], parser: &mut Parser, nesting: usize) -> Result<usize, Stop>
+fn mul(tokens: Tokens, file: &mut [u8], parser: &mut Parser, nesting: usize) -> Result<Place, Stop>
     requires { Asked tokens file parser }
     ensures { Parses P.parse_mul tokens file parser nesting result }
 {
     let from = parser.state;
-    let a = cast(tokens, file, parser, nesting);
-    operators(tokens, file, parser, Level::Mul, a, from, nesting)
+    let first = cast(tokens, file, parser, nesting)?;
+    operators(tokens, file, parser, Level::Mul, first, from, nesting)
 }
 
 // Parses an operand of a level: the next tighter level, or a cast.
@@ -227,7 +231,7 @@ fn cascade(
     parser: &mut Parser,
     level: Level,
     nesting: usize,
-) -> Result<usize, Stop>
+) -> Result<Place, Stop>
     requires { Asked tokens file parser }
     ensures { Parses (P.cascade (level_of level)) tokens file parser nesting result }
 {
@@ -241,86 +245,70 @@ fn cascade(
     }
 }
 
-// The loop of parse_arithmetic_binop: {operator operand}, after the call `first`.
+// The loop of parse_arithmetic_binop: {operator operand}, after the node at `first`.
 #[cycle(expression)]
 fn operators(
     tokens: Tokens,
     file: &mut [u8],
     parser: &mut Parser,
     level: Level,
-    first: Result<usize, Stop>,
+    first: Place,
     from: State,
     nesting: usize,
-) -> Result<usize, Stop>
+) -> Result<Place, Stop>
     requires { GoesOn tokens file parser first from }
     ensures { ParsesOn (operators_on (level_of level)) tokens file parser first from nesting result }
 {
-    let mut a = first;
+    let mut place = first;
     loop {
-        let Ok(_) = a else {
-            return a;
-        };
         let before = parser.state;
         let t = tokens.peek(before.at);
         let Some(op) = operator(level, t.kind) else {
-            return a;
+            return Ok(place);
         };
         parser.state.at = t.next;
-        let b = cascade(tokens, file, parser, level, nesting);
-        let c = abandon(&mut parser.reported, &mut parser.state, b, from, before);
-        let numbers = Numbers::Byte(op);
-        a = write_node(
-            file,
-            tokens.text,
+        let second = cascade(tokens, file, parser, level, nesting);
+        abandon(
+            &mut parser.reported,
             &mut parser.state,
-            c,
-            t.place,
-            Tag::ArithmeticBinOp,
-            numbers,
-        );
+            second,
+            from,
+            before,
+        )?;
+        let tag = Tag::ArithmeticBinOp;
+        place = write_node(file, &mut parser.state, t.place, tag, Numbers::Byte(op));
     }
 }
 
 // parse_cast: unary {`as` type}
 #[cycle(expression)]
-fn cast(tokens: Tokens, file: &mut [u8], parser: &mut Parser, nesting: usize) -> Result<usize, Stop>
+fn cast(tokens: Tokens, file: &mut [u8], parser: &mut Parser, nesting: usize) -> Result<Place, Stop>
     requires { Asked tokens file parser }
     ensures { Parses P.parse_cast tokens file parser nesting result }
 {
     let from = parser.state;
-    let mut a = operand(tokens, file, parser, nesting);
+    let mut place = operand(tokens, file, parser, nesting)?;
     loop {
-        let Ok(_) = a else {
-            return a;
-        };
         let before = parser.state;
         let t = tokens.peek(before.at);
         let Kind::KwAs = t.kind else {
-            return a;
+            return Ok(place);
         };
         parser.state.at = t.next;
-        let b = ty(tokens, file, parser, nesting);
-        let c = abandon(&mut parser.reported, &mut parser.state, b, from, before);
-        a = write_node(
-            file,
-            tokens.text,
-            &mut parser.state,
-            c,
-            t.place,
-            Tag::Cast,
-            Numbers::None,
-        );
+        let to = ty(tokens, file, parser, nesting);
+        abandon(&mut parser.reported, &mut parser.state, to, from, before)?;
+        place = write_node(file, &mut parser.state, t.place, Tag::Cast, Numbers::None);
     }
 }
 
-// unary, with a short cut: a name with no suffix and no call, the most common operand, is written at once.
+// unary. A name with no suffix and no call, the most common operand, is written at once.
 #[cycle(expression)]
 fn operand(
     tokens: Tokens,
     file: &mut [u8],
     parser: &mut Parser,
     nesting: usize,
-) -> Result<usize, Stop>
+) -> Result<Place, Stop>
     requires { Asked tokens file parser }
     ensures { Parses P.parse_unary tokens file parser nesting result }
 {
@@ -329,7 +317,7 @@ fn operand(
     if (nesting == 0) | !name_alone(t.kind, u.kind) {
         return unary(tokens, file, parser, nesting);
     }
-    Ok(name(file, tokens.text, &mut parser.state, t))
+    Ok(name(file, &mut parser.state, t))
 }
 
 // parse_unary: (`&` | `*` | `~` | `!`) unary | call. Open calls are counted.
@@ -339,7 +327,7 @@ fn unary(
     file: &mut [u8],
     parser: &mut Parser,
     nesting: usize,
-) -> Result<usize, Stop>
+) -> Result<Place, Stop>
     requires { Asked tokens file parser }
     ensures { Parses P.parse_unary tokens file parser nesting result }
 {
@@ -352,20 +340,12 @@ fn unary(
     };
     parser.state.at = t.next;
     let place = unary(tokens, file, parser, nesting - 1)?;
-    write_node(
-        file,
-        tokens.text,
-        &mut parser.state,
-        Ok(place),
-        place,
-        tag,
-        Numbers::None,
-    )
+    Ok(write_node(file, &mut parser.state, place, tag, Numbers::None))
 }
 
 // parse_call: sizeof [arguments]. Errors in the arguments are not reported.
 #[cycle(expression)]
-fn call(tokens: Tokens, file: &mut [u8], parser: &mut Parser, nesting: usize) -> Result<usize, Stop>
+fn call(tokens: Tokens, file: &mut [u8], parser: &mut Parser, nesting: usize) -> Result<Place, Stop>
     requires { Asked tokens file parser }
     ensures { Parses P.parse_call tokens file parser nesting result }
 {
@@ -375,18 +355,10 @@ fn call(tokens: Tokens, file: &mut [u8], parser: &mut Parser, nesting: usize) ->
     let Kind::LParen = t.kind else {
         return Ok(place);
     };
-    let b = list(tokens, file, parser, Listed::Arguments, nesting);
+    let arguments = list(tokens, file, parser, Listed::Arguments, nesting);
     parser.state.reported = reported;
-    let count = b?;
-    write_node(
-        file,
-        tokens.text,
-        &mut parser.state,
-        Ok(place),
-        place,
-        Tag::Call,
-        Numbers::Two(count),
-    )
+    let numbers = Numbers::Two(arguments?);
+    Ok(write_node(file, &mut parser.state, place, Tag::Call, numbers))
 }
 
 // parse_sizeof: `sizeof` `(` type `)` | field_access_or_index
@@ -396,7 +368,7 @@ fn sizeof(
     file: &mut [u8],
     parser: &mut Parser,
     nesting: usize,
-) -> Result<usize, Stop>
+) -> Result<Place, Stop>
     requires { Asked tokens file parser }
     ensures { Parses P.parse_sizeof tokens file parser nesting result }
 {
@@ -407,17 +379,9 @@ fn sizeof(
     };
     parser.state.at = t.next;
     expect(tokens, parser, Kind::LParen)?;
-    let b = ty(tokens, file, parser, nesting);
-    let c = expect_after(tokens, parser, b, Kind::RParen, from);
-    write_node(
-        file,
-        tokens.text,
-        &mut parser.state,
-        c,
-        t.place,
-        Tag::Sizeof,
-        Numbers::None,
-    )
+    ty(tokens, file, parser, nesting)?;
+    expect_after(tokens, parser, Kind::RParen, from)?;
+    Ok(write_node(file, &mut parser.state, t.place, Tag::Sizeof, Numbers::None))
 }
 
 // parse_field_access_or_index: atom {`.` name | `.*` | `[` expression `]`}
@@ -427,77 +391,50 @@ fn access(
     file: &mut [u8],
     parser: &mut Parser,
     nesting: usize,
-) -> Result<usize, Stop>
+) -> Result<Place, Stop>
     requires { Asked tokens file parser }
     ensures { Parses P.parse_field_access_or_index tokens file parser nesting result }
 {
     let from = parser.state;
-    let mut a = atom(tokens, file, parser, nesting);
+    let mut place = atom(tokens, file, parser, nesting)?;
     loop {
-        let Ok(_) = a else {
-            return a;
-        };
         let before = parser.state;
         let t = tokens.peek(before.at);
-        if let Kind::Dot = t.kind {
-            let u = tokens.peek(t.next);
-            if let Kind::End = u.kind {
-                return Err(parser.state.refuse(tokens.count, Refusal::EndAfterWord));
+        match t.kind {
+            Kind::Dot => {
+                let u = tokens.peek(t.next);
+                if let Kind::End = u.kind {
+                    return Err(parser.state.refuse(tokens.count, Refusal::EndAfterWord));
+                }
+                parser.state.at = u.next;
+                let Kind::Identifier = u.kind else {
+                    let error = Error::at(ParseError::Identifier, u.place);
+                    parser.note(tokens.count, error)?;
+                    return Ok(place);
+                };
+                let (tag, numbers) = (Tag::FieldAccess, Numbers::None);
+                place = write_text_node(file, &mut parser.state, t.place, tag, numbers, u.text);
             }
-            parser.state.at = u.next;
-            let Kind::Identifier = u.kind else {
-                let error = entry(ParseError::Identifier, u.place, Kind::End, Kind::End);
-                parser.note(tokens.count, error)?;
-                return a;
-            };
-            a = write_text_node(
-                file,
-                tokens.text,
-                &mut parser.state,
-                a,
-                t.place,
-                Tag::FieldAccess,
-                Numbers::None,
-                u.start,
-                u.len,
-            );
-            continue;
+            Kind::DotStar => {
+                parser.state.at = t.next;
+                let tag = Tag::PointerDereference;
+                place = write_node(file, &mut parser.state, t.place, tag, Numbers::None);
+            }
+            Kind::LBracket => {
+                parser.state.at = t.next;
+                let index = expression(tokens, file, parser, nesting);
+                abandon(&mut parser.reported, &mut parser.state, index, from, before)?;
+                expect_after(tokens, parser, Kind::RBracket, from)?;
+                place = write_node(file, &mut parser.state, t.place, Tag::Index, Numbers::None);
+            }
+            _ => return Ok(place),
         }
-        if let Kind::DotStar = t.kind {
-            parser.state.at = t.next;
-            a = write_node(
-                file,
-                tokens.text,
-                &mut parser.state,
-                a,
-                t.place,
-                Tag::PointerDereference,
-                Numbers::None,
-            );
-            continue;
-        }
-        let Kind::LBracket = t.kind else {
-            return a;
-        };
-        parser.state.at = t.next;
-        let b = expression(tokens, file, parser, nesting);
-        let c = abandon(&mut parser.reported, &mut parser.state, b, from, before);
-        let d = expect_after(tokens, parser, c, Kind::RBracket, from);
-        a = write_node(
-            file,
-            tokens.text,
-            &mut parser.state,
-            d,
-            t.place,
-            Tag::Index,
-            Numbers::None,
-        );
     }
 }
 
 // parse_atom: literal | `(` expression `)`
 #[cycle(expression)]
-fn atom(tokens: Tokens, file: &mut [u8], parser: &mut Parser, nesting: usize) -> Result<usize, Stop>
+fn atom(tokens: Tokens, file: &mut [u8], parser: &mut Parser, nesting: usize) -> Result<Place, Stop>
     requires { Asked tokens file parser }
     ensures { Parses P.parse_atom tokens file parser nesting result }
 {
@@ -512,35 +449,19 @@ fn atom(tokens: Tokens, file: &mut [u8], parser: &mut Parser, nesting: usize) ->
 
 // ---- names
 
-// Writes a record without a place after the call `called`, unless it stopped, with the name at index `at`, or `<?>` if
-// none is there.
-fn bare_name(
-    tokens: Tokens,
-    file: &mut [u8],
-    state: &mut State,
-    called: Result<usize, Stop>,
-    tag: Tag,
-    at: usize,
-) -> Result<usize, Stop>
-    requires { NameRoom tokens file state called at }
-    ensures { BareNamed tokens file state called (tag_number tag) at result }
+// Writes a record without a place, with the name that the token at index `at` gives.
+fn bare_name(tokens: Tokens, file: &mut [u8], state: &mut State, tag: Tag, at: usize)
+    requires { NameRoom tokens file state at }
+    ensures { BareNamed tokens file state (tag_number tag) at }
 {
-    called?;
     let t = tokens.peek(at);
-    if let Kind::Identifier = t.kind {
-        state.pos = write_bare(
-            file,
-            tokens.text,
-            state.pos,
-            tag,
-            Numbers::None,
-            t.start,
-            t.len,
-        );
-        return Ok(0);
-    }
-    state.pos = write_bare(file, b"<?>", state.pos, tag, Numbers::None, 0, 3);
-    Ok(0)
+    let record = Record {
+        tag,
+        place: None,
+        numbers: Numbers::None,
+        text: name_of(t),
+    };
+    state.pos = write_record(file, state.pos, record);
 }
 
 // ---- types
@@ -552,7 +473,7 @@ pub fn ty(
     file: &mut [u8],
     parser: &mut Parser,
     nesting: usize,
-) -> Result<usize, Stop>
+) -> Result<Place, Stop>
     requires { Asked tokens file parser }
     ensures { Parses P.parse_type tokens file parser nesting result }
 {
@@ -563,50 +484,33 @@ pub fn ty(
     let t = tokens.peek(parser.state.at);
     parser.state.at = t.next;
     match t.kind {
-        Kind::Identifier => write_text_node(
-            file,
-            tokens.text,
-            &mut parser.state,
-            Ok(t.place),
-            t.place,
-            Tag::Name,
-            Numbers::None,
-            t.start,
-            t.len,
-        ),
+        Kind::Identifier => {
+            let (tag, numbers) = (Tag::Name, Numbers::None);
+            Ok(write_text_node(file, &mut parser.state, t.place, tag, numbers, t.text))
+        }
         Kind::Star => {
-            let a = ty(tokens, file, parser, nesting - 1);
-            write_node(
+            ty(tokens, file, parser, nesting - 1)?;
+            Ok(write_node(
                 file,
-                tokens.text,
                 &mut parser.state,
-                a,
                 t.place,
                 Tag::Pointer,
                 Numbers::None,
-            )
+            ))
         }
         Kind::LBracket => array(tokens, file, parser, t.place, nesting - 1),
         Kind::KwStruct => {
-            let a = list(tokens, file, parser, Listed::StructFields, nesting - 1);
+            let fields = list(tokens, file, parser, Listed::StructFields, nesting - 1);
             parser.state.reported = reported;
-            let count = a?;
-            write_node(
-                file,
-                tokens.text,
-                &mut parser.state,
-                Ok(t.place),
-                t.place,
-                Tag::Struct,
-                Numbers::Two(count),
-            )
+            let numbers = Numbers::Two(fields?);
+            Ok(write_node(file, &mut parser.state, t.place, Tag::Struct, numbers))
         }
         Kind::End => {
-            let error = entry(ParseError::TypeAtEnd, 0, Kind::End, Kind::End);
+            let error = Error::at_end(ParseError::TypeAtEnd);
             Err(parser.raise(tokens.count, error))
         }
         _ => {
-            let error = entry(ParseError::Type, t.place, Kind::End, t.kind);
+            let error = Error::new(ParseError::Type, t.place, Kind::End, t.kind);
             Err(parser.raise(tokens.count, error))
         }
     }
@@ -618,39 +522,35 @@ fn array(
     tokens: Tokens,
     file: &mut [u8],
     parser: &mut Parser,
-    place: usize,
+    place: Place,
     nesting: usize,
-) -> Result<usize, Stop>
-    requires { Asked tokens file parser × (place < 0x100000000) }
-    ensures { Parses (P.parse_array_type (unpack_place place)) tokens file parser nesting result }
+) -> Result<Place, Stop>
+    requires { Asked tokens file parser }
+    ensures { Parses (P.parse_array_type (place_of place)) tokens file parser nesting result }
 {
     let t = tokens.peek(parser.state.at);
     parser.state.at = t.next;
     let Kind::Integer = t.kind else {
-        let error = entry(ParseError::ArraySize, place, Kind::End, Kind::End);
+        let error = Error::at(ParseError::ArraySize, place);
         return Err(parser.raise(tokens.count, error));
     };
-    let size = array_size(tokens.text, t.start, t.len, t.base);
-    if !size.fits {
-        let error = entry(ParseError::ArraySizePositive, place, Kind::End, Kind::End);
+    let Some(size) = array_size(t.text, t.base) else {
+        let error = Error::at(ParseError::ArraySizePositive, place);
         return Err(parser.raise(tokens.count, error));
-    }
+    };
     expect(tokens, parser, Kind::RBracket)?;
-    let b = ty(tokens, file, parser, nesting);
-    let numbers = Numbers::Eight(size.number);
-    write_node(
+    ty(tokens, file, parser, nesting)?;
+    Ok(write_node(
         file,
-        tokens.text,
         &mut parser.state,
-        b,
         place,
         Tag::Array,
-        numbers,
-    )
+        Numbers::Eight(size),
+    ))
 }
 
-// Parses what follows the name of a typed identifier: `:` type,
-// in a construct that began in the state `from`.
+// Parses what follows the name of a typed identifier, `:` type, in a construct that began in the state `from`. The place
+// that it gives is not used.
 #[cycle(expression)]
 fn typed(
     tokens: Tokens,
@@ -658,19 +558,16 @@ fn typed(
     parser: &mut Parser,
     from: State,
     nesting: usize,
-) -> Result<usize, Stop>
+) -> Result<Place, Stop>
     requires { Asked tokens file parser × ((from.pos ≡ parser.now.state.pos) × (from.reported ≤ parser.now.state.reported)) }
     ensures { TypedOn tokens file parser from nesting result }
 {
     let before = parser.state;
-    let a = expect(tokens, parser, Kind::Colon);
-    let b = abandon(&mut parser.reported, &mut parser.state, a, from, before);
-    let Ok(_) = b else {
-        return b;
-    };
+    let colon = expect(tokens, parser, Kind::Colon);
+    abandon(&mut parser.reported, &mut parser.state, colon, from, before)?;
     let between = parser.state;
-    let c = ty(tokens, file, parser, nesting);
-    abandon(&mut parser.reported, &mut parser.state, c, from, between)
+    let of = ty(tokens, file, parser, nesting);
+    abandon(&mut parser.reported, &mut parser.state, of, from, between)
 }
 
 // parse_typed_identifier: name `:` type. The caller takes the name from the first token.
@@ -680,7 +577,7 @@ pub fn typed_name(
     file: &mut [u8],
     parser: &mut Parser,
     nesting: usize,
-) -> Result<usize, Stop>
+) -> Result<Place, Stop>
     requires { Asked tokens file parser }
     ensures { ReadsTyped tokens file parser nesting result }
 {
@@ -690,11 +587,11 @@ pub fn typed_name(
     match t.kind {
         Kind::Identifier => typed(tokens, file, parser, from, nesting),
         Kind::End => {
-            let error = entry(ParseError::EndOfFile, 0, Kind::End, Kind::End);
+            let error = Error::at_end(ParseError::EndOfFile);
             Err(parser.raise(tokens.count, error))
         }
         _ => {
-            let error = entry(ParseError::Identifier, t.place, Kind::End, Kind::End);
+            let error = Error::at(ParseError::Identifier, t.place);
             parser.note(tokens.count, error)?;
             typed(tokens, file, parser, from, nesting)
         }
@@ -703,20 +600,21 @@ pub fn typed_name(
 
 // ---- lists
 
-// A parameter, or a field of a struct type: typed_name and its record.
+// A parameter, or a field of a struct type: typed_name and its record, which has no place.
 #[cycle(expression)]
 fn named(
     tokens: Tokens,
     file: &mut [u8],
     parser: &mut Parser,
     nesting: usize,
-) -> Result<usize, Stop>
+) -> Result<Place, Stop>
     requires { Asked tokens file parser }
     ensures { Parses P.parse_named_type tokens file parser nesting result }
 {
     let at = parser.state.at;
-    let a = typed_name(tokens, file, parser, nesting);
-    bare_name(tokens, file, &mut parser.state, a, Tag::NamedType, at)
+    typed_name(tokens, file, parser, nesting)?;
+    bare_name(tokens, file, &mut parser.state, Tag::NamedType, at);
+    Ok(Place::NOWHERE)
 }
 
 // parse_compound_struct_field: name `=` expression
@@ -726,29 +624,17 @@ fn field(
     file: &mut [u8],
     parser: &mut Parser,
     nesting: usize,
-) -> Result<usize, Stop>
+) -> Result<Place, Stop>
     requires { Asked tokens file parser }
     ensures { Parses P.parse_compound_struct_field tokens file parser nesting result }
 {
     let from = parser.state;
     let t = tokens.peek(from.at);
-    let a = expect_identifier(tokens, parser);
-    let b = expect_after(tokens, parser, a, Kind::Equals, from);
-    let Ok(place) = b else {
-        return b;
-    };
-    let c = expression(tokens, file, parser, nesting);
-    write_text_node(
-        file,
-        tokens.text,
-        &mut parser.state,
-        c,
-        place,
-        Tag::CompoundField,
-        Numbers::None,
-        t.start,
-        t.len,
-    )
+    let place = expect_identifier(tokens, parser)?;
+    expect_after(tokens, parser, Kind::Equals, from)?;
+    expression(tokens, file, parser, nesting)?;
+    let (tag, numbers) = (Tag::CompoundField, Numbers::None);
+    Ok(write_text_node(file, &mut parser.state, place, tag, numbers, t.text))
 }
 
 // Parses one item of a list.
@@ -759,15 +645,13 @@ fn item(
     parser: &mut Parser,
     what: Listed,
     nesting: usize,
-) -> Result<usize, Stop>
+) -> Result<Place, Stop>
     requires { Asked tokens file parser }
     ensures { Parses (P.item (listed_of what)) tokens file parser nesting result }
 {
     match what {
-        Listed::Parameters => named(tokens, file, parser, nesting),
-        Listed::Arguments => expression(tokens, file, parser, nesting),
-        Listed::StructFields => named(tokens, file, parser, nesting),
-        Listed::ArrayValues => expression(tokens, file, parser, nesting),
+        Listed::Parameters | Listed::StructFields => named(tokens, file, parser, nesting),
+        Listed::Arguments | Listed::ArrayValues => expression(tokens, file, parser, nesting),
         Listed::StructValues => field(tokens, file, parser, nesting),
     }
 }
@@ -784,13 +668,13 @@ pub fn list(
     requires { Asked tokens file parser }
     ensures { ReadsList (listed_of what) tokens file parser nesting result }
 {
-    recover(expect(tokens, parser, opener(what)))?;
-    let close = closer(what);
+    let (open, close) = what.brackets();
+    recover(expect(tokens, parser, open))?;
     let mut count = 0;
     loop {
         let t = tokens.peek(parser.state.at);
         if let Kind::End = t.kind {
-            let error = entry(ParseError::ListAtEnd, 0, Kind::End, Kind::End);
+            let error = Error::at_end(ParseError::ListAtEnd);
             parser.note(tokens.count, error)?;
             return Ok(count);
         }

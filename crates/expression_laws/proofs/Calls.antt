@@ -2,7 +2,7 @@
 use mathlib.Core.Path.{◌≡◌, refl, sym, ap, ◌∙◌, subst}
 use mathlib.Core.Option.{some}
 use mathlib.Core.List.{List, [], ◌∷◌, ◌++◌, append-nil}
-use Prim.Native.Nat.{ℕ, min, ◌+◌, ◌*◌, ◌-◌, ◌≤◌, ◌<◌}
+use Prim.Native.Nat.{ℕ, min, ◌+◌, ◌*◌, ◌-◌, ◌≤◌}
 use native.Mathlib.Omega.{arith}
 use lib.ListN.{length, take}
 use lib.Seq.{length-take-le}
@@ -23,13 +23,12 @@ use Rattle.fallible.specs.declared.parser.State.{State}
 use Rattle.fallible.specs.Answer.{Status, Done, Fatal, Refused, Answer}
 use Rattle.fallible.specs.Lists.{errs}
 use Rattle.fallible.specs.Answers.{silent}
-use Rattle.node.specs.Put.{rec_of, size_of, Room}
+use Rattle.node.specs.Put.{placed, size_of}
 use Rattle.node.specs.declared.Numbers.TheVariants.{None, Two}
-use Rattle.node.specs.declared.Record.{Record}
 use Rattle.steps.specs.declared.tokens.Token.{Token}
 use Rattle.steps.specs.Tokens.{rest, budget, Seen}
 use Rattle.steps.specs.Shows.{st_of, Asked, Moved, View, Good, Bad, ShowsOf, Shows, Reads, Goes, GoesOn, node, items, token, Expects, Follows, Expected, NodeWritten}
-use Rattle.steps.proofs.Records.{present_before, yes, no, fore, adv}
+use Rattle.steps.proofs.Records.{yes, no, fore, adv}
 use Rattle.steps.proofs.Moves.{asks_moved, fore_moved, moved_trans}
 use Rattle.steps.proofs.Answers.{Stopped, say, good_of, stops, follows, wrapped, writes_node, tree_join, errs_join}
 use Rattle.steps.proofs.Constructs.{down}
@@ -41,17 +40,18 @@ use Rattle.leaves.specs.Leaves.{operator_of, number_of, prefixes, ClosingOf, Clo
 use Rattle.expression_laws.specs.Post.{ReadsList}
 use Rattle.expression_laws.proofs.Types.{past, drops, dropping}
 use Rattle.expression_laws.proofs.Joins.{goes_none}
+use Rattle.fallible.specs.declared.error.Error.{Error}
 
 -- ---- a token, an operand, and the record after them
 
-module _ {A : Type 0} {K : View A} {w x : List ℕ} {n d : ℕ} {o r f o1 r1 f1 o2 : List ℕ} {s : State} {b y : Answer} {t : Token} {v : Record} {m : Act (Ans A)} {M : Act (Ans Node)} (p : A → Place) (ns : A → List Num) (text : List ℕ)
-    (q : Asked w x n o r f s) (u : Seen w n s.at t) (B : Reads K w x n d m o r f (fore s t) o1 r1 f1 b) (F : NodeWritten x o1 b v o2 y)
-    (paid : size_of v ≤ 16 * min (kind_number t.kind) 1 + t.len) (made : (i : A) → K.fine b.place b.count i → rec_of x v ≡ record { tag = tag_number v.tag; place = some (p i); numbers = ns i; text = text }) where
+module _ {A : Type 0} {K : View A} {w x : List ℕ} {n d : ℕ} {o : List ℕ} {r f : List Error} {o1 : List ℕ} {r1 f1 : List Error} {o2 : List ℕ} {s : State} {b y : Answer} {t : Token} {v : Rec} {m : Act (Ans A)} {M : Act (Ans Node)} (p : A → Place) (ns : A → List Num) (text : List ℕ)
+    (q : Asked w n o r f s) (u : Seen w x n s.at t) (B : Reads K w x n d m o r f (fore s t) o1 r1 f1 b) (F : NodeWritten o1 b v o2 y)
+    (paid : size_of v ≤ 16 * min (kind_number t.kind) 1 + length t.text.now) (made : (i : A) → K.fine b.place b.count i → v ≡ record { tag = v.tag; place = some (p i); numbers = ns i; text = text }) where
   -- an act that reads the token t, then m, and writes the record v, reads a node
   pub wraps_token : (rd' : List Consumed → List Consumed)
       → ((rd : List Consumed)
       → go d M (st_of w x n f rd s)
-      ≡ go d (m >>? wrapped K [] [] (tag_number v.tag) p ns text) (st_of w x n f (rd' rd) (fore s t)))
+      ≡ go d (m >>? wrapped K [] [] (v.tag) p ns text) (st_of w x n f (rd' rd) (fore s t)))
       → Reads node w x n d M o r f s o2 r1 f1 y
   wraps_token rd' step =
       let e : budget w n y.state.at ≡ budget w n b.state.at = ap (λ (k : ℕ). budget w n k) F.at in
@@ -69,16 +69,16 @@ module _ {A : Type 0} {K : View A} {w x : List ℕ} {n d : ℕ} {o r f o1 r1 f1 
             };
         on = omega (arith, F.at, u.on, u.present, B.moved.at);
         is =
-            λ rd. say (step rd ∙ go_bind d m (or_return (wrapped K [] [] (tag_number v.tag) p ns text)) _)
+            λ rd. say (step rd ∙ go_bind d m (or_return (wrapped K [] [] (v.tag) p ns text)) _)
             (writes_node d p ns text F made (B.is (rd' rd)));
       }
 
 -- ---- prefixes
 
-module _ {w x : List ℕ} {n d : ℕ} {o r f : List ℕ} {s : State} {t : Token} {tag : Option Tag} (q : Asked w x n o r f s)
-    (nz : d ≡ 0 → ⊥) (u : Seen w n s.at t) (k : number_of tag ≡ operator_of prefixes (kind_number t.kind)) where
+module _ {w x : List ℕ} {n d : ℕ} {o : List ℕ} {r f : List Error} {s : State} {t : Token} {tag : Option Tag} (q : Asked w n o r f s)
+    (nz : d ≡ 0 → ⊥) (u : Seen w x n s.at t) (k : number_of tag ≡ operator_of prefixes (kind_number t.kind)) where
   -- no prefix operator: a call; else the prefix, its operand and its record
-  pub unary_none : {o1 r1 f1 : List ℕ} {a : Answer} → tag ≡ Std.None → Reads node w x n (d - 1) P.parse_call o r f s o1 r1 f1 a
+  pub unary_none : {o1 : List ℕ} {r1 f1 : List Error} {a : Answer} → tag ≡ Std.None → Reads node w x n (d - 1) P.parse_call o r f s o1 r1 f1 a
       → Reads node w x n d P.parse_unary o r f s o1 r1 f1 a
   unary_none h B =
       down Unary nz (record {
@@ -87,10 +87,9 @@ module _ {w x : List ℕ} {n d : ℕ} {o r f : List ℕ} {s : State} {t : Token}
         is = λ rd. say (unary_finds (d - 1) (st_of w x n f rd s) ∙ none_found (next_token (rest w x n s.at)) _ (u.kind x) P.prefix P.parse_call (d - 1) (st_of w x n f rd s) prefixes k (ap number_of h)) (B.is rd);
       })
 
-  pub unary_prefix : {m : Tag} {o1 r1 f1 o2 : List ℕ} {a y : Answer} → tag ≡ Some m
+  pub unary_prefix : {m : Tag} {o1 : List ℕ} {r1 f1 : List Error} {o2 : List ℕ} {a y : Answer} → tag ≡ Some m
       → Reads node w x n (d - 1) P.parse_unary o r f (fore s t) o1 r1 f1 a
-      → NodeWritten x o1 a
-      (record { tag = m; place = a.place; numbers = None; start = 0; len = 0 }) o2 y
+      → NodeWritten o1 a (placed a.place m None []) o2 y
       → Reads node w x n d P.parse_unary o r f s o2 r1 f1 y
   unfolding go run P.prefix
   unary_prefix {m} {a = a} h B F =
@@ -109,7 +108,7 @@ call_on e =
     (P.node (e.item.recs ++ i.recs) 0x24 e.item.place (two i.count ∷ []) []) e.errors)
     (done (ok e))
 
-module _ {A : Type 0} {K : View A} {w x : List ℕ} {n : ℕ} {o r f : List ℕ} {b : Answer} {q : Res (Ans A)} (never : b.status ≡ Fatal → ⊥) where
+module _ {A : Type 0} {K : View A} {w x : List ℕ} {n : ℕ} {o : List ℕ} {r f : List Error} {b : Answer} {q : Res (Ans A)} (never : b.status ≡ Fatal → ⊥) where
   -- an answer that is not fatal, seen after what the construct has so far
   pub rebased : {T T' : List ℕ} {E E' : List Err} (rs : List Rec) (es : List Err) → T' ≡ T ++ recs_bytes rs → E' ≡ E ++ es
       → Shows K T' E' [] [] w x n o r f b q → Shows K T E rs es w x n o r f b q
@@ -129,15 +128,15 @@ module _ {A : Type 0} {K : View A} {w x : List ℕ} {n : ℕ} {o r f : List ℕ}
       one Fatal z g = absurd (never z)
       one (Refused m) z g = g
 
-module _ {w x : List ℕ} {n d i j : ℕ} {o r f : List ℕ} {a : Answer} {t : Token} (q : GoesOn w x n o r f a i j)
-    (z : a.status ≡ Done) (u : Seen w n a.state.at t) where
+module _ {w x : List ℕ} {n d i j : ℕ} {o : List ℕ} {r f : List Error} {a : Answer} {t : Token} (q : GoesOn w n o r f a i j)
+    (z : a.status ≡ Done) (u : Seen w x n a.state.at t) where
   -- no `(` follows
   pub call_none : (kind_number t.kind ≡ 41 → ⊥) → Goes node node w x n d call_on i j o r f a o r f a
   unfolding go run
   call_none h = goes_none q z (λ e rd. rw (run, no u h))
 
-  module _ {o1 r1 f1 o2 : List ℕ} {b y : Answer} (h : kind_number t.kind ≡ 41) (B : ReadsList w x n d Arguments o r f a.state o1 r1 f1 b)
-      (F : NodeWritten x o1 (silent b a.state.reported) (record { tag = Tag.Call; place = a.place; numbers = Two b.count; start = 0; len = 0 }) o2 y) where
+  module _ {o1 : List ℕ} {r1 f1 : List Error} {o2 : List ℕ} {b y : Answer} (h : kind_number t.kind ≡ 41) (B : ReadsList w x n d Arguments o r f a.state o1 r1 f1 b)
+      (F : NodeWritten o1 (silent b a.state.reported) (placed a.place Tag.Call (Two b.count) []) o2 y) where
     pub call_moved : Moved w n i j a.state y.state
     call_moved =
         let e : budget w n y.state.at ≡ budget w n b.state.at = ap (λ (k : ℕ). budget w n k) F.at in
@@ -169,17 +168,6 @@ module _ {w x : List ℕ} {n d i j : ℕ} {o r f : List ℕ} {a : Answer} {t : T
           (drops d B.never (errs_length r a.state.reported (omega arith)) B.moved.reported (B.is g.read))));
     }
 
--- what the list requires: a later token, and room for the record after it
-pub call_later : {w x : List ℕ} {n d : ℕ} {m : Act (Ans Node)} {o r f o1 r1 f1 : List ℕ} {s : State} {a : Answer} {t : Token}
-    → Asked w x n o r f s → Reads node w x n d m o r f s o1 r1 f1 a → Seen w n a.state.at t → kind_number t.kind ≡ 41
-    → s.at < a.state.at
-call_later {n = n} {s = s} q B u h =
-    omega (arith, B.on, present_before n s.at (omega (arith, B.moved.at, u.on, u.end, h)))
-
-pub call_room : {w x : List ℕ} {n i j i' j' : ℕ} {o r f o1 : List ℕ} {s t u : State} → Asked w x n o r f s
-    → Moved w n i j s t → Moved w n i' j' t u → length o1 ≡ length o → Room o1 x u.pos (16 + 0) 0 0
-call_room q u v l = record { room = omega (arith, q.room, u.room, v.room); part = omega arith }
-
 -- ---- `sizeof`
 
 -- `expect` after an item, then g: the same as continuing with `expecting`, then with g
@@ -204,14 +192,14 @@ expect_seam d role k g (refused n) = refl
 abbrev sized : Tok → Fallible Node → Act (Ans Node)
 sized op ty = P.good (P.node ty.item.recs 0x2F op.place [] []) ty.errors
 
-sizeof_step : {w : List ℕ} {n : ℕ} {t : Token} (d : ℕ) (f : List ℕ) (s : State) → Seen w n s.at t → kind_number t.kind ≡ 17
+sizeof_step : {w y : List ℕ} {n : ℕ} {t : Token} (d : ℕ) (f : List Error) (s : State) → Seen w y n s.at t → kind_number t.kind ≡ 17
     → (rd : List Consumed) (x : List ℕ)
     → go d P.parse_sizeof (st_of w x n f rd s)
     ≡ after (go d (P.expect_as plain 41) (st_of w x n f (past w x n s.at rd) (fore s t))) (λ z S. go d
     (or_return (λ _. P.parse_type >>? λ ty. P.expect_as plain 42 >>? λ _. sized (next_token (rest w x n s.at)) ty) z)
     S)
 unfolding go run P.parse_sizeof
-sizeof_step {w} {n} d f s u h rd x =
+sizeof_step {w} {n = n} d f s u h rd x =
     rw (run, yes u h) (ap
     (λ (S : St). go d (P.expect_as plain 41 >>? λ _. P.parse_type >>? λ ty. P.expect_as plain 42 >>? λ _. sized
     (next_token (rest w x n s.at)) ty) S) (adv s u (λ _. plain) f rd _)
@@ -219,15 +207,15 @@ sizeof_step {w} {n} d f s u h rd x =
     (or_return (λ _. P.parse_type >>? λ ty. P.expect_as plain 42 >>? λ _. sized (next_token (rest w x n s.at)) ty))
     _)
 
-module _ {w x : List ℕ} {n d : ℕ} {o r f : List ℕ} {s : State} {t : Token} (q : Asked w x n o r f s) (u : Seen w n s.at t) where
+module _ {w x : List ℕ} {n d : ℕ} {o : List ℕ} {r f : List Error} {s : State} {t : Token} (q : Asked w n o r f s) (u : Seen w x n s.at t) where
   -- no `sizeof` follows
-  pub sizeof_other : {o1 r1 f1 : List ℕ} {a : Answer} → (kind_number t.kind ≡ 17 → ⊥)
+  pub sizeof_other : {o1 : List ℕ} {r1 f1 : List Error} {a : Answer} → (kind_number t.kind ≡ 17 → ⊥)
       → Reads node w x n d P.parse_field_access_or_index o r f s o1 r1 f1 a
       → Reads node w x n d P.parse_sizeof o r f s o1 r1 f1 a
   unfolding go run P.parse_sizeof
   sizeof_other h B = record { moved = B.moved; on = B.on; is = λ rd. say (rw (run, no u h)) (B.is rd) }
 
-  module _ {r1 f1 : List ℕ} {a : Answer} (h : kind_number t.kind ≡ 17) (X : Expects w n (λ role. P.expect_as role 41) r f (fore s t) r1 f1 a) where
+  module _ {r1 f1 : List Error} {a : Answer} (h : kind_number t.kind ≡ 17) (X : Expects w n (λ role. P.expect_as role 41) r f (fore s t) r1 f1 a) where
     -- `sizeof` with no `(` after it
     pub sizeof_stop : Stopped a → Reads node w x n d P.parse_sizeof o r f s o r1 f1 a
     sizeof_stop nd =
@@ -238,9 +226,9 @@ module _ {w x : List ℕ} {n d : ℕ} {o r f : List ℕ} {s : State} {t : Token}
         }
 
     -- what `expect_after` requires after the type
-    pub sizeof_asks : {o1 r2 f2 : List ℕ} {b : Answer} → a.status ≡ Done
+    pub sizeof_asks : {o1 : List ℕ} {r2 f2 : List Error} {b : Answer} → a.status ≡ Done
         → Reads node w x n d P.parse_type o r1 f1 a.state o1 r2 f2 b → length r2 ≡ length r
-        → length f2 ≡ length f → Follows w n r2 f2 b s.pos s.reported
+        → length f2 ≡ length f → Follows n r2 f2 b s.pos s.reported
     sizeof_asks z B lr lf =
         record {
           asks = asks_moved q.asks (moved_trans (moved_trans (fore_moved q.asks u) X.moved) B.moved)
@@ -250,11 +238,10 @@ module _ {w x : List ℕ} {n d : ℕ} {o r f : List ℕ} {s : State} {t : Token}
         }
 
     -- `sizeof` with its type, `)` and record
-    pub sizeof_done : {o1 r2 f2 r3 f3 o2 : List ℕ} {b c y : Answer} → a.status ≡ Done
+    pub sizeof_done : {o1 : List ℕ} {r2 f2 r3 f3 : List Error} {o2 : List ℕ} {b c y : Answer} → a.status ≡ Done
         → Reads node w x n d P.parse_type o r1 f1 a.state o1 r2 f2 b → length r2 ≡ length r
         → length f2 ≡ length f → Expected w n 42 s.pos s.reported r2 f2 b r3 f3 c
-        → NodeWritten x o1 c
-        (record { tag = Tag.Sizeof; place = t.place; numbers = None; start = 0; len = 0 }) o2 y
+        → NodeWritten o1 c (placed t.place Tag.Sizeof None []) o2 y
         → Reads node w x n d P.parse_sizeof o r f s o2 r3 f3 y
     sizeof_done {o1} {r2} {f2} {r3} {f3} {o2} {b} {c} {y} z B lr lf C F =
         let e : budget w n y.state.at ≡ budget w n c.state.at = ap (λ (k : ℕ). budget w n k) F.at in
@@ -297,7 +284,7 @@ module _ {w x : List ℕ} {n d : ℕ} {o r f : List ℕ} {s : State} {t : Token}
 abbrev pub closing : Ans Node → Act (Ans Node)
 closing e = P.expect_as group 42 >>= λ c. done (P.both e c)
 
-module _ {w x : List ℕ} {n : ℕ} {o r f r1 f1 : List ℕ} {a y : Answer} (d : ℕ) {T : List ℕ} {E : List Err} {q : Res (Ans Node)} where
+module _ {w x : List ℕ} {n : ℕ} {o : List ℕ} {r f r1 f1 : List Error} {a y : Answer} (d : ℕ) {T : List ℕ} {E : List Err} {q : Res (Ans Node)} where
   -- a good answer keeps its node, and the errors of the parenthesis are added
   pub closes_good : a.status ≡ Done → Good node T E [] [] w x n o r f a q → Closing w n r f a r1 f1 y
       → Shows node T E [] [] w x n o r1 f1 y (after q (λ z S. go d (closing z) S))
@@ -407,9 +394,9 @@ module _ {w x : List ℕ} {n : ℕ} {o r f r1 f1 : List ℕ} {a y : Answer} (d :
       one Fatal z m g = closes_bad z g m
       one (Refused k) z m g = rw (m.0, m.1.0, m.1.1) (record { told = rw (z, g) })
 
-module _ {w x : List ℕ} {n d : ℕ} {o r f : List ℕ} {s : State} {t : Token} (q : Asked w x n o r f s) (u : Seen w n s.at t) where
+module _ {w x : List ℕ} {n d : ℕ} {o : List ℕ} {r f : List Error} {s : State} {t : Token} (q : Asked w n o r f s) (u : Seen w x n s.at t) where
   -- parse_atom of a group
-  pub atom_group : {o1 r1 f1 r2 f2 : List ℕ} {a y : Answer} → kind_number t.kind ≡ 41
+  pub atom_group : {o1 : List ℕ} {r1 f1 r2 f2 : List Error} {a y : Answer} → kind_number t.kind ≡ 41
       → Reads node w x n d P.parse_expression o r f (fore s t) o1 r1 f1 a → Closed w n r1 f1 a r2 f2 y
       → Reads node w x n d P.parse_atom o r f s o1 r2 f2 y
   unfolding go run P.parse_atom P.parse_group

@@ -3,12 +3,12 @@
 use mathlib.Core.Path.{◌≡◌, refl, sym, ap, ◌∙◌}
 use mathlib.Core.Option.{some}
 use mathlib.Core.List.{List, []}
-use Prim.Native.Nat.{ℕ, min, ◌+◌, ◌*◌, ◌≤◌}
+use Prim.Native.Nat.{ℕ, min, ◌*◌, ◌≤◌}
 use native.Mathlib.Omega.{arith}
 use lib.ListN.{length}
-use Rattle.definition.specs.Numbers.{kind_number, tag_number}
+use Rattle.definition.specs.Numbers.{kind_number}
 use Rattle.definition.specs.Source.{Place}
-use Rattle.definition.specs.Node.{Num}
+use Rattle.definition.specs.Node.{Rec, Num}
 use Rattle.definition.specs.Fallible.{Err, Fallible, Ans, ok}
 use Rattle.definition.specs.Act.{Act, done, Node, Consumed, Res, gives, after, or_return, ◌>>?◌}
 use Rattle.definition.specs.Go.{go}
@@ -16,9 +16,8 @@ use Rattle.definition.proofs.Flat.{go_bind}
 use Rattle.fallible.proofs.Grown.{errs_length}
 use Rattle.fallible.specs.declared.parser.State.{State}
 use Rattle.fallible.specs.Answer.{Done, Answer}
-use Rattle.fallible.specs.Answers.{Abandoned, Cuts}
-use Rattle.node.specs.Put.{rec_of, size_of, Room}
-use Rattle.node.specs.declared.Record.{Record}
+use Rattle.fallible.specs.Answers.{Abandoned}
+use Rattle.node.specs.Put.{size_of}
 use Rattle.steps.specs.declared.tokens.Token.{Token}
 use Rattle.steps.specs.Tokens.{budget, Seen}
 use Rattle.steps.specs.Shows.{st_of, Asked, Moved, View, Good, Shows, Reads, Goes, GoesOn, node, NodeWritten}
@@ -26,25 +25,26 @@ use Rattle.steps.proofs.Records.{fore}
 use Rattle.steps.proofs.Moves.{asked_moved, moved_trans}
 use Rattle.steps.proofs.Answers.{Stopped, say, good_of, is_good, stops, follows, abandons, wrapped, writes_node}
 use Rattle.steps.proofs.Constructs.{seam, then_goes}
+use Rattle.fallible.specs.declared.error.Error.{Error}
 
 -- a function, and the one that continues its answer
 pub then_asked : {A B : Type 0} {K : View A} {L : View B} {w x : List ℕ} {n d : ℕ} {m : Act (Ans A)}
-    (k : Fallible A → Act (Ans B)) {o r f o1 r1 f1 o2 r2 f2 : List ℕ} {s : State} {a y : Answer}
-    → Asked w x n o r f s → Reads K w x n d m o r f s o1 r1 f1 a
+    (k : Fallible A → Act (Ans B)) {o : List ℕ} {r f : List Error} {o1 : List ℕ} {r1 f1 : List Error} {o2 : List ℕ} {r2 f2 : List Error} {s : State} {a y : Answer}
+    → Asked w n o r f s → Reads K w x n d m o r f s o1 r1 f1 a
     → Goes K L w x n d k s.pos s.reported o1 r1 f1 a o2 r2 f2 y
     → Reads L w x n d (m >>? k) o r f s o2 r2 f2 y
 then_asked k q u v = then_goes k u (omega arith) (omega arith) v
 
 -- what the continuation requires of the answer
-pub goes_on : {A : Type 0} {K : View A} {w x : List ℕ} {n d : ℕ} {m : Act (Ans A)} {o r f o1 r1 f1 : List ℕ} {s : State}
+pub goes_on : {A : Type 0} {K : View A} {w x : List ℕ} {n d : ℕ} {m : Act (Ans A)} {o : List ℕ} {r f : List Error} {o1 : List ℕ} {r1 f1 : List Error} {s : State}
     {a : Answer}
-    → Asked w x n o r f s → Reads K w x n d m o r f s o1 r1 f1 a → length o1 ≡ length o → length r1 ≡ length r
-    → length f1 ≡ length f → GoesOn w x n o1 r1 f1 a s.pos s.reported
+    → Asked w n o r f s → Reads K w x n d m o r f s o1 r1 f1 a → length o1 ≡ length o → length r1 ≡ length r
+    → length f1 ≡ length f → GoesOn w n o1 r1 f1 a s.pos s.reported
 goes_on q u a b c = record { asked = asked_moved q u.moved a b c; pos = u.moved.pos; reported = u.moved.reported }
 
 -- ---- nothing follows
 
-module _ {w x : List ℕ} {n i j : ℕ} {o r f : List ℕ} {a : Answer} (q : GoesOn w x n o r f a i j) where
+module _ {w : List ℕ} {n i j : ℕ} {o : List ℕ} {r f : List Error} {a : Answer} (q : GoesOn w n o r f a i j) where
   stays_on : Moved w n i j a.state a.state
   stays_on =
       record {
@@ -59,12 +59,12 @@ module _ {w x : List ℕ} {n i j : ℕ} {o r f : List ℕ} {a : Answer} (q : Goe
       }
 
   -- a fatal or refused answer is returned
-  pub goes_stops : {A B : Type 0} {K : View A} {L : View B} {d : ℕ} {k : Fallible A → Act (Ans B)} → Stopped a
+  pub goes_stops : {A B : Type 0} {K : View A} {L : View B} {x : List ℕ} {d : ℕ} {k : Fallible A → Act (Ans B)} → Stopped a
       → Goes K L w x n d k i j o r f a o r f a
   goes_stops {d = d} {k = k} nd = record { moved = stays_on; is = λ T E p li lj h. stops d k p nd h }
 
   -- a good answer is returned, where the continuation gives it unchanged
-  pub goes_none : {A : Type 0} {K : View A} {d : ℕ} {k : Fallible A → Act (Ans A)} → a.status ≡ Done
+  pub goes_none : {A : Type 0} {K : View A} {x : List ℕ} {d : ℕ} {k : Fallible A → Act (Ans A)} → a.status ≡ Done
       → ((e : Fallible A) (rd : List Consumed)
       → go d (k e) (st_of w x n f rd a.state) ≡ gives (ok e) (st_of w x n f rd a.state))
       → Goes K K w x n d k i j o r f a o r f a
@@ -85,8 +85,8 @@ module _ {w x : List ℕ} {n i j : ℕ} {o r f : List ℕ} {a : Answer} (q : Goe
 
 -- ---- another operand, and the record of both
 
-module _ {A : Type 0} {K : View A} {w x : List ℕ} {n d i j : ℕ} {o r f o1 r1 f1 r2 o2 : List ℕ} {a b c y : Answer} {t : Token} {v : Record} {m : Act (Ans A)}
-    (q : GoesOn w x n o r f a i j) (u : Seen w n a.state.at t) (B : Reads K w x n d m o r f (fore a.state t) o1 r1 f1 b) (C : Abandoned r1 b i j a.state.reported r2 c) (F : NodeWritten x o1 c v o2 y) (paid : size_of v ≤ 16 * min (kind_number t.kind) 1) where
+module _ {A : Type 0} {K : View A} {w x : List ℕ} {n d i j : ℕ} {o : List ℕ} {r f : List Error} {o1 : List ℕ} {r1 f1 r2 : List Error} {o2 : List ℕ} {a b c y : Answer} {t : Token} {v : Rec} {m : Act (Ans A)}
+    (q : GoesOn w n o r f a i j) (u : Seen w x n a.state.at t) (B : Reads K w x n d m o r f (fore a.state t) o1 r1 f1 b) (C : Abandoned r1 b i j a.state.reported r2 c) (F : NodeWritten o1 c v o2 y) (paid : size_of v ≤ 16 * min (kind_number t.kind) 1) where
   pub joined_moved : Moved w n i j a.state y.state
   joined_moved =
       let e : budget w n y.state.at ≡ budget w n b.state.at = ap (λ (k : ℕ). budget w n k) (F.at ∙ C.at) in
@@ -102,18 +102,18 @@ module _ {A : Type 0} {K : View A} {w x : List ℕ} {n d i j : ℕ} {o r f o1 r1
       }
 
   -- the next turn may continue it
-  pub joined_on : length o2 ≡ length o → length r2 ≡ length r → length f1 ≡ length f → GoesOn w x n o2 r2 f1 y i j
+  pub joined_on : length o2 ≡ length o → length r2 ≡ length r → length f1 ≡ length f → GoesOn w n o2 r2 f1 y i j
   joined_on e g h = record { asked = asked_moved q.asked joined_moved e g h; pos = joined_moved.pos; reported = joined_moved.reported }
 
 -- After the answer a, the token t is read and the act m gives b; c is what `?` makes of b; y has the record v.
-module _ {A : Type 0} {K : View A} {w x : List ℕ} {n d i j : ℕ} {o r f o1 r1 f1 r2 o2 : List ℕ} {a b c y : Answer} {t : Token} {v : Record} {m : Act (Ans A)} (p : Place) (ns : List Num)
-    (q : GoesOn w x n o r f a i j) (z : a.status ≡ Done) (u : Seen w n a.state.at t)
+module _ {A : Type 0} {K : View A} {w x : List ℕ} {n d i j : ℕ} {o : List ℕ} {r f : List Error} {o1 : List ℕ} {r1 f1 r2 : List Error} {o2 : List ℕ} {a b c y : Answer} {t : Token} {v : Rec} {m : Act (Ans A)} (p : Place) (ns : List Num)
+    (q : GoesOn w n o r f a i j) (z : a.status ≡ Done) (u : Seen w x n a.state.at t)
     (B : Reads K w x n d m o r f (fore a.state t) o1 r1 f1 b)
-    (C : Abandoned r1 b i j a.state.reported r2 c) (F : NodeWritten x o1 c v o2 y)
-    (paid : size_of v ≤ 16 * min (kind_number t.kind) 1) (made : rec_of x v ≡ record { tag = tag_number v.tag; place = some p; numbers = ns; text = [] }) where
+    (C : Abandoned r1 b i j a.state.reported r2 c) (F : NodeWritten o1 c v o2 y)
+    (paid : size_of v ≤ 16 * min (kind_number t.kind) 1) (made : v ≡ record { tag = v.tag; place = some p; numbers = ns; text = [] }) where
   -- the node of the operand e and the other
   abbrev pub both : Fallible Node → Fallible A → Act (Ans Node)
-  both e = wrapped K e.item.recs e.errors (tag_number v.tag) (λ _. p) (λ _. ns) []
+  both e = wrapped K e.item.recs e.errors (v.tag) (λ _. p) (λ _. ns) []
 
   -- the joined answer represents the second operand and the record of both
   pub joined : {T : List ℕ} {E : List Err} {h : Res (Ans Node)} → length T ≡ i → length E ≡ j
@@ -140,7 +140,7 @@ module _ {A : Type 0} {K : View A} {w x : List ℕ} {n d i j : ℕ} {o r f o1 r1
         }
 
     -- the continuation goes on with the next turn
-    pub goes_turn : {o3 r3 f3 : List ℕ} {y' : Answer} (bin : Fallible Node → Fallible A → Fallible Node)
+    pub goes_turn : {o3 : List ℕ} {r3 f3 : List Error} {y' : Answer} (bin : Fallible Node → Fallible A → Fallible Node)
         → ((e : Fallible Node) (b : Fallible A) → both e b ≡ done (ok (bin e b)))
         → ((e : Fallible Node) (rd : List Consumed)
         → go d (k e) (st_of w x n f rd a.state)
@@ -160,35 +160,14 @@ module _ {A : Type 0} {K : View A} {w x : List ℕ} {n d i j : ℕ} {o r f o1 r1
 
 -- ---- what the steps require
 
-module _ {A : Type 0} {K : View A} {w x : List ℕ} {n d i j : ℕ} {o r f o1 r1 f1 : List ℕ} {a b : Answer}
-    {t : Token} {m : Act (Ans A)} (q : GoesOn w x n o r f a i j) (u : Seen w n a.state.at t)
-    (B : Reads K w x n d m o r f (fore a.state t) o1 r1 f1 b) where
-  pub join_cuts : length r1 ≡ length r → Cuts r1 b.state i j a.state.reported
-  join_cuts e =
-      record {
-        pos = omega (arith, q.pos, B.moved.pos);
-        order = q.reported;
-        own = B.moved.reported;
-        within = omega (arith, B.moved, q.asked.asks);
-      }
-
-  pub join_room : {r2 : List ℕ} {c : Answer} → Abandoned r1 b i j a.state.reported r2 c → length o1 ≡ length o
-      → Room o1 x c.state.pos (16 + 0) 0 0
-  join_room C e = record { room = omega (arith, C.high, B.moved.room, u.pays, q.asked.room); part = omega arith }
-
--- room for a record without text, in a later state
-pub room_at : {w x : List ℕ} {n i j : ℕ} {o r f o1 : List ℕ} {s t : State} → Asked w x n o r f s → Moved w n i j s t
-    → length o1 ≡ length o → Room o1 x t.pos (16 + 0) 0 0
-room_at q m e = record { room = omega (arith, q.room, m.room); part = omega arith }
-
 -- what the next turn requires, after a turn that moved on, and after one that continued the answer by k
-pub turn_on : {w x : List ℕ} {n i j : ℕ} {o r f o2 r2 f2 : List ℕ} {a y : Answer} → GoesOn w x n o r f a i j
+pub turn_on : {w : List ℕ} {n i j : ℕ} {o : List ℕ} {r f : List Error} {o2 : List ℕ} {r2 f2 : List Error} {a y : Answer} → GoesOn w n o r f a i j
     → Moved w n i j a.state y.state → length o2 ≡ length o → length r2 ≡ length r → length f2 ≡ length f
-    → GoesOn w x n o2 r2 f2 y i j
+    → GoesOn w n o2 r2 f2 y i j
 turn_on q m a b c = record { asked = asked_moved q.asked m a b c; pos = m.pos; reported = m.reported }
 
 pub goes_further : {A B : Type 0} {K : View A} {L : View B} {w x : List ℕ} {n d i j : ℕ} {k : Fallible A → Act (Ans B)}
-    {o r f o2 r2 f2 : List ℕ} {a y : Answer}
-    → GoesOn w x n o r f a i j → Goes K L w x n d k i j o r f a o2 r2 f2 y → length o2 ≡ length o
-    → length r2 ≡ length r → length f2 ≡ length f → GoesOn w x n o2 r2 f2 y i j
+    {o : List ℕ} {r f : List Error} {o2 : List ℕ} {r2 f2 : List Error} {a y : Answer}
+    → GoesOn w n o r f a i j → Goes K L w x n d k i j o r f a o2 r2 f2 y → length o2 ≡ length o
+    → length r2 ≡ length r → length f2 ≡ length f → GoesOn w n o2 r2 f2 y i j
 goes_further q g a b c = turn_on q g.moved a b c

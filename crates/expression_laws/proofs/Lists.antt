@@ -14,45 +14,21 @@ use Rattle.definition.specs.Parser as P
 use Rattle.definition.specs.Go.{go}
 use Rattle.definition.proofs.Flat.{go_loop, go_bind}
 use Rattle.fallible.specs.declared.parser.State.{State}
-use Rattle.fallible.specs.Answer.{Status, Done, Fatal, Refused, Answer}
-use Rattle.fallible.specs.Lists.{unpack, error_at, errs}
+use Rattle.fallible.specs.Answer.{nowhere, Status, Done, Fatal, Refused, Answer}
+use Rattle.fallible.specs.Lists.{err_of, error_at, errs}
 use Rattle.fallible.specs.Answers.{noted, Raised}
 use Rattle.steps.specs.declared.tokens.Token.{Token}
-use Rattle.steps.specs.Tokens.{rest, Seen}
-use Rattle.steps.specs.Shows.{st_of, Asks, Asked, ShowsOf, Shows, node, token, items, Reads, Expects}
+use Rattle.steps.specs.Tokens.{Held, rest, Seen}
+use Rattle.steps.specs.Shows.{st_of, Asked, ShowsOf, Shows, node, token, items, Reads, Expects}
 use Rattle.steps.proofs.Records.{yes, no, fore, adv}
-use Rattle.steps.proofs.Moves.{asks_moved, asked_moved}
+use Rattle.steps.proofs.Moves.{asked_moved}
 use Rattle.steps.proofs.Answers.{Stopped, say, errs_join}
-use Rattle.leaves.specs.declared.Listed.{Listed}
-use Rattle.leaves.specs.declared.Listed.TheVariants as I
-use Rattle.leaves.specs.Leaves.{listed_of, Counted, with_errors, Next, CommasOf, Commas}
+use Rattle.leaves.specs.Leaves.{Counted, with_errors, Next, CommasOf, Commas}
 use Rattle.leaves.proofs.Atoms.{Ended, Alive}
 use Rattle.expression_laws.specs.Post.{as_answer, ReadsList, LoopOn, listed_on}
 use Rattle.expression_laws.proofs.Types.{moved_onward, paid}
 use Rattle.expression_laws.proofs.Loops.{answered, not_fatal, refusal, loop_ended, loop_closed, loop_refused, joined}
-
--- ---- `item`
-
-module _ {w x : List ℕ} {n d : ℕ} {o r f o1 r1 f1 : List ℕ} {s : State} {a : Answer} {what : Listed} where
-  pub item_parameter : what ≡ I.Parameters → Reads node w x n d P.parse_named_type o r f s o1 r1 f1 a
-      → Reads node w x n d (P.item (listed_of what)) o r f s o1 r1 f1 a
-  item_parameter z u = rw z u
-
-  pub item_argument : what ≡ I.Arguments → Reads node w x n d P.parse_expression o r f s o1 r1 f1 a
-      → Reads node w x n d (P.item (listed_of what)) o r f s o1 r1 f1 a
-  item_argument z u = rw z u
-
-  pub item_field : what ≡ I.StructFields → Reads node w x n d P.parse_named_type o r f s o1 r1 f1 a
-      → Reads node w x n d (P.item (listed_of what)) o r f s o1 r1 f1 a
-  item_field z u = rw z u
-
-  pub item_value : what ≡ I.ArrayValues → Reads node w x n d P.parse_expression o r f s o1 r1 f1 a
-      → Reads node w x n d (P.item (listed_of what)) o r f s o1 r1 f1 a
-  item_value z u = rw z u
-
-  pub item_named_value : what ≡ I.StructValues → Reads node w x n d P.parse_compound_struct_field o r f s o1 r1 f1 a
-      → Reads node w x n d (P.item (listed_of what)) o r f s o1 r1 f1 a
-  item_named_value z u = rw z u
+use Rattle.fallible.specs.declared.error.Error.{Error}
 
 -- ---- `list`
 
@@ -75,8 +51,8 @@ listing k d S =
     one (gives y T) = sym (go_bind d (loop (ListOf k (P.no_items (P.errors_of y))) done) as_answer T)
     one (refused m) = refl
 
-module _ {w x : List ℕ} {n wanted : ℕ} (k : A.Listed) {o r f r1 f1 : List ℕ} {s : State} {a : Answer}
-    (q : Asked w x n o r f s) (c : (wanted ≡ P.opener k) × (0 < wanted))
+module _ {w x : List ℕ} {n wanted : ℕ} (k : A.Listed) {o : List ℕ} {r f r1 f1 : List Error} {s : State} {a : Answer}
+    (held : Held w n) (q : Asked w n o r f s) (c : (wanted ≡ P.opener k) × (0 < wanted))
     (e : Expects w n (λ role. P.expect_as role wanted) r f s r1 f1 a) where
   opens : (d : ℕ) (rd : List Consumed)
       → Shows (token (next_token (rest w x n s.at))) (take s.pos o) (errs r s.reported) [] [] w x n o r1 f1 a
@@ -88,18 +64,18 @@ module _ {w x : List ℕ} {n wanted : ℕ} (k : A.Listed) {o r f r1 f1 : List �
   list_refused {d} h = record {
     moved = e.moved;
     on = e.on;
-    spare = omega (arith, e.pos, paid s.at a.state.at q.asks.held e.on x);
+    spare = omega (arith, e.pos, paid s.at a.state.at held e.on x);
     never = not_fatal a.status h;
     is = λ rd. refusal h (λ m g. listing k d _ ∙ rw g) (opens d rd);
   }
 
-  pub list_on : {d : ℕ} {o2 r2 f2 : List ℕ} {y : Answer} → Alive a
+  pub list_on : {d : ℕ} {o2 : List ℕ} {r2 f2 : List Error} {y : Answer} → Alive a
       → LoopOn (listed_on k) w x n d 0 o r1 f1 a.state o2 r2 f2 y → ReadsList w x n d k o r f s o2 r2 f2 y
   unfolding recs_bytes
   list_on {d} {o2} {r2} {f2} {y} h u = record {
     moved = moved_onward e.moved u.moved;
     on = omega (arith, e.on, u.moved.at);
-    spare = omega (arith, u.moved.room, e.pos, paid s.at a.state.at q.asks.held e.on x);
+    spare = omega (arith, u.moved.room, e.pos, paid s.at a.state.at held e.on x);
     never = u.never;
     is = λ rd. say (listing k d _) (one rd a.status h (opens d rd).told);
   }
@@ -121,12 +97,12 @@ module _ {w x : List ℕ} {n wanted : ℕ} (k : A.Listed) {o r f r1 f1 : List �
 
 -- ---- its loop: one law for each way in which a turn ends
 
-module _ {w x : List ℕ} {n count : ℕ} (k : A.Listed) {o r f : List ℕ} {s : State} {t : Token}
-    (q : Asked w x n o r f s × (count ≤ s.at)) (v : Seen w n s.at t) where
-  pub rest_end : {d e : ℕ} {r1 f1 : List ℕ} {b : Answer} → kind_number t.kind ≡ 0 → unpack e ≡ error_at 14 0 0 0
+module _ {w x : List ℕ} {n count : ℕ} (k : A.Listed) {o : List ℕ} {r f : List Error} {s : State} {t : Token}
+    (q : Asked w n o r f s × (count ≤ s.at)) (v : Seen w x n s.at t) where
+  pub rest_end : {d : ℕ} {e : Error} {r1 f1 : List Error} {b : Answer} → kind_number t.kind ≡ 0 → err_of e ≡ error_at 14 nowhere 0 0
       → Raised (noted n s) r f s e r1 f1 b
       → LoopOn (listed_on k) w x n d count o r f s o r1 f1
-      (record { status = b.status; state = b.state; place = 0; count = count })
+      (record { status = b.status; state = b.state; place = nowhere; count = count })
   unfolding go run P.list_turn
   rest_end {d} z i g =
       loop_ended (listed_on k) q v g (λ rd l. go_loop d (ListOf k l) (st_of w x n f rd s) ∙ rw (run, yes v z)
@@ -135,14 +111,14 @@ module _ {w x : List ℕ} {n count : ℕ} (k : A.Listed) {o r f : List ℕ} {s :
   module _ {close : ℕ} (m0 : kind_number t.kind ≡ 0 → ⊥) (c : close ≡ P.closer k) where
     pub rest_closed : {d : ℕ} → kind_number t.kind ≡ close
         → LoopOn (listed_on k) w x n d count o r f s o r f
-        (record { status = Done; state = fore s t; place = 0; count = count })
+        (record { status = Done; state = fore s t; place = nowhere; count = count })
     unfolding go run P.list_turn
     rest_closed {d} z =
         loop_closed (listed_on k) q v
         (λ rd l. go_loop d (ListOf k l) (st_of w x n f rd s) ∙ rw (run, no v m0, yes v (z ∙ c))
         (ap (λ (S : St). gives l S) (adv s v (λ _. plain) f rd _)))
 
-    module _ {d : ℕ} {o1 r1 f1 : List ℕ} {b : Answer} (mc : kind_number t.kind ≡ close → ⊥)
+    module _ {d : ℕ} {o1 : List ℕ} {r1 f1 : List Error} {b : Answer} (mc : kind_number t.kind ≡ close → ⊥)
         (u : Reads node w x n d (P.item k) o r f s o1 r1 f1 b) where
       -- a turn that reads an item
       item_turn : (rd : List Consumed) (l : Items)
@@ -154,7 +130,7 @@ module _ {w x : List ℕ} {n count : ℕ} (k : A.Listed) {o r f : List ℕ} {s :
       pub rest_item : Ended b → LoopOn (listed_on k) w x n d count o r f s o1 r1 f1 b
       rest_item h = loop_refused (listed_on k) (P.after_item k) (P.item k) item_turn u h
 
-      module _ (alive : Alive b) {r2 f2 : List ℕ} {a : Answer} (g : Commas w n r1 f1 b.state close r2 f2 a) where
+      module _ (alive : Alive b) {r2 f2 : List Error} {a : Answer} (g : Commas w n r1 f1 b.state close r2 f2 a) where
         pub rest_comma : Stopped a → LoopOn (listed_on k) w x n d count o r f s o1 r2 f2 a
         rest_comma nd = record {
           moved = moved_onward u.moved g.moved;
@@ -177,7 +153,7 @@ module _ {w x : List ℕ} {n count : ℕ} (k : A.Listed) {o r f : List ℕ} {s :
             one T E rd l Fatal nd i = absurd i
             one T E rd l (Refused m) nd i = rw i
 
-        pub rest_next : {m : ℕ} {o3 r3 f3 : List ℕ} {y : Answer} → a.status ≡ Done → Counted b.status count m
+        pub rest_next : {m : ℕ} {o3 : List ℕ} {r3 f3 : List Error} {y : Answer} → a.status ≡ Done → Counted b.status count m
             → LoopOn (listed_on k) w x n d m o1 r2 f2 a.state o3 r3 f3 y
             → LoopOn (listed_on k) w x n d count o r f s o3 r3 f3 y
         rest_next {m} z cm h = record {
@@ -196,15 +172,12 @@ module _ {w x : List ℕ} {n count : ℕ} (k : A.Listed) {o r f : List ℕ} {s :
 
 -- ---- what their calls require
 
-module _ {w x : List ℕ} {n d count : ℕ} {act : Act (Ans Node)} {o r f o1 r1 f1 : List ℕ} {s : State} {t : Token}
-    {b : Answer} (q : Asked w x n o r f s × (count ≤ s.at)) (v : Seen w n s.at t) (m0 : kind_number t.kind ≡ 0 → ⊥)
+module _ {w x : List ℕ} {n d count : ℕ} {act : Act (Ans Node)} {o : List ℕ} {r f : List Error} {o1 : List ℕ} {r1 f1 : List Error} {s : State} {t : Token}
+    {b : Answer} (q : Asked w n o r f s × (count ≤ s.at)) (v : Seen w x n s.at t) (m0 : kind_number t.kind ≡ 0 → ⊥)
     (u : Reads node w x n d act o r f s o1 r1 f1 b) where
-  pub comma_asks : length r1 ≡ length r → length f1 ≡ length f → Asks w n r1 f1 b.state
-  comma_asks l g = asks_moved q.0.asks u.moved l g
-
-  pub rest_asked : {close m : ℕ} {r2 f2 : List ℕ} {a : Answer} → Commas w n r1 f1 b.state close r2 f2 a
+  pub rest_asked : {close m : ℕ} {r2 f2 : List Error} {a : Answer} → Commas w n r1 f1 b.state close r2 f2 a
       → Counted b.status count m → length o1 ≡ length o → length r2 ≡ length r → length f2 ≡ length f
-      → Asked w x n o1 r2 f2 a.state × (m ≤ a.state.at)
+      → Asked w n o1 r2 f2 a.state × (m ≤ a.state.at)
   rest_asked g c lo l h = (
     asked_moved q.0 (moved_onward u.moved g.moved) lo l h,
     omega (arith, q.1, v.present, m0, u.on, g.moved.at, c.high),

@@ -12,8 +12,8 @@ use Rattle.definition.specs.Parser as P
 use Rattle.definition.specs.Go.{go}
 use Rattle.definition.proofs.Flat.{go_bind}
 use Rattle.fallible.specs.declared.parser.State.{State}
-use Rattle.fallible.specs.Answer.{Status, Done, Fatal, Refused, Answer}
-use Rattle.fallible.specs.Lists.{unpack, errs}
+use Rattle.fallible.specs.Answer.{nowhere, Status, Done, Fatal, Refused, Answer}
+use Rattle.fallible.specs.Lists.{err_of, errs}
 use Rattle.fallible.specs.Answers.{noted, Raised}
 use Rattle.steps.specs.declared.tokens.Token.{Token}
 use Rattle.steps.specs.Tokens.{Seen}
@@ -26,6 +26,7 @@ use Rattle.leaves.proofs.Errors.{made_so, makes, makes_none}
 use Rattle.leaves.proofs.Atoms.{Ended, Alive}
 use Rattle.expression_laws.specs.Post.{as_answer, LoopOn}
 use Rattle.expression_laws.proofs.Types.{moved_onward, past}
+use Rattle.fallible.specs.declared.error.Error.{Error}
 
 -- the items as an answer
 abbrev pub answered : ℕ → Res Items → Res (Ans Items)
@@ -38,7 +39,7 @@ pub not_fatal : (h : Status) → (m : ℕ) × (h ≡ Refused m) → h ≡ Fatal 
 not_fatal h e z = let y : Fatal ≡ Refused e.0 = sym z ∙ e.1 in cc
 
 -- a refusal is also the answer of what follows
-pub refusal : {A : Type 0} {K : View A} {T : List ℕ} {E : List Err} {w x : List ℕ} {n : ℕ} {o r f o' r' f' : List ℕ}
+pub refusal : {A : Type 0} {K : View A} {T : List ℕ} {E : List Err} {w x : List ℕ} {n : ℕ} {o : List ℕ} {r f : List Error} {o' : List ℕ} {r' f' : List Error}
     {T' : List ℕ} {E' : List Err} {a : Answer} {q : Res (Ans A)} {q' : Res (Ans Items)}
     → Ended a → ((m : ℕ) → q ≡ refused m → q' ≡ refused m)
     → Shows {A = A} K T E [] [] w x n o r f a q → Shows items T' E' [] [] w x n o' r' f' a q'
@@ -51,12 +52,12 @@ refusal {A} {K} {T} {E} {w} {x} {n} {o} {r} {f} {o'} {r'} {f'} {T'} {E'} {a} {q}
 
 -- ---- a turn that ends the loop `on`
 
-module _ {w x : List ℕ} {n d count : ℕ} (on : Items → Act Items) {o r f : List ℕ} {s : State} {t : Token}
-    (q : Asked w x n o r f s × (count ≤ s.at)) (v : Seen w n s.at t) where
+module _ {w x : List ℕ} {n d count : ℕ} (on : Items → Act Items) {o : List ℕ} {r f : List Error} {s : State} {t : Token}
+    (q : Asked w n o r f s × (count ≤ s.at)) (v : Seen w x n s.at t) where
   -- the closing token is read
   pub loop_closed : ((rd : List Consumed) (l : Items)
       → go d (on l) (st_of w x n f rd s) ≡ gives l (st_of w x n f (past w x n s.at rd) (fore s t)))
-      → LoopOn on w x n d count o r f s o r f (record { status = Done; state = fore s t; place = 0; count = count })
+      → LoopOn on w x n d count o r f s o r f (record { status = Done; state = fore s t; place = nowhere; count = count })
   unfolding go run
   loop_closed step = record {
     moved = fore_moved q.0.asks v;
@@ -76,11 +77,11 @@ module _ {w x : List ℕ} {n d count : ℕ} (on : Items → Act Items) {o r f : 
   }
 
   -- the end of the script, with an error
-  pub loop_ended : {e : ℕ} {r1 f1 : List ℕ} {b : Answer} → Raised (noted n s) r f s e r1 f1 b
+  pub loop_ended : {e : Error} {r1 f1 : List Error} {b : Answer} → Raised (noted n s) r f s e r1 f1 b
       → ((rd : List Consumed) (l : Items)
       → go d (on l) (st_of w x n f rd s)
-      ≡ go d (make (unpack e) (done (P.with_error l (unpack e)))) (st_of w x n f rd s))
-      → LoopOn on w x n d count o r f s o r1 f1 (record { status = b.status; state = b.state; place = 0; count = count })
+      ≡ go d (make (err_of e) (done (P.with_error l (err_of e)))) (st_of w x n f rd s))
+      → LoopOn on w x n d count o r f s o r1 f1 (record { status = b.status; state = b.state; place = nowhere; count = count })
   unfolding go run
   loop_ended {e} {r1} {f1} {b} g step = record {
     moved = rw g.is (making_moved q.0.asks Done);
@@ -88,29 +89,29 @@ module _ {w x : List ℕ} {n d count : ℕ} (on : Items → Act Items) {o r f : 
         made_so Done n s (λ y. y.status ≡ Fatal → ⊥) g.is (λ _ y. let e : ◌≡◌ {A = ℕ} 0 1 = cc in omega arith)
         (λ _ y. let e : ◌≡◌ {A = ℕ} 0 1 = cc in omega arith);
     is = λ rd T E l et ee ec.
-        let made : go d (on l >>= as_answer) (st_of w x n f rd s) ≡ answered d (go d (make (unpack e) (done (P.with_error l (unpack e)))) (st_of w x n f rd s)) =
+        let made : go d (on l >>= as_answer) (st_of w x n f rd s) ≡ answered d (go d (make (err_of e) (done (P.with_error l (err_of e)))) (st_of w x n f rd s)) =
         go_bind d (on l) as_answer _ ∙ ap (answered d) (step rd l) in
         made_so Done n s (λ y. Shows items T E [] [] w x n o r1 f1
-        (record { status = y.status; state = y.state; place = 0; count = count })
+        (record { status = y.status; state = y.state; place = nowhere; count = count })
         (go d (on l >>= as_answer) (st_of w x n f rd s))) g.is
         (λ h. record {
           told = record {
-            item = P.with_error l (unpack e);
-            errors = l.errors ++ (unpack e ∷ []);
+            item = P.with_error l (err_of e);
+            errors = l.errors ++ (err_of e ∷ []);
             read = rd;
-            is = made ∙ ap (answered d) (makes q.0.asks g d (done (P.with_error l (unpack e))) rd x h);
+            is = made ∙ ap (answered d) (makes q.0.asks g d (done (P.with_error l (err_of e))) rd w x h);
             tree = et;
-            reported = errs_join E l.errors (unpack e ∷ []) ee (g.reported h);
+            reported = errs_join E l.errors (err_of e ∷ []) ee (g.reported h);
             holds = ec;
           };
         })
-        (λ h. record { told = made ∙ ap (answered d) (makes_none q.0.asks g d (done (P.with_error l (unpack e))) rd x h) });
+        (λ h. record { told = made ∙ ap (answered d) (makes_none q.0.asks g d (done (P.with_error l (err_of e))) rd w x h) });
   }
 
 -- ---- a turn that reads an item
 
 -- the answer of an item is added to the items before it, and the loop continues with `next`
-pub record Joined (w x : List ℕ) (n d : ℕ) (next : Items → Act Items) (T : List ℕ) (E : List Err) (o r f : List ℕ) (b : Answer) (count : ℕ) (q : Res (Ans Items)) : Type 0 where
+pub record Joined (w x : List ℕ) (n d : ℕ) (next : Items → Act Items) (T : List ℕ) (E : List Err) (o : List ℕ) (r f : List Error) (b : Answer) (count : ℕ) (q : Res (Ans Items)) : Type 0 where
   pub list : Items
   pub read : List Consumed
   pub is : q ≡ answered d (go d (next list) (st_of w x n f read b.state))
@@ -119,7 +120,7 @@ pub record Joined (w x : List ℕ) (n d : ℕ) (next : Items → Act Items) (T :
   pub counts : list.count ≡ count_of b.status count
 
 -- For a loop `on`, whose turn at s reads an item by the act m and continues with `next`.
-module _ {w x : List ℕ} {n d : ℕ} {o r f o1 r1 f1 : List ℕ} {s : State} {b : Answer} (on next : Items → Act Items) (m : Act (Ans Node)) (step : (rd : List Consumed) (l : Items) → go d (on l) (st_of w x n f rd s) ≡ go d (m >>= λ a. next (P.integrate l a)) (st_of w x n f rd s))
+module _ {w x : List ℕ} {n d : ℕ} {o : List ℕ} {r f : List Error} {o1 : List ℕ} {r1 f1 : List Error} {s : State} {b : Answer} (on next : Items → Act Items) (m : Act (Ans Node)) (step : (rd : List Consumed) (l : Items) → go d (on l) (st_of w x n f rd s) ≡ go d (m >>= λ a. next (P.integrate l a)) (st_of w x n f rd s))
     (u : Reads node w x n d m o r f s o1 r1 f1 b) where
   -- the item, and what follows it
   item_first : (rd : List Consumed) (l : Items)
@@ -168,9 +169,9 @@ module _ {w x : List ℕ} {n d : ℕ} {o r f o1 r1 f1 : List ℕ} {s : State} {b
       one (Refused m) z h i = absurd (h m refl)
 
 -- a loop that continues with itself
-module _ {w x : List ℕ} {n d : ℕ} {o r f o1 r1 f1 : List ℕ} {s : State} {b : Answer} (on : Items → Act Items) (m : Act (Ans Node)) (step : (rd : List Consumed) (l : Items) → go d (on l) (st_of w x n f rd s) ≡ go d (m >>= λ a. on (P.integrate l a)) (st_of w x n f rd s))
+module _ {w x : List ℕ} {n d : ℕ} {o : List ℕ} {r f : List Error} {o1 : List ℕ} {r1 f1 : List Error} {s : State} {b : Answer} (on : Items → Act Items) (m : Act (Ans Node)) (step : (rd : List Consumed) (l : Items) → go d (on l) (st_of w x n f rd s) ≡ go d (m >>= λ a. on (P.integrate l a)) (st_of w x n f rd s))
     (u : Reads node w x n d m o r f s o1 r1 f1 b) where
-  pub loop_next : {count k : ℕ} {o3 r3 f3 : List ℕ} {y : Answer} → Alive b → Counted b.status count k
+  pub loop_next : {count k : ℕ} {o3 : List ℕ} {r3 f3 : List Error} {y : Answer} → Alive b → Counted b.status count k
       → LoopOn on w x n d k o1 r1 f1 b.state o3 r3 f3 y → LoopOn on w x n d count o r f s o3 r3 f3 y
   loop_next alive ck h = record {
     moved = moved_onward u.moved h.moved;
@@ -182,16 +183,16 @@ module _ {w x : List ℕ} {n d : ℕ} {o r f o1 r1 f1 : List ℕ} {s : State} {b
   }
 
 -- what the next turn requires: an item consumes the token that begins it
-pub loop_asked : {w x : List ℕ} {n d count k : ℕ} {m : Act (Ans Node)} {o r f o1 r1 f1 : List ℕ} {s : State} {b : Answer}
+pub loop_asked : {w x : List ℕ} {n d count k : ℕ} {m : Act (Ans Node)} {o : List ℕ} {r f : List Error} {o1 : List ℕ} {r1 f1 : List Error} {s : State} {b : Answer}
     {t : Token}
-    → Asked w x n o r f s × (count ≤ s.at) → Seen w n s.at t → (kind_number t.kind ≡ 0 → ⊥)
+    → Asked w n o r f s × (count ≤ s.at) → Seen w x n s.at t → (kind_number t.kind ≡ 0 → ⊥)
     → Reads node w x n d m o r f s o1 r1 f1 b → Counted b.status count k → length o1 ≡ length o
     → length r1 ≡ length r → length f1 ≡ length f
-    → Asked w x n o1 r1 f1 b.state × (k ≤ b.state.at)
+    → Asked w n o1 r1 f1 b.state × (k ≤ b.state.at)
 loop_asked q v m0 u c lo lr lf = (asked_moved q.0 u.moved lo lr lf, omega (arith, q.1, v.present, m0, u.on, c.high))
 
 -- only the status and the state of an answer that is not done matter
-pub loop_alike : {on : Items → Act Items} {w x : List ℕ} {n d count : ℕ} {o r f o' r' f' : List ℕ} {s : State} {y z : Answer}
+pub loop_alike : {on : Items → Act Items} {w x : List ℕ} {n d count : ℕ} {o : List ℕ} {r f : List Error} {o' : List ℕ} {r' f' : List Error} {s : State} {y z : Answer}
     → z.status ≡ y.status → z.state ≡ y.state → (z.status ≡ Done → (z.place ≡ y.place) × (z.count ≡ y.count))
     → LoopOn on w x n d count o r f s o' r' f' y → LoopOn on w x n d count o r f s o' r' f' z
 loop_alike hs ht hn u =

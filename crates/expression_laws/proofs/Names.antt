@@ -1,11 +1,15 @@
 -- One law for each return of `bare_name`, `typed`, `typed_name`, `named` and `field`. Assumes nothing.
 use mathlib.Core.Path.{◌≡◌, refl, sym, ap, ◌∙◌}
+use mathlib.Core.Bool.{Bool, true, false}
 use mathlib.Core.List.{List, [], ◌∷◌, ◌++◌, append-nil}
 use Prim.Native.Nat.{ℕ, ◌+◌, ◌*◌, ◌≤◌, ◌<◌}
 use native.Mathlib.Omega.{arith}
-use lib.ListN.{length, take, drop, length-drop}
+use lib.Dec.{eqb}
+use lib.ListN.{length, take}
 use lib.Seq.{length-take-le}
 use borrow.Author.Tests.{eq-eqb, ne_eqb}
+use Rattle.definition.specs.Kind as K
+use Rattle.definition.specs.Choice.{pick}
 use Rattle.definition.specs.Numbers.{kind_number}
 use Rattle.definition.specs.Ascii.{ascii}
 use Rattle.definition.specs.Node.{recs_bytes}
@@ -16,37 +20,37 @@ use Rattle.definition.specs.Parser as P
 use Rattle.definition.specs.Go.{go}
 use Rattle.definition.proofs.Flat.{go_bind}
 use Rattle.definition.specs.declared.tag.Tag.{Tag}
-use Rattle.node.specs.Put.{Room, Wrote, bare_of, bare_size}
+use Rattle.node.specs.Put.{placed, bare_of, Wrote}
 use Rattle.node.specs.declared.Numbers.TheVariants.{None}
 use Rattle.fallible.specs.declared.parser.State.{State}
-use Rattle.fallible.specs.Answer.{Status, Done, Fatal, Refused, done_of, Answer}
-use Rattle.fallible.specs.Lists.{unpack, error_at, errs}
-use Rattle.fallible.specs.Answers.{refused_at, one_more, raised, noted, Raised, AbandonedOf, Abandoned, Cuts}
+use Rattle.fallible.specs.Answer.{nowhere, Status, Done, Fatal, Refused, done_of, Answer}
+use Rattle.fallible.specs.Lists.{err_of, error_at, errs}
+use Rattle.fallible.specs.Answers.{refused_at, one_more, raised, noted, Raised, AbandonedOf, Abandoned}
 use Rattle.fallible.proofs.Grown.{errs_length}
 use Rattle.steps.specs.declared.tokens.Token.{Token}
-use Rattle.steps.specs.Tokens.{rest, budget, Parts, Seen}
-use Rattle.steps.specs.Shows.{st_of, Asks, Asked, Moved, View, Good, ShowsOf, Shows, node, typed, token, Reads, Expects, NodeWritten, Follows, Followed, ExpectedOf, Expected}
+use Rattle.steps.specs.Tokens.{Held, rest, budget, Seen}
+use Rattle.steps.specs.Shows.{st_of, Asked, Moved, View, Good, ShowsOf, Shows, node, typed, token, Reads, Expects, NodeWritten, Follows, Followed, ExpectedOf, Expected}
 use Rattle.steps.proofs.Records.{yes, no, other, fore, adv}
-use Rattle.steps.proofs.Moves.{spent, refused_moved, asks_fore, asks_moved, fore_moved, making_moved, moved_trans, asked_moved, abandoned_moved}
-use Rattle.steps.proofs.OneToken.{making_pos}
+use Rattle.steps.proofs.Moves.{spent, refused_moved, asks_fore, asks_moved, fore_moved, moved_trans, abandoned_moved}
 use Rattle.steps.proofs.Answers.{alike, Stopped, say, good_of, not_done, done_le, stops, follows, abandons, wrote, wrapped, raise_same}
+use Rattle.leaves.specs.Leaves.{name_in}
 use Rattle.leaves.proofs.Errors.{made_so, makes, makes_none, raise_reads}
 use Rattle.expression_laws.specs.Post.{name_of, NameRoom, BareNamedOf, BareNamed, ReadsTyped, TypedOn}
 use Rattle.expression_laws.proofs.Types.{moved_onward, past, paid, record_reads, shown_from}
+use Rattle.fallible.specs.declared.error.Error.{Error}
 
 -- ---- `bare_name`
 
--- the length of a token's text is the one in its record
-pub text_length : {w x : List ℕ} {n at : ℕ} {t : Token} → Parts w x n → Seen w n at t
-    → length (next_token (rest w x n at)).text ≡ t.len
-text_length {x = x} {t = t} p v =
-    rw v.text (length-take-le t.len (drop t.start x) (simp length-drop (omega (arith, v.part p))))
+-- a name is no longer than the token's text, or than `<?>`
+pub name_length : (t : Token) → length (name_in t) ≤ 3 + length t.text.now
+unfolding ascii
+name_length t = go (eqb (kind_number t.kind) K.Identifier)
+  where
+    go : (b : Bool) → length (pick b t.text.now (ascii "<?>")) ≤ 3 + length t.text.now
+    go true = omega arith
+    go false = omega arith
 
--- the text in place of a missing name
-abbrev pub unknown : List ℕ
-unknown = 60 ∷ 63 ∷ 62 ∷ []
-
-module _ {w x : List ℕ} {n : ℕ} {o : List ℕ} {a : Answer} {tag at : ℕ} (q : NameRoom w x n o a at) where
+module _ {w x : List ℕ} {n : ℕ} {o : List ℕ} {a : Answer} {tag at : ℕ} where
   pub bare_stops : Stopped a → BareNamed w x n o a tag at o a
   bare_stops nd = record { at = refl; reported = refl; full = refl; low = omega arith; high = omega arith; is = one a.status nd }
     where
@@ -55,65 +59,34 @@ module _ {w x : List ℕ} {n : ℕ} {o : List ℕ} {a : Answer} {tag at : ℕ} (
       one Fatal nd = (refl, refl)
       one (Refused m) nd = (refl, refl)
 
-  module _ {t : Token} (z : a.status ≡ Done) (v : Seen w n at t) where
-    -- the name is written
-    named : {o' : List ℕ} {p k : ℕ} {name : List ℕ} → name_of (next_token (rest w x n at)) ≡ name
-        → length name ≤ 3 + length (next_token (rest w x n at)).text → k ≡ 3 + length name
-        → Wrote o a.state.pos (bare_of tag None name) k o' p
+  module _ {t : Token} (z : a.status ≡ Done) (v : Seen w x n at t) where
+    pub bare_name : {o' : List ℕ} {p : ℕ} → Wrote o a.state.pos (bare_of tag None (name_in t)) o' p
         → BareNamed w x n o a tag at o' (record {
           status = a.status;
           state = record { at = a.state.at; pos = p; reported = a.state.reported; full = a.state.full };
-          place = 0;
+          place = nowhere;
           count = 0;
         })
-    named e l g u =
+    bare_name u =
         let d : done_of a.status ≡ 1 = rw z in
         record {
           at = refl;
           reported = refl;
           full = refl;
           low = omega (arith, u.end);
-          high = omega (arith, u.end);
-          is = rw (z, e) (refl, (record { end = omega (arith, u.end); is = u.is }, refl));
+          high = omega (arith, u.end, ap length v.text, name_length t);
+          is = rw (z, v.kind x, v.text) (refl, (u, refl));
         }
 
-    pub bare_name : {o' : List ℕ} {p : ℕ} → kind_number t.kind ≡ 1
-        → Wrote o a.state.pos (bare_of tag None (take t.len (drop t.start x))) (bare_size None t.len)
-        o' p
-        → BareNamed w x n o a tag at o' (record {
-          status = a.status;
-          state = record { at = a.state.at; pos = p; reported = a.state.reported; full = a.state.full };
-          place = 0;
-          count = 0;
-        })
-    bare_name y u =
-        let l = text_length q.parts v in
-        let g = ap length (v.text x) in
-        named (rw (eq-eqb _ _ (v.kind x ∙ y)) (v.text x)) (omega arith) (omega arith) u
-
-    pub bare_unknown : {o' : List ℕ} {p : ℕ} → (kind_number t.kind ≡ 1 → ⊥)
-        → Wrote o a.state.pos (bare_of tag None (take 3 (drop 0 unknown))) (bare_size None 3) o' p
-        → BareNamed w x n o a tag at o' (record {
-          status = a.status;
-          state = record { at = a.state.at; pos = p; reported = a.state.reported; full = a.state.full };
-          place = 0;
-          count = 0;
-        })
-    unfolding ascii
-    bare_unknown y u = named (rw (ne_eqb _ _ (λ k. y (sym (v.kind x) ∙ k)))) (omega arith) (omega arith) u
-
--- there is room for either
-module _ {w x : List ℕ} {n : ℕ} {o : List ℕ} {a : Answer} {at : ℕ} (q : NameRoom w x n o a at) (z : a.status ≡ Done) where
-  pub bare_room : {t : Token} → Seen w n at t → Room o x a.state.pos (16 + t.len) t.start t.len
-  bare_room v = let d : done_of a.status ≡ 1 = rw z in record { room = omega (arith, q.room, text_length q.parts v); part = v.part q.parts }
-
-  pub unknown_room : Room o unknown a.state.pos (16 + 3) 0 3
-  unknown_room = let d : done_of a.status ≡ 1 = rw z in record { room = omega (arith, q.room); part = omega arith }
+-- there is room for the name
+pub bare_room : {w x : List ℕ} {n : ℕ} {o : List ℕ} {a : Answer} {at : ℕ} {t : Token} → NameRoom w x n o a at → a.status ≡ Done → Seen w x n at t
+    → a.state.pos + 15 + length (name_in t) ≤ length o
+bare_room {t = t} q z v = let d = ap done_of z in omega (arith, q.room, ap length v.text, name_length t)
 
 -- ---- `typed`
 
 -- what `?` makes of a good answer is the same answer
-pub kept_done : {r r' : List ℕ} {b c : Answer} {i j k : ℕ} → Abandoned r b i j k r' c → c.status ≡ Done → (c ≡ b) × (r' ≡ r)
+pub kept_done : {r r' : List Error} {b c : Answer} {i j k : ℕ} → Abandoned r b i j k r' c → c.status ≡ Done → (c ≡ b) × (r' ≡ r)
 kept_done {r} {r'} {b} {c} {i} {j} {k} v z = one b.status refl v.is
   where
     one : (h : Status) → b.status ≡ h → AbandonedOf h r b i j k r' c → (c ≡ b) × (r' ≡ r)
@@ -128,7 +101,7 @@ type_on name es y = P.good (record { name = name; type = y.item.recs }) (es ++ y
 abbrev colon_on : List ℕ → List Err → Fallible Tok → Act (Ans P.Typed)
 colon_on name es _ = P.parse_type >>? type_on name es
 
-typed_shows : {T : List ℕ} {E es : List Err} {w x : List ℕ} {n : ℕ} {o r f : List ℕ} {a : Answer} {q : Res (Ans Node)}
+typed_shows : {T : List ℕ} {E es : List Err} {w x : List ℕ} {n : ℕ} {o : List ℕ} {r f : List Error} {a : Answer} {q : Res (Ans Node)}
     (d : ℕ) (name : List ℕ)
     → Shows node T E [] es w x n o r f a q
     → Shows (typed name) T E [] [] w x n o r f a (after q (λ z S. go d (or_return (type_on name es) z) S))
@@ -150,7 +123,7 @@ typed_shows {T} {E} {es} {w} {x} {n} {o} {r} {f} {a} {q} d name v = record { tol
     one Fatal g = record { errors = g.errors; read = g.read; is = rw g.is; tree = g.tree; reported = g.reported }
     one (Refused u) g = rw g
 
-module _ {w x : List ℕ} {n : ℕ} {o r f : List ℕ} {s : State} (q : Asked w x n o r f s) where
+module _ {w : List ℕ} {n : ℕ} {o : List ℕ} {r f : List Error} {s : State} (q : Asked w n o r f s) where
   -- the file up to the position, and the reported errors, have these lengths
   pub len_pos : length (take s.pos o) ≡ s.pos
   len_pos = length-take-le s.pos o (omega (arith, q.room))
@@ -158,8 +131,8 @@ module _ {w x : List ℕ} {n : ℕ} {o r f : List ℕ} {s : State} (q : Asked w 
   pub len_reported : length (errs r s.reported) ≡ s.reported
   len_reported = errs_length r s.reported (omega (arith, q.asks))
 
-module _ {w x : List ℕ} {n d j : ℕ} {o r f r1 f1 r2 : List ℕ} {s : State} {a b : Answer}
-    (q : Asked w x n o r f s × (j ≤ s.reported))
+module _ {w x : List ℕ} {n d j : ℕ} {o : List ℕ} {r f r1 f1 r2 : List Error} {s : State} {a b : Answer}
+    (q : Asked w n o r f s × (j ≤ s.reported))
     (e : Expects w n (λ role. P.expect_as role 49) r f s r1 f1 a)
     (v : Abandoned r1 a s.pos j s.reported r2 b) where
   -- `:` is missing: returned by `?`; else the type follows
@@ -177,7 +150,7 @@ module _ {w x : List ℕ} {n d j : ℕ} {o r f r1 f1 r2 : List ℕ} {s : State} 
             le (len_reported q.0) v e.moved.pos (omega (arith, q.1, e.moved.reported)) (e.is x plain d rd o)));
       }
 
-  module _ {o3 r3 f3 r4 : List ℕ} {c y : Answer} where
+  module _ {o3 : List ℕ} {r3 f3 r4 : List Error} {c y : Answer} where
     -- where `:` is there, `?` changes nothing
     typed_there : a.status ≡ Done → Reads node w x n d P.parse_type o r1 f1 a.state o3 r3 f3 c
         → Abandoned r3 c s.pos j a.state.reported r4 y → TypedOn w x n d j o r f s o3 r4 f3 y
@@ -208,11 +181,11 @@ module _ {w x : List ℕ} {n d j : ℕ} {o r f r1 f1 r2 : List ℕ} {s : State} 
 
 -- ---- an error is noted: there is room for it, or not
 
-module _ (n : ℕ) {e : ℕ} {r f r' f' : List ℕ} {s : State} {b : Answer} (g : Raised (noted n s) r f s e r' f' b) where
-  pub note_there : b.status ≡ Done → (s.full < 255) × (b ≡ record { status = Done; state = one_more s; place = 0; count = 0 })
+module _ (n : ℕ) {e : Error} {r f r' f' : List Error} {s : State} {b : Answer} (g : Raised (noted n s) r f s e r' f' b) where
+  pub note_there : b.status ≡ Done → (s.full < 255) × (b ≡ record { status = Done; state = one_more s; place = nowhere; count = 0 })
   note_there z =
       made_so Done n s (λ y. y.status ≡ Done → (s.full < 255)
-      × (y ≡ record { status = Done; state = one_more s; place = 0; count = 0 })) g.is (λ l _. (l, refl))
+      × (y ≡ record { status = Done; state = one_more s; place = nowhere; count = 0 })) g.is (λ l _. (l, refl))
       (λ l y. let e : ◌≡◌ {A = ℕ} 0 1 = cc in absurd (omega arith)) z
 
   pub note_none : Stopped b → (255 ≤ s.full) × (b ≡ refused_at n s 12)
@@ -223,7 +196,7 @@ module _ (n : ℕ) {e : ℕ} {r f r' f' : List ℕ} {s : State} {b : Answer} (g 
 -- ---- `typed_name`
 
 -- the same for an equal name
-renamed : {u u' : List ℕ} {T : List ℕ} {E : List Err} {w x : List ℕ} {n : ℕ} {o r f : List ℕ} {a : Answer}
+renamed : {u u' : List ℕ} {T : List ℕ} {E : List Err} {w x : List ℕ} {n : ℕ} {o : List ℕ} {r f : List Error} {a : Answer}
     {q : Res (Ans P.Typed)}
     → u ≡ u' → Shows (typed u') T E [] [] w x n o r f a q → Shows (typed u) T E [] [] w x n o r f a q
 renamed e v = rw e v
@@ -232,15 +205,15 @@ error_same : (d : ℕ) {X Y : Err} {S S' : St} → X ≡ Y → S ≡ S'
     → go d (make X (P.typed (ascii "<?>") (X ∷ []))) S ≡ go d (make Y (P.typed (ascii "<?>") (Y ∷ []))) S'
 error_same d p q = rw (p, q)
 
-module _ {w x : List ℕ} {n : ℕ} {o r f : List ℕ} {s : State} {t : Token} (q : Asked w x n o r f s) (v : Seen w n s.at t) where
+module _ {w x : List ℕ} {n : ℕ} {o : List ℕ} {r f : List Error} {s : State} {t : Token} (q : Asked w n o r f s) (v : Seen w x n s.at t) where
   -- the first token is an identifier, the end, or another token: error 4 is refused or noted
-  pub identifier_name : {d : ℕ} {o1 r1 f1 : List ℕ} {a : Answer} → kind_number t.kind ≡ 1
+  pub identifier_name : {d : ℕ} {o1 : List ℕ} {r1 f1 : List Error} {a : Answer} → kind_number t.kind ≡ 1
       → TypedOn w x n d s.reported o r f (fore s t) o1 r1 f1 a → ReadsTyped w x n d o r f s o1 r1 f1 a
   unfolding go run P.parse_typed_identifier
   identifier_name {d} {a = a} z u = record {
     moved = moved_trans (fore_moved q.asks v) u.moved;
     on = omega (arith, v.present, v.on, u.moved.at);
-    spare = omega (arith, text_length q.parts v, v.pays, u.spare, done_le a.status);
+    spare = omega (arith, ap length v.text, v.pays, u.spare, done_le a.status);
     is =
         λ rd. renamed (rw (eq-eqb _ _ (v.kind x ∙ z))) (say (rw (run, yes v z)
         (ap (λ (S : St). go d (P.typed (next_token (rest w x n s.at)).text []) S) (adv s v (λ _. plain) f rd _)))
@@ -248,7 +221,7 @@ module _ {w x : List ℕ} {n : ℕ} {o r f : List ℕ} {s : State} {t : Token} (
         (sym (append-nil _))));
   }
 
-  pub identifier_end : {d e : ℕ} {r' f' : List ℕ} {a : Answer} → kind_number t.kind ≡ 0 → unpack e ≡ error_at 5 0 0 0
+  pub identifier_end : {d : ℕ} {e : Error} {r' f' : List Error} {a : Answer} → kind_number t.kind ≡ 0 → err_of e ≡ error_at 5 nowhere 0 0
       → Raised (raised n (fore s t)) r f (fore s t) e r' f' a → ReadsTyped w x n d o r f s o r' f' a
   unfolding go run P.parse_typed_identifier
   identifier_end {d} {a = a} z i g =
@@ -262,18 +235,18 @@ module _ {w x : List ℕ} {n : ℕ} {o r f : List ℕ} {s : State} {t : Token} (
             made_so Fatal n (fore s t)
             (λ y. y.state.pos + budget w n y.state.at + 32 * done_of y.status + length
             (next_token (rest w x n s.at)).text ≤ s.pos + budget w n s.at) g.is
-            (λ _. omega (arith, text_length q.parts v, v.pays))
-            (λ _. omega (arith, text_length q.parts v, v.pays, spent w n));
+            (λ _. omega (arith, ap length v.text, v.pays))
+            (λ _. omega (arith, ap length v.text, v.pays, spent w n));
         is = u.is;
       }
 
-  module _ {e : ℕ} {r1 f1 : List ℕ} {b : Answer} (m1 : kind_number t.kind ≡ 1 → ⊥) (m0 : kind_number t.kind ≡ 0 → ⊥)
-      (i : unpack e ≡ error_at 4 t.place 0 0)
+  module _ {e : Error} {r1 f1 : List Error} {b : Answer} (m1 : kind_number t.kind ≡ 1 → ⊥) (m0 : kind_number t.kind ≡ 0 → ⊥)
+      (i : err_of e ≡ error_at 4 t.place 0 0)
       (g : Raised (noted n (fore s t)) r f (fore s t) e r1 f1 b) where
     -- the definition makes error 4
     unnamed : (d : ℕ) (rd : List Consumed)
         → go d P.parse_typed_identifier (st_of w x n f rd s)
-        ≡ go d (make (unpack e) (P.typed (ascii "<?>") (unpack e ∷ [])))
+        ≡ go d (make (err_of e) (P.typed (ascii "<?>") (err_of e ∷ [])))
         (st_of w x n f (past w x n s.at rd) (fore s t))
     unfolding go run P.parse_typed_identifier
     unnamed d rd = rw (run, no v m1, no v m0) (error_same d (rw v.place (sym i)) (adv s v (λ _. plain) f rd _))
@@ -284,11 +257,11 @@ module _ {w x : List ℕ} {n : ℕ} {o r f : List ℕ} {s : State} {t : Token} (
         rw h.1 (record {
           moved = moved_trans (fore_moved q.asks v) (refused_moved (asks_fore q.asks v) 12);
           on = omega (arith, v.present, v.on, v.end);
-          spare = omega (arith, text_length q.parts v, v.pays, spent w n);
-          is = λ rd. record { told = unnamed d rd ∙ makes_none (asks_fore q.asks v) g d _ _ x h.0 };
+          spare = omega (arith, ap length v.text, v.pays, spent w n);
+          is = λ rd. record { told = unnamed d rd ∙ makes_none (asks_fore q.asks v) g d _ _ w x h.0 };
         })
 
-    pub identifier_noted : {d : ℕ} {o2 r2 f2 : List ℕ} {a : Answer} → b.status ≡ Done
+    pub identifier_noted : {d : ℕ} {o2 : List ℕ} {r2 f2 : List Error} {a : Answer} → b.status ≡ Done
         → TypedOn w x n d s.reported o r1 f1 b.state o2 r2 f2 a → ReadsTyped w x n d o r f s o2 r2 f2 a
     identifier_noted {d} {o2} {r2} {f2} {a} z u =
         let h = note_there n g z in
@@ -297,11 +270,11 @@ module _ {w x : List ℕ} {n : ℕ} {o r f : List ℕ} {s : State} {t : Token} (
         record {
           moved = m;
           on = omega (arith, v.present, v.on, k.moved.at);
-          spare = omega (arith, text_length q.parts v, v.pays, k.spare, done_le a.status);
+          spare = omega (arith, ap length v.text, v.pays, k.spare, done_le a.status);
           is =
               λ rd. renamed {u' = ascii "<?>"} (rw (ne_eqb _ _ (λ y. m1 (sym (v.kind x) ∙ y))))
-              (say (unnamed d rd ∙ makes (asks_fore q.asks v) g d _ _ x h.0)
-              (k.is (past w x n s.at rd) (ascii "<?>") (errs r s.reported) (unpack e ∷ []) (len_reported q)
+              (say (unnamed d rd ∙ makes (asks_fore q.asks v) g d _ _ w x h.0)
+              (k.is (past w x n s.at rd) (ascii "<?>") (errs r s.reported) (err_of e ∷ []) (len_reported q)
               (g.reported h.0)));
         }
 
@@ -311,7 +284,7 @@ module _ {w x : List ℕ} {n : ℕ} {o r f : List ℕ} {s : State} {t : Token} (
 abbrev name_on : Fallible P.Typed → Act (Ans Node)
 name_on y = P.good (P.bare y.item.type 21 y.item.name) y.errors
 
-bare_shows : {T : List ℕ} {E : List Err} {w x : List ℕ} {n at : ℕ} {o r f o' : List ℕ} {a y : Answer}
+bare_shows : {T : List ℕ} {E : List Err} {w x : List ℕ} {n at : ℕ} {o : List ℕ} {r f : List Error} {o' : List ℕ} {a y : Answer}
     {q : Res (Ans P.Typed)} (d : ℕ)
     → BareNamed w x n o a 21 at o' y → Shows (typed (name_of (next_token (rest w x n at)))) T E [] [] w x n o r f a q
     → Shows node T E [] [] w x n o' r f y (after q (λ z S. go d (or_return name_on z) S))
@@ -334,7 +307,7 @@ bare_shows {T} {E} {w} {x} {n} {at} {o} {r} {f} {o'} {a} {y} {q} d u v = record 
     one Fatal z m g = rw (m.0, m.1, z) (record { errors = g.errors; read = g.read; is = rw g.is; tree = g.tree; reported = g.reported })
     one (Refused k) z m g = rw (m.0, z, g)
 
-module _ {w x : List ℕ} {n d : ℕ} {o r f o1 r1 f1 : List ℕ} {s : State} {a : Answer} (q : Asked w x n o r f s)
+module _ {w x : List ℕ} {n d : ℕ} {o : List ℕ} {r f : List Error} {o1 : List ℕ} {r1 f1 : List Error} {s : State} {a : Answer} (q : Asked w n o r f s)
     (u : ReadsTyped w x n d o r f s o1 r1 f1 a) where
   pub named_reads : {o2 : List ℕ} {y : Answer} → BareNamed w x n o1 a 21 s.at o2 y
       → Reads node w x n d P.parse_named_type o r f s o2 r1 f1 y
@@ -358,14 +331,10 @@ module _ {w x : List ℕ} {n d : ℕ} {o r f o1 r1 f1 : List ℕ} {s : State} {a
         is = λ rd. say (go_bind d P.parse_typed_identifier (or_return name_on) _) (bare_shows d b (u.is rd));
       }
 
-  -- there is room for the name
-  pub named_room : length o1 ≡ length o → NameRoom w x n o1 a s.at
-  named_room l = record { held = q.asks.held; parts = q.parts; within = q.asks.at; room = omega (arith, q.room, u.spare) }
-
 -- ---- `expect` after an answer
 
 -- the expected token is there
-pub record Met (w x : List ℕ) (n k : ℕ) (r f : List ℕ) (a : Answer) (r' f' : List ℕ) (y : Answer) : Type 0 where
+pub record Met (w x : List ℕ) (n k : ℕ) (r f : List Error) (a : Answer) (r' f' : List Error) (y : Answer) : Type 0 where
   pub there : a.status ≡ Done
   pub pos : y.state.pos ≡ a.state.pos
   pub reported : y.state.reported ≡ a.state.reported
@@ -377,7 +346,7 @@ pub record Met (w x : List ℕ) (n k : ℕ) (r f : List ℕ) (a : Answer) (r' f'
       → go d (P.expect k) (st_of w x n f rd a.state)
       ≡ gives (ok (item d rd)) (st_of w x n f' (read d rd) y.state)
 
-pub expected_there : {w x : List ℕ} {n k i j : ℕ} {r f r' f' : List ℕ} {a y : Answer} → Expected w n k i j r f a r' f' y
+pub expected_there : {w x : List ℕ} {n k i j : ℕ} {r f r' f' : List Error} {a y : Answer} → Expected w n k i j r f a r' f' y
     → y.status ≡ Done → Met w x n k r f a r' f' y
 expected_there {w} {x} {n} {k} {i} {j} {r} {f} {r'} {f'} {a} {y} v z = one a.status refl v.is
   where
@@ -412,9 +381,9 @@ expected_there {w} {x} {n} {k} {i} {j} {r} {f} {r'} {f'} {a} {y} v z = one a.sta
 
 -- a fatal or refused answer, or a missing token, is the answer of all that follows under `?`
 pub expected_stops : {A B : Type 0} {K : View A} {L : View B} {T : List ℕ} {E : List Err} {w x : List ℕ} {n k i j : ℕ}
-    {o r f r' f' : List ℕ} {a y : Answer} {q : Res (Ans A)} (d : ℕ)
+    {o : List ℕ} {r f r' f' : List Error} {a y : Answer} {q : Res (Ans A)} (d : ℕ)
     (on : Fallible A → Fallible Tok → Act (Ans B))
-    → Follows w n r f a i j → Expected w n k i j r f a r' f' y → Stopped y → length T ≡ i → length E ≡ j
+    → Follows n r f a i j → Expected w n k i j r f a r' f' y → Stopped y → length T ≡ i → length E ≡ j
     → Shows K T E [] [] w x n o r f a q
     → Shows L T E [] [] w x n o r' f' y (after q (λ z S. go d (or_return (λ e. P.expect k >>? on e) z) S))
 expected_stops {A} {B} {K} {L} {T} {E} {w} {x} {n} {k} {i} {j} {o} {r} {f} {r'} {f'} {a} {y} {q} d on p v nd li lj u =
@@ -447,16 +416,13 @@ equals_on id _ = P.parse_expression >>? value_on id
 abbrev field_on : Fallible Tok → Act (Ans Node)
 field_on id = P.expect 26 >>? equals_on id
 
-module _ {w x : List ℕ} {n : ℕ} {o r f r1 f1 : List ℕ} {s : State} {t : Token} {a : Answer}
-    (q : Asked w x n o r f s) (v : Seen w n s.at t)
+module _ {w x : List ℕ} {n : ℕ} {o : List ℕ} {r f r1 f1 : List Error} {s : State} {t : Token} {a : Answer}
+    (held : Held w n) (q : Asked w n o r f s) (v : Seen w x n s.at t)
     (e : Expects w n (λ role. P.expect_identifier) r f s r1 f1 a) where
-  pub field_follows : length r1 ≡ length r → length f1 ≡ length f → Follows w n r1 f1 a s.pos s.reported
+  pub field_follows : length r1 ≡ length r → length f1 ≡ length f → Follows n r1 f1 a s.pos s.reported
   field_follows l k = record { asks = asks_moved q.asks e.moved l k; pos = e.moved.pos; reported = e.moved.reported }
 
-  module _ {r2 f2 : List ℕ} {b : Answer} (u : Expected w n 26 s.pos s.reported r1 f1 a r2 f2 b) where
-    pub field_asked : length r2 ≡ length r → length f2 ≡ length f → Asked w x n o r2 f2 b.state
-    field_asked l k = asked_moved q (moved_trans e.moved u.moved) refl l k
-
+  module _ {r2 f2 : List Error} {b : Answer} (u : Expected w n 26 s.pos s.reported r1 f1 a r2 f2 b) where
     pub field_stops : {d : ℕ} → length r1 ≡ length r → length f1 ≡ length f → Stopped b
         → Reads node w x n d P.parse_compound_struct_field o r f s o r2 f2 b
     unfolding P.parse_compound_struct_field
@@ -468,10 +434,10 @@ module _ {w x : List ℕ} {n : ℕ} {o r f r1 f1 : List ℕ} {s : State} {t : To
           (expected_stops d equals_on (field_follows l k) u nd (len_pos q) (len_reported q) (e.is x plain d rd o));
     }
 
-    module _ {d : ℕ} {o3 r3 f3 : List ℕ} {c : Answer} (z : b.status ≡ Done)
+    module _ {d : ℕ} {o3 : List ℕ} {r3 f3 : List Error} {c : Answer} (z : b.status ≡ Done)
         (h : Reads node w x n d P.parse_expression o r2 f2 b.state o3 r3 f3 c) where
       -- the tokens account for the record
-      field_paid : c.state.pos + budget w n c.state.at + 16 + t.len ≤ s.pos + budget w n s.at
+      field_paid : c.state.pos + budget w n c.state.at + 16 + length t.text.now ≤ s.pos + budget w n s.at
       field_paid =
           let db : done_of b.status ≡ 1 = rw z in
           omega (
@@ -480,21 +446,15 @@ module _ {w x : List ℕ} {n : ℕ} {o r f r1 f1 : List ℕ} {s : State} {t : To
             u.pays,
             u.high,
             e.pos,
-            paid s.at a.state.at q.asks.held e.on x,
-            text_length q.parts v,
+            paid s.at a.state.at held e.on x,
+            ap length v.text,
           )
 
-      pub field_room : length o3 ≡ length o → Room o3 x c.state.pos (16 + t.len) t.start t.len
-      field_room l = record { room = omega (arith, field_paid, q.room); part = v.part q.parts }
+      pub field_room : length o3 ≡ length o → c.state.pos + 16 + length t.text.now ≤ length o3
+      field_room l = omega (arith, field_paid, q.room)
 
       pub field_done : {o4 : List ℕ} {y : Answer}
-          → NodeWritten x o3 c (record {
-            tag = Tag.CompoundField;
-            place = b.place;
-            numbers = None;
-            start = t.start;
-            len = t.len;
-          }) o4 y
+          → NodeWritten o3 c (placed b.place Tag.CompoundField None t.text.now) o4 y
           → Reads node w x n d P.parse_compound_struct_field o r f s o4 r3 f3 y
       unfolding P.parse_compound_struct_field
       field_done F =
@@ -512,45 +472,3 @@ module _ {w x : List ℕ} {n : ℕ} {o r f r1 f1 : List ℕ} {s : State} {t : To
           ∙ ap (λ (k : Tok). after (go d P.parse_expression (st_of w x n f2 (m.read d (g rd).read) b.state))
           (λ z S. go d (or_return (value_on (record { item = k; errors = [] })) z) S)) (g rd).holds.0)
           (λ rd. shown_from h (m.pos ∙ e.pos) (m.kept ∙ (e.kept m.there).1) (m.read d (g rd).read))
-
--- ---- what their calls require
-
--- what `?` requires
-pub cuts_moved : {w : List ℕ} {n i j : ℕ} {r f r1 : List ℕ} {s t : State} → Asks w n r f s
-    → Moved w n s.pos s.reported s t → i ≤ s.pos → j ≤ s.reported → length r1 ≡ length r
-    → Cuts r1 t i j s.reported
-cuts_moved q m hi hj l =
-    record {
-      pos = omega (arith, m.pos);
-      order = hj;
-      own = m.reported;
-      within = omega (arith, q.reported, q.few, q.reps, m.less, m.few);
-    }
-
-module _ {w x : List ℕ} {n j : ℕ} {o r f r1 f1 : List ℕ} {s : State} {a : Answer}
-    (q : Asked w x n o r f s × (j ≤ s.reported))
-    (e : Expects w n (λ role. P.expect_as role 49) r f s r1 f1 a) where
-  pub colon_cuts : length r1 ≡ length r → Cuts r1 a.state s.pos j s.reported
-  colon_cuts l = cuts_moved q.0.asks e.moved (omega arith) q.1 l
-
-  module _ {r2 : List ℕ} {b : Answer} (v : Abandoned r1 a s.pos j s.reported r2 b) where
-    pub type_asked : length r2 ≡ length r → length f1 ≡ length f → Asked w x n o r2 f1 b.state
-    type_asked l k = asked_moved q.0 (abandoned_moved e.moved v) refl l k
-
-    pub type_cuts : {d : ℕ} {o3 r3 f3 : List ℕ} {c : Answer} → Reads node w x n d P.parse_type o r2 f1 b.state o3 r3 f3 c
-        → length r2 ≡ length r → length f1 ≡ length f → length r3 ≡ length r2
-        → Cuts r3 c.state s.pos j b.state.reported
-    type_cuts u l k g = cuts_moved (type_asked l k).asks u.moved v.low v.first g
-
--- after an error is noted
-module _ {w x : List ℕ} {n e : ℕ} {o r f r1 f1 : List ℕ} {s : State} {t : Token} {b : Answer}
-    (q : Asked w x n o r f s) (v : Seen w n s.at t)
-    (g : Raised (noted n (fore s t)) r f (fore s t) e r1 f1 b) where
-  pub noted_moved : Moved w n s.pos s.reported s b.state
-  noted_moved = rw g.is (moved_onward (fore_moved q.asks v) (making_moved (asks_fore q.asks v) Done))
-
-  pub noted_asked : length r1 ≡ length r → length f1 ≡ length f
-      → Asked w x n o r1 f1 b.state × ((s.pos ≡ b.state.pos) × (s.reported ≤ b.state.reported))
-  noted_asked l k =
-      let p = ap (λ (y : Answer). y.state.pos) g.is ∙ making_pos Done n (fore s t) in
-      (asked_moved q noted_moved refl l k, (sym p, noted_moved.reported))

@@ -5,7 +5,8 @@ use mathlib.Core.List.{List, [], ◌∷◌, ◌++◌}
 use Prim.Native.Nat.{ℕ}
 use native.Mathlib.Omega.{arith}
 use lib.ListN.{length, take}
-use Rattle.definition.specs.Numbers.{kind_number, tag_number}
+use Rattle.node.specs.Put.{placed}
+use Rattle.definition.specs.Numbers.{kind_number}
 use Rattle.definition.specs.Source.{Place}
 use Rattle.definition.specs.Fallible.{Err, Fallible, Ans, ok}
 use Rattle.definition.specs.Kind as K
@@ -19,11 +20,9 @@ use Rattle.definition.specs.declared.tag.Tag.{Tag}
 use Rattle.fallible.proofs.Grown.{errs_length}
 use Rattle.fallible.specs.declared.parser.State.{State}
 use Rattle.fallible.specs.Answer.{Done, Answer}
-use Rattle.fallible.specs.Lists.{errs, unpack, error_at}
+use Rattle.fallible.specs.Lists.{errs, err_of, error_at}
 use Rattle.fallible.specs.Answers.{refused_at, noted, Raised, Abandoned}
-use Rattle.node.specs.Put.{rec_of}
 use Rattle.node.specs.declared.Numbers.TheVariants.{None}
-use Rattle.node.specs.declared.Record.{Record}
 use Rattle.steps.specs.declared.tokens.Token.{Token}
 use Rattle.steps.specs.Tokens.{rest, budget, Seen}
 use Rattle.steps.specs.Shows.{st_of, Asks, Moved, Shows, Reads, Goes, GoesOn, node, Follows, Expected, NodeWritten}
@@ -37,6 +36,8 @@ use Rattle.expression_laws.specs.Post.{suffixes_on}
 use Rattle.expression_laws.proofs.Types.{past}
 use Rattle.expression_laws.proofs.Joins.{goes_none}
 use Rattle.expression_laws.proofs.Calls.{expect_seam}
+use Rattle.fallible.specs.declared.error.Error.{Error}
+use Rattle.definition.specs.Node.{Rec}
 
 -- two tokens are read
 abbrev past_two : List ℕ → List ℕ → ℕ → ℕ → ℕ → List Consumed → List Consumed
@@ -49,27 +50,27 @@ dotted p e n =
     (Act.when◌then◌else◌ (n is K.Identifier) (suffixes_on (P.wrap 0x29 p n.text e))
     (Act.make (P.error 4 n.place 0 0) (P.good e.item (e.errors ++ (P.error 4 n.place 0 0 ∷ [])))))
 
-dot_step : {w : List ℕ} {n : ℕ} {t : Token} (d : ℕ) (f : List ℕ) (s : State) → Seen w n s.at t → kind_number t.kind ≡ 34
+dot_step : {w y : List ℕ} {n : ℕ} {t : Token} (d : ℕ) (f : List Error) (s : State) → Seen w y n s.at t → kind_number t.kind ≡ 34
     → (e : Fallible Node) (rd : List Consumed) (x : List ℕ)
     → go d (suffixes_on e) (st_of w x n f rd s)
     ≡ go d (Act.next (dotted (next_token (rest w x n s.at)).place e))
     (st_of w x n f (past w x n s.at rd) (fore s t))
 unfolding go run P.suffixes_turn
-dot_step {w} {n} d f s u h e rd x =
+dot_step {w} {n = n} d f s u h e rd x =
     go_loop d (Suffixes e) (st_of w x n f rd s)
     ∙ rw (run, yes u h)
     (ap (λ (S : St). go d (Act.next (dotted (next_token (rest w x n s.at)).place e)) S) (adv s u (λ _. plain) f rd _))
 
 -- ---- a record after the operand alone, and the next turn
 
-module _ {w x : List ℕ} {n d i j : ℕ} {o r f o2 o3 r3 f3 : List ℕ} {a y y' : Answer} {on : State} {v : Record} (p : Place) (text : List ℕ) (q : GoesOn w x n o r f a i j) (z : a.status ≡ Done)
-    (F : NodeWritten x o (record { status = a.status; state = on; place = a.place; count = a.count }) v o2 y) (made : rec_of x v ≡ record { tag = tag_number v.tag; place = some p; numbers = []; text = text }) where
+module _ {w x : List ℕ} {n d i j : ℕ} {o : List ℕ} {r f : List Error} {o2 o3 : List ℕ} {r3 f3 : List Error} {a y y' : Answer} {on : State} {v : Rec} (p : Place) (text : List ℕ) (q : GoesOn w n o r f a i j) (z : a.status ≡ Done)
+    (F : NodeWritten o (record { status = a.status; state = on; place = a.place; count = a.count }) v o2 y) (made : v ≡ record { tag = v.tag; place = some p; numbers = []; text = text }) where
   -- the operand gets the record v, and the loop continues
   pub goes_wrapped : (rd' : List Consumed → List Consumed) → on.pos ≡ a.state.pos → on.reported ≡ a.state.reported
       → on.full ≡ a.state.full → Moved w n i j a.state y.state
       → ((e : Fallible Node) (rd : List Consumed)
       → go d (suffixes_on e) (st_of w x n f rd a.state)
-      ≡ go d (suffixes_on (P.wrap (tag_number v.tag) p text e)) (st_of w x n f (rd' rd) on))
+      ≡ go d (suffixes_on (P.wrap (v.tag) p text e)) (st_of w x n f (rd' rd) on))
       → Goes node node w x n d suffixes_on i j o2 r f y o3 r3 f3 y'
       → Goes node node w x n d suffixes_on i j o r f a o3 r3 f3 y'
   unfolding go run
@@ -91,11 +92,10 @@ module _ {w x : List ℕ} {n d i j : ℕ} {o r f o2 o3 r3 f3 : List ℕ} {a y y'
   }
 
 -- how the state moves in a turn without an index
-module _ {w x : List ℕ} {n i j : ℕ} {o r f : List ℕ} {a : Answer} {t : Token} (q : GoesOn w x n o r f a i j)
-    (u : Seen w n a.state.at t) where
+module _ {w x : List ℕ} {n i j : ℕ} {o : List ℕ} {r f : List Error} {a : Answer} {t : Token} (q : GoesOn w n o r f a i j)
+    (u : Seen w x n a.state.at t) where
   pub star_moved : {o2 : List ℕ} {y : Answer} → kind_number t.kind ≡ 35
-      → NodeWritten x o (record { status = a.status; state = fore a.state t; place = a.place; count = a.count })
-      (record { tag = Tag.PointerDereference; place = t.place; numbers = None; start = 0; len = 0 }) o2 y
+      → NodeWritten o (record { status = a.status; state = fore a.state t; place = a.place; count = a.count }) (placed t.place Tag.PointerDereference None []) o2 y
       → Moved w n i j a.state y.state
   star_moved {y = y} k F =
       let e : budget w n y.state.at ≡ budget w n t.next = ap (λ (k : ℕ). budget w n k) F.at in
@@ -110,11 +110,8 @@ module _ {w x : List ℕ} {n i j : ℕ} {o r f : List ℕ} {a : Answer} {t : Tok
         few = omega (arith, F.full, q.asked.asks.few);
       }
 
-  pub dot_moved : {v : Token} {o2 : List ℕ} {y : Answer} → Seen w n t.next v → kind_number v.kind ≡ 1
-      → NodeWritten x o
-      (record { status = a.status; state = fore (fore a.state t) v; place = a.place; count = a.count })
-      (record { tag = Tag.FieldAccess; place = t.place; numbers = None; start = v.start; len = v.len })
-      o2 y
+  pub dot_moved : {v : Token} {o2 : List ℕ} {y : Answer} → Seen w x n t.next v → kind_number v.kind ≡ 1
+      → NodeWritten o (record { status = a.status; state = fore (fore a.state t) v; place = a.place; count = a.count }) (placed t.place Tag.FieldAccess None v.text.now) o2 y
       → Moved w n i j a.state y.state
   dot_moved {v} {y = y} s k F =
       let e : budget w n y.state.at ≡ budget w n v.next = ap (λ (k : ℕ). budget w n k) F.at in
@@ -129,8 +126,8 @@ module _ {w x : List ℕ} {n i j : ℕ} {o r f : List ℕ} {a : Answer} {t : Tok
         few = omega (arith, F.full, q.asked.asks.few);
       }
 
-module _ {w x : List ℕ} {n d i j : ℕ} {o r f : List ℕ} {a : Answer} {t : Token} (q : GoesOn w x n o r f a i j)
-    (z : a.status ≡ Done) (u : Seen w n a.state.at t) where
+module _ {w x : List ℕ} {n d i j : ℕ} {o : List ℕ} {r f : List Error} {a : Answer} {t : Token} (q : GoesOn w n o r f a i j)
+    (z : a.status ≡ Done) (u : Seen w x n a.state.at t) where
   -- no suffix follows
   pub suffix_none : (kind_number t.kind ≡ 34 → ⊥) → (kind_number t.kind ≡ 35 → ⊥) → (kind_number t.kind ≡ 43 → ⊥) → Goes node node w x n d suffixes_on i j o r f a o r f a
   unfolding go run P.suffixes_turn
@@ -138,9 +135,8 @@ module _ {w x : List ℕ} {n d i j : ℕ} {o r f : List ℕ} {a : Answer} {t : T
 
   -- ---- `.*`
 
-  pub suffix_star : {o2 o3 r3 f3 : List ℕ} {y y' : Answer} → kind_number t.kind ≡ 35
-      → NodeWritten x o (record { status = a.status; state = fore a.state t; place = a.place; count = a.count })
-      (record { tag = Tag.PointerDereference; place = t.place; numbers = None; start = 0; len = 0 }) o2 y
+  pub suffix_star : {o2 o3 : List ℕ} {r3 f3 : List Error} {y y' : Answer} → kind_number t.kind ≡ 35
+      → NodeWritten o (record { status = a.status; state = fore a.state t; place = a.place; count = a.count }) (placed t.place Tag.PointerDereference None []) o2 y
       → Goes node node w x n d suffixes_on i j o2 r f y o3 r3 f3 y' → Goes node node w x n d suffixes_on i j o r f a o3 r3 f3 y'
   unfolding go run P.suffixes_turn
   suffix_star k F G =
@@ -152,7 +148,7 @@ module _ {w x : List ℕ} {n d i j : ℕ} {o r f : List ℕ} {a : Answer} {t : T
 
   -- ---- `.name`
 
-  module _ {v : Token} (h : kind_number t.kind ≡ 34) (s : Seen w n t.next v) where
+  module _ {v : Token} (h : kind_number t.kind ≡ 34) (s : Seen w x n t.next v) where
     -- the end after the dot is refused
     pub dot_end : {y : Answer} → kind_number v.kind ≡ 0 → y ≡ refused_at n a.state 11 → Goes node node w x n d suffixes_on i j o r f a o r f y
     unfolding go run P.suffixes_turn
@@ -180,16 +176,8 @@ module _ {w x : List ℕ} {n d i j : ℕ} {o r f : List ℕ} {a : Answer} {t : T
               };
         })
 
-    pub dot_name : {o2 o3 r3 f3 : List ℕ} {y y' : Answer} → kind_number v.kind ≡ 1
-        → NodeWritten x o
-        (record { status = a.status; state = fore (fore a.state t) v; place = a.place; count = a.count })
-        (record {
-          tag = Tag.FieldAccess;
-          place = t.place;
-          numbers = None;
-          start = v.start;
-          len = v.len;
-        }) o2 y
+    pub dot_name : {o2 o3 : List ℕ} {r3 f3 : List Error} {y y' : Answer} → kind_number v.kind ≡ 1
+        → NodeWritten o (record { status = a.status; state = fore (fore a.state t) v; place = a.place; count = a.count }) (placed t.place Tag.FieldAccess None v.text.now) o2 y
         → Goes node node w x n d suffixes_on i j o2 r f y o3 r3 f3 y' → Goes node node w x n d suffixes_on i j o r f a o3 r3 f3 y'
     unfolding go run P.suffixes_turn
     dot_name k F G =
@@ -201,14 +189,14 @@ module _ {w x : List ℕ} {n d i j : ℕ} {o r f : List ℕ} {a : Answer} {t : T
         (adv (fore a.state t) s (λ _. plain) f (past w x n a.state.at rd) _))) G
 
     -- another token than a name: error 4, and the loop ends
-    pub dot_other : {e : ℕ} {r1 f1 : List ℕ} {b : Answer} → (kind_number v.kind ≡ 0 → ⊥) → (kind_number v.kind ≡ 1 → ⊥)
-        → unpack e ≡ error_at 4 v.place 0 0
+    pub dot_other : {e : Error} {r1 f1 : List Error} {b : Answer} → (kind_number v.kind ≡ 0 → ⊥) → (kind_number v.kind ≡ 1 → ⊥)
+        → err_of e ≡ error_at 4 v.place 0 0
         → Raised (noted n (fore (fore a.state t) v)) r f (fore (fore a.state t) v) e r1 f1 b
         → Goes node node w x n d suffixes_on i j o r f a o r1 f1
         (record { status = b.status; state = b.state; place = a.place; count = a.count })
     unfolding go run P.suffixes_turn
     dot_other {e} {r1} {f1} {b} m k c g =
-        let q2 : Asks w n r f (fore (fore a.state t) v) = asks_fore (asks_fore q.asked.asks u) s in
+        let q2 : Asks n r f (fore (fore a.state t) v) = asks_fore (asks_fore q.asked.asks u) s in
         let mv : Moved w n a.state.pos a.state.reported a.state b.state = rw g.is
         (moved_trans (fore_moved q.asked.asks u)
         (moved_trans (fore_moved (asks_fore q.asked.asks u) s) (making_moved q2 Done))) in
@@ -233,37 +221,37 @@ module _ {w x : List ℕ} {n d i j : ℕ} {o r f : List ℕ} {a : Answer} {t : T
               ∙ ap (λ (er : Err). go d (Act.make er (P.good h2.item (h2.errors ++ (er ∷ []))))
               (st_of w x n f (past_two w x n a.state.at t.next h2.read) (fore (fore a.state t) v)))
               (rw s.place (sym c))))
-              (made_so Done n (fore (fore a.state t) v) (λ b. Shows node T E [] [] w x n o r1 f1 (record { status = b.status; state = b.state; place = a.place; count = a.count }) (go d (Act.make (unpack e) (P.good h2.item (h2.errors ++ (unpack e ∷ [])))) (st_of w x n f (past_two w x n a.state.at t.next h2.read) (fore (fore a.state t) v)))) g.is
+              (made_so Done n (fore (fore a.state t) v) (λ b. Shows node T E [] [] w x n o r1 f1 (record { status = b.status; state = b.state; place = a.place; count = a.count }) (go d (Act.make (err_of e) (P.good h2.item (h2.errors ++ (err_of e ∷ [])))) (st_of w x n f (past_two w x n a.state.at t.next h2.read) (fore (fore a.state t) v)))) g.is
               (λ l. record {
                 told = record {
                   item = h2.item;
-                  errors = h2.errors ++ (unpack e ∷ []);
+                  errors = h2.errors ++ (err_of e ∷ []);
                   read = past_two w x n a.state.at t.next h2.read;
-                  is = makes q2 g d (P.good h2.item (h2.errors ++ (unpack e ∷ [])))
-                      (past_two w x n a.state.at t.next h2.read) x l;
+                  is = makes q2 g d (P.good h2.item (h2.errors ++ (err_of e ∷ [])))
+                      (past_two w x n a.state.at t.next h2.read) w x l;
                   tree = h2.tree;
-                  reported = errs_join E h2.errors (unpack e ∷ []) h2.reported (g.reported l);
+                  reported = errs_join E h2.errors (err_of e ∷ []) h2.reported (g.reported l);
                   holds = h2.holds;
                 };
               })
               (λ l. record {
-                told = makes_none q2 g d (P.good h2.item (h2.errors ++ (unpack e ∷ [])))
-                    (past_two w x n a.state.at t.next h2.read) x l;
+                told = makes_none q2 g d (P.good h2.item (h2.errors ++ (err_of e ∷ [])))
+                    (past_two w x n a.state.at t.next h2.read) w x l;
               }));
         }
 
   -- ---- `[index]`
 
   -- what `expect_after` requires after the index
-  pub index_asks : {o1 r1 f1 r2 : List ℕ} {b c : Answer}
+  pub index_asks : {o1 : List ℕ} {r1 f1 r2 : List Error} {b c : Answer}
       → Reads node w x n d P.parse_expression o r f (fore a.state t) o1 r1 f1 b
       → Abandoned r1 b i j a.state.reported r2 c → length r2 ≡ length r → length f1 ≡ length f
-      → Follows w n r2 f1 c i j
+      → Follows n r2 f1 c i j
   index_asks {b = b} {c = c} B C lr lf =
       let g : budget w n c.state.at ≡ budget w n b.state.at = ap (λ (k : ℕ). budget w n k) C.at in
       record {
         asks =
-            asks_moved {i = i} {j = j} q.asked.asks (record {
+            asks_moved {w = w} {i = i} {j = j} q.asked.asks (record {
               at = omega (arith, C.at, u.up, B.moved);
               end = omega (arith, C.at, B.moved);
               pos = C.low;
@@ -277,8 +265,8 @@ module _ {w x : List ℕ} {n d i j : ℕ} {o r f : List ℕ} {a : Answer} {t : T
         reported = C.first;
       }
 
-  module _ {o1 r1 f1 r2 r3 f3 o2 : List ℕ} {b c d1 y : Answer} (h : kind_number t.kind ≡ 43) (B : Reads node w x n d P.parse_expression o r f (fore a.state t) o1 r1 f1 b) (C : Abandoned r1 b i j a.state.reported r2 c) (lr : length r2 ≡ length r) (lf : length f1 ≡ length f)
-      (X : Expected w n 44 i j r2 f1 c r3 f3 d1) (F : NodeWritten x o1 d1 (record { tag = Tag.Index; place = t.place; numbers = None; start = 0; len = 0 }) o2 y) where
+  module _ {o1 : List ℕ} {r1 f1 r2 r3 f3 : List Error} {o2 : List ℕ} {b c d1 y : Answer} (h : kind_number t.kind ≡ 43) (B : Reads node w x n d P.parse_expression o r f (fore a.state t) o1 r1 f1 b) (C : Abandoned r1 b i j a.state.reported r2 c) (lr : length r2 ≡ length r) (lf : length f1 ≡ length f)
+      (X : Expected w n 44 i j r2 f1 c r3 f3 d1) (F : NodeWritten o1 d1 (placed t.place Tag.Index None []) o2 y) where
     pub index_moved : Moved w n i j a.state y.state
     index_moved =
         let e : budget w n y.state.at ≡ budget w n d1.state.at = ap (λ (k : ℕ). budget w n k) F.at in
@@ -294,7 +282,7 @@ module _ {w x : List ℕ} {n d i j : ℕ} {o r f : List ℕ} {a : Answer} {t : T
           few = omega (arith, F.full, X.moved);
         }
 
-    pub suffix_index : {o4 r4 f4 : List ℕ} {y' : Answer}
+    pub suffix_index : {o4 : List ℕ} {r4 f4 : List Error} {y' : Answer}
         → Goes node node w x n d suffixes_on i j o2 r3 f3 y o4 r4 f4 y'
         → Goes node node w x n d suffixes_on i j o r f a o4 r4 f4 y'
     unfolding go run P.suffixes_turn

@@ -12,10 +12,11 @@ use Rattle.definition.specs.Parser as P
 use Rattle.definition.specs.Go.{go}
 use Rattle.node.specs.Put.{Wrote, bare_of}
 use Rattle.node.specs.declared.Numbers.TheVariants.{None}
+use Rattle.fallible.specs.declared.error.Error.{Error}
 use Rattle.fallible.specs.declared.parser.State.{State}
-use Rattle.fallible.specs.Answer.{Status, Done, Fatal, Refused, done_of, Answer}
+use Rattle.fallible.specs.Answer.{nowhere, Status, Done, Fatal, Refused, done_of, Answer}
 use Rattle.fallible.specs.Lists.{errs}
-use Rattle.steps.specs.Tokens.{rest, budget, present, Held, Parts}
+use Rattle.steps.specs.Tokens.{rest, budget, present}
 use Rattle.leaves.specs.Leaves.{level_at}
 use Rattle.steps.specs.Shows.{st_of, Moved, Shows, typed, items}
 
@@ -42,13 +43,11 @@ abbrev pub name_of : Tok → List ℕ
 name_of t = pick (eqb t.kind K.Identifier) t.text (ascii "<?>")
 
 pub record NameRoom (w x : List ℕ) (n : ℕ) (o : List ℕ) (a : Answer) (at : ℕ) : Type 0 where
-  pub held : Held w n
-  pub parts : Parts w x n
   pub within : at ≤ n
   pub room : a.state.pos + 19 * done_of a.status + length (next_token (rest w x n at)).text ≤ length o
 
 abbrev pub BareNamedOf : Status → List ℕ → List ℕ → ℕ → List ℕ → Answer → ℕ → ℕ → List ℕ → Answer → Type 0
-BareNamedOf Done w x n o a tag at o' y = (y.status ≡ Done) × (Wrote o a.state.pos (bare_of tag None (name_of (next_token (rest w x n at)))) (3 + length (name_of (next_token (rest w x n at)))) o' y.state.pos × (y.place ≡ 0))
+BareNamedOf Done w x n o a tag at o' y = (y.status ≡ Done) × (Wrote o a.state.pos (bare_of tag None (name_of (next_token (rest w x n at)))) o' y.state.pos × (y.place ≡ nowhere))
 BareNamedOf Fatal w x n o a tag at o' y = (y ≡ a) × (o' ≡ o)
 BareNamedOf (Refused m) w x n o a tag at o' y = (y ≡ a) × (o' ≡ o)
 
@@ -62,14 +61,14 @@ pub record BareNamed (w x : List ℕ) (n : ℕ) (o : List ℕ) (a : Answer) (tag
 
 -- ---- typed identifiers
 
-pub record ReadsTyped (w x : List ℕ) (n d : ℕ) (o r f : List ℕ) (s : State) (o' r' f' : List ℕ) (a : Answer) : Type 0 where
+pub record ReadsTyped (w x : List ℕ) (n d : ℕ) (o : List ℕ) (r f : List Error) (s : State) (o' : List ℕ) (r' f' : List Error) (a : Answer) : Type 0 where
   pub moved : Moved w n s.pos s.reported s a.state
   pub on : s.at + present n s.at ≤ a.state.at
   pub spare : a.state.pos + budget w n a.state.at + 32 * done_of a.status + length (next_token (rest w x n s.at)).text ≤ s.pos + budget w n s.at
   pub is : (rd : List Consumed) → Shows (typed (name_of (next_token (rest w x n s.at)))) (take s.pos o) (errs r s.reported) [] [] w x n o' r' f' a (go d P.parse_typed_identifier (st_of w x n f rd s))
 
 -- after the name, in a construct whose errors begin at j
-pub record TypedOn (w x : List ℕ) (n d j : ℕ) (o r f : List ℕ) (s : State) (o' r' f' : List ℕ) (a : Answer) : Type 0 where
+pub record TypedOn (w x : List ℕ) (n d j : ℕ) (o : List ℕ) (r f : List Error) (s : State) (o' : List ℕ) (r' f' : List Error) (a : Answer) : Type 0 where
   pub moved : Moved w n s.pos j s a.state
   pub spare : a.state.pos + budget w n a.state.at + 16 * done_of a.status ≤ s.pos + budget w n s.at
   pub is : (rd : List Consumed) (name : List ℕ) (E es : List Err) → length E ≡ j → errs r s.reported ≡ E ++ es
@@ -81,7 +80,7 @@ pub record TypedOn (w x : List ℕ) (n d j : ℕ) (o r f : List ℕ) (s : State)
 abbrev pub as_answer : Items → Act (Ans Items)
 as_answer i = done (ok (record { item = i; errors = i.errors }))
 
-pub record ReadsList (w x : List ℕ) (n d : ℕ) (k : A.Listed) (o r f : List ℕ) (s : State) (o' r' f' : List ℕ) (a : Answer) : Type 0 where
+pub record ReadsList (w x : List ℕ) (n d : ℕ) (k : A.Listed) (o : List ℕ) (r f : List Error) (s : State) (o' : List ℕ) (r' f' : List Error) (a : Answer) : Type 0 where
   pub moved : Moved w n s.pos s.reported s a.state
   pub on : s.at + present n s.at ≤ a.state.at
   pub spare : a.state.pos + budget w n a.state.at + 16 * present n s.at ≤ s.pos + budget w n s.at
@@ -91,7 +90,7 @@ pub record ReadsList (w x : List ℕ) (n d : ℕ) (k : A.Listed) (o r f : List �
 -- ---- loops that collect items
 
 -- the loop `on`, after `count` items
-pub record LoopOn (on : Items → Act Items) (w x : List ℕ) (n d : ℕ) (count : ℕ) (o r f : List ℕ) (s : State) (o' r' f' : List ℕ) (a : Answer) : Type 0 where
+pub record LoopOn (on : Items → Act Items) (w x : List ℕ) (n d : ℕ) (count : ℕ) (o : List ℕ) (r f : List Error) (s : State) (o' : List ℕ) (r' f' : List Error) (a : Answer) : Type 0 where
   pub moved : Moved w n s.pos s.reported s a.state
   pub never : a.status ≡ Fatal → ⊥
   pub is : (rd : List Consumed) (T : List ℕ) (E : List Err) (i : Items) → take s.pos o ≡ T ++ recs_bytes i.recs → errs r s.reported ≡ E ++ i.errors → i.count ≡ count

@@ -3,6 +3,7 @@ use mathlib.Core.Path.{◌≡◌, refl, sym, ap, ◌∙◌}
 use Rattle.std.specs.Prelude.{ℕ, Result, Option, Ok, Err, IsErrAnd}
 use Rattle.std.proofs.lemmas.Result.{err_from_is_err_and}
 use native.Mathlib.Omega.{arith}
+use Rattle.definition.specs.declared.place.Place.{Place}
 use Rattle.definition.specs.declared.refusal.Refusal.{Refusal}
 use Rattle.definition.specs.Numbers.{refusal_number}
 use Rattle.fallible.specs.declared.Stop.{Stop}
@@ -27,14 +28,6 @@ stop_is e h = one e (ap done_of h)
     one Stop.Fatal z = omega (arith, z)
     one (Stop.Refused m) z = omega (arith, z)
 
-pub is_stopped_by : {T : Type 0} {r : Result T Stop} {e : Stop} → r ≡ Err e → status_of r ≡ stop_status e
-is_stopped_by h = rw h
-
--- a call that gives nothing is not done
-pub not_ok : {T : Type 0} (r : Result T Stop) → ((v : T) → r ≡ Ok v → ⊥) → status_of r ≡ Done → ⊥
-not_ok (Ok v) n z = n v refl
-not_ok (Err e) n z = stop_is e z
-
 pub is_stop : {T : Type 0} {r : Result T Stop} {e : Stop} → r ≡ Err e → status_of r ≡ Done → ⊥
 is_stop {e = e} h z = stop_is e (rw h at z)
 
@@ -56,34 +49,34 @@ not_whole h z = refusal_is _ (sym (is_refused h) ∙ z)
 -- ---- `recover`
 
 -- the status that `recover` leaves
-abbrev left_status : Result (Option ℕ) Refusal → Status
+abbrev left_status : Result (Option Place) Refusal → Status
 left_status (Ok item) = item_status item
 left_status (Err m) = Refused (refusal_number m)
 
-recovered_status : (r : Result ℕ Stop) → status_of r ≡ left_status (recovered r)
+recovered_status : (r : Result Place Stop) → status_of r ≡ left_status (recovered r)
 recovered_status (Ok v) = refl
 recovered_status (Err Stop.Fatal) = refl
 recovered_status (Err (Stop.Refused m)) = refl
 
 -- a call that is not refused leaves an item or none
-pub item_is : (r : Result ℕ Stop) {item : Option ℕ} → recovered r ≡ Ok item → status_of r ≡ item_status item
+pub item_is : (r : Result Place Stop) {item : Option Place} → recovered r ≡ Ok item → status_of r ≡ item_status item
 item_is r h = recovered_status r ∙ ap left_status h
 
-abbrev refusal_in : Refusal → Result (Option ℕ) Refusal → Refusal
+abbrev refusal_in : Refusal → Result (Option Place) Refusal → Refusal
 refusal_in k (Ok item) = k
 refusal_in k (Err m) = m
 
 -- a call that is refused stays so
-pub refused_is : (r : Result ℕ Stop) {m : Refusal} → recovered r ≡ Err m → r ≡ Err (Stop.Refused m)
+pub refused_is : (r : Result Place Stop) {m : Refusal} → recovered r ≡ Err m → r ≡ Err (Stop.Refused m)
 refused_is (Ok v) h = absurd (cc)
 refused_is (Err Stop.Fatal) h = absurd (cc)
 refused_is (Err (Stop.Refused k)) h = ap (λ m. Err (Stop.Refused m)) (ap (refusal_in k) h)
 
-pub exit_refused : (r : Result ℕ Stop) {m : Refusal} → recovered r ≡ Err m → (k : ℕ) × (status_of r ≡ Refused k)
+pub exit_refused : (r : Result Place Stop) {m : Refusal} → recovered r ≡ Err m → (k : ℕ) × (status_of r ≡ Refused k)
 exit_refused r {m = m} h = (refusal_number m, ap status_of (refused_is r h))
 
 -- a call that leaves an item or none is not refused
-pub not_refused : (r : Result ℕ Stop) {item : Option ℕ} → recovered r ≡ Ok item → (m : ℕ) → status_of r ≡ Refused m → ⊥
+pub not_refused : (r : Result Place Stop) {item : Option Place} → recovered r ≡ Ok item → (m : ℕ) → status_of r ≡ Refused m → ⊥
 not_refused (Ok v) h m z = absurd (cc)
 not_refused (Err Stop.Fatal) h m z = absurd (cc)
 not_refused (Err (Stop.Refused k)) h m z = absurd (cc)

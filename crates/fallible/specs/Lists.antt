@@ -1,15 +1,18 @@
--- Errors packed into one number each, and the list of errors at the start of a slice. Assumes nothing.
-use Rattle.std.specs.Prelude.{List, map, ℕ, ◌/◌, ◌%◌, take}
+-- Errors as the code has them, and the list of errors at the start of an array. Assumes nothing.
+use Rattle.std.specs.Prelude.{List, map, ℕ, take}
 use Rattle.definition.specs.Fallible.{Err}
-use Rattle.definition.specs.Places.{unpack_place}
+use Rattle.definition.specs.Numbers.{kind_number, parse_error_number}
+use Rattle.definition.specs.Places.{place_of}
+use Rattle.definition.specs.declared.place.Place.{Place}
+use Rattle.fallible.specs.declared.error.Error.{Error}
 
-abbrev pub error_at : ℕ → ℕ → ℕ → ℕ → Err
-error_at number place expected got = record { number = number; place = unpack_place place; expected = expected; got = got }
+abbrev pub error_at : ℕ → Place → ℕ → ℕ → Err
+error_at number place expected got = record { number = number; place = place_of place; expected = expected; got = got }
 
--- unpacks an error: one byte of number, four of place, one byte for each kind
-unfoldable pub unpack : ℕ → Err
-unpack e = error_at (e / 281474976710656 % 256) (e / 65536 % 4294967296) (e / 256 % 256) (e % 256)
+-- the definition's error
+abbrev pub err_of : Error → Err
+err_of e = error_at (parse_error_number e.error) e.place (kind_number e.expected) (kind_number e.got)
 
--- the first n errors of a slice
-unfoldable pub errs : List ℕ → ℕ → List Err
-errs l n = map (λ e. unpack e) (take n l)
+-- the first n errors of an array
+unfoldable pub errs : List Error → ℕ → List Err
+errs l n = map (λ e. err_of e) (take n l)

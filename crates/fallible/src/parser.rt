@@ -1,6 +1,7 @@
 // The parser's state, and its errors in two lists: those reported, and the full list of all made.
 ghost use Rattle.std.specs.Prelude.{◌≡◌, length};
 
+use crate::error::Error;
 use definition::limit;
 
 // The index of the next token, the offset of the next file byte, the lengths of both error lists.
@@ -12,12 +13,13 @@ pub struct State {
     pub full: usize,
 }
 
-// The state, and the entries of both lists. Each holds one entry more than a script may have errors.
+// The state, and both lists, each with room for one error more than a script may have. They are arrays, since the project
+// has no heap; their counts are in the state, which a construct keeps for what `?` drops.
 #[derive(Drop)]
 pub struct Parser {
     pub state: State,
-    pub reported: [usize; limit::ERRORS + 1],
-    pub full: [usize; limit::ERRORS + 1],
+    pub reported: [Error; limit::ERRORS + 1],
+    pub full: [Error; limit::ERRORS + 1],
     ghost reported_room: { length reported ≡ 256 },
     ghost full_room: { length full ≡ 256 },
 }
@@ -34,8 +36,8 @@ impl Parser {
                 reported: 0,
                 full: 0,
             },
-            reported: [0; limit::ERRORS + 1],
-            full: [0; limit::ERRORS + 1],
+            reported: [Error::FILLER; limit::ERRORS + 1],
+            full: [Error::FILLER; limit::ERRORS + 1],
         }
     }
 }

@@ -1,12 +1,12 @@
 // Function definitions.
 ghost use Rattle.std.specs.Prelude.{ℕ};
 ghost use Rattle.definition.specs.Parser as P;
-ghost use Rattle.definition.specs.Places.{unpack_place};
-ghost use Rattle.items.specs.Items.{flag};
+ghost use Rattle.definition.specs.Places.{place_of};
 ghost use Rattle.steps.specs.Contract.{Asked, Parses};
 ghost use Rattle.items.specs.Contract.{ReadsType, ReadsSignature, FunctionAsked, FunctionOn};
 
 use definition::kind::Kind;
+use definition::place::Place;
 use definition::tag::Tag;
 use expression::{list, ty};
 use fallible::parser::{Parser, State};
@@ -22,26 +22,18 @@ fn return_type(
     tokens: Tokens,
     file: &mut [u8],
     parser: &mut Parser,
-    place: usize,
+    place: Place,
     nesting: usize,
-) -> Result<usize, Stop>
+) -> Result<Place, Stop>
     requires { Asked tokens file parser }
-    ensures { ReadsType (unpack_place place) tokens file parser nesting result }
+    ensures { ReadsType (place_of place) tokens file parser nesting result }
 {
     let t = tokens.peek(parser.state.at);
     if let Kind::RArrow = t.kind {
         parser.state.at = t.next;
         return ty(tokens, file, parser, nesting);
     }
-    write_node(
-        file,
-        tokens.text,
-        &mut parser.state,
-        Ok(place),
-        place,
-        Tag::Void,
-        Numbers::None,
-    )
+    Ok(write_node(file, &mut parser.state, place, Tag::Void, Numbers::None))
 }
 
 // parameters return_type. Gives the count of the parameters. Errors of the type are reported before those of the
@@ -50,17 +42,23 @@ fn signature(
     tokens: Tokens,
     file: &mut [u8],
     parser: &mut Parser,
-    place: usize,
+    place: Place,
     nesting: usize,
 ) -> Result<usize, Stop>
     requires { Asked tokens file parser }
-    ensures { ReadsSignature (unpack_place place) tokens file parser nesting result }
+    ensures { ReadsSignature (place_of place) tokens file parser nesting result }
 {
     let from = parser.state;
     let count = list(tokens, file, parser, Listed::Parameters, nesting)?;
     let before = parser.state;
-    let b = return_type(tokens, file, parser, place, nesting);
-    abandon(&mut parser.reported, &mut parser.state, b, from, before)?;
+    let returned = return_type(tokens, file, parser, place, nesting);
+    abandon(
+        &mut parser.reported,
+        &mut parser.state,
+        returned,
+        from,
+        before,
+    )?;
     exchange(
         &mut parser.reported,
         from.reported,
@@ -70,32 +68,35 @@ fn signature(
     Ok(count)
 }
 
-// Parses the `;` after the signature of an external function that began in the state `from`; its name is at `name`.
+// What stands before the `;` or the body of a function that began in the state `from`: its name, and the count of its
+// parameters.
+#[derive(Clone, Copy)]
+struct Head<'a> {
+    place: Place,
+    name: &'a [u8],
+    count: usize,
+    from: State,
+}
+
+// Parses the `;` of an external function and writes its record.
 fn external_function(
     tokens: Tokens,
     file: &mut [u8],
     parser: &mut Parser,
-    place: usize,
-    name: usize,
-    count: usize,
-    from: State,
-) -> Result<usize, Stop>
-    requires { FunctionAsked tokens file parser name count from }
-    ensures { (d : ℕ) → FunctionOn 1 (unpack_place place) tokens file parser name count from d result }
+    head: Head<'_>,
+) -> Result<Place, Stop>
+    requires { FunctionAsked tokens file parser head }
+    ensures { (d : ℕ) → FunctionOn 1 tokens file parser head d result }
 {
-    let t = tokens.peek(name);
-    let b = expect_after(tokens, parser, Ok(count), Kind::Semicolon, from);
-    write_text_node(
+    expect_after(tokens, parser, Kind::Semicolon, head.from)?;
+    Ok(write_text_node(
         file,
-        tokens.text,
         &mut parser.state,
-        b,
-        place,
+        head.place,
         Tag::FunctionDefinition,
-        Numbers::ByteTwo(1, count),
-        t.start,
-        t.len,
-    )
+        Numbers::ByteTwo(1, head.count),
+        head.name,
+    ))
 }
 
 // Parses the body of a function and writes its record. Errors of the body are reported before those of the signature.
@@ -103,84 +104,61 @@ fn whole_function(
     tokens: Tokens,
     file: &mut [u8],
     parser: &mut Parser,
-    place: usize,
-    name: usize,
-    count: usize,
-    from: State,
+    head: Head<'_>,
     nesting: usize,
-) -> Result<usize, Stop>
-    requires { FunctionAsked tokens file parser name count from }
-    ensures { FunctionOn 0 (unpack_place place) tokens file parser name count from nesting result }
+) -> Result<Place, Stop>
+    requires { FunctionAsked tokens file parser head }
+    ensures { FunctionOn 0 tokens file parser head nesting result }
 {
     let signed = parser.state;
     let statements = body(tokens, file, parser, nesting)?;
     exchange(
         &mut parser.reported,
-        from.reported,
+        head.from.reported,
         signed.reported,
         parser.state.reported,
     );
-    let numbers = Numbers::Two(statements);
-    let c = write_node(
+    let block = Numbers::Two(statements);
+    write_node(file, &mut parser.state, head.place, Tag::Block, block);
+    Ok(write_text_node(
         file,
-        tokens.text,
         &mut parser.state,
-        Ok(place),
-        place,
-        Tag::Block,
-        numbers,
-    );
-    let t = tokens.peek(name);
-    write_text_node(
-        file,
-        tokens.text,
-        &mut parser.state,
-        c,
-        place,
+        head.place,
         Tag::FunctionDefinition,
-        Numbers::ByteTwo(0, count),
-        t.start,
-        t.len,
-    )
+        Numbers::ByteTwo(0, head.count),
+        head.name,
+    ))
 }
 
-// `fn` name signature (`;` | body), `;` where the function is external.
-fn function(
-    tokens: Tokens,
-    file: &mut [u8],
-    parser: &mut Parser,
-    external: bool,
-    place: usize,
-    nesting: usize,
-) -> Result<usize, Stop>
-    requires { Asked tokens file parser }
-    ensures { Parses (P.function (unpack_place place) (flag external)) tokens file parser nesting result }
-{
-    let from = parser.state;
-    expect(tokens, parser, Kind::KwFn)?;
-    let name = parser.state.at;
-    expect_identifier(tokens, parser)?;
-    let count = signature(tokens, file, parser, place, nesting)?;
-    if external {
-        return external_function(tokens, file, parser, place, name, count, from);
-    }
-    whole_function(tokens, file, parser, place, name, count, from, nesting)
-}
-
-// parse_function_definition: [`extern`] function
+// parse_function_definition: [`extern`] `fn` name signature (`;` | body), `;` where the function is external.
 pub fn function_definition(
     tokens: Tokens,
     file: &mut [u8],
     parser: &mut Parser,
     nesting: usize,
-) -> Result<usize, Stop>
+) -> Result<Place, Stop>
     requires { Asked tokens file parser }
     ensures { Parses P.parse_function_definition tokens file parser nesting result }
 {
     let t = tokens.peek(parser.state.at);
-    if let Kind::KwExtern = t.kind {
+    let external = t.kind == Kind::KwExtern;
+    if external {
         parser.state.at = t.next;
-        return function(tokens, file, parser, true, t.place, nesting);
     }
-    function(tokens, file, parser, false, t.place, nesting)
+    let from = parser.state;
+    expect(tokens, parser, Kind::KwFn)?;
+    let name = tokens.peek(parser.state.at).text;
+    expect_identifier(tokens, parser)?;
+    let place = t.place;
+    let count = signature(tokens, file, parser, place, nesting)?;
+    let head = Head {
+        place,
+        name,
+        count,
+        from,
+    };
+    if external {
+        return external_function(tokens, file, parser, head);
+    }
+    whole_function(tokens, file, parser, head, nesting)
 }

@@ -11,10 +11,12 @@ ghost use Rattle.items.specs.Rules.{items_on};
 
 use definition::kind::Kind;
 use definition::parse_error::ParseError;
+use definition::place::Place;
 use definition::refusal::Refusal;
 use definition::tag::Tag;
+use fallible::error::Error;
 use fallible::parser::Parser;
-use fallible::{Stop, entry, recover};
+use fallible::{Stop, recover};
 use functions::function_definition;
 use leaves::{counted, leaf};
 use node::Numbers;
@@ -27,7 +29,7 @@ fn top_level_item(
     file: &mut [u8],
     parser: &mut Parser,
     nesting: usize,
-) -> Result<usize, Stop>
+) -> Result<Place, Stop>
     requires { Asked tokens file parser }
     ensures { Parses P.parse_top_level_item tokens file parser nesting result }
 {
@@ -41,11 +43,11 @@ fn top_level_item(
         Kind::KwVar => top_level_var_declaration(tokens, file, parser, nesting),
         Kind::InlineAssemblyFragment => {
             let tag = Tag::TopLevelAssembly;
-            Ok(leaf(file, tokens.text, &mut parser.state, t, tag, Numbers::None))
+            Ok(leaf(file, &mut parser.state, t, tag, Numbers::None, t.text))
         }
         _ => {
             parser.state.at = t.next;
-            let error = entry(ParseError::TopLevel, t.place, Kind::End, t.kind);
+            let error = Error::new(ParseError::TopLevel, t.place, Kind::End, t.kind);
             Err(parser.raise(tokens.count, error))
         }
     }
@@ -54,7 +56,8 @@ fn top_level_item(
 // ---- the module
 
 // parse_module: {top_level_item} to the end, from the parser's state on; at most `nesting` counted calls may be open.
-// Never fatal; gives the count of the items.
+// Never fatal; gives the count of the items. No iterator gives the turns: each begins at the token where the item of the
+// turn before it ended.
 pub fn module(
     tokens: Tokens,
     file: &mut [u8],
@@ -70,8 +73,7 @@ pub fn module(
         if let Kind::End = t.kind {
             return Ok(count);
         }
-        let b = top_level_item(tokens, file, parser, nesting);
-        let parsed = recover(b)?;
+        let parsed = recover(top_level_item(tokens, file, parser, nesting))?;
         count = counted(parsed, count);
     }
 }

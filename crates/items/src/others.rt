@@ -1,95 +1,106 @@
 // Type aliases, `use` and variables at the top level.
-ghost use Rattle.std.specs.Prelude.{ℕ, ◌+◌, ◌≤◌};
+ghost use Rattle.std.specs.Prelude.{ℕ, ◌≤◌, false};
+ghost use Rattle.definition.specs.Numbers.{kind_number, parse_error_number};
 ghost use Rattle.definition.specs.Parser as P;
-ghost use Rattle.steps.specs.Tokens.{Held};
-ghost use Rattle.definition.specs.Places.{unpack_place};
-ghost use Rattle.items.specs.Items.{Modified};
+ghost use Rattle.definition.specs.Places.{place_of};
+ghost use Rattle.items.specs.Items.{Modified, sum};
 ghost use Rattle.items.specs.Rules.{alias_rule, path_rule};
-ghost use Rattle.steps.specs.Contract.{Asked, Parses};
+ghost use Rattle.items.specs.Contract.{Named};
+ghost use Rattle.steps.specs.Contract.{Asks, Asked, Parses};
 
 use definition::kind::Kind;
 use definition::parse_error::ParseError;
+use definition::place::Place;
 use definition::refusal::Refusal;
 use definition::tag::Tag;
 use expression::ty;
+use fallible::Stop;
+use fallible::error::Error;
 use fallible::parser::Parser;
-use fallible::{Stop, entry};
 use node::Numbers;
 use statement::declarations::declaration;
-use steps::tokens::Tokens;
+use steps::tokens::{Token, Tokens};
 use steps::{expect, expect_after, write_text_node};
 
-// The modifiers before `type`, 1 for `distinct` plus 2 for `internal`, and the index of the token after them.
+// The modifiers before `type`, and the index of the token after them.
 #[derive(Clone, Copy)]
-struct AliasWords {
-    words: u8,
+struct Modifiers {
+    distinct: bool,
+    internal: bool,
     next: usize,
 }
 
-// Parses {`distinct` | `internal`}, from the token at index `from` on.
-fn modifiers(tokens: Tokens, from: usize) -> AliasWords
-    requires { Held tokens.records.now tokens.count × (from ≤ tokens.count) }
-    ensures { Modified tokens.entry.records.now tokens.entry.count 0 0 from result }
-{
-    let mut distinct = 0;
-    let mut internal = 0;
-    let mut at = from;
-    loop {
-        let t = tokens.peek(at);
-        if let Kind::KwDistinct = t.kind {
-            distinct = 1;
-            at = t.next;
-            continue;
-        }
-        if let Kind::KwInternal = t.kind {
-            internal = 2;
-            at = t.next;
-            continue;
-        }
-        return AliasWords {
-            words: distinct + internal,
-            next: at,
+impl Modifiers {
+    // Parses {`distinct` | `internal`}, from the token at index `from` on. Tokens have no iterator, since the parser looks at
+    // a token before it consumes it.
+    fn read(tokens: Tokens, from: usize) -> Modifiers
+        requires { from ≤ tokens.count }
+        ensures { Modified tokens.entry.records.now tokens.entry.count false false from result }
+    {
+        let mut m = Modifiers {
+            distinct: false,
+            internal: false,
+            next: from,
         };
+        loop {
+            let t = tokens.peek(m.next);
+            match t.kind {
+                Kind::KwDistinct => m.distinct = true,
+                Kind::KwInternal => m.internal = true,
+                _ => return m,
+            }
+            m.next = t.next;
+        }
     }
 }
 
-// Parses an alias after `type`: name `=` type `;`. Refuses the end in place of the name.
-fn alias(
-    tokens: Tokens,
-    file: &mut [u8],
+// Consumes the token that names an item, after its word: refuses the end, and raises `error` for another kind than `kind`.
+fn naming_token<'a>(
+    tokens: Tokens<'a>,
     parser: &mut Parser,
-    words: u8,
-    place: usize,
-    nesting: usize,
-) -> Result<usize, Stop>
-    requires { Asked tokens file parser }
-    ensures { Parses (alias_rule words (unpack_place place)) tokens file parser nesting result }
+    kind: Kind,
+    error: ParseError,
+) -> Result<Token<'a>, Stop>
+    requires { Asks tokens parser }
+    ensures { Named (kind_number kind) (parse_error_number error) tokens parser result }
 {
-    let from = parser.state;
-    let t = tokens.peek(from.at);
+    let t = tokens.peek(parser.state.at);
     if let Kind::End = t.kind {
         return Err(parser.state.refuse(tokens.count, Refusal::EndAfterWord));
     }
     parser.state.at = t.next;
-    let Kind::Identifier = t.kind else {
-        let error = entry(ParseError::NameAfterType, t.place, Kind::End, Kind::End);
-        return Err(parser.raise(tokens.count, error));
-    };
+    if t.kind == kind {
+        return Ok(t);
+    }
+    Err(parser.raise(tokens.count, Error::at(error, t.place)))
+}
+
+// Parses an alias after `type`: name `=` type `;`. The number of the record is 1 for `distinct` plus 2 for `internal`.
+fn alias(
+    tokens: Tokens,
+    file: &mut [u8],
+    parser: &mut Parser,
+    modifiers: Modifiers,
+    place: Place,
+    nesting: usize,
+) -> Result<Place, Stop>
+    requires { Asked tokens file parser }
+    ensures { Parses (alias_rule (sum modifiers) (place_of place)) tokens file parser nesting result }
+{
+    let from = parser.state;
+    let t = naming_token(tokens, parser, Kind::Identifier, ParseError::NameAfterType)?;
     expect(tokens, parser, Kind::Equals)?;
-    let b = ty(tokens, file, parser, nesting);
-    let c = expect_after(tokens, parser, b, Kind::Semicolon, from);
-    let numbers = Numbers::Byte(words);
-    write_text_node(
+    ty(tokens, file, parser, nesting)?;
+    expect_after(tokens, parser, Kind::Semicolon, from)?;
+    let number = u8::from(modifiers.distinct) + 2 * u8::from(modifiers.internal);
+    Ok(write_text_node(
         file,
-        tokens.text,
         &mut parser.state,
-        c,
         place,
         Tag::TypeAlias,
-        numbers,
-        t.start,
-        t.len,
-    )
+        Numbers::Byte(number),
+        t.text,
+    ))
 }
 
 // parse_type_alias: modifiers `type` alias
@@ -98,48 +109,37 @@ pub fn type_alias(
     file: &mut [u8],
     parser: &mut Parser,
     nesting: usize,
-) -> Result<usize, Stop>
+) -> Result<Place, Stop>
     requires { Asked tokens file parser }
     ensures { Parses P.parse_type_alias tokens file parser nesting result }
 {
     let at = parser.state.at;
     let t = tokens.peek(at);
-    let m = modifiers(tokens, at);
-    parser.state.at = m.next;
+    let modifiers = Modifiers::read(tokens, at);
+    parser.state.at = modifiers.next;
     expect(tokens, parser, Kind::KwType)?;
-    alias(tokens, file, parser, m.words, t.place, nesting)
+    alias(tokens, file, parser, modifiers, t.place, nesting)
 }
 
-// Parses what follows `use`: string `;`. Refuses the end in place of the string.
-fn path(tokens: Tokens, file: &mut [u8], parser: &mut Parser, place: usize) -> Result<usize, Stop>
+// Parses what follows `use`: string `;`.
+fn path(tokens: Tokens, file: &mut [u8], parser: &mut Parser, place: Place) -> Result<Place, Stop>
     requires { Asked tokens file parser }
-    ensures { (d : ℕ) → Parses (path_rule (unpack_place place)) tokens file parser d result }
+    ensures { (d : ℕ) → Parses (path_rule (place_of place)) tokens file parser d result }
 {
-    let t = tokens.peek(parser.state.at);
-    if let Kind::End = t.kind {
-        return Err(parser.state.refuse(tokens.count, Refusal::EndAfterWord));
-    }
-    parser.state.at = t.next;
-    let Kind::String = t.kind else {
-        let error = entry(ParseError::PathAfterUse, t.place, Kind::End, Kind::End);
-        return Err(parser.raise(tokens.count, error));
-    };
-    let a = expect(tokens, parser, Kind::Semicolon);
-    write_text_node(
+    let t = naming_token(tokens, parser, Kind::String, ParseError::PathAfterUse)?;
+    expect(tokens, parser, Kind::Semicolon)?;
+    Ok(write_text_node(
         file,
-        tokens.text,
         &mut parser.state,
-        a,
         place,
         Tag::Use,
         Numbers::None,
-        t.start,
-        t.len,
-    )
+        t.text,
+    ))
 }
 
 // parse_use: `use` path
-pub fn use_path(tokens: Tokens, file: &mut [u8], parser: &mut Parser) -> Result<usize, Stop>
+pub fn use_path(tokens: Tokens, file: &mut [u8], parser: &mut Parser) -> Result<Place, Stop>
     requires { Asked tokens file parser }
     ensures { (d : ℕ) → Parses P.parse_use tokens file parser d result }
 {
@@ -154,7 +154,7 @@ pub fn top_level_var_declaration(
     file: &mut [u8],
     parser: &mut Parser,
     nesting: usize,
-) -> Result<usize, Stop>
+) -> Result<Place, Stop>
     requires { Asked tokens file parser }
     ensures { Parses P.parse_top_level_var_declaration tokens file parser nesting result }
 {

@@ -4,44 +4,43 @@ use mathlib.Core.Option.{some}
 use mathlib.Core.List.{List, [], ◌∷◌, ◌++◌, append-nil}
 use Prim.Native.Nat.{ℕ, min, ◌+◌, ◌*◌, ◌%◌, ◌≤◌}
 use native.Mathlib.Omega.{arith}
-use lib.ListN.{take}
-use Rattle.definition.specs.Node.{Num, byte, recs_bytes}
+use lib.ListN.{length, take}
+use Rattle.definition.specs.Node.{Rec, Num, byte, recs_bytes}
 use Rattle.definition.specs.Fallible.{Ans, ok}
 use Rattle.definition.specs.Token.{next_token}
 use Rattle.definition.specs.Act.{Node, Act, plain, Consumed, St, gives, advance, now_read, run}
-use Rattle.definition.specs.Numbers.{kind_number, tag_number}
+use Rattle.definition.specs.Numbers.{kind_number}
 use Rattle.definition.specs.Parser as P
 use Rattle.definition.specs.Go.{go}
 use Rattle.definition.specs.declared.tag.Tag.{Tag}
-use Rattle.node.specs.Put.{rec_of, size_of}
-use Rattle.node.specs.declared.Record.{Record}
+use Rattle.node.specs.Put.{placed, size_of}
 use Rattle.node.specs.declared.Numbers.TheVariants.{None, Byte}
 use Rattle.fallible.specs.declared.parser.State.{State}
-use Rattle.fallible.specs.Answer.{Status, Done, Fatal, Refused, Answer}
-use Rattle.fallible.specs.Lists.{unpack, error_at, errs}
+use Rattle.fallible.specs.Answer.{nowhere, Status, Done, Fatal, Refused, Answer}
+use Rattle.fallible.specs.Lists.{err_of, error_at, errs}
 use Rattle.fallible.specs.Answers.{raised, Raised}
 use Rattle.steps.specs.declared.tokens.Token.{Token}
 use Rattle.steps.specs.Tokens.{rest, budget, Seen}
-use Rattle.steps.specs.Shows.{st_of, Asks, node, token, Reads, Expects, NodeWritten, texted, untexted}
+use Rattle.steps.specs.Shows.{st_of, Asks, node, token, Reads, Expects, NodeWritten}
 use Rattle.steps.proofs.Records.{yes, no, other, fore, adv}
-use Rattle.steps.proofs.Moves.{stays}
 use Rattle.steps.proofs.Answers.{say, writes_node, raise_same}
 use Rattle.leaves.specs.Leaves.{there, identifier, Literal, ClosingOf, ClosedOf, Closed}
 use Rattle.leaves.proofs.Errors.{raise_reads}
+use Rattle.fallible.specs.declared.error.Error.{Error}
 
 -- ---- a token that is a node: the record z is written for it
 
-module _ {w x : List ℕ} {n : ℕ} {o o' r f : List ℕ} {s : State} {t : Token} {z : Record} {y : Answer}
-    {m : Act (Ans Node)} (q : Asks w n r f s) (v : Seen w n s.at t) (ns : List Num) (text : List ℕ)
-    (u : NodeWritten x o (there s t) z o' y) where
+module _ {w x : List ℕ} {n : ℕ} {o o' : List ℕ} {r f : List Error} {s : State} {t : Token} {z : Rec} {y : Answer}
+    {m : Act (Ans Node)} (q : Asks n r f s) (v : Seen w x n s.at t) (ns : List Num) (text : List ℕ)
+    (u : NodeWritten o (there s t) z o' y) where
   -- an act that reads the token and writes its record reads a node
-  pub leaf_reads : size_of z ≤ 16 * min (kind_number t.kind) 1 + t.len
-      → rec_of x z
-      ≡ record { tag = tag_number z.tag; place = some (next_token (rest w x n s.at)).place; numbers = ns; text = text }
+  pub leaf_reads : size_of z ≤ 16 * min (kind_number t.kind) 1 + length t.text.now
+      → z
+      ≡ record { tag = z.tag; place = some (next_token (rest w x n s.at)).place; numbers = ns; text = text }
       → (d : ℕ)
       → ((rd : List Consumed)
       → go d m (st_of w x n f rd s)
-      ≡ go d (P.good (P.node [] (tag_number z.tag) (next_token (rest w x n s.at)).place ns text) [])
+      ≡ go d (P.good (P.node [] z.tag (next_token (rest w x n s.at)).place ns text) [])
       (advance (λ _. plain) (st_of w x n f rd s)))
       → Reads node w x n d m o r f s o' r f y
   unfolding recs_bytes
@@ -61,7 +60,7 @@ module _ {w x : List ℕ} {n : ℕ} {o o' r f : List ℕ} {s : State} {t : Token
     on = omega (arith, v.present, v.on, u.at);
     is =
         λ rd. say (g rd
-        ∙ ap (λ (S : St). go d (P.good (P.node [] (tag_number z.tag) (next_token (rest w x n s.at)).place ns text) []) S)
+        ∙ ap (λ (S : St). go d (P.good (P.node [] z.tag (next_token (rest w x n s.at)).place ns text) []) S)
         (adv s v (λ _. plain) f rd _))
         (writes_node {K = token (next_token (rest w x n s.at))} {rs = []} {es = []} {q = gives (ok (record { item = next_token (rest w x n s.at); errors = [] })) (st_of w x n f (rd ++ now_read (λ _. plain) (rest w x n s.at)) (fore s t))} d (λ _. (next_token (rest w x n s.at)).place) (λ _. ns) text u (λ _ _. e)
         (record {
@@ -80,12 +79,12 @@ module _ {w x : List ℕ} {n : ℕ} {o o' r f : List ℕ} {s : State} {t : Token
 -- ---- `literal`
 
 -- `parse_atom`, at any nesting
-abbrev pub Atom : List ℕ → List ℕ → ℕ → List ℕ → List ℕ → List ℕ → State → List ℕ → List ℕ → List ℕ → Answer → Type 0
+abbrev pub Atom : List ℕ → List ℕ → ℕ → List ℕ → List Error → List Error → State → List ℕ → List Error → List Error → Answer → Type 0
 Atom w x n o r f s o' r' f' y = (d : ℕ) → Reads node w x n d P.parse_atom o r f s o' r' f' y
 
-module _ {w x : List ℕ} {n : ℕ} {o r f : List ℕ} {s : State} {t : Token} (q : Literal w x n o r f s) (v : Seen w n s.at t) where
+module _ {w x : List ℕ} {n : ℕ} {o : List ℕ} {r f : List Error} {s : State} {t : Token} (q : Literal w x n o r f s) (v : Seen w x n s.at t) where
   pub integer_reads : {o' : List ℕ} {y : Answer} → kind_number t.kind ≡ 2
-      → NodeWritten x o (there s t) (texted t.place Tag.Integer (Byte (t.base % 256)) t.start t.len) o' y → Atom w x n o r f s o' r f y
+      → NodeWritten o (there s t) (placed t.place Tag.Integer (Byte (t.base % 256)) t.text.now) o' y → Atom w x n o r f s o' r f y
   unfolding go run P.parse_atom
   integer_reads z u d =
       let b : t.base % 256 ≡ t.base = omega (arith, v.bases) in
@@ -93,35 +92,35 @@ module _ {w x : List ℕ} {n : ℕ} {o r f : List ℕ} {s : State} {t : Token} (
       (next_token (rest w x n s.at)).text u (omega arith) (rw (v.place, v.text, v.base, b)) d
       (λ rd. rw (run, yes v z))
 
-  pub name_reads : {o' : List ℕ} {y : Answer} → kind_number t.kind ≡ 1 → NodeWritten x o (there s t) (identifier t) o' y → Atom w x n o r f s o' r f y
+  pub name_reads : {o' : List ℕ} {y : Answer} → kind_number t.kind ≡ 1 → NodeWritten o (there s t) (identifier t) o' y → Atom w x n o r f s o' r f y
   unfolding go run P.parse_atom
   name_reads z u d =
       leaf_reads q.asked.asks v [] (next_token (rest w x n s.at)).text u (omega arith)
       (rw (v.place, v.text)) d (λ rd. rw (run, other v z 2 refl, yes v z))
 
-  pub string_reads : {o' : List ℕ} {y : Answer} → kind_number t.kind ≡ 3 → NodeWritten x o (there s t) (texted t.place Tag.String None t.start t.len) o' y
+  pub string_reads : {o' : List ℕ} {y : Answer} → kind_number t.kind ≡ 3 → NodeWritten o (there s t) (placed t.place Tag.String None t.text.now) o' y
       → Atom w x n o r f s o' r f y
   unfolding go run P.parse_atom
   string_reads z u d =
       leaf_reads q.asked.asks v [] (next_token (rest w x n s.at)).text u (omega arith)
       (rw (v.place, v.text)) d (λ rd. rw (run, other v z 2 refl, other v z 1 refl, yes v z))
 
-  pub true_reads : {o' : List ℕ} {y : Answer} → kind_number t.kind ≡ 12 → NodeWritten x o (there s t) (untexted t.place Tag.Boolean (Byte 1)) o' y
+  pub true_reads : {o' : List ℕ} {y : Answer} → kind_number t.kind ≡ 12 → NodeWritten o (there s t) (placed t.place Tag.Boolean (Byte 1) []) o' y
       → Atom w x n o r f s o' r f y
   unfolding go run P.parse_atom
   true_reads z u d =
       leaf_reads q.asked.asks v (byte 1 ∷ []) [] u (omega arith) (rw v.place) d
       (λ rd. rw (run, other v z 2 refl, other v z 1 refl, other v z 3 refl, yes v z))
 
-  pub false_reads : {o' : List ℕ} {y : Answer} → kind_number t.kind ≡ 13 → NodeWritten x o (there s t) (untexted t.place Tag.Boolean (Byte 0)) o' y
+  pub false_reads : {o' : List ℕ} {y : Answer} → kind_number t.kind ≡ 13 → NodeWritten o (there s t) (placed t.place Tag.Boolean (Byte 0) []) o' y
       → Atom w x n o r f s o' r f y
   unfolding go run P.parse_atom
   false_reads z u d =
       leaf_reads q.asked.asks v (byte 0 ∷ []) [] u (omega arith) (rw v.place) d
       (λ rd. rw (run, other v z 2 refl, other v z 1 refl, other v z 3 refl, other v z 12 refl, yes v z))
 
-  module _ {e : ℕ} {r' f' : List ℕ} {y : Answer} (g : Raised (raised n (fore s t)) r f (fore s t) e r' f' y) where
-    pub end_reads : kind_number t.kind ≡ 0 → unpack e ≡ error_at 8 0 0 0 → Atom w x n o r f s o r' f' y
+  module _ {e : Error} {r' f' : List Error} {y : Answer} (g : Raised (raised n (fore s t)) r f (fore s t) e r' f' y) where
+    pub end_reads : kind_number t.kind ≡ 0 → err_of e ≡ error_at 8 nowhere 0 0 → Atom w x n o r f s o r' f' y
     unfolding go run P.parse_atom
     end_reads z i d =
         raise_reads q.asked.asks v plain g d (λ rd. rw
@@ -129,7 +128,7 @@ module _ {w x : List ℕ} {n : ℕ} {o r f : List ℕ} {s : State} {t : Token} (
         (raise_same d (sym i) (adv s v (λ _. plain) f rd _)))
 
     pub other_reads : (kind_number t.kind ≡ 2 → ⊥) → (kind_number t.kind ≡ 1 → ⊥) → (kind_number t.kind ≡ 3 → ⊥) → (kind_number t.kind ≡ 12 → ⊥) → (kind_number t.kind ≡ 13 → ⊥)
-        → (kind_number t.kind ≡ 0 → ⊥) → unpack e ≡ error_at 7 t.place 0 (kind_number t.kind) → Atom w x n o r f s o r' f' y
+        → (kind_number t.kind ≡ 0 → ⊥) → err_of e ≡ error_at 7 t.place 0 (kind_number t.kind) → Atom w x n o r f s o r' f' y
     unfolding go run P.parse_atom
     other_reads m2 m1 m3 m12 m13 z i d =
         raise_reads q.asked.asks v plain g d (λ rd. rw
@@ -153,16 +152,8 @@ if_alive C Done e p q = p
 if_alive C Fatal e p q = q
 if_alive C (Refused m) e p q = absurd (e m refl)
 
-module _ {w : List ℕ} {n : ℕ} {r f : List ℕ} {a : Answer} (q : Asks w n r f a.state) where
-  pub close_ended : Ended a → Closed w n r f a r f a
-  close_ended h =
-      record {
-        moved = stays q;
-        pos = refl;
-        is = if_ended (λ k. ClosedOf k w n r f a r f a) a.status h (λ m. (refl, (refl, refl)));
-      }
-
-  module _ {r' f' : List ℕ} {b : Answer} (l : Alive a) (e : Expects w n (λ role. P.expect_as role 42) r f a.state r' f' b) where
+module _ {w : List ℕ} {n : ℕ} {r f : List Error} {a : Answer} (q : Asks n r f a.state) where
+  module _ {r' f' : List Error} {b : Answer} (l : Alive a) (e : Expects w n (λ role. P.expect_as role 42) r f a.state r' f' b) where
     -- what `expect` answers decides
     closes : (y : Answer) → y.state ≡ b.state → ClosingOf b.status a b y → Closed w n r f a r' f' y
     closes y z i =

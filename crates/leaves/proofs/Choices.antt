@@ -16,7 +16,9 @@ use Rattle.definition.specs.Kind as K
 use Rattle.definition.specs.Parser as P
 use Rattle.definition.specs.Go.{go}
 use Rattle.definition.proofs.Tests.{clash, parts_true}
-use Rattle.leaves.specs.Leaves.{operator_of, is_arithmetic, prefixes, is_name_alone}
+use Rattle.leaves.specs.declared.Level.{Level}
+use lib.ListN.{get_or}
+use Rattle.leaves.specs.Leaves.{levels, level_of, level_at, operator_of, is_arithmetic, prefixes, is_name_alone}
 
 -- ---- the search in a table
 
@@ -54,6 +56,16 @@ level_end A.BitAnd = refl
 level_end A.Shift = refl
 level_end A.AddSub = refl
 level_end A.Mul = refl
+
+-- a level before the end does not depend on what stands for one past it
+pub level_there : (k : ℕ) (l : Level) → k < 6 → level_of (get_or levels k l) ≡ level_at k
+level_there zero l h = refl
+level_there (suc zero) l h = refl
+level_there (suc (suc zero)) l h = refl
+level_there (suc (suc (suc zero))) l h = refl
+level_there (suc (suc (suc (suc zero)))) l h = refl
+level_there (suc (suc (suc (suc (suc zero))))) l h = refl
+level_there (suc (suc (suc (suc (suc (suc k)))))) l h = absurd (omega arith)
 
 -- ---- no operator of any level
 

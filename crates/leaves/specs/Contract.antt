@@ -1,8 +1,9 @@
 -- The records of Leaves, stated over the parameters of the functions. Assumes nothing.
-use Rattle.std.specs.Prelude.{ℕ, Result, Option, Ok, ⊤}
+use Rattle.std.specs.Prelude.{ℕ, Result, Option, ⊤}
 use Rattle.std.specs.Borrow.{MutBor}
-use Rattle.definition.specs.Slices.{MutSlice, Lent, MutLent, at_entry, old, new}
-use Rattle.node.specs.declared.Record.{Record}
+use Rattle.definition.specs.Slices.{MutSlice, MutLent, old, new}
+use Rattle.definition.specs.Node.{Rec}
+use Rattle.definition.specs.declared.place.Place.{Place}
 use Rattle.definition.specs.declared.refusal.Refusal.{Refusal}
 use Rattle.fallible.specs.declared.Stop.{Stop}
 use Rattle.fallible.specs.declared.parser.State.{State}
@@ -11,7 +12,7 @@ use Rattle.fallible.specs.Answer.{item_status, node_answer, told}
 use Rattle.steps.specs.declared.tokens.Token.{Token}
 use Rattle.steps.specs.declared.tokens.Tokens.{Tokens}
 use Rattle.steps.specs.Shows as S
-use Rattle.steps.specs.Contract.{LentTokens, MutParser}
+use Rattle.steps.specs.Contract.{LentTokens, MutParser, going}
 use Rattle.leaves.specs.Leaves as L
 use denote.Triple.Both.{Both}
 
@@ -20,7 +21,7 @@ Literal tokens file parser =
     L.Literal tokens.records.now tokens.text.now tokens.count file.now parser.now.reported parser.now.full
     parser.now.state
 
-abbrev pub Counted : Option ℕ → ℕ → ℕ → Type 0
+abbrev pub Counted : Option Place → ℕ → ℕ → Type 0
 Counted item count r = L.Counted (item_status item) count r
 
 abbrev pub Commas : ℕ → LentTokens → MutParser → Result ⊤ Refusal → Type 0
@@ -30,7 +31,7 @@ Commas close tokens parser r =
     L.Commas tokens.entry.records.now tokens.entry.count p.reported p.full p.state close q.reported q.full
     (told r q.state)
 
-abbrev pub Closed : LentTokens → MutParser → Result ℕ Stop → Result ℕ Stop → Type 0
+abbrev pub Closed : LentTokens → MutParser → Result Place Stop → Result Place Stop → Type 0
 Closed tokens parser called r =
     let p = parser.entry.now in
     let q = parser.exit.now in
@@ -38,7 +39,6 @@ Closed tokens parser called r =
     q.reported q.full (node_answer r q.state)
 
 -- the token t is consumed and its record is written
-abbrev pub WritesNode : Record → MutLent → Lent → Token → Both (MutBor State) (MutBor State) → ℕ → Type 0
-WritesNode v file text t state r =
-    S.NodeWritten (at_entry text) (old file) (L.there state.entry.now t) v (new file)
-    (node_answer (Ok r) state.exit.now)
+abbrev pub WritesNode : Rec → MutLent → Both Token Token → Both (MutBor State) (MutBor State) → Place → Type 0
+WritesNode v file t state r =
+    S.NodeWritten (old file) (L.there state.entry.now t.entry) v (new file) (going state.exit.now r 0)

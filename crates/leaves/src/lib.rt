@@ -1,25 +1,27 @@
 // Functions of parser.rs that call none of the four counted ones: parts of lists, levels, literals, sizes, groups.
 #![tactic(auto)]
 
-ghost use Rattle.std.specs.Prelude.{◌≡◌, ℕ, ◌+◌, ◌<◌, ◌≤◌, length, take, drop};
+ghost use Rattle.std.specs.Prelude.{◌≡◌, ℕ, ◌+◌, ◌<◌, ◌≤◌, length};
 ghost use Rattle.definition.specs.Numbers.{kind_number};
 ghost use Rattle.definition.specs.Parser as P;
 ghost use Rattle.definition.specs.Token.{digit};
-ghost use Rattle.node.specs.Contract.{Room};
-ghost use Rattle.steps.specs.Shows.{texted};
-ghost use Rattle.leaves.specs.Leaves.{is_arithmetic, listed_of, Valued, level_of, level_at, operator_of, number_of, prefixes, identifier, is_name_alone};
+ghost use Rattle.definition.specs.Slices.{at_entry};
+ghost use Rattle.node.specs.Put.{placed};
+ghost use Rattle.leaves.specs.Leaves.{is_arithmetic, listed_of, size_in, level_of, operator_of, number_of, prefixes, identifier, name_in, is_name_alone};
 ghost use Rattle.steps.specs.Contract.{Asks, Parses};
 ghost use Rattle.leaves.specs.Contract.{Counted, Literal, Commas, Closed, WritesNode};
 
 use definition::kind::Kind;
 use definition::parse_error::ParseError;
+use definition::place::Place;
 use definition::refusal::Refusal;
 use definition::tag::Tag;
+use fallible::error::Error;
 use fallible::parser::{Parser, State};
-use fallible::{Stop, entry, recover};
-use node::{Numbers, Record, write_record};
-use steps::expect;
+use fallible::{Stop, recover};
+use node::Numbers;
 use steps::tokens::{Token, Tokens};
+use steps::{expect, write_text_node};
 
 // The kinds of lists that parse_bounded_list_of parses. An enum, as the project asks; the Rust takes a closure.
 #[derive(Clone, Copy)]
@@ -31,7 +33,8 @@ pub enum Listed {
     StructValues,
 }
 
-// The levels of parse_arithmetic_binop, the loosest first. An enum, as the project asks; the Rust takes a closure.
+// The levels of parse_arithmetic_binop, the loosest first. The Rust takes a table and a closure; by an enum the loop's
+// contract names the level, as the definition does (`Operators`).
 #[derive(Clone, Copy)]
 pub enum Level {
     BitwiseOr,
@@ -42,34 +45,21 @@ pub enum Level {
     Mul,
 }
 
-// The kind of the token that opens a list.
-pub fn opener(what: Listed) -> Kind
-    ensures { (kind_number result ≡ P.opener (listed_of what)) × (0 < kind_number result) }
-{
-    match what {
-        Listed::Parameters => Kind::LParen,
-        Listed::Arguments => Kind::LParen,
-        Listed::StructFields => Kind::LBrace,
-        Listed::ArrayValues => Kind::LBracket,
-        Listed::StructValues => Kind::LBrace,
-    }
-}
-
-// The kind of the token that closes a list.
-pub fn closer(what: Listed) -> Kind
-    ensures { kind_number result ≡ P.closer (listed_of what) }
-{
-    match what {
-        Listed::Parameters => Kind::RParen,
-        Listed::Arguments => Kind::RParen,
-        Listed::StructFields => Kind::RBrace,
-        Listed::ArrayValues => Kind::RBracket,
-        Listed::StructValues => Kind::RBrace,
+impl Listed {
+    // The kinds of the tokens that open and close a list.
+    pub fn brackets(self) -> (Kind, Kind)
+        ensures { ((kind_number result.0 ≡ P.opener (listed_of self)) × (0 < kind_number result.0)) × (kind_number result.1 ≡ P.closer (listed_of self)) }
+    {
+        match self {
+            Listed::Parameters | Listed::Arguments => (Kind::LParen, Kind::RParen),
+            Listed::StructFields | Listed::StructValues => (Kind::LBrace, Kind::RBrace),
+            Listed::ArrayValues => (Kind::LBracket, Kind::RBracket),
+        }
     }
 }
 
 // Counts an item: one more if it was parsed.
-pub fn counted(item: Option<usize>, count: usize) -> usize
+pub fn counted(item: Option<Place>, count: usize) -> usize
     requires { count < 65536 }
     ensures { Counted item count result }
 {
@@ -96,67 +86,42 @@ pub fn comma(tokens: Tokens, parser: &mut Parser, close: Kind) -> Result<(), Ref
         return Ok(());
     }
     parser.state.at = t.next;
-    let error = entry(ParseError::InList, t.place, Kind::End, t.kind);
+    let error = Error::new(ParseError::InList, t.place, Kind::End, t.kind);
     parser.note(tokens.count, error)
 }
 
 // The value of a digit of any base.
 fn digit_value(c: u8) -> usize
-    ensures { (result ≡ digit c) × (result < 256) }
+    ensures { result ≡ digit c }
 {
-    if c <= b'9' {
-        if c < b'0' {
-            return 0;
-        }
-        return (c - b'0') as usize;
-    }
-    if c <= b'Z' {
-        return (c - 55) as usize;
-    }
-    (c - 87) as usize
+    let value = match c {
+        0..=b'9' => c.saturating_sub(b'0'),
+        b':'..=b'Z' => c - 55,
+        _ => c - 87,
+    };
+    value as usize
 }
 
-// The value of an array size; `number` is valid only if `fits` is true.
-#[derive(Clone, Copy)]
-pub struct Size {
-    pub fits: bool,
-    pub number: usize,
-}
-
-// `usize::from_str_radix`: the value of a text in a base. Does not fit after a dash, or from 2 to the 64 on.
-pub fn array_size(text: &[u8], start: usize, len: usize, base: usize) -> Size
-    requires { (start + len ≤ length text.now) × ((0 < base) × (base < 256)) }
-    ensures { Valued (take len (drop start text.now)) base result }
+// `usize::from_str_radix`: the value of a text in a base; none after a dash, or of 2^64 and more. The base is the number
+// itself, as there. The library's takes a `&str`, and that a token's text is UTF-8 is no fact of `Tokens`.
+pub fn array_size(text: &[u8], base: u32) -> Option<usize>
+    requires { 0 < base }
+    ensures { result ≡ size_in base text.now }
 {
-    if len == 0 {
-        return Size {
-            fits: true,
-            number: 0,
-        };
+    if let [b'-', ..] = text {
+        return None;
     }
-    if text[start] == b'-' {
-        return Size {
-            fits: false,
-            number: 0,
-        };
-    }
-    let mut i = 0;
     let mut number: usize = 0;
-    while i < len {
-        let d = digit_value(text[start + i]);
-        if (18446744073709551615 - d) / base < number {
-            return Size {
-                fits: false,
-                number: 0,
-            };
-        }
-        number = number * base + d;
-        i += 1;
+    for c in text {
+        number = number
+            .checked_mul(base as usize)?
+            .checked_add(digit_value(*c))?;
     }
-    Size { fits: true, number }
+    Some(number)
 }
 
-// The operator of a level for a kind: its position in `ArithmeticBinOp`.
+// The operator of a level for a kind: its position in `ArithmeticBinOp`, which is all that the record has of it. So it has
+// no enum, and no more has that of a comparison.
 pub fn operator(level: Level, k: Kind) -> Option<u8>
     ensures { result ≡ operator_of (P.mapping (level_of level)) (kind_number k) }
 {
@@ -190,31 +155,17 @@ pub fn operator(level: Level, k: Kind) -> Option<u8>
     }
 }
 
-pub const LEVELS: usize = 6;
+// The tightest first.
+pub const LEVELS: [Level; 6] = [
+    Level::Mul,
+    Level::AddSub,
+    Level::BitShift,
+    Level::BitwiseAnd,
+    Level::BitwiseXor,
+    Level::BitwiseOr,
+];
 
-// The level of a number, the tightest first.
-pub fn level_at(k: usize) -> Level
-    ensures { level_of result ≡ level_at k }
-{
-    if k == 0 {
-        return Level::Mul;
-    }
-    if k == 1 {
-        return Level::AddSub;
-    }
-    if k == 2 {
-        return Level::BitShift;
-    }
-    if k == 3 {
-        return Level::BitwiseAnd;
-    }
-    if k == 4 {
-        return Level::BitwiseXor;
-    }
-    Level::BitwiseOr
-}
-
-// Whether a kind is an operator of some level.
+// Whether a kind is an operator of some level: one test for all, since most operands have no operator after them.
 pub fn arithmetic(k: Kind) -> bool
     ensures { result ≡ is_arithmetic (kind_number k) }
 {
@@ -258,36 +209,38 @@ pub fn prefix(k: Kind) -> Option<Tag>
     }
 }
 
-// Consumes the token `t` and writes its record.
+// Consumes the token `t` and writes its record, with the given text.
 pub fn leaf(
     file: &mut [u8],
-    text: &[u8],
     state: &mut State,
-    t: Token,
+    t: Token<'_>,
     tag: Tag,
     numbers: Numbers,
-) -> usize
-    requires { Room file text state.old.pos (16 + t.len) t.start t.len }
-    ensures { WritesNode (texted t.place tag numbers t.start t.len) file text t state result }
+    text: &[u8],
+) -> Place
+    requires { state.old.pos + 16 + length text.now ≤ length file.old }
+    ensures { WritesNode (placed t.entry.place tag numbers (at_entry text)) file t state result }
 {
-    let v = Record {
-        tag,
-        place: t.place,
-        numbers,
-        start: t.start,
-        len: t.len,
-    };
     state.at = t.next;
-    state.pos = write_record(file, text, state.pos, v);
-    t.place
+    write_text_node(file, state, t.place, tag, numbers, text)
 }
 
 // Consumes an identifier and writes its record.
-pub fn name(file: &mut [u8], text: &[u8], state: &mut State, t: Token) -> usize
-    requires { Room file text state.old.pos (16 + t.len) t.start t.len }
-    ensures { WritesNode (identifier t) file text t state result }
+pub fn name(file: &mut [u8], state: &mut State, t: Token<'_>) -> Place
+    requires { state.old.pos + 16 + length t.text.now ≤ length file.old }
+    ensures { WritesNode (identifier t.entry) file t state result }
 {
-    leaf(file, text, state, t, Tag::Identifier, Numbers::None)
+    leaf(file, state, t, Tag::Identifier, Numbers::None, t.text)
+}
+
+// The name that a token gives: its text, or `<?>` if it is no identifier.
+pub fn name_of(t: Token<'_>) -> &[u8]
+    ensures { result.now ≡ name_in t.entry }
+{
+    match t.kind {
+        Kind::Identifier => t.text,
+        _ => b"<?>",
+    }
 }
 
 // Whether the kind `k` is an identifier and `next`, the kind after it, neither a suffix nor the `(` of a call.
@@ -302,55 +255,29 @@ pub fn name_alone(k: Kind, next: Kind) -> bool
 }
 
 // parse_atom without its group: integer | identifier | string | `true` | `false`
-pub fn literal(tokens: Tokens, file: &mut [u8], parser: &mut Parser) -> Result<usize, Stop>
+pub fn literal(tokens: Tokens, file: &mut [u8], parser: &mut Parser) -> Result<Place, Stop>
     requires { Literal tokens file parser }
     ensures { (d : ℕ) → Parses P.parse_atom tokens file parser d result }
 {
     let t = tokens.peek(parser.state.at);
     let state = &mut parser.state;
-    let bare = Token {
-        start: 0,
-        len: 0,
-        ..t
-    };
     match t.kind {
         Kind::Integer => {
-            let base = (t.base % 256) as u8;
-            Ok(leaf(
-                file,
-                tokens.text,
-                state,
-                t,
-                Tag::Integer,
-                Numbers::Byte(base),
-            ))
+            let base = Numbers::Byte((t.base % 256) as u8);
+            Ok(leaf(file, state, t, Tag::Integer, base, t.text))
         }
-        Kind::Identifier => Ok(name(file, tokens.text, state, t)),
-        Kind::String => Ok(leaf(file, tokens.text, state, t, Tag::String, Numbers::None)),
-        Kind::KwTrue => Ok(leaf(
-            file,
-            tokens.text,
-            state,
-            bare,
-            Tag::Boolean,
-            Numbers::Byte(1),
-        )),
-        Kind::KwFalse => Ok(leaf(
-            file,
-            tokens.text,
-            state,
-            bare,
-            Tag::Boolean,
-            Numbers::Byte(0),
-        )),
+        Kind::Identifier => Ok(name(file, state, t)),
+        Kind::String => Ok(leaf(file, state, t, Tag::String, Numbers::None, t.text)),
+        Kind::KwTrue => Ok(leaf(file, state, t, Tag::Boolean, Numbers::Byte(1), &[])),
+        Kind::KwFalse => Ok(leaf(file, state, t, Tag::Boolean, Numbers::Byte(0), &[])),
         Kind::End => {
             state.at = t.next;
-            let error = entry(ParseError::ExpressionAtEnd, 0, Kind::End, Kind::End);
+            let error = Error::at_end(ParseError::ExpressionAtEnd);
             Err(parser.raise(tokens.count, error))
         }
         _ => {
             state.at = t.next;
-            let error = entry(ParseError::Expression, t.place, Kind::End, t.kind);
+            let error = Error::new(ParseError::Expression, t.place, Kind::End, t.kind);
             Err(parser.raise(tokens.count, error))
         }
     }
@@ -360,8 +287,8 @@ pub fn literal(tokens: Tokens, file: &mut [u8], parser: &mut Parser) -> Result<u
 pub fn close(
     tokens: Tokens,
     parser: &mut Parser,
-    called: Result<usize, Stop>,
-) -> Result<usize, Stop>
+    called: Result<Place, Stop>,
+) -> Result<Place, Stop>
     requires { Asks tokens parser }
     ensures { Closed tokens parser called result }
 {

@@ -1,61 +1,51 @@
 -- Laws of the records that are written. Assumes nothing.
 use mathlib.Core.Path.{◌≡◌, refl, sym}
-use mathlib.Core.Option.{none, some}
-use mathlib.Core.List.{List, ◌∷◌, ◌++◌}
-use Prim.Native.Nat.{ℕ, suc, ◌+◌, ◌-◌, ◌≤◌}
+use mathlib.Core.List.{List, ◌∷◌, ◌++◌, append_assoc}
+use Prim.Native.Nat.{ℕ, ◌+◌}
 use native.Mathlib.Omega.{arith}
-use lib.ListN.{length, take, drop, length-drop, length-take, length-append}
-use lib.Seq.{length-take-le}
-use Rattle.definition.specs.Source.{place_at}
-use Rattle.definition.specs.Node.{u16, rec_bytes, nums_bytes}
+use lib.ListN.{length, length-append}
+use Rattle.std.specs.Prelude.{Option, Some, None}
+use Rattle.definition.specs.Node.{u16, at_place, rec_bytes, nums_bytes}
+use Rattle.definition.specs.declared.place.Place.{Place}
 use Rattle.slices.specs.declared.Writer.{Writer}
 use Rattle.slices.specs.Contract.{Put}
 use Rattle.node.specs.declared.Numbers.{Numbers}
-use Rattle.node.specs.declared.Numbers.TheVariants.{None, Byte, Two, Eight, ByteTwo}
-use Rattle.node.specs.Put.{Wrote, nums_of, width_of}
+use Rattle.node.specs.declared.Numbers.TheVariants as N
+use Rattle.node.specs.Put.{Wrote, place_in, place_size, head_size, nums_of, nums_size, width_of}
 
--- a part of a text
-pub part_length : (x : List ℕ) (st len : ℕ) → st + len ≤ length x → length (take len (drop st x)) ≡ len
-part_length x st len h = length-take-le len (drop st x) (simp length-drop (omega arith))
-
-pub part_room : (x : List ℕ) (st len : ℕ) → length (take (st + len - st) (drop st x)) ≤ len
-part_room x st len = omega (arith, length-take (st + len - st) (drop st x))
-
--- the numbers of a record
-pub width_law : (n : Numbers) → length (nums_bytes (nums_of n)) ≡ width_of n
+-- the numbers of a record, and its place
+pub nums_length : (n : Numbers) → length (nums_bytes (nums_of n)) ≡ width_of n
 unfolding nums_bytes
-width_law None = refl
-width_law (Byte b) = refl
-width_law (Two n) = refl
-width_law (Eight n) = refl
-width_law (ByteTwo b n) = refl
+nums_length N.None = refl
+nums_length (N.Byte b) = refl
+nums_length (N.Two n) = refl
+nums_length (N.Eight n) = refl
+nums_length (N.ByteTwo b n) = refl
 
--- the numbers and the part of the text
-body_length : {w : ℕ} (x : List ℕ) (st len : ℕ) (n : Numbers) → w ≡ width_of n → st + len ≤ length x
-    → length (nums_bytes (nums_of n) ++ take len (drop st x)) ≡ w + len
-body_length x st len n e h = omega (arith, length-append (nums_bytes (nums_of n)) (take len (drop st x)), width_law n, part_length x st len h)
+nums_width : (n : Numbers) → nums_size (nums_of n) ≡ width_of n
+nums_width N.None = refl
+nums_width (N.Byte b) = refl
+nums_width (N.Two n) = refl
+nums_width (N.Eight n) = refl
+nums_width (N.ByteTwo b n) = refl
 
-module _ {v r : Writer ℕ} {w tag : ℕ} (x : List ℕ) (st len : ℕ) (n : Numbers) where
-  -- what is written is the record
-  pub is_record : {line column : ℕ} → w ≡ width_of n → st + len ≤ length x
-      → Put (tag ∷ (u16 (4 + w + len) ++ (u16 line ++ (u16 column ++ (nums_bytes (nums_of n) ++ take (st + len - st) (drop st x)))))) v r
-      → Wrote v.out.now v.at
-      (record { tag = tag; place = some (place_at line column); numbers = nums_of n; text = take len (drop st x) })
-      (7 + width_of n + len) r.out.now r.at
-  unfolding rec_bytes
-  is_record e h a =
-      let z : st + len - st ≡ len = omega arith in
-      let l = body_length x st len n e h in
-      let b = rw z at a.wrote in
-      let k : 4 + w + len ≡ suc (suc (suc (suc (length (nums_bytes (nums_of n) ++ take len (drop st x)))))) = omega arith in
-      record { end = omega (arith, b.count, l); is = rw k at b.put }
+pub place_length : (p : Option Place) → length (at_place (place_in p)) ≡ place_size p
+place_length None = refl
+place_length (Some p) = refl
 
-  pub is_bare : w ≡ width_of n → st + len ≤ length x
-      → Put (tag ∷ (u16 (w + len) ++ (nums_bytes (nums_of n) ++ take (st + len - st) (drop st x)))) v r
-      → Wrote v.out.now v.at (record { tag = tag; place = none; numbers = nums_of n; text = take len (drop st x) }) (3 + width_of n + len) r.out.now r.at
-  unfolding rec_bytes
-  is_bare e h a =
-      let z : st + len - st ≡ len = omega arith in
-      let l = body_length x st len n e h in
-      let b = rw z at a.wrote in
-      record { end = omega (arith, b.count, l); is = rw (sym l) at b.put }
+head_is : (p : Option Place) → head_size (place_in p) ≡ 3 + place_size p
+head_is None = refl
+head_is (Some p) = refl
+
+-- what is written is the record
+pub is_record : {v r : Writer ℕ} {k w tag : ℕ} (p : Option Place) (n : Numbers) (t : List ℕ) → k ≡ place_size p → w ≡ width_of n
+    → Put (tag ∷ (u16 (k + w + length t) ++ (at_place (place_in p) ++ (nums_bytes (nums_of n) ++ t)))) v r
+    → Wrote v.out.now v.at (record { tag = tag; place = place_in p; numbers = nums_of n; text = t }) r.out.now r.at
+unfolding rec_bytes
+is_record {k = k} {w = w} p n t e h a =
+    let body : length ((at_place (place_in p) ++ nums_bytes (nums_of n)) ++ t) ≡ k + w + length t =
+    simp length-append (omega (arith, place_length p, nums_length n)) in
+    record {
+      end = omega (arith, a.wrote.count, place_length p, nums_length n, head_is p, nums_width n, length-append (at_place (place_in p)) (nums_bytes (nums_of n) ++ t), length-append (nums_bytes (nums_of n)) t);
+      is = rw (sym body, sym (append_assoc (at_place (place_in p)) (nums_bytes (nums_of n)) t)) at a.wrote.put;
+    }

@@ -1,16 +1,13 @@
-// node.rs: writes the records of the tree to the lent file slice. Each function returns the offset after what it
-// wrote.
+// node.rs: writes the records of the tree to the lent file slice.
 #![tactic(auto)]
 
-ghost use Rattle.std.specs.Prelude.{◌≡◌, ◌+◌, ◌<◌, ◌≤◌, length};
-ghost use Rattle.definition.specs.Source.{place_at};
-ghost use Rattle.definition.specs.Places.{unpack_place};
-ghost use Rattle.definition.specs.Node.{u16, nums_bytes};
-ghost use Rattle.definition.specs.Numbers.{tag_number};
+ghost use Rattle.std.specs.Prelude.{◌≡◌, ◌+◌, ◌≤◌, length};
+ghost use Rattle.definition.specs.Node.{u16, at_place, nums_bytes};
 ghost use Rattle.slices.specs.Contract.{Put};
-ghost use Rattle.node.specs.Put.{nums_of, width_of, rec_of, size_of, bare_of, bare_size};
-ghost use Rattle.node.specs.Contract.{Room, part, Wrote};
+ghost use Rattle.node.specs.Put.{place_in, place_size, nums_of, width_of, rec_of};
+ghost use Rattle.node.specs.Contract.{Wrote};
 
+use definition::place::Place;
 use definition::tag::Tag;
 use slices::Writer;
 
@@ -39,22 +36,49 @@ impl Numbers {
     }
 }
 
-// A record with a place. Its text is a part of a text slice.
+// A record of the tree: its tag, its place if it has one, its numbers, its text.
 #[derive(Clone, Copy)]
-pub struct Record {
+pub struct Record<'a> {
     pub tag: Tag,
-    pub place: usize,
+    pub place: Option<Place>,
     pub numbers: Numbers,
-    pub start: usize,
-    pub len: usize,
+    pub text: &'a [u8],
 }
 
-// Writes a number in two bytes, the high byte first.
+// A number in two bytes, the high byte first.
+pub fn two(n: usize) -> [u8; 2]
+    ensures { result ≡ u16 n }
+{
+    ((n % 0x1_0000) as u16).to_be_bytes()
+}
+
+// Writes a number in two bytes.
 fn put_two(w: &mut Writer<'_, u8>, n: usize)
     requires { w.old.at + 2 ≤ length w.old.out.now }
     ensures { Put (u16 n) w.old w.new }
 {
-    w.put_all(&((n % 0x1_0000) as u16).to_be_bytes());
+    w.put_all(&two(n));
+}
+
+// How many bytes a place takes.
+fn place_width(place: Option<Place>) -> usize
+    ensures { (result ≡ place_size place) × (result ≤ 4) }
+{
+    match place {
+        Some(_) => 4,
+        None => 0,
+    }
+}
+
+// Writes the place of a record, if it has one.
+fn put_place(w: &mut Writer<'_, u8>, place: Option<Place>)
+    requires { w.old.at + 4 ≤ length w.old.out.now }
+    ensures { Put (at_place (place_in place)) w.old w.new }
+{
+    if let Some(Place { line, column }) = place {
+        put_two(w, line as usize);
+        put_two(w, column as usize);
+    }
 }
 
 // Writes the numbers of a record.
@@ -75,53 +99,17 @@ fn put_numbers(w: &mut Writer<'_, u8>, numbers: Numbers)
     }
 }
 
-// A word as a number.
-pub fn wide(x: u32) -> usize
-    ensures { result ≡ x }
-{
-    x as usize
-}
-
-// A place as one number: 65,536 times the line, and the column; 0 where there is none.
-pub fn place_at(line: u32, column: u32) -> usize
-    requires { (line < 65536) × (column < 65536) }
-    ensures { (unpack_place result ≡ place_at line column) × (result < 0x100000000) }
-{
-    wide(line) * 0x1_0000 + wide(column)
-}
-
-// Writes a record with a place.
-pub fn write_record(file: &mut [u8], text: &[u8], pos: usize, r: Record) -> usize
-    requires { Room file text pos (16 + r.len) r.start r.len }
-    ensures { Wrote (rec_of text.now r) (size_of r) file pos result }
+// Writes a record, and returns the offset after it.
+pub fn write_record(file: &mut [u8], pos: usize, r: Record<'_>) -> usize
+    requires { pos + 15 + length r.text.now ≤ length file.old }
+    ensures { Wrote (rec_of r.entry) file pos result }
 {
     let mut w = Writer { out: file, at: pos };
     w.put(u8::from(r.tag));
-    put_two(&mut w, 4 + r.numbers.width() + r.len);
-    put_two(&mut w, r.place / 0x1_0000);
-    put_two(&mut w, r.place % 0x1_0000);
+    let length = place_width(r.place) + r.numbers.width() + r.text.len();
+    put_two(&mut w, length);
+    put_place(&mut w, r.place);
     put_numbers(&mut w, r.numbers);
-    w.put_all(&text[r.start..r.start + r.len]);
-    w.at
-}
-
-// Writes a record without a place.
-pub fn write_bare(
-    file: &mut [u8],
-    text: &[u8],
-    pos: usize,
-    tag: Tag,
-    numbers: Numbers,
-    start: usize,
-    len: usize,
-) -> usize
-    requires { Room file text pos (16 + len) start len }
-    ensures { Wrote (bare_of (tag_number tag) numbers (part text start len)) (bare_size numbers len) file pos result }
-{
-    let mut w = Writer { out: file, at: pos };
-    w.put(u8::from(tag));
-    put_two(&mut w, numbers.width() + len);
-    put_numbers(&mut w, numbers);
-    w.put_all(&text[start..start + len]);
+    w.put_all(r.text);
     w.at
 }

@@ -1,13 +1,14 @@
 -- The answers of Read are those of the definition: one law for each return of the functions. Assumes nothing.
-use mathlib.Core.Path.{◌≡◌, refl, sym, ap, ◌∙◌, subst}
+use mathlib.Core.Path.{◌≡◌, refl, sym, ap, ap₂, ◌∙◌, subst}
 use mathlib.Core.Bool.{Bool, true, false}
 use mathlib.Core.Option.{Option, none, some}
-use mathlib.Core.List.{List, [], ◌∷◌}
-use Prim.Native.Nat.{ℕ, suc, ◌≤◌, ◌<◌}
+use mathlib.Core.List.{List, [], ◌∷◌, map}
+use Prim.Native.Nat.{ℕ, suc, ◌*◌, ◌-◌, ◌/◌, ◌≤◌, ◌<◌}
 use native.Mathlib.Omega.{arith}
 use lib.Dec.{ltb}
 use lib.ListN.{length, take}
 use borrow.Author.Tests.{lt-ltb, le-ltb}
+use Rattle.std.specs.Simd.{first_chunks}
 use Rattle.std.specs.Prelude.{Result, Ok, Err}
 use Rattle.definition.specs.declared.refusal.Refusal.{Refusal}
 use Rattle.definition.specs.Numbers.{refusal_number}
@@ -23,21 +24,24 @@ use Rattle.definition.specs.Parser as P
 use Rattle.definition.specs.Parser.{parse_module}
 use Rattle.definition.specs.Go.{go}
 use Rattle.definition.proofs.Flat.{go_bind, go_module}
-use Rattle.fallible.specs.Answer.{Status, Done, Fatal, Refused, Answer}
+use Rattle.fallible.specs.Answer.{Status, Done, Refused, Answer}
+use Rattle.fallible.specs.declared.error.Error.{Error}
 use Rattle.fallible.specs.Lists.{errs}
 use Rattle.slices.specs.Cleared.{Cleared}
 use Rattle.slices.proofs.Clearing.{cleared_filled}
-use Rattle.steps.specs.Tokens.{rest}
+use Rattle.steps.specs.Tokens.{rest, Held}
 use Rattle.steps.specs.Shows.{st_of, Asked, ShowsOf, items}
 use Rattle.steps.proofs.Records.{rest_cons, rest_nil}
 use Rattle.steps.proofs.Answers.{good_of}
-use Rattle.leaves.proofs.Atoms.{Alive, if_alive}
 use Rattle.expression_laws.specs.Post.{as_answer}
+use Rattle.token_records.proofs.Chunks.{chunks_length, chunks_part}
 use Rattle.validate.specs.Tested.{Tested}
 use Rattle.validate.proofs.Accepted.{There, there, absent, tested}
 use Rattle.items.specs.Rules.{items_on}
 use Rattle.items.specs.Items.{ReadsModule}
-use Rattle.parser.specs.Answer.{answer, tree_file, RestRoom, RestWritten, ReadValidated}
+use Rattle.error_fields.specs.Errors.{recorded}
+use Rattle.error_fields.proofs.Records.{recorded_is, records_are}
+use Rattle.parser.specs.Answer.{answer, tree_file, RestWritten, Bounded}
 
 -- ---- the answer of `module`
 
@@ -77,7 +81,7 @@ unfolding go run number_of
 refuses d (gives i S) n e = absurd (let z : 0 ≡ suc n = ap number_of e in omega (arith, z))
 refuses d (refused m) n e = let z : suc m ≡ suc n = ap number_of e in let y : m ≡ n = omega (arith, z) in rw y
 
-module _ {w x : List ℕ} {n : ℕ} {o r f : List ℕ} {a : Answer} (B : ReadsModule w x n 96 o r f a) where
+module _ {w x : List ℕ} {n : ℕ} {o : List ℕ} {r f : List Error} {a : Answer} (B : ReadsModule w x n 96 o r f a) where
   -- the answer of `module` is that of the definition's parser
   parsed : answered 96 (parse_module (rest w x n 0))
       ≡ go 96 (items_on (P.no_items []) >>= as_answer) (begin (rest w x n 0))
@@ -114,17 +118,6 @@ module _ {w x : List ℕ} {n : ℕ} {o r f : List ℕ} {a : Answer} (B : ReadsMo
       ∙ subst (λ (h : Status). ShowsOf h items [] [] [] [] w x n o r f a
       (go 96 (items_on (P.no_items []) >>= as_answer) (begin (rest w x n 0)))) z
       B.is.told)
-
-  pub done_of_module : Alive a → a.status ≡ Done
-  done_of_module l = one a.status refl l
-    where
-      one : (h : Status) → a.status ≡ h → Alive a → a.status ≡ Done
-      one Done e l = e
-      one Fatal e l = absurd (B.never e)
-      one (Refused k) e l =
-          absurd (if_alive (λ (h : Status). h ≡ Refused k → ⊥) a.status l
-          (λ z. cc) (λ z. cc)
-          e)
 
 -- ---- the definition's answer for at least one token
 
@@ -171,69 +164,47 @@ same_file es p q s t = rw (p, q, s, t)
 
 -- ---- `read_tokens`
 
-module _ (T : List ℕ) (n : ℕ) (E : List ℕ) (m : ℕ) (X : List ℕ) (g : is_some (O.validate T n E m X) ≡ true) where
-  accepted : There (O.validate T n E m X)
-  accepted = there (O.validate T n E m X) g
-
-  good : Tested T n E m X accepted.value
-  good = tested T n E m X accepted.value accepted.is
-
-  -- what `module` requires, and what `end_file` requires
-  pub module_asked : {o r f : List ℕ} → 65536 ≤ length o → 256 ≤ length r → 256 ≤ length f → Asked T X n o r f (record { at = 0; pos = 0; reported = 0; full = 0 })
+module _ (T X : List ℕ) (n m : ℕ) (h : Held T n) (q : Bounded T n m) where
+  -- what `module` requires
+  pub module_asked : {o : List ℕ} {r f : List Error} → 65536 ≤ length o → 256 ≤ length r → 256 ≤ length f
+      → Asked T n o r f (record { at = 0; pos = 0; reported = 0; full = 0 })
   module_asked lo lr lf =
       record {
-        asks = record {
-          held = good.held;
-          at = omega arith;
-          reported = omega arith;
-          few = omega arith;
-          reps = lr;
-          fulls = lf;
-        };
-        parts = good.parts;
-        room = omega (arith, lo, good.room, good.held.few);
+        asks = record { at = omega arith; reported = omega arith; few = omega arith; reps = lr; fulls = lf };
+        room = omega (arith, lo, q.room, h.few);
       }
 
-  pub rest_room : {d : ℕ} {o1 r1 f1 : List ℕ} {a : Answer} → ReadsModule T X n d o1 r1 f1 a → 65536 ≤ length o1
-      → 256 ≤ length r1 → 256 ≤ length f1
-      → RestRoom o1 a.state.pos E m r1 a.state.reported f1 a.state.full
-  rest_room B lo lr lf = record {
-    room = omega (arith, lo, good.room, good.held.few, good.few, B.room, B.reported, B.few);
-    words = good.words;
-    good = rw good.errors;
-    reps = omega (arith, B.reported, B.few, lr);
-    fulls = omega (arith, B.few, lf);
-  }
-
-module _ (T : List ℕ) (n : ℕ) (E : List ℕ) (k : ℕ) (X o : List ℕ) {o1 r1 f1 : List ℕ} {a : Answer}
+module _ (T X : List ℕ) (n : ℕ) (es : List F.Err) (o : List ℕ) {o1 : List ℕ} {r1 f1 : List Error} {a : Answer}
     (B : ReadsModule T X n 96 o1 r1 f1 a) (some_n : 0 < n) (l : length o1 ≡ length o) where
   pub read_refused : {o2 : List ℕ} (m : Refusal) → a.status ≡ Refused (refusal_number m) → Cleared o1 0 o2
-      → ReadValidated T n E k X o o2 (Err m)
-  read_refused {o2} m z C h e =
-      let t = tested T n E k X h e in
-      let p : parse_module h.tokens ≡ refused (refusal_number m) = ap parse_module (sym t.tokens) ∙ refused_with B _ z in
-      let s : 0 < length h.tokens = subst (λ (ts : List Tok). 0 < length ts) t.tokens (some_tokens T X n some_n) in
+      → answer (Err m) o2 ≡ O.read_validated o (rest T X n 0) es
+  read_refused {o2} m z C =
       ap (λ (f : List ℕ). answer (Err m) f) (cleared_filled o 0 [] C refl l (omega arith))
-      ∙ sym (none_of o h.tokens h.errors (refusal_number m) s p)
+      ∙ sym (none_of o (rest T X n 0) es (refusal_number m) (some_tokens T X n some_n) (refused_with B _ z))
 
   pub read_done : {o2 : List ℕ} {b : ℕ} → a.status ≡ Done
-      → RestWritten o1 a.state.pos a.count E k r1 a.state.reported f1 a.state.full o2 b
-      → ReadValidated T n E k X o o2 (Ok b)
+      → RestWritten o1 a.state.pos a.count es r1 a.state.reported f1 a.state.full o2 b
+      → answer (Ok b) o2 ≡ O.read_validated o (rest T X n 0) es
   unfolding file_bytes
-  read_done {o2} {b} z C h e =
-      let t = tested T n E k X h e in
+  read_done {o2} {b} z C =
       let g = tree_of B z in
-      let p : parse_module h.tokens ≡ gives g.tree g.state = ap parse_module (sym t.tokens) ∙ g.is in
-      let s : 0 < length h.tokens = subst (λ (ts : List Tok). 0 < length ts) t.tokens (some_tokens T X n some_n) in
-      let ws : tree_file (take a.state.pos o1) a.count h.errors (errs r1 a.state.reported) (errs f1 a.state.full) ≡ file_bytes h.errors g.tree g.state.full =
-      same_file h.errors g.recs (sym g.count) g.reported (sym g.full) in
-      let bytes : b ≡ length (file_bytes h.errors g.tree g.state.full) = C.end h.errors t.errors ∙ ap length ws in
-      let file : o2 ≡ filled (length o) (file_bytes h.errors g.tree g.state.full) = C.is h.errors
-      t.errors ∙ ap (λ (v : List ℕ). filled (length o1) v) ws ∙ ap
-      (λ (i : ℕ). filled i (file_bytes h.errors g.tree g.state.full)) l in
-      rw (bytes, file) (sym (written_of o h.tokens h.errors g.tree g.state s p))
+      let ws : tree_file (take a.state.pos o1) a.count es (errs r1 a.state.reported) (errs f1 a.state.full) ≡ file_bytes es g.tree g.state.full =
+      same_file es g.recs (sym g.count) g.reported (sym g.full) in
+      let bytes : b ≡ length (file_bytes es g.tree g.state.full) = C.end ∙ ap length ws in
+      let file : o2 ≡ filled (length o) (file_bytes es g.tree g.state.full) = C.is
+      ∙ ap (λ (v : List ℕ). filled (length o1) v) ws ∙ ap
+      (λ (i : ℕ). filled i (file_bytes es g.tree g.state.full)) l in
+      rw (bytes, file) (sym (written_of o (rest T X n 0) es g.tree g.state (some_tokens T X n some_n) g.is))
 
 -- ---- `read`
+
+-- the first m of the records in a slice
+module _ (E : List ℕ) (m : ℕ) {cs : List (List ℕ)} (e : cs ≡ first_chunks 4 (length E / 4) E) (h : 4 * m ≤ length E) where
+  pub records_part : take m cs ≡ first_chunks 4 m E
+  records_part = chunks_part 4 m (length E / 4) E e (omega arith) (let z : m ≡ m - 0 = omega arith in ap (λ k. take k cs) z)
+
+  pub records_length : length (take m cs) ≡ m
+  records_length = ap length records_part ∙ chunks_length 4 m E
 
 -- Read by the tests of the file slice and of the records
 tested_by : Bool → Option O.Validated → List ℕ → O.Written
@@ -258,6 +229,17 @@ module _ (T : List ℕ) (n : ℕ) (E : List ℕ) (m : ℕ) (X o : List ℕ) wher
   unfolding tested_by
   read_short h = sym (read_is ∙ ap (λ (b : Bool). tested_by b (O.validate T n E m X) o) (lt-ltb (length o) 65536 h))
 
+  -- valid records
+  module _ (g : is_some (O.validate T n E m X) ≡ true) where
+    abbrev pub accepted : There (O.validate T n E m X)
+    accepted = there (O.validate T n E m X) g
+
+    pub good : Tested T n E m X accepted.value
+    good = tested T n E m X accepted.value accepted.is
+
+    pub bounded : {k : ℕ} → k ≡ m → Bounded T n k
+    bounded e = record { room = good.room; few = rw e good.few }
+
   module _ (h : 65536 ≤ length o) where
     -- the file slice is long enough
     read_long : O.read T n E m X o ≡ tested_by false (O.validate T n E m X) o
@@ -273,11 +255,10 @@ module _ (T : List ℕ) (n : ℕ) (E : List ℕ) (m : ℕ) (X o : List ℕ) wher
     read_accepted e = read_long ∙ ap (λ (x : Option O.Validated). tested_by false x o) e
 
     module _ (g : is_some (O.validate T n E m X) ≡ true) where
-      pub read_good : (r : Result ℕ Refusal) (o' : List ℕ) → ReadValidated T n E m X o o' r → answer r o' ≡ O.read T n E m X o
-      read_good r o' R = let t = there (O.validate T n E m X) g in R t.value t.is ∙ sym (read_accepted t.is)
+      pub read_good : (r : Result ℕ Refusal) (o' : List ℕ) → answer r o' ≡ O.read_validated o (rest T X n 0) (map recorded (first_chunks 4 m E))
+          → answer r o' ≡ O.read T n E m X o
+      read_good r o' e =
+          e ∙ ap₂ (O.read_validated o) (good g).tokens (records_are recorded recorded_is E m 0 _ (good g).errors) ∙ sym (read_accepted (accepted g).is)
 
       pub read_none : n ≡ 0 → answer (Err Refusal.NoTokens) o ≡ O.read T n E m X o
-      read_none z =
-          read_good (Err Refusal.NoTokens) o (λ v y. let k : v.tokens ≡ [] = sym (tested T n E m X v y).tokens ∙ rest_nil T X n 0
-          (omega (arith, z)) in
-          rw k)
+      read_none z = read_good (Err Refusal.NoTokens) o (rw (rest_nil T X n 0 (omega (arith, z))) refl)

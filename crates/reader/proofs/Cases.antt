@@ -1,31 +1,36 @@
 -- The whole operation: one law for each return. Assumes nothing.
-use mathlib.Core.Path.{◌≡◌, refl, sym, ap, ◌∙◌}
+use mathlib.Core.Path.{◌≡◌, refl, sym, ap, ap₂, ◌∙◌}
 use mathlib.Core.Bool.{Bool, true, false}
 use mathlib.Core.Option.{Option, none, some}
-use mathlib.Core.List.{List, [], ◌∷◌, ◌++◌}
+use mathlib.Core.List.{List, [], ◌∷◌, ◌++◌, map}
 use Prim.Native.Nat.{ℕ, ◌*◌, ◌≤◌, ◌<◌}
 use native.Mathlib.Omega.{arith}
 use lib.Dec.{ltb}
 use lib.ListN.{length, take, drop, take-append-drop}
 use borrow.Author.Tests.{lt-ltb, le-ltb}
-use Rattle.definition.specs.Source.{Ch, characters, is_some, utf8}
+use Rattle.definition.specs.Source.{Ch, characters}
 use Rattle.definition.specs.Token.{Tok}
 use Rattle.definition.specs.Records.{tokens_words, tokens_text, errors_words}
 use Rattle.definition.specs.Tokenizer as Z
 use Rattle.definition.specs.Tokenizer.{tokenize}
 use Rattle.definition.specs.Operations as O
 use Rattle.definition.specs.Operations.{validate, kept, written, read_tokens, read_tokenised, whole}
+use Rattle.definition.specs.Sentence as S
 use Rattle.definition.proofs.ReadBack.{read_back}
 use Rattle.definition.specs.Numbers.{refusal_number}
 use Rattle.definition.specs.declared.refusal.Refusal.{Refusal}
-use Rattle.source.specs.Place.{Stands, rest, origin}
+use Rattle.source.specs.Place.{Stands, rest, origin, Unfit, too_long, not_text}
 use Rattle.token_records.specs.declared.State.{State}
-use Rattle.slices.specs.Cleared.{Cleared}
-use Rattle.slices.proofs.Clearing.{cleared_filled}
 use Rattle.tokenizer.specs.Run.{Done, NotDone}
-use Rattle.tokenizer.proofs.Answer.{no_characters, the_characters, within_limit}
+use Rattle.tokenizer.proofs.Answer.{the_characters, within_limit}
+use Rattle.std.specs.Simd.{first_chunks}
 use Rattle.std.specs.Prelude.{Result, Err}
-use Rattle.parser.specs.Answer.{answer, ReadValidated}
+use Rattle.error_fields.specs.Errors.{recorded}
+use Rattle.error_fields.proofs.Records.{recorded_is, records_are}
+use Rattle.steps.specs.Tokens as Tokens
+use Rattle.validate.specs.Tested.{Tested}
+use Rattle.validate.proofs.Accepted.{tested}
+use Rattle.parser.specs.Answer.{answer}
 
 -- ---- the definition by its tests
 
@@ -50,26 +55,23 @@ whole_is s o = one (ltb 16384 (length s)) (characters s) (ltb (length o) 65536)
 
 -- ---- the tests
 
-module _ (s o : List ℕ) where
-  pub whole_long : 16384 < length s → answer (Err Refusal.ScriptLength) o ≡ whole s o
+module _ (s : List ℕ) where
+  pub whole_unfit : (o : List ℕ) {x : Refusal} → Unfit s x → answer (Err x) o ≡ whole s o
   unfolding whole
-  whole_long h = rw (lt-ltb 16384 (length s) h, whole, O.whole_within)
+  whole_unfit o (too_long h) = rw (lt-ltb 16384 (length s) h, whole, O.whole_within)
+  whole_unfit o (not_text h n) = rw (le-ltb 16384 (length s) h, n, whole, O.whole_within)
 
-  module _ (h : length s ≤ 16384) where
-    pub whole_foreign : {v : Bool} → v ≡ utf8 s → v ≡ false → answer (Err Refusal.NotUtf8) o ≡ whole s o
-    unfolding whole
-    whole_foreign e n =
-        rw (le-ltb 16384 (length s) h, no_characters s (sym e ∙ n), whole, O.whole_within)
+  pub examine_unfit : {x : Refusal} → Unfit s x → S.examine s ≡ S.refused (refusal_number x)
+  unfolding S.examine
+  examine_unfit (too_long h) = rw (S.examine, lt-ltb 16384 (length s) h)
+  examine_unfit (not_text h n) = rw (S.examine, le-ltb 16384 (length s) h, n)
 
-    pub whole_short : Stands s origin → length o < 65536 → answer (Err Refusal.SliceLength) o ≡ whole s o
-    unfolding whole
-    whole_short z l =
-        rw (le-ltb 16384 (length s) h, the_characters s z, lt-ltb (length o) 65536 l, whole, O.whole_within)
+  pub whole_short : (o : List ℕ) → Stands s origin × (length s ≤ 16384) → length o < 65536 → answer (Err Refusal.SliceLength) o ≡ whole s o
+  unfolding whole
+  whole_short o q l =
+      rw (le-ltb 16384 (length s) q.1, the_characters s q.0, lt-ltb (length o) 65536 l, whole, O.whole_within)
 
 -- ---- after the tests
-
-pub cleared_is : {o o' : List ℕ} (m : Refusal) → Cleared o 0 o' → answer (Err m) o' ≡ written o (O.refused (refusal_number m))
-cleared_is {o} m c = ap (λ (v : List ℕ). answer (Err m) v) (cleared_filled o 0 [] c refl refl (omega arith))
 
 -- a slice is its first words and the rest
 before_rest : (n : ℕ) (T ws : List ℕ) → take n T ≡ ws → T ≡ ws ++ drop n T
@@ -91,6 +93,9 @@ module _ (s : List ℕ) (z : Stands s origin) (h : length s ≤ 16384) {T E X : 
             (drop f.text X),
       )
 
+  pub records : Tested T f.tokens E f.errors X (record { tokens = d.ts; errors = d.es })
+  records = tested T f.tokens E f.errors X _ validated_back
+
 module _ (s o : List ℕ) (q : Stands s origin × (length s ≤ 16384) × (65536 ≤ length o)) where
   -- by the result of the loop
   runs : {t : Z.Tokens} → Z.tokenize_within 2048 (rest s origin) ≡ t → written o (read_tokenised t) ≡ whole s o
@@ -103,9 +108,6 @@ module _ (s o : List ℕ) (q : Stands s origin × (length s ≤ 16384) × (65536
   whole_stopped d = runs d.is
 
   module _ {T E X : List ℕ} {f : State} (d : Done 2048 (rest s origin) T E X f) where
-    pub whole_validated : is_some (validate T f.tokens E f.errors X) ≡ true
-    whole_validated = ap is_some (validated_back s q.0 q.1 d)
-
     pub whole_none : f.tokens ≡ 0 → written o (O.refused 9) ≡ whole s o
     unfolding read_tokens
     whole_none k = go d.ts (omega (arith, d.holds.tokens)) (runs d.is)
@@ -114,10 +116,12 @@ module _ (s o : List ℕ) (q : Stands s origin × (length s ≤ 16384) × (65536
         go [] m e = e
         go (t ∷ ts) m e = absurd (omega arith)
 
-    pub whole_read : (o' : List ℕ) (w : Result ℕ Refusal) → (f.tokens ≡ 0 → ⊥) → ReadValidated T f.tokens E f.errors X o o' w
-        → answer w o' ≡ whole s o
+    pub whole_read : (o' : List ℕ) (w : Result ℕ Refusal) → (f.tokens ≡ 0 → ⊥)
+        → answer w o' ≡ O.read_validated o (Tokens.rest T X f.tokens 0) (map recorded (first_chunks 4 f.errors E)) → answer w o' ≡ whole s o
     unfolding read_tokens
-    whole_read o' w k r = go d.ts (λ m. k (d.holds.tokens ∙ m)) (r _ (validated_back s q.0 q.1 d)) (runs d.is)
+    whole_read o' w k r =
+        go d.ts (λ m. k (d.holds.tokens ∙ m))
+        (r ∙ ap₂ (O.read_validated o) (records s q.0 q.1 d).tokens (records_are recorded recorded_is E f.errors 0 d.es (records s q.0 q.1 d).errors)) (runs d.is)
       where
         go : (ts : List Tok) → (length ts ≡ 0 → ⊥) → answer w o' ≡ O.read_validated o ts d.es
             → written o (read_tokens ts d.es) ≡ whole s o → answer w o' ≡ whole s o

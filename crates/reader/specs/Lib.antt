@@ -1,2 +1,4 @@
 pub mod OneTree
 pub mod Found
+pub mod Lists
+pub mod Sentences

@@ -1,6 +1,7 @@
 // The whole operation: reads a script and writes its tree file. Complaints in words: sentence.rt.
 #![tactic(auto)]
 
+mod found;
 pub mod sentence;
 
 ghost use Rattle.std.specs.Prelude.{◌≡◌, [], ◌≤◌, length};
@@ -15,7 +16,7 @@ use definition::limit;
 use definition::refusal::Refusal;
 use parser::read_tokens;
 use slices::fill_from;
-use source::valid;
+use source::admitted;
 use steps::tokens::Tokens;
 use token_records::State;
 use tokenizer::run;
@@ -28,7 +29,8 @@ fn cleared(refusal: Refusal, file: &mut [u8]) -> Result<usize, Refusal>
     Err(refusal)
 }
 
-// A script that was read: the answer, and the state in which the tokenizer ended, or what it refused.
+// A script that was read: the answer, and the state in which the tokenizer ended, or what it refused. No code reads the
+// state: with it the contract of `read_into` says what the lent slices hold.
 #[derive(Clone, Copy)]
 pub struct ScriptRead {
     pub written: Result<usize, Refusal>,
@@ -65,7 +67,7 @@ pub fn read_into(
         count: found.tokens,
         text,
     };
-    let written = read_tokens(tokens, errors, found.errors, file);
+    let written = read_tokens(tokens, &errors.as_chunks().0[..found.errors], file);
     ScriptRead { written, state }
 }
 
@@ -85,12 +87,7 @@ fn read_valid(script: &[u8], file: &mut [u8]) -> Result<usize, Refusal>
 pub fn read_script(script: &[u8], file: &mut [u8]) -> Result<usize, Refusal>
     ensures { answer result file.new ≡ O.whole script.now file.old }
 {
-    if limit::SCRIPT_BYTES < script.len() {
-        return Err(Refusal::ScriptLength);
-    }
-    if !valid(script) {
-        return Err(Refusal::NotUtf8);
-    }
+    admitted(script)?;
     if file.len() < limit::FILE_BYTES {
         return Err(Refusal::SliceLength);
     }
@@ -130,8 +127,8 @@ pub struct TwoAnswers {
 }
 
 // Demand 3 (docs/FORMAT.md, Two scripts with one tree) about the code itself: reads two scripts, each to a file
-// slice of its own; its contract is the demand. No program calls it: it is here so that the checker ties the theorem
-// to `read_script`.
+// slice of its own; its contract is the demand. No program calls it: it is here so that the demand is proved of
+// `read_script`, not of the definition alone.
 pub fn two_scripts_one_tree(
     first: &[u8],
     left: &mut [u8],

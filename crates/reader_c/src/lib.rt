@@ -1,4 +1,5 @@
-// The library for C: include/delta_null.h declares both functions.
+// The library for C: include/delta_null.h declares both functions. A crate is a static library or one that others
+// use, and the programs use `reader`; so the exports stand here, and no program exports them.
 #![tactic(auto)]
 
 ghost use Rattle.std.specs.Prelude.{◌≡◌};

@@ -89,7 +89,8 @@ pub fn holds<T: PartialEq + Copy>(slice: &[T], start: &[T], rest: T) -> bool
     }
 }
 
-// Whether an operation gave as many bytes as a case holds, or the refusal with its number.
+// Whether an operation gave as many bytes as a case holds, or the refusal with its number. The refusal is a number, as
+// lists have it, 0 for none.
 pub fn agrees_with(got: Result<usize, u32>, refusal: u32, bytes: &[u8]) -> bool
     ensures { IsTrue result ↔ MatchResult got (λ n. (refusal ≡ 0) × (n ≡ length bytes.now))
         (λ number. (refusal ≡ number) × (length bytes.now ≡ 0)) }
@@ -133,7 +134,7 @@ impl fmt::Display for Counts {
 }
 
 // Counts the cases of a list. Each begins with a header, as long as the slice that is lent for it; `agrees` is given
-// that, and reads the rest of the case. A case that the list cuts short differs.
+// that, and reads the rest of the case. A case that the list ends inside differs.
 fn count_cases<R: Read, F: FnMut(&[u8], &mut R) -> Option<bool>>(
     list: &mut R,
     header: &mut [u8],
@@ -143,6 +144,7 @@ fn count_cases<R: Read, F: FnMut(&[u8], &mut R) -> Option<bool>>(
     requires callable { F.IsAlwaysCallable agrees }
 {
     let mut counts = Counts::default();
+    // The kit's form of a loop over input: it wants a bound, and a `Read` may never end.
     for _ in 0..u64::MAX {
         let n = read_full(list, header);
         if n == 0 {

@@ -7,9 +7,9 @@ use std::io::Stdin;
 use token_records::token_text;
 
 // The most words and bytes of the slices in a list: more than Read takes, or a file needs.
-const TOKEN_WORDS: usize = 17000;
+const LIST_TOKEN_WORDS: usize = 17000;
 
-const ERROR_WORDS: usize = 2000;
+const LIST_ERROR_WORDS: usize = 2000;
 
 const TEXT: usize = 20000;
 
@@ -62,8 +62,8 @@ fn texts_agree(list: &mut Stdin, tokens: &[u32], text: &[u8]) -> Option<bool> {
 
 // Whether Read and Token text give the results of a case.
 fn agrees(mut header: &[u8], list: &mut Stdin) -> Option<bool> {
-    let mut tokens = [0; TOKEN_WORDS];
-    let mut errors = [0; ERROR_WORDS];
+    let mut tokens = [0; LIST_TOKEN_WORDS];
+    let mut errors = [0; LIST_ERROR_WORDS];
     let mut text = [0; TEXT];
     let mut file = [FILLER; FILE];
     let mut tree = [0; FILE];

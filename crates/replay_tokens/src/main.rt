@@ -2,25 +2,26 @@
 // standard input, and writes how many agree and how many differ, and the number of the first that differs.
 #![tactic(auto)]
 
-ghost use Rattle.std.specs.Prelude.{◌<◌};
-
-use replay_cases::{FILLER, FILLER_WORD, array, holds, number, part};
+use replay_cases::{FILLER, FILLER_WORD, agrees_with, array, holds, number, part};
 use std::io::Stdin;
 
 // The most bytes and words of the slices in a list: more than a script may have, or Tokenise needs.
 const BYTES: usize = 20000;
 
-const TOKEN_WORDS: usize = 17000;
+const LIST_TOKEN_WORDS: usize = 17000;
 
-const ERROR_WORDS: usize = 2000;
+const LIST_ERROR_WORDS: usize = 2000;
+
+// The most token records or error records in a case: more than a script may have.
+const RECORDS: usize = 2100;
 
 // ---- records
 
-// Whether the list has this token record next.
-fn token_agrees(token: &[u32], list: &mut Stdin) -> Option<bool> {
+// The next token record of the list.
+fn token(list: &mut Stdin) -> Option<[u32; 8]> {
     let record: [u8; 12] = array(list)?;
     let mut fields = record.as_slice();
-    let expected = [
+    Some([
         number(&mut fields, 1)?,
         number(&mut fields, 2)?,
         number(&mut fields, 2)?,
@@ -29,42 +30,35 @@ fn token_agrees(token: &[u32], list: &mut Stdin) -> Option<bool> {
         number(&mut fields, 1)?,
         number(&mut fields, 1)?,
         number(&mut fields, 1)?,
-    ];
-    Some(token == expected.as_slice())
+    ])
 }
 
-// Whether the list has this token error next.
-fn error_agrees(error: &[u32], list: &mut Stdin) -> Option<bool> {
+// The next token error of the list.
+fn token_error(list: &mut Stdin) -> Option<[u32; 4]> {
     let record: [u8; 6] = array(list)?;
     let mut fields = record.as_slice();
-    let expected = [
+    Some([
         number(&mut fields, 1)?,
         number(&mut fields, 2)?,
         number(&mut fields, 2)?,
         number(&mut fields, 1)?,
-    ];
-    Some(error == expected.as_slice())
+    ])
 }
 
-// Whether a slice begins with the next `count` records of the list, and has `rest` in all words after them. Reads all
-// of them, also after one that differs.
-fn records_agree<F: Fn(&[u32], &mut Stdin) -> Option<bool>>(
+// The next `count` records of the list, which it reads to the start of a slice.
+fn records<'a, T: Copy, F: Fn(&mut Stdin) -> Option<T>>(
     list: &mut Stdin,
-    words: &[u32],
-    size: usize,
+    space: &'a mut [T],
     count: u32,
-    rest: u32,
-    agrees: F,
-) -> Option<bool>
-    requires size { (0 < size) × (size < 9) }
-    requires callable { F.IsAlwaysCallable agrees }
+    next: F,
+) -> Option<&'a [T]>
+    requires { F.IsAlwaysCallable next }
 {
-    let (records, after) = words.split_at_checked(size * count as usize)?;
-    let mut agree = after.iter().all(|word| *word == rest);
-    for record in records.chunks_exact(size) {
-        agree &= agrees(record, list)?;
+    let records = space.get_mut(..count as usize)?;
+    for record in records.iter_mut() {
+        *record = next(list)?;
     }
-    Some(agree)
+    Some(records)
 }
 
 // ---- cases
@@ -72,9 +66,11 @@ fn records_agree<F: Fn(&[u32], &mut Stdin) -> Option<bool>>(
 // Whether Tokenise gives the result of a case.
 fn agrees(mut header: &[u8], list: &mut Stdin) -> Option<bool> {
     let mut script = [0; BYTES];
-    let mut tokens = [FILLER_WORD; TOKEN_WORDS];
-    let mut errors = [FILLER_WORD; ERROR_WORDS];
+    let mut tokens = [FILLER_WORD; LIST_TOKEN_WORDS];
+    let mut errors = [FILLER_WORD; LIST_ERROR_WORDS];
     let mut text = [FILLER; BYTES];
+    let mut expected_tokens = [[0; 8]; RECORDS];
+    let mut expected_errors = [[0; 4]; RECORDS];
     let mut expected_text = [0; BYTES];
     let script_bytes = number(&mut header, 3)?;
     let token_words = number(&mut header, 3)?;
@@ -95,20 +91,16 @@ fn agrees(mut header: &[u8], list: &mut Stdin) -> Option<bool> {
     } else {
         (0, 0)
     };
-    let same_tokens = records_agree(list, tokens, 8, token_count, rest_word, token_agrees)?;
-    let same_errors = records_agree(list, errors, 4, error_count, rest_word, error_agrees)?;
+    let expected_tokens = records(list, &mut expected_tokens, token_count, token)?;
+    let expected_errors = records(list, &mut expected_errors, error_count, token_error)?;
     let expected_text = part(list, &mut expected_text, bytes as usize)?;
-    let (number, tokens, errors, bytes) = match got {
-        Ok(found) => (0, found.tokens, found.errors, found.bytes),
-        Err(refused) => (u32::from(refused), 0, 0, 0),
-    };
+    let counts = got.map_or((0, 0), |found| (found.tokens, found.errors));
+    let bytes = got.map(|found| found.bytes).map_err(u32::from);
     Some(
-        number == refusal
-            && tokens == token_count as usize
-            && errors == error_count as usize
-            && bytes == expected_text.len()
-            && same_tokens
-            && same_errors
+        agrees_with(bytes, refusal, expected_text)
+            && counts == (token_count as usize, error_count as usize)
+            && holds(tokens, expected_tokens.as_flattened(), rest_word)
+            && holds(errors, expected_errors.as_flattened(), rest_word)
             && holds(text, expected_text, rest_byte),
     )
 }

@@ -1,16 +1,19 @@
 -- The laws of the scanning functions: one for each way through their loops. Assumes nothing.
 use mathlib.Core.Path.{◌≡◌, refl, sym, ap, ◌∙◌}
-use mathlib.Core.Bool.{Bool, true, false}
+use mathlib.Core.Bool.{Bool, true, false, not}
 use mathlib.Core.List.{List, [], ◌∷◌, ◌++◌, append_assoc, append-nil}
 use Prim.Native.Nat.{ℕ, zero, suc, ◌+◌, ◌-◌, ◌<◌, ◌≤◌}
 use native.Mathlib.Numerals.{add-one}
 use native.Mathlib.Omega.{arith}
-use borrow.Author.Tests.{eq-eqb, ne_eqb}
+use borrow.Author.Tests.{eq-eqb, ne_eqb, lt-ltb, ltb-true, ltb-false}
+use lib.Dec.{eqb, ltb}
 use lib.ListN.{length, get_or, take, drop, length-append, length-take}
 use lib.Seq.{drop-cons, length-take-le}
-use Rattle.std.specs.Prelude.{Option, Some, None}
+use Rattle.std.specs.Prelude.{Option, Some, None, Ok, Err}
+use Rattle.std.proofs.lemmas.List.{get_or_past}
+use Rattle.definition.specs.Choice.{first}
 use Rattle.definition.specs.Source.{Ch, lead}
-use Rattle.definition.specs.Classes.{is_white, is_digit_of}
+use Rattle.definition.specs.Classes.{is_digit_of}
 use Rattle.definition.specs.Tokenizer.{Span, ahead, comment, digits, assembly}
 use Rattle.definition.specs.Tokenizer as Z
 use Rattle.classes.specs.Found.{nonzero}
@@ -20,15 +23,16 @@ use Rattle.slices.proofs.Writing.{wrote_none}
 use Rattle.source.specs.declared.Cursor.{Cursor}
 use Rattle.source.specs.Place.{Stands, Stepped, rest, char, more, along_line}
 use Rattle.source.proofs.Laws.{rest_head, rest_end, along_law}
-use Rattle.scan.specs.Scan.{Passes, Passed, Asks, Spanned, span_while, blanks, QuotedAs}
+use Rattle.scan.specs.Scan.{Passes, Passed, Asks, Spanned, span_while, left_while, span_of, QuotedAs}
 
 -- ---- looking and skipping
 
-pub look_end : {s : List ℕ} {c : Cursor} → Stands s c → length s ≤ c.at → 0 ≡ Z.look (rest s c)
-look_end {s} {c} z h = ap Z.look (sym (rest_end s c h))
-
-pub look_here : {s : List ℕ} {c : Cursor} → Stands s c → c.at < length s → get_or s c.at 0 ≡ Z.look (rest s c)
-look_here {s} {c} z h = ap Z.look (sym (rest_head z h))
+pub looked : {s : List ℕ} {c : Cursor} → Stands s c → get_or s c.at 0 ≡ Z.look (rest s c)
+looked {s} {c} z = go (ltb c.at (length s)) refl
+  where
+    go : (t : Bool) → ltb c.at (length s) ≡ t → get_or s c.at 0 ≡ Z.look (rest s c)
+    go true e = ap Z.look (sym (rest_head z (ltb-true _ _ e)))
+    go false e = get_or_past s c.at 0 (ltb-false _ _ e) ∙ ap Z.look (sym (rest_end s c (ltb-false _ _ e)))
 
 pub skip_end : {s : List ℕ} {c : Cursor} → Passes s c → length s ≤ c.at → Passed s c (Z.drop_one (rest s c)) c
 skip_end {s} {c} p h =
@@ -39,95 +43,76 @@ skip_end {s} {c} p h =
       shorter = omega arith;
     }
 
-pub skip_on : {s : List ℕ} {c d : Cursor} → Stepped s c d → Passed s c (Z.drop_one (rest s c)) d
-skip_on st =
-    record {
-      stands = st.stands;
-      is = ap Z.drop_one (sym st.chars);
-      forward = omega (arith, st.wide);
-      shorter = omega (arith, ap length st.chars);
-    }
+-- ---- the characters for which a test holds
 
--- the value of a test that the code has computed
-pub told : {v w : Bool} (t : Bool) → v ≡ t → v ≡ w → t ≡ w
-told t e f = sym e ∙ f
+abbrev pub empty : List Ch → Span
+empty cs = record { text = []; rest = cs }
 
--- ---- scans that write nothing; F is what the definition leaves
+pub while_none : (holds : ℕ → Bool) → span_while holds [] ≡ empty []
+unfolding span_while
+while_none holds = refl
 
--- the invariant: F leaves the same from the cursor c as from the start
-pub record Passing (F : List Ch → List Ch) (s : List ℕ) (c₀ c : Cursor) : Type 0 where
-  pub stands : Stands s c
-  pub small : length s ≤ 16384
-  pub same : F (rest s c) ≡ F (rest s c₀)
+pub while_go : (holds : ℕ → Bool) (c : Ch) (cs : List Ch) → holds c.byte ≡ true → span_while holds (c ∷ cs) ≡ ahead (c.byte ∷ []) (span_while holds cs)
+unfolding span_while
+while_go holds c cs h = rw (h, span_while)
+
+pub while_stop : (holds : ℕ → Bool) (c : Ch) (cs : List Ch) → holds c.byte ≡ false → span_while holds (c ∷ cs) ≡ empty (c ∷ cs)
+unfolding span_while
+while_stop holds c cs h = rw (h, span_while)
+
+-- ---- scans that write nothing
+
+-- the invariant: from the cursor c the same is left as from the start
+pub record Passing (holds : ℕ → Bool) (s : List ℕ) (c₀ c : Cursor) : Type 0 where
+  pub same : left_while holds (rest s c) ≡ left_while holds (rest s c₀)
   pub forward : c₀.at ≤ c.at
   pub shorter : length (rest s c) ≤ length (rest s c₀)
 
-pub passing_start : {F : List Ch → List Ch} {s : List ℕ} {c : Cursor} → Passes s c → Passing F s c c
-passing_start p = record { stands = p.stands; small = p.small; same = refl; forward = omega arith; shorter = omega arith }
-
-module _ {F : List Ch → List Ch} {s : List ℕ} {c₀ c : Cursor} (q : Passing F s c₀ c) where
-  -- one more character; the scan ends after a character, at the end, or before a character
-  pub passing_more : {d : Cursor} → Stepped s c d → F (char s c ∷ rest s d) ≡ F (rest s d) → Passing F s c₀ d
+module _ {holds : ℕ → Bool} {s : List ℕ} {c₀ c : Cursor} (q : Passing holds s c₀ c) where
+  pub passing_more : {d : Cursor} → Stepped s c d → holds (get_or s c.at 0) ≡ true → Passing holds s c₀ d
   passing_more st e =
       record {
-        stands = st.stands;
-        small = q.small;
-        same = sym e ∙ ap F (sym st.chars) ∙ q.same;
+        same = sym (ap (λ (y : Span). y.rest) (ap (span_while holds) st.chars ∙ while_go holds _ _ e)) ∙ q.same;
         forward = omega (arith, q.forward, st.wide);
         shorter = omega (arith, ap length st.chars, q.shorter);
       }
 
-  pub passing_past : {d : Cursor} → Stepped s c d → F (char s c ∷ rest s d) ≡ rest s d → Passed s c₀ (F (rest s c₀)) d
-  passing_past st e =
-      record {
-        stands = st.stands;
-        is = sym e ∙ ap F (sym st.chars) ∙ q.same;
-        forward = omega (arith, q.forward, st.wide);
-        shorter = omega (arith, ap length st.chars, q.shorter);
-      }
+  -- the scan ends at the end, or before a character
+  passing_done : Stands s c → span_while holds (rest s c) ≡ empty (rest s c) → Passed s c₀ (left_while holds (rest s c₀)) c
+  passing_done z e = record { stands = z; is = sym (ap (λ (y : Span). y.rest) e) ∙ q.same; forward = q.forward; shorter = q.shorter }
 
-  pub passing_out : length s ≤ c.at → F [] ≡ [] → Passed s c₀ (F (rest s c₀)) c
-  passing_out h e =
-      record {
-        stands = q.stands;
-        is = rest_end s c h ∙ sym e ∙ ap F (sym (rest_end s c h)) ∙ q.same;
-        forward = q.forward;
-        shorter = q.shorter;
-      }
+  pub passing_out : Stands s c → length s ≤ c.at → Passed s c₀ (left_while holds (rest s c₀)) c
+  passing_out z h = passing_done z (rw (rest_end s c h) (while_none holds))
 
-  pub passing_stop : c.at < length s → ((cs : List Ch) → F (char s c ∷ cs) ≡ char s c ∷ cs) → Passed s c₀ (F (rest s c₀)) c
-  passing_stop h e =
-      record {
-        stands = q.stands;
-        is = rest_head q.stands h ∙ sym (e _) ∙ ap F (sym (rest_head q.stands h)) ∙ q.same;
-        forward = q.forward;
-        shorter = q.shorter;
-      }
+  pub passing_stop : Stands s c → c.at < length s → holds (get_or s c.at 0) ≡ false → Passed s c₀ (left_while holds (rest s c₀)) c
+  passing_stop z h e = passing_done z (rw (rest_head z h) (while_stop holds _ _ e))
 
--- each scan of the definition: at the end, at a character that it consumes, at one where it stops
-pub comment_none : comment [] ≡ []
+-- a comment: the characters that are no newline, and one more
+abbrev pub in_line : ℕ → Bool
+in_line b = not (eqb b 10)
+
+abbrev past_one : Span → List Ch
+past_one y = Z.drop_one y.rest
+
+pub comment_left : (cs : List Ch) → Z.drop_one (left_while in_line cs) ≡ comment cs
 unfolding comment
-comment_none = refl
+comment_left [] = ap past_one (while_none in_line)
+comment_left (c ∷ cs) = go (comment_left cs) (eqb c.byte 10) refl
+  where
+    go : Z.drop_one (left_while in_line cs) ≡ comment cs → (t : Bool) → eqb c.byte 10 ≡ t
+        → Z.drop_one (left_while in_line (c ∷ cs)) ≡ comment (c ∷ cs)
+    go ih true e = ap past_one (while_stop in_line c cs (ap not e)) ∙ rw (e, comment)
+    go ih false e = ap past_one (while_go in_line c cs (ap not e)) ∙ ih ∙ rw (e, comment)
 
-pub comment_go : (c : Ch) (cs : List Ch) → (c.byte ≡ 10 → ⊥) → comment (c ∷ cs) ≡ comment cs
-unfolding comment
-comment_go c cs h = rw (ne_eqb _ _ h, comment)
-
-pub comment_stop : (c : Ch) (cs : List Ch) → c.byte ≡ 10 → comment (c ∷ cs) ≡ cs
-unfolding comment
-comment_stop c cs h = rw (eq-eqb _ _ h, comment)
-
-pub blanks_none : blanks [] ≡ []
-unfolding blanks
-blanks_none = refl
-
-pub blanks_go : (c : Ch) (cs : List Ch) → is_white c.byte ≡ true → blanks (c ∷ cs) ≡ blanks cs
-unfolding blanks
-blanks_go c cs h = rw (h, blanks)
-
-pub blanks_stop : (c : Ch) (cs : List Ch) → is_white c.byte ≡ false → blanks (c ∷ cs) ≡ c ∷ cs
-unfolding blanks
-blanks_stop c cs h = rw (h, blanks)
+pub comment_passed : {s : List ℕ} {c d e : Cursor} → Passed s c (left_while in_line (rest s c)) d → Passed s d (Z.drop_one (rest s d)) e
+    → Passed s c (comment (rest s c)) e
+comment_passed p q =
+    record {
+      stands = q.stands;
+      is = q.is ∙ ap Z.drop_one p.is ∙ comment_left _;
+      forward = omega (arith, p.forward, q.forward);
+      shorter = omega (arith, p.shorter, q.shorter);
+    }
 
 -- ---- scans that write; F is the definition's scan
 
@@ -141,9 +126,6 @@ pub record Spanning (F : List Ch → Span) (s : List ℕ) (c₀ : Cursor) (x₀ 
   pub shorter : length (rest s c) ≤ length (rest s c₀)
   pub began : n₀ ≤ c₀.at
 
-abbrev pub empty : List Ch → Span
-empty cs = record { text = []; rest = cs }
-
 pub asks_along : {s : List ℕ} {c d : Cursor} {x x' : List ℕ} {n m : ℕ} → Asks s c x n → c.at < length s
     → (48 ≤ get_or s c.at 0) × (get_or s c.at 0 < 128) → d ≡ along_line c → Wrote x n (get_or s c.at 0 ∷ []) x' m → Asks s d x' m
 asks_along a h i e w =
@@ -153,9 +135,6 @@ asks_along a h i e w =
       room = omega (arith, ap (λ (y : Cursor). y.at) e, w.count, a.room);
       wide = omega (arith, w.size, a.wide);
     }
-
-pub spanning_start : {F : List Ch → Span} {s : List ℕ} {c : Cursor} {x : List ℕ} {n : ℕ} → Asks s c x n → Spanning F s c x n c x n
-spanning_start p = record { asks = p; on = refl; same = refl; size = refl; forward = omega arith; shorter = omega arith; began = p.room }
 
 -- the length of a prefix with a text after it
 pub count_of : (x x₀ : List ℕ) (n n₀ : ℕ) (t : List ℕ) → take n x ≡ take n₀ x₀ ++ t → n ≤ length x → n₀ ≤ length x₀ → n ≡ n₀ + length t
@@ -230,19 +209,6 @@ module _ {F : List Ch → Span} {s : List ℕ} {c₀ : Cursor} {x₀ : List ℕ}
       spanning_done q.asks.stands (omega arith) (omega arith)
       (ap F (rest_head q.asks.stands h) ∙ e _ ∙ ap empty (sym (rest_head q.asks.stands h)))
 
--- the same for the scans that write
-pub while_none : (holds : ℕ → Bool) → span_while holds [] ≡ empty []
-unfolding span_while
-while_none holds = refl
-
-pub while_go : (holds : ℕ → Bool) (c : Ch) (cs : List Ch) → holds c.byte ≡ true → span_while holds (c ∷ cs) ≡ ahead (c.byte ∷ []) (span_while holds cs)
-unfolding span_while
-while_go holds c cs h = rw (h, span_while)
-
-pub while_stop : (holds : ℕ → Bool) (c : Ch) (cs : List Ch) → holds c.byte ≡ false → span_while holds (c ∷ cs) ≡ empty (c ∷ cs)
-unfolding span_while
-while_stop holds c cs h = rw (h, span_while)
-
 pub digits_while : (b : ℕ) (cs : List Ch) → span_while (is_digit_of b) cs ≡ digits b cs
 unfolding span_while digits
 digits_while b [] = refl
@@ -260,17 +226,22 @@ pub asm_stop : (c : Ch) (cs : List Ch) → c.byte ≡ 125 → assembly (c ∷ cs
 unfolding assembly
 asm_stop c cs h = rw (eq-eqb _ _ h, assembly)
 
--- the bytes from the offset of a character to that of the next are the character's
-pub char_copied : {s : List ℕ} {c d : Cursor} {x : List ℕ} {n : ℕ} {x' : List ℕ} {m : ℕ} → Stepped s c d → c.at < length s
-    → Wrote x n (take (d.at - c.at) (drop c.at s)) x' m → Wrote x n ((char s c).byte ∷ (char s c).more) x' m
-char_copied {s} {c} {d} st h w =
-    let z : d.at - c.at ≡ suc (more (lead (get_or s c.at 0))) = omega (arith, st.wide) in
-    let e : take (d.at - c.at) (drop c.at s) ≡ (char s c).byte ∷ (char s c).more = rw (z, drop-cons s c.at 0 h, add-one) in
-    rw (sym e) w
+-- the bytes of a character: one alone, or those from its offset to that of the next
+module _ {s : List ℕ} {c d : Cursor} {x : List ℕ} {n : ℕ} {x' : List ℕ} {m : ℕ} (st : Stepped s c d) where
+  pub one_copied : get_or s c.at 0 < 128 → Wrote x n (get_or s c.at 0 ∷ []) x' m → Wrote x n ((char s c).byte ∷ (char s c).more) x' m
+  unfolding lead first
+  one_copied h w =
+      let z : more (lead (get_or s c.at 0)) ≡ 0 = rw (lt-ltb (get_or s c.at 0) 128 h) in
+      rw z w
 
-pub copied_room : {s : List ℕ} {c d : Cursor} {x : List ℕ} {n : ℕ} {x' : List ℕ} {m : ℕ} → Stepped s c d
-    → Wrote x n (take (d.at - c.at) (drop c.at s)) x' m → n ≤ c.at → m ≤ d.at
-copied_room {s} {c} {d} st w h = omega (arith, st.wide, w.count, length-take (d.at - c.at) (drop c.at s))
+  pub char_copied : c.at < length s → Wrote x n (take (d.at - c.at) (drop c.at s)) x' m → Wrote x n ((char s c).byte ∷ (char s c).more) x' m
+  char_copied h w =
+      let z : d.at - c.at ≡ suc (more (lead (get_or s c.at 0))) = omega (arith, st.wide) in
+      let e : take (d.at - c.at) (drop c.at s) ≡ (char s c).byte ∷ (char s c).more = rw (z, drop-cons s c.at 0 h, add-one) in
+      rw (sym e) w
+
+  pub copied_room : Wrote x n ((char s c).byte ∷ (char s c).more) x' m → n ≤ c.at → m ≤ d.at
+  copied_room w h = omega (arith, st.wide, w.count, length-take (more (lead (get_or s c.at 0))) (drop (c.at + 1) s))
 
 -- ---- the text of a string
 
@@ -295,21 +266,6 @@ pub record Quoting (s : List ℕ) (c₀ : Cursor) (x₀ : List ℕ) (n₀ : ℕ)
   pub shorter : length (rest s c) ≤ length (rest s c₀)
   pub began : n₀ ≤ c₀.at
   pub few : u ≤ c.at
-
-pub quoting_start : {s : List ℕ} {c : Cursor} {x : List ℕ} {n : ℕ} → Asks s c x n → Quoting s c x n c x n 0
-quoting_start p =
-    record {
-      asks = p;
-      on = refl;
-      counts = omega arith;
-      closes = refl;
-      same = refl;
-      size = refl;
-      forward = omega arith;
-      shorter = omega arith;
-      began = p.room;
-      few = omega arith;
-    }
 
 quoted_plain : (c : Ch) (cs : List Ch) → (c.byte ≡ 34 → ⊥) → (c.byte ≡ 92 → ⊥)
     → Z.quoted false (c ∷ cs) ≡ Z.quoted_ahead (c.byte ∷ c.more) (Z.quoted false cs)
@@ -422,50 +378,59 @@ module _ {s : List ℕ} {c₀ : Cursor} {x₀ : List ℕ} {n₀ : ℕ} {c : Curs
         })
         wrote_none (omega (arith, st.wide, tt'.wide, q.asks.room)) refl (omega arith)
 
-  quoting_done : {d : Cursor} {k v : ℕ} {o : Bool} → Stands s d → c.at ≤ d.at → length (rest s d) ≤ length (rest s c)
-      → Q s c ≡ record { text = []; unknown = k; closed = o; rest = rest s d } → v ≡ u + k → v ≤ d.at
-      → QuotedAs s c₀ x₀ n₀ (Q s c₀) x (record { end = record { cursor = d; n = n }; unknown = v; closed = o })
-  quoting_done {d} z h l e f b =
+  quoting_done : {d : Cursor} {k : ℕ} {o : Bool} → Stands s d → c.at ≤ d.at → length (rest s d) ≤ length (rest s c)
+      → Q s c ≡ record { text = []; unknown = k; closed = o; rest = rest s d }
+      → ((Q s c₀).closed ≡ o) × Spanned s c₀ x₀ n₀ (span_of (Q s c₀)) x (record { cursor = d; n = n })
+  quoting_done {d} z h l e =
       let p : take n x ≡ take n₀ x₀ ++ (Q s c₀).text = sym (append-nil (take n x)) ∙ ap
-      (λ (y : Z.Quoted). take n x ++ y.text) (sym e) ∙ q.on in
-      record {
-        passed =
-            record {
-              stands = z;
-              is = ap (λ (y : Z.Quoted). y.rest) (sym e) ∙ q.same;
-              forward = omega (arith, q.forward);
-              shorter = omega (arith, q.shorter);
-            };
-        wrote =
-            record {
-              put = p;
-              count = count_of x x₀ n n₀ _ p
-                  (omega (arith, q.asks.room, q.asks.wide, q.asks.small, q.asks.stands.inside)) (omega
-                  (arith, q.began, q.forward, q.size, q.asks.wide, q.asks.small, q.asks.stands.inside));
-              size = q.size;
-            };
-        unknown = omega (arith, q.counts, ap (λ (y : Z.Quoted). y.unknown) e);
-        closed = ap (λ (y : Z.Quoted). y.closed) (sym e) ∙ q.closes;
-        few = b;
-        room = omega (arith, q.asks.room);
-      }
+      (λ (y : Z.Quoted). take n x ++ y.text) (sym e) ∙ q.on in (
+        sym q.closes ∙ ap (λ (y : Z.Quoted). y.closed) e,
+        record {
+          passed =
+              record {
+                stands = z;
+                is = ap (λ (y : Z.Quoted). y.rest) (sym e) ∙ q.same;
+                forward = omega (arith, q.forward);
+                shorter = omega (arith, q.shorter);
+              };
+          wrote =
+              record {
+                put = p;
+                count = count_of x x₀ n n₀ _ p
+                    (omega (arith, q.asks.room, q.asks.wide, q.asks.small, q.asks.stands.inside)) (omega
+                    (arith, q.began, q.forward, q.size, q.asks.wide, q.asks.small, q.asks.stands.inside));
+                size = q.size;
+              };
+          room = omega (arith, q.asks.room);
+        },
+      )
 
   -- the string ends at its quote, at the end, or at the end after a backslash
   pub quoting_close : {d : Cursor} → Stepped s c d → get_or s c.at 0 ≡ 34
-      → QuotedAs s c₀ x₀ n₀ (Q s c₀) x (record { end = record { cursor = d; n = n }; unknown = u; closed = true })
-  quoting_close st b =
-      quoting_done st.stands (omega (arith, st.wide)) (omega (arith, ap length st.chars))
-      (ap (Z.quoted false) st.chars ∙ quoted_close _ _ b) (omega arith) (omega (arith, q.few, st.wide))
+      → QuotedAs s c₀ x₀ n₀ (Q s c₀) x (record { end = Ok (record { cursor = d; n = n }); unknown = u })
+  quoting_close {d} st b =
+      let e = ap (Z.quoted false) st.chars ∙ quoted_close _ _ b in
+      record {
+        end = quoting_done st.stands (omega (arith, st.wide)) (omega (arith, ap length st.chars)) e;
+        unknown = omega (arith, q.counts, ap (λ (y : Z.Quoted). y.unknown) e);
+        few = omega (arith, q.few, q.asks.stands.inside, q.asks.small);
+      }
 
-  pub quoting_out : length s ≤ c.at → QuotedAs s c₀ x₀ n₀ (Q s c₀) x (record { end = record { cursor = c; n = n }; unknown = u; closed = false })
+  pub quoting_out : length s ≤ c.at → QuotedAs s c₀ x₀ n₀ (Q s c₀) x (record { end = Err (record { cursor = c; n = n }); unknown = u })
   quoting_out h =
-      quoting_done q.asks.stands (omega arith) (omega arith)
-      (ap (Z.quoted false) (rest_end s c h) ∙ quoted_none ∙ ap cut (sym (rest_end s c h))) (omega arith)
-      q.few
+      let e = ap (Z.quoted false) (rest_end s c h) ∙ quoted_none ∙ ap cut (sym (rest_end s c h)) in
+      record {
+        end = quoting_done q.asks.stands (omega arith) (omega arith) e;
+        unknown = omega (arith, q.counts, ap (λ (y : Z.Quoted). y.unknown) e);
+        few = omega (arith, q.few, q.asks.stands.inside, q.asks.small);
+      }
 
   pub quoting_slash_out : {d : Cursor} → Stepped s c d → get_or s c.at 0 ≡ 92 → length s ≤ d.at
-      → QuotedAs s c₀ x₀ n₀ (Q s c₀) x (record { end = record { cursor = d; n = n }; unknown = u + 1; closed = false })
+      → QuotedAs s c₀ x₀ n₀ (Q s c₀) x (record { end = Err (record { cursor = d; n = n }); unknown = u + 1 })
   quoting_slash_out {d} st b h =
-      quoting_done st.stands (omega (arith, st.wide)) (omega (arith, ap length st.chars))
-      (slash st b ∙ ap (Z.quoted true) (rest_end s d h) ∙ quoted_slash_none ∙ ap cut_one (sym (rest_end s d h)))
-      refl (omega (arith, q.few, st.wide))
+      let e = slash st b ∙ ap (Z.quoted true) (rest_end s d h) ∙ quoted_slash_none ∙ ap cut_one (sym (rest_end s d h)) in
+      record {
+        end = quoting_done st.stands (omega (arith, st.wide)) (omega (arith, ap length st.chars)) e;
+        unknown = omega (arith, q.counts, ap (λ (y : Z.Quoted). y.unknown) e);
+        few = omega (arith, q.few, st.wide, st.stands.inside, q.asks.small);
+      }

@@ -1,10 +1,11 @@
 -- The records of Scan, stated over the parameters of the functions: first what is specific to a function, then its
 -- parameters in order. Assumes nothing.
-use Rattle.std.specs.Prelude.{List, ℕ}
+use Rattle.std.specs.Prelude.{List, ◌∷◌, ℕ}
 use Rattle.definition.specs.Slices.{Slice, MutSlice, Lent, MutLent, at_entry, old, new}
 use Rattle.definition.specs.Source.{Ch}
 use Rattle.definition.specs.Tokenizer.{Span, Quoted}
-use Rattle.source.specs.Place.{rest}
+use Rattle.slices.specs.Written.{Wrote}
+use Rattle.source.specs.Place.{rest, char}
 use Rattle.source.specs.declared.Cursor.{Cursor}
 use Rattle.scan.specs.declared.Scan.{Scan}
 use Rattle.scan.specs.declared.Body.{Body}
@@ -23,6 +24,10 @@ Asks s c text n = S.Asks s.now c text.now n
 -- f is the function of the definition, on the characters from c on
 abbrev pub Passed : (List Ch → List Ch) → Lent → Cursor → Cursor → Type 0
 Passed f s c r = S.Passed (at_entry s) c (f (rest (at_entry s) c)) r
+
+-- the character at c is written
+abbrev pub CharPut : Lent → Cursor → MutLent → ℕ → ℕ → Type 0
+CharPut s c text n r = Wrote (old text) n ((char (at_entry s) c).byte ∷ (char (at_entry s) c).more) (new text) r
 
 abbrev pub Spanned : (List Ch → Span) → Lent → Cursor → MutLent → ℕ → Scan → Type 0
 Spanned f s c text n r = S.Spanned (at_entry s) c (old text) n (f (rest (at_entry s) c)) (new text) r

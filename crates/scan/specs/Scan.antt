@@ -1,5 +1,5 @@
 -- What the scanning functions ensure, in the terms of the definition. Assumes nothing.
-use Rattle.std.specs.Prelude.{◌≡◌, Bool, true, false, ◌<◌, List, [], ◌∷◌, ℕ, ◌≤◌, length}
+use Rattle.std.specs.Prelude.{◌≡◌, Bool, true, false, MatchResult, ◌<◌, List, [], ◌∷◌, ℕ, ◌≤◌, length}
 use Rattle.definition.specs.Source.{Ch}
 use Rattle.definition.specs.Classes.{is_word, is_white}
 use Rattle.definition.specs.Tokenizer.{Span, ahead}
@@ -46,14 +46,18 @@ span_while holds (c ∷ cs) = elim (holds c.byte) [ true ↦ ahead (c.byte ∷ [
 abbrev pub letters : List Ch → Span
 letters cs = span_while is_word cs
 
-unfoldable pub blanks : List Ch → List Ch
-blanks [] = []
-blanks (c ∷ cs) = elim (is_white c.byte) [ true ↦ blanks cs | false ↦ c ∷ cs ]
+-- the characters that are left after those for which a test holds
+abbrev pub left_while : (ℕ → Bool) → List Ch → List Ch
+left_while holds cs = (span_while holds cs).rest
+
+abbrev pub blanks : List Ch → List Ch
+blanks cs = left_while is_white cs
+
+-- what was scanned of a string
+abbrev pub span_of : Z.Quoted → Span
+span_of q = record { text = q.text; rest = q.rest }
 
 pub record QuotedAs (s : List ℕ) (c : Cursor) (x : List ℕ) (n : ℕ) (q : Z.Quoted) (x' : List ℕ) (r : Body) : Type 0 where
-  pub passed : Passed s c q.rest r.end.cursor
-  pub wrote : Wrote x n q.text x' r.end.n
+  pub end : MatchResult r.end (λ e. (q.closed ≡ true) × Spanned s c x n (span_of q) x' e) (λ e. (q.closed ≡ false) × Spanned s c x n (span_of q) x' e)
   pub unknown : r.unknown ≡ q.unknown
-  pub closed : r.closed ≡ q.closed
-  pub few : r.unknown ≤ r.end.cursor.at
-  pub room : r.end.n ≤ r.end.cursor.at
+  pub few : r.unknown ≤ 16384

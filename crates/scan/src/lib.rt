@@ -1,25 +1,29 @@
 // Scans white space, comments, words, digits, assembly and strings from a cursor on. Some scans write the text.
 #![tactic(auto)]
 
-ghost use Rattle.std.specs.Prelude.{ℕ, Bool, false, true, ◌≡◌, ◌+◌, ◌<◌, ◌≤◌};
+ghost use Rattle.std.specs.Prelude.{ℕ, Bool, false, true, ◌≡◌, ◌+◌, ◌<◌, ◌≤◌, length, unwrap_or};
 ghost use Rattle.definition.specs.Tokenizer as Z;
-ghost use Rattle.source.specs.Place.{Stands, rest};
-ghost use Rattle.scan.specs.Scan.{Tells, span_while, letters, blanks};
-ghost use Rattle.scan.specs.Contract.{Passes, Asks, Passed, Spanned, QuotedAs};
+ghost use Rattle.source.specs.Place.{Stands, Stepped, rest};
+ghost use Rattle.scan.specs.Scan.{Tells, span_while, left_while, letters, blanks};
+ghost use Rattle.scan.specs.Contract.{Passes, Asks, Passed, CharPut, Spanned, QuotedAs};
 
 use classes::character::{is_digit_of, is_white, is_word};
 use classes::spelling::escape;
 use slices::{put, put_all};
 use source::{Cursor, along, step};
 
+// `Stands` and `Passes` say that a cursor is a place of this script, `Asks` also that the text has room. No type has them
+// for an invariant: of a script and a cursor in one struct each result would have to say that it has the same script
+// still, and a struct that lends the text would have to say in each contract that it keeps the reference.
+
 // ---- looking and skipping
 
-// The byte at the cursor, or 0 at the end.
-pub fn look(s: &[u8], c: Cursor) -> u8
+// The byte at the cursor, if it is not the end. The definition has 0 there.
+pub fn look(s: &[u8], c: Cursor) -> Option<u8>
     requires { Stands s.now c }
-    ensures { result ≡ Z.look (rest s.now c) }
+    ensures { unwrap_or result 0 ≡ Z.look (rest s.now c) }
 {
-    if c.at < s.len() { s[c.at] } else { 0 }
+    s.get(c.at).copied()
 }
 
 // Steps over the character at `c`, if there is one.
@@ -30,22 +34,29 @@ pub fn skip(s: &[u8], c: Cursor) -> Cursor
     if c.at < s.len() { step(s, c) } else { c }
 }
 
-// ---- scans that write nothing. A cursor steps by characters and keeps their places, which no iterator over bytes does.
+// ---- scans that write nothing
+
+// Skips the characters for whose first bytes a test holds. This loop, and those of `scan_while`, `assembly` and `quoted`,
+// go by a cursor, which steps over characters and keeps their places: an iterator over bytes does not, and one over
+// characters decodes each of them.
+fn skip_while<F: Fn(u8) -> bool>(s: &[u8], from: Cursor, test: F) -> Cursor
+    requires asks { Passes s from }
+    requires callable { F.IsAlwaysCallable test }
+    ensures { (holds : ℕ → Bool) → Tells (F.post test) holds → Passed (left_while holds) s from result }
+{
+    let mut c = from;
+    while c.at < s.len() && test(s[c.at]) {
+        c = step(s, c);
+    }
+    c
+}
 
 // Skips a comment with the newline that ends it, or to the end.
 pub fn comment(s: &[u8], from: Cursor) -> Cursor
     requires { Passes s from }
     ensures { Passed Z.comment s from result }
 {
-    let mut c = from;
-    while c.at < s.len() {
-        let next = step(s, c);
-        if s[c.at] == b'\n' {
-            return next;
-        }
-        c = next;
-    }
-    c
+    skip(s, skip_while(s, from, |b| b != b'\n'))
 }
 
 // Skips white space.
@@ -53,11 +64,7 @@ pub fn white(s: &[u8], from: Cursor) -> Cursor
     requires { Passes s from }
     ensures { Passed blanks s from result }
 {
-    let mut c = from;
-    while c.at < s.len() && is_white(s[c.at]) {
-        c = step(s, c);
-    }
-    c
+    skip_while(s, from, is_white)
 }
 
 // ---- scans that write
@@ -69,7 +76,8 @@ pub struct Scan {
     pub n: usize,
 }
 
-// Scans the characters for which a test holds. It may hold for digits, letters and those between them alone.
+// Scans the characters for which a test holds. It may hold for digits, letters and those between them alone. Each is
+// written as it is scanned, so that a word is read once.
 fn scan_while<F: Fn(u8) -> bool>(
     s: &[u8],
     from: Cursor,
@@ -91,7 +99,7 @@ fn scan_while<F: Fn(u8) -> bool>(
     Scan { cursor: c, n }
 }
 
-// Scans the digits of a base.
+// Scans the digits of a base, which is a number as in `is_digit_of`.
 pub fn digits(s: &[u8], from: Cursor, base: u32, text: &mut [u8], start: usize) -> Scan
     requires { Asks s from text start }
     ensures { Spanned (Z.digits base) s from text start result }
@@ -107,6 +115,19 @@ pub fn word(s: &[u8], from: Cursor, text: &mut [u8], start: usize) -> Scan
     scan_while(s, from, is_word, text, start)
 }
 
+// Writes the character between two cursors, and returns the offset after it. Most have one byte.
+fn put_char(s: &[u8], c: Cursor, next: Cursor, text: &mut [u8], n: usize) -> usize
+    requires { Asks s c text n × (c.at < length s.now) × Stepped s.now c next }
+    ensures { CharPut s c text n result }
+{
+    let b = s[c.at];
+    if b.is_ascii() {
+        put(text, n, b)
+    } else {
+        put_all(text, n, &s[c.at..next.at])
+    }
+}
+
 // Scans inline assembly up to `}`, which is consumed, or the end.
 pub fn assembly(s: &[u8], from: Cursor, text: &mut [u8], start: usize) -> Scan
     requires { Asks s from text start }
@@ -119,7 +140,7 @@ pub fn assembly(s: &[u8], from: Cursor, text: &mut [u8], start: usize) -> Scan
         if s[c.at] == b'}' {
             return Scan { cursor: next, n };
         }
-        n = put_all(text, n, &s[c.at..next.at]);
+        n = put_char(s, c, next, text, n);
         c = next;
     }
     Scan { cursor: c, n }
@@ -127,12 +148,12 @@ pub fn assembly(s: &[u8], from: Cursor, text: &mut [u8], start: usize) -> Scan
 
 // ---- strings
 
-// The scan of a string, the count of unknown escapes, and whether a quote closed it.
+// How the scan of a string ended: `Ok` after the quote that closes it, `Err` at the end of the script; and the count of
+// unknown escapes.
 #[derive(Clone, Copy)]
 pub struct Body {
-    pub end: Scan,
+    pub end: Result<Scan, Scan>,
     pub unknown: usize,
-    pub closed: bool,
 }
 
 // Scans the text of a string and its closing quote. Unknown escapes are counted and left out.
@@ -148,21 +169,19 @@ pub fn quoted(s: &[u8], from: Cursor, text: &mut [u8], start: usize) -> Body
         let next = step(s, c);
         if b == b'"' {
             return Body {
-                end: Scan { cursor: next, n },
+                end: Ok(Scan { cursor: next, n }),
                 unknown,
-                closed: true,
             };
         }
         if b != b'\\' {
-            n = put_all(text, n, &s[c.at..next.at]);
+            n = put_char(s, c, next, text, n);
             c = next;
             continue;
         }
         if s.len() <= next.at {
             return Body {
-                end: Scan { cursor: next, n },
+                end: Err(Scan { cursor: next, n }),
                 unknown: unknown + 1,
-                closed: false,
             };
         }
         c = step(s, next);
@@ -173,8 +192,7 @@ pub fn quoted(s: &[u8], from: Cursor, text: &mut [u8], start: usize) -> Body
         n = put(text, n, escaped);
     }
     Body {
-        end: Scan { cursor: c, n },
+        end: Err(Scan { cursor: c, n }),
         unknown,
-        closed: false,
     }
 }

@@ -1,4 +1,3 @@
 pub mod Saying
-pub mod Tables
 pub mod Spelled
 pub mod Messages

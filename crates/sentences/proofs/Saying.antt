@@ -48,6 +48,10 @@ told_then {a} {b} s t =
       same = t.same ∙ s.same;
     }
 
+-- at the end of a message
+pub told_last : {a b : List ℕ} {w v r : Sentence} → Told a w v → Told b v r → Told (a ++ (b ++ [])) w r
+told_last {a} {b} s t = told_same (told_then s t) (ap (λ (x : List ℕ). a ++ x) (sym (append-nil b)))
+
 -- ---- one after the other
 
 module _ {A : Type 0} (f : A → List ℕ) (xs : List A) where

@@ -1,30 +1,49 @@
 -- The spelling of a token: names, escapes, texts. Assumes nothing.
 use mathlib.Core.Path.{◌≡◌, refl, sym, ap, ◌∙◌}
-use mathlib.Core.Bool.{true, false}
+use mathlib.Core.Bool.{Bool, true, false}
 use mathlib.Core.List.{List, [], ◌∷◌, ◌++◌, map, append_assoc, append-nil}
 use mathlib.Core.Option.{Option, none, some}
-use Prim.Native.Nat.{ℕ, ◌≤◌, ◌<◌}
+use Prim.Native.Nat.{ℕ, zero, suc, ◌≤◌, ◌<◌}
+use Prim.Native.String.{String}
 use native.Mathlib.Omega.{arith}
 use borrow.Author.Tests.{eq-eqb, ne_eqb}
-use lib.Dec.{eqb}
+use lib.Dec.{eqb, ltb}
+use lib.ListN.{get_or}
 use Rattle.std.proofs.lemmas.Bool.Decides.{nat_tests}
-use Rattle.std.proofs.lemmas.List.{get_or_past}
+use Rattle.std.specs.Borrow.{Bor}
 use Rattle.std.specs.List.{flat_map}
 use Rattle.std.specs.Str.{IsUtf8, chars}
+use Rattle.std.specs.Prelude as L
+use Rattle.std.specs.Option.{SomeIff, unwrap_or}
+use Rattle.std.specs.Char as C
 use Rattle.definition.specs.Ascii.{ascii, char}
 use Rattle.definition.specs.Choice.{first}
 use Rattle.definition.specs.Classes.{between}
 use Rattle.definition.specs.Kind as K
 use Rattle.definition.specs.Source.{Ch, code, characters, is_some, utf8}
 use Rattle.definition.specs.Records.{has_text}
-use Rattle.definition.specs.Sentence.{kind_names, kind_name, in_base, escaped, escaped_all, in_quotes, base_part, in_parentheses, spelled}
+use Rattle.definition.specs.Sentence.{digit_char, kind_name, in_base, escaped, escaped_all, in_quotes, base_part, in_parentheses, spelled}
+use Rattle.sentences.specs.Spelling.{entry}
 use Rattle.source.proofs.Utf8.{utf8_true, utf8_false, same_chars}
 
 -- ---- names
 
-pub no_name : (k : ℕ) → 55 ≤ k → [] ≡ kind_name k
-unfolding kind_name kind_names ascii
-no_name k h = rw (get_or_past kind_names k "" h)
+-- an entry of a table, where `d` is empty
+pub entry_or : (ts : List (Bor (List ℕ))) (i : ℕ) (d : Bor (List ℕ)) → d.now ≡ [] → (get_or ts i d).now ≡ entry ts i
+unfolding entry
+entry_or [] i d e = e
+entry_or (t ∷ ts) zero d e = refl
+entry_or (t ∷ ts) (suc i) d e = entry_or ts i d e
+
+-- it is the definition's, where the tables are the same
+pub entry_same : (ts : List (Bor (List ℕ))) (ys : List String) → map (λ (t : Bor (List ℕ)). t.now) ts ≡ map ascii ys
+    → (i : ℕ) → entry ts i ≡ ascii (get_or ys i "")
+unfolding entry ascii
+entry_same [] [] m i = refl
+entry_same [] (y ∷ ys) m i = absurd (cc m)
+entry_same (t ∷ ts) [] m i = absurd (cc m)
+entry_same (t ∷ ts) (y ∷ ys) m zero = cc m
+entry_same (t ∷ ts) (y ∷ ys) m (suc i) = entry_same ts ys (cc m) i
 
 -- ---- characters
 
@@ -91,3 +110,14 @@ module _ (k : ℕ) (text : List ℕ) (base : ℕ) where
   pub spelled_plain : has_text k ≡ false → kind_name k ≡ spelled k text base
   unfolding in_parentheses
   spelled_plain h = rw (in_parentheses, h) (sym (append-nil (kind_name k)))
+
+-- ---- digits
+
+-- the library's digit is the definition's
+pub hex_digit : (r : L.Option ℕ) (d : ℕ) → d < 16 → SomeIff r (d < 16) (C.digit_char d) → unwrap_or r 48 ≡ digit_char d
+hex_digit L.None d h s = absurd (s h)
+hex_digit (L.Some x) d h s = s.1 ∙ go (ltb d 10) refl
+  where
+    go : (b : Bool) → ltb d 10 ≡ b → C.digit_char d ≡ digit_char d
+    go true e = rw e refl
+    go false e = rw e (grind (arith, nat_tests))

@@ -1,64 +1,49 @@
 -- What a message says; and what finding the token or the character of an error ensures. Assumes nothing.
-use Rattle.std.specs.Prelude.{◌≡◌, List, [], ◌∷◌, ℕ, zero, suc, ◌+◌, ◌≤◌, length, take, drop}
-use Rattle.std.specs.List.{flat_map}
-use Rattle.std.specs.Borrow.{Bor}
+use Rattle.std.specs.Prelude.{◌≡◌, List, [], ◌∷◌, ℕ}
 use Rattle.definition.specs.Source.{Place, Ch}
-use Rattle.definition.specs.Fallible.{Err}
+use Rattle.definition.specs.Places.{place_of}
 use Rattle.definition.specs.Token.{Tok}
 use Rattle.definition.specs.Records.{error_at, error_of}
+use Rattle.definition.specs.Numbers.{kind_number, parse_error_number, token_error_number}
 use Rattle.definition.specs.Sentence as S
+use Rattle.definition.specs.declared.kind.Kind.{Kind}
+use Rattle.definition.specs.declared.place.Place as D
+use Rattle.definition.specs.declared.parse_error.ParseError.{ParseError}
+use Rattle.definition.specs.declared.token_error.TokenError.{TokenError}
 use Rattle.source.specs.Place as P
 use Rattle.source.specs.Place.{Stands, origin}
 use Rattle.source.specs.declared.Cursor.{Cursor}
-use Rattle.fallible.specs.Lists.{unpack}
+use Rattle.fallible.specs.Lists.{err_of}
+use Rattle.fallible.specs.declared.error.Error.{Error}
 use Rattle.steps.specs.declared.tokens.Token.{Token}
-use Rattle.steps.specs.Tokens.{Held, Parts, rest}
-use Rattle.sentences.specs.declared.message.Meaning.{Meaning}
-use Rattle.sentences.specs.declared.message.Part.{Part}
-use Rattle.sentences.specs.declared.message.Part.TheVariants.{Words, Expected, Got, Character}
+use Rattle.steps.specs.Tokens.{rest}
 
 -- ---- messages
 
--- the meaning that is passed
-abbrev pub meaning_of : Meaning → S.Meaning
-meaning_of m = record { number = m.number; expected = m.expected; got = m.got; text = m.text.now; base = m.base }
+-- what is said of a parser's error, and of a token error in the script s
+abbrev pub parser_meaning : ParseError → Kind → Token → S.Meaning
+parser_meaning e expected got = record {
+  number = parse_error_number e;
+  expected = kind_number expected;
+  got = kind_number got.kind;
+  text = got.text.now;
+  base = got.base;
+}
 
--- what a part of a message stands for
-abbrev pub spoken_part : S.Meaning → Part → List ℕ
-spoken_part m (Words w) = w.now
-spoken_part m Expected = S.kind_name m.expected
-spoken_part m Got = S.spelled m.got m.text m.base
-spoken_part m Character = m.text
-
-abbrev pub spoken : S.Meaning → List Part → List ℕ
-spoken m parts = flat_map (spoken_part m) parts
-
--- what a table has at an index; nothing past its end
-unfoldable pub entry : {A : Type 0} → List (Bor (List A)) → ℕ → List A
-entry [] i = []
-entry (t ∷ ts) zero = t.now
-entry (t ∷ ts) (suc i) = entry ts i
+abbrev pub token_meaning : List ℕ → TokenError → D.Place → S.Meaning
+token_meaning s e p =
+    S.token_meaning (P.rest s origin) (record { number = token_error_number e; place = place_of p; expected = 0; got = 0 })
 
 -- ---- an error of the parser
 
--- the text of a token, as the slice has it
-abbrev pub text_of : List ℕ → Token → List ℕ
-text_of x t = take t.len (drop t.start x)
-
--- t decodes a token: its text, its base, and where its text lies
-pub record Decodes (x : List ℕ) (u : Tok) (t : Token) : Type 0 where
-  pub text : u.text ≡ text_of x t
+-- t decodes a token: its text and its base
+pub record Decodes (u : Tok) (t : Token) : Type 0 where
+  pub text : u.text ≡ t.text.now
   pub base : u.base ≡ t.base
-  pub inside : t.start + t.len ≤ length x
 
--- the sentence of a packed error
-abbrev pub parser_sentence : List ℕ → List ℕ → ℕ → ℕ → List ℕ
-parser_sentence w x n e = S.parser_sentence (S.parser_meaning (rest w x n 0) (unpack e))
-
--- what it requires: n tokens, with their texts
-pub record Quotable (w x : List ℕ) (n : ℕ) : Type 0 where
-  pub held : Held w n
-  pub parts : Parts w x n
+-- the sentence of an error
+abbrev pub parser_sentence : List ℕ → List ℕ → ℕ → Error → List ℕ
+parser_sentence w x n e = S.parser_sentence (S.parser_meaning (rest w x n 0) (err_of e))
 
 -- ---- an error of the tokenizer
 
@@ -72,10 +57,6 @@ pub record StandsAt (s : List ℕ) (p : Place) (c : Cursor) : Type 0 where
   pub stands : Stands s c
   pub is : S.character_at p (P.rest s origin) ≡ first_bytes (P.rest s c)
 
--- the bytes are the character of the script that an error names
-abbrev pub Names : List ℕ → Err → List ℕ → Type 0
-Names s e bs = bs ≡ S.character_of (P.rest s origin) e
-
--- the sentence of error record i
-abbrev pub token_sentence : List ℕ → List ℕ → ℕ → List ℕ
-token_sentence s E i = S.token_sentence (S.token_meaning (P.rest s origin) (error_of (error_at E i)))
+-- the sentence of an error's record
+abbrev pub token_sentence : List ℕ → List ℕ → List ℕ
+token_sentence s w = S.token_sentence (S.token_meaning (P.rest s origin) (error_of (error_at w 0)))

@@ -1,113 +1,99 @@
-// The messages, each as its parts.
+// The messages.
 ghost use Rattle.definition.specs.Sentence as S;
-ghost use Rattle.sentences.specs.Messages.{meaning_of, spoken_part, spoken, entry};
+ghost use Rattle.sentences.specs.Spelling.{Quotes};
+ghost use Rattle.sentences.specs.Messages.{parser_meaning, token_meaning};
 ghost use Rattle.sentences.specs.Contract.{Told};
 
+use crate::find::character_at;
 use crate::write::Sentence;
+use definition::kind::Kind;
+use definition::parse_error::ParseError;
+use definition::place::Place;
+use definition::token_error::TokenError;
+use steps::tokens::Token;
 
-// What a sentence says of an error.
-#[derive(Drop)]
-pub struct Meaning<'a> {
-    pub number: u32,
-    pub expected: u32,
-    pub got: u32,
-    pub text: &'a [u8],
-    pub base: usize,
-}
-
-// What a message is composed of: words, the kind expected, the token got, the character.
-#[derive(Drop)]
-enum Part {
-    Words(&'static str),
-    Expected,
-    Got,
-    Character,
-}
-
-// By the number of the error.
-static TOKEN_MESSAGES: [&[Part]; 5] = [
-    &[],
-    &[Part::Words("unknown escape sequence")],
-    &[Part::Words("expected closing double-quotes for string")],
-    &[Part::Words("expected { after `asm`")],
-    &[Part::Words("unexpected character: "), Part::Character],
-];
-
-static PARSER_MESSAGES: [&[Part]; 20] = [
-    &[],
-    &[Part::Words("unexpected token at top-level: "), Part::Got],
-    &[
-        Part::Words("expected "),
-        Part::Expected,
-        Part::Words(", got "),
-        Part::Got,
-    ],
-    &[
-        Part::Words("expected "),
-        Part::Expected,
-        Part::Words(", got end of file"),
-    ],
-    &[Part::Words("expected identifier")],
-    &[Part::Words("unexpected end-of-file")],
-    &[Part::Words("expected statement, got end of file")],
-    &[Part::Words("expected expression, got "), Part::Got],
-    &[Part::Words("expected expression, got end of file")],
-    &[Part::Words("expected array size")],
-    &[Part::Words("array size must be a positive integer")],
-    &[Part::Words("expected type, got "), Part::Got],
-    &[Part::Words("expected type, got end of file")],
-    &[Part::Words("expected } before end of file")],
-    &[Part::Words("unexpected end-of-file while parsing list")],
-    &[
-        Part::Words("unexpected token "),
-        Part::Got,
-        Part::Words(" in list"),
-    ],
-    &[Part::Words("expected identifier after `type`")],
-    &[Part::Words("expected string after `use`")],
-    &[Part::Words("expected start of compound, got end of file")],
-    &[
-        Part::Words("unexpected token for compound literal "),
-        Part::Got,
-    ],
-];
-
-fn say_part(sentence: &mut Sentence<'_>, part: &Part, m: &Meaning<'_>)
-    ensures { Told (spoken_part (meaning_of m.now) part.now) sentence.old sentence.new }
+// Writes the message of a token error at a place of the script.
+#[tactic(auto, unfolding(definition::specs::Sentence::token_sentence, definition::specs::Sentence::token_messages, definition::specs::Sentence::token_meaning, definition::specs::Sentence::character_of, definition::specs::Sentence::compose, definition::specs::Ascii::ascii))]
+pub fn say_token_message(
+    sentence: &mut Sentence<'_>,
+    script: &[u8],
+    error: TokenError,
+    place: Place,
+)
+    requires { Quotes script.now }
+    ensures { Told (S.token_sentence (token_meaning script.now error place)) sentence.old sentence.new }
 {
-    match *part {
-        Part::Words(words) => sentence.say_all(words.as_bytes()),
-        Part::Expected => sentence.say_name(m.expected),
-        Part::Got => sentence.say_token(m.got, m.text, m.base),
-        Part::Character => sentence.say_all(m.text),
+    match error {
+        TokenError::UnknownEscape => sentence.say_all(b"unknown escape sequence"),
+        TokenError::UnclosedString => {
+            sentence.say_all(b"expected closing double-quotes for string");
+        }
+        TokenError::NoAssembly => sentence.say_all(b"expected { after `asm`"),
+        TokenError::UnknownCharacter => {
+            sentence.say_all(b"unexpected character: ");
+            sentence.say_all(character_at(script, place));
+        }
     }
 }
 
-fn say_parts(sentence: &mut Sentence<'_>, parts: &[Part], m: &Meaning<'_>)
-    ensures { Told (spoken (meaning_of m.now) parts.now) sentence.old sentence.new }
+// Writes the message of an error of the parser, with the kind expected and the token got.
+#[tactic(auto, unfolding(definition::specs::Sentence::parser_sentence, definition::specs::Sentence::parser_messages, definition::specs::Sentence::compose, definition::specs::Ascii::ascii))]
+pub fn say_parser_message(
+    sentence: &mut Sentence<'_>,
+    error: ParseError,
+    expected: Kind,
+    got: Token,
+)
+    ensures { Told (S.parser_sentence (parser_meaning error expected got.entry)) sentence.old sentence.new }
 {
-    for part in parts {
-        say_part(sentence, part, m);
+    match error {
+        ParseError::TopLevel => {
+            sentence.say_all(b"unexpected token at top-level: ");
+            sentence.say_token(got);
+        }
+        ParseError::Expected => {
+            sentence.say_all(b"expected ");
+            sentence.say_name(expected);
+            sentence.say_all(b", got ");
+            sentence.say_token(got);
+        }
+        ParseError::ExpectedAtEnd => {
+            sentence.say_all(b"expected ");
+            sentence.say_name(expected);
+            sentence.say_all(b", got end of file");
+        }
+        ParseError::Identifier => sentence.say_all(b"expected identifier"),
+        ParseError::EndOfFile => sentence.say_all(b"unexpected end-of-file"),
+        ParseError::StatementAtEnd => sentence.say_all(b"expected statement, got end of file"),
+        ParseError::Expression => {
+            sentence.say_all(b"expected expression, got ");
+            sentence.say_token(got);
+        }
+        ParseError::ExpressionAtEnd => sentence.say_all(b"expected expression, got end of file"),
+        ParseError::ArraySize => sentence.say_all(b"expected array size"),
+        ParseError::ArraySizePositive => {
+            sentence.say_all(b"array size must be a positive integer");
+        }
+        ParseError::Type => {
+            sentence.say_all(b"expected type, got ");
+            sentence.say_token(got);
+        }
+        ParseError::TypeAtEnd => sentence.say_all(b"expected type, got end of file"),
+        ParseError::BodyAtEnd => sentence.say_all(b"expected } before end of file"),
+        ParseError::ListAtEnd => sentence.say_all(b"unexpected end-of-file while parsing list"),
+        ParseError::InList => {
+            sentence.say_all(b"unexpected token ");
+            sentence.say_token(got);
+            sentence.say_all(b" in list");
+        }
+        ParseError::NameAfterType => sentence.say_all(b"expected identifier after `type`"),
+        ParseError::PathAfterUse => sentence.say_all(b"expected string after `use`"),
+        ParseError::CompoundAtEnd => {
+            sentence.say_all(b"expected start of compound, got end of file");
+        }
+        ParseError::Compound => {
+            sentence.say_all(b"unexpected token for compound literal ");
+            sentence.say_token(got);
+        }
     }
-}
-
-// Writes the message of a table that the number names; nothing if there is none.
-fn say_message(sentence: &mut Sentence<'_>, table: &[&[Part]], m: &Meaning<'_>)
-    ensures { Told (spoken (meaning_of m.now) (entry table.now m.now.number)) sentence.old sentence.new }
-{
-    if let Some(parts) = table.get(m.number as usize) {
-        say_parts(sentence, parts, m);
-    }
-}
-
-pub fn say_token_message(sentence: &mut Sentence<'_>, m: &Meaning<'_>)
-    ensures { Told (S.token_sentence (meaning_of m.now)) sentence.old sentence.new }
-{
-    say_message(sentence, &TOKEN_MESSAGES, m);
-}
-
-pub fn say_parser_message(sentence: &mut Sentence<'_>, m: &Meaning<'_>)
-    ensures { Told (S.parser_sentence (meaning_of m.now)) sentence.old sentence.new }
-{
-    say_message(sentence, &PARSER_MESSAGES, m);
 }

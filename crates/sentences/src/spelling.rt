@@ -2,17 +2,20 @@
 ghost use Rattle.std.specs.Prelude.{◌≡◌, ◌<◌, ◌≤◌};
 ghost use Rattle.std.specs.List.{flat_map};
 ghost use Rattle.std.specs.Str.{chars};
+ghost use Rattle.definition.specs.Numbers.{kind_number};
 ghost use Rattle.definition.specs.Sentence as S;
-ghost use Rattle.sentences.specs.Messages.{entry};
+ghost use Rattle.sentences.specs.Spelling.{entry};
 ghost use Rattle.sentences.specs.Contract.{Told};
 
 use crate::write::Sentence;
 use definition::kind::Kind;
 use std::str::from_utf8;
-use token_records::has_text;
+use steps::tokens::Token;
 
 // ---- the name of a kind
 
+// By the number of a kind. A `match` was tried: the check finds none of its 55 arms alone, each wants an answer of its
+// own, and the table wants one. Not by `Debug`: derived, it has no contract.
 static NAMES: [&str; 55] = [
     "",
     "Identifier",
@@ -78,8 +81,8 @@ fn text_at(table: &[&'static str], i: usize) -> &'static str
     table.get(i).copied().unwrap_or("")
 }
 
-fn name(kind: u32) -> &'static str
-    ensures { result.now ≡ S.kind_name kind }
+fn name(kind: Kind) -> &'static str
+    ensures { result.now ≡ S.kind_name (kind_number kind) }
 {
     text_at(&NAMES, kind as usize)
 }
@@ -89,21 +92,19 @@ fn digit_char(d: usize) -> u8
     requires { d < 16 }
     ensures { result ≡ S.digit_char d }
 {
-    if d < 10 {
-        return b'0' + d as u8;
-    }
-    b'a' + (d - 10) as u8
+    char::from_digit(d as u32, 16).unwrap_or('0') as u8
 }
 
 impl<'a> Sentence<'a> {
     // Writes the name of a kind.
-    pub fn say_name(&mut self, kind: u32)
-        ensures { Told (S.kind_name kind) self.old self.new }
+    pub fn say_name(&mut self, kind: Kind)
+        ensures { Told (S.kind_name (kind_number kind)) self.old self.new }
     {
         self.say_all(name(kind).as_bytes());
     }
 
-    // Writes a number in a base, without leading zeros.
+    // Writes a number in a base, without leading zeros. Not by `write!`: for that `Sentence` would be
+    // an `fmt::Write`, whose `Result` each number would drop.
     fn say_number(&mut self, base: usize, n: usize)
         requires { (2 ≤ base) × (base ≤ 16) }
         ensures { Told (S.in_base base n) self.old self.new }
@@ -157,26 +158,26 @@ impl<'a> Sentence<'a> {
     }
 
     // Writes the base of an Integer after its text.
-    fn say_base(&mut self, kind: u32, base: usize)
-        ensures { Told (S.base_part kind base) self.old self.new }
+    fn say_base(&mut self, kind: Kind, base: u32)
+        ensures { Told (S.base_part (kind_number kind) base) self.old self.new }
     {
-        if kind == Kind::Integer as u32 {
+        if let Kind::Integer = kind {
             self.say_all(b", ");
-            self.say_number(10, base);
+            self.say_number(10, base as usize);
         }
     }
 
     // Writes the kind, and where it has a text this in parentheses.
-    pub fn say_token(&mut self, kind: u32, text: &[u8], base: usize)
-        ensures { Told (S.spelled kind text.now base) self.old self.new }
+    pub fn say_token(&mut self, token: Token)
+        ensures { Told (S.spelled (kind_number token.entry.kind) token.entry.text.now token.entry.base) self.old self.new }
     {
-        self.say_name(kind);
-        if !has_text(kind) {
+        self.say_name(token.kind);
+        if !token.kind.has_text() {
             return;
         }
         self.say(b'(');
-        self.say_quoted(text);
-        self.say_base(kind, base);
+        self.say_quoted(token.text);
+        self.say_base(token.kind, token.base);
         self.say(b')');
     }
 }

@@ -1,6 +1,6 @@
 -- The laws of what is written. Assumes nothing.
 use mathlib.Core.Path.{refl, sym, ap, ◌∙◌}
-use mathlib.Core.List.{List, [], ◌∷◌, ◌++◌, append_assoc, append-nil}
+use mathlib.Core.List.{List, [], ◌++◌, append_assoc, append-nil}
 use Prim.Native.Nat.{ℕ}
 use native.Mathlib.Omega.{arith}
 use lib.ListN.{take, length-append}
@@ -19,14 +19,6 @@ wrote_trans {A} {x} {n} {t} {x'} {m} {u} a b =
       count = omega (arith, a.count, b.count, length-append t u);
       size = b.size ∙ a.size;
     }
-
-pub wrote_cons : {A : Type 0} {x : List A} {n : ℕ} {a : A} {x' : List A} {m : ℕ} {u x'' : List A} {k : ℕ}
-    → Wrote x n (a ∷ []) x' m → Wrote x' m u x'' k → Wrote x n (a ∷ u) x'' k
-wrote_cons = wrote_trans
-
--- the same of a writer
-pub put_none : {T : Type 0} {w : Writer T} → Put [] w w
-put_none = record { wrote = wrote_none; same = refl }
 
 pub put_trans : {T : Type 0} {w : Writer T} {t : List T} {r : Writer T} {u : List T} {q : Writer T} → Put t w r → Put u r q → Put (t ++ u) w q
 put_trans a b = record { wrote = wrote_trans a.wrote b.wrote; same = b.same ∙ a.same }

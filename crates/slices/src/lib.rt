@@ -50,7 +50,8 @@ impl<'a, T: Copy> Writer<'a, T> {
     }
 }
 
-// Writes `x` from the offset `from` to the end. (Of a type parameter's copies the library's `fill` says nothing.)
+// Writes `x` from the offset `from` to the end. For a type parameter the library's `fill` states nothing of what the
+// slice holds, so this one function serves words and bytes.
 pub fn fill_from<T: Copy>(out: &mut [T], from: usize, x: T)
     requires { from ≤ length out.old }
     ensures { Filled x out.old from out.new }

@@ -16,7 +16,7 @@ use Rattle.definition.proofs.Tests.{All}
 use Rattle.definition.proofs.Codes.{Coded}
 use Rattle.definition.proofs.Characters.{decode_coded}
 use Rattle.source.specs.declared.Cursor.{Cursor}
-use Rattle.source.specs.Place.{more, placed, at_of, or_none, rest, Stands, Stepped, char, along_line}
+use Rattle.source.specs.Place.{more, placed, at_of, or_none, rest, Stands, Stepped, char, along_line, origin}
 
 abbrev Small : Lead → Type 0
 Small single = Unit {0}
@@ -163,13 +163,21 @@ along_law {s} {c} {r} z h l n e =
     rw e (step_law z h (omega (arith, w)) (rw (ne_eqb (get_or s c.at 0) 10 n, add-one)) (omega arith) (omega arith))
 
 -- the start of a UTF-8 script is a valid cursor
-pub stands_start : (s : List ℕ) (c : Cursor) → utf8 s ≡ true → c.at ≡ 0 → c.line ≡ 1 → c.column ≡ 1 → Stands s c
+pub at_start : (s : List ℕ) {v : Bool} → v ≡ utf8 s → v ≡ true → Stands s origin
 unfolding utf8 characters rest
-stands_start s c e x y w = rw (x, y, w) (record { is = go _ e; inside = omega arith; lined = omega arith; columned = omega arith })
+at_start s e n = record { is = go _ (sym e ∙ n); inside = omega arith; lined = omega arith; columned = omega arith }
   where
     go : (o : Option (List Ch)) → is_some o ≡ true → o ≡ some (or_none o)
     go none f = absurd (let z : ◌≡◌ {A = ℕ} 0 1 = cc in omega arith)
     go (some cs) f = refl
+
+pub no_characters : (s : List ℕ) {v : Bool} → v ≡ utf8 s → v ≡ false → characters s ≡ none
+unfolding utf8
+no_characters s e n = go (characters s) (sym e ∙ n)
+  where
+    go : (o : Option (List Ch)) → is_some o ≡ false → o ≡ none
+    go none f = refl
+    go (some cs) f = absurd (let z : ◌≡◌ {A = ℕ} 0 1 = cc in omega arith)
 
 -- each character from there on is coded
 pub stands_coded : {s : List ℕ} {c : Cursor} → Stands s c → All Coded (rest s c)

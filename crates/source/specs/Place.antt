@@ -1,7 +1,9 @@
 -- The characters from a cursor on. Assumes nothing.
-use Rattle.std.specs.Prelude.{◌≡◌, List, [], ◌∷◌, ℕ, ◌+◌, ◌≤◌, length, get_or, take, drop}
+use Rattle.std.specs.Prelude.{◌≡◌, Result, MatchResult, List, [], ◌∷◌, ℕ, ◌+◌, ◌<◌, ◌≤◌, length, get_or, take, drop}
 use Rattle.std.proofs.Math.Option.{Option, none, some}
-use Rattle.definition.specs.Source.{Place, At, Ch, Lead, single, with_more, wrong, lead, decode, fresh}
+use Rattle.definition.specs.Source.{Place, At, Ch, Lead, single, with_more, wrong, lead, decode, fresh, characters}
+use Rattle.definition.specs.declared.place.Place as D
+use Rattle.definition.specs.declared.refusal.Refusal.{Refusal}
 use Rattle.source.specs.declared.Cursor.{Cursor}
 
 -- ---- places
@@ -14,6 +16,10 @@ more wrong = 0
 
 abbrev pub placed : Cursor → Place
 placed c = record { line = c.line; column = c.column }
+
+-- the same place as the code has it
+abbrev pub PlaceOf : Cursor → D.Place → Type 0
+PlaceOf c p = p ≡ record { line = c.line; column = c.column }
 
 -- where the character at the cursor stands
 abbrev pub at_of : Cursor → At
@@ -50,3 +56,13 @@ along_line c = record { at = c.at + 1; line = c.line; column = c.column + 1 }
 -- the cursor at the start of a script
 abbrev pub origin : Cursor
 origin = record { at = 0; line = 1; column = 1 }
+
+-- ---- the first tests
+
+-- a refusal that is due: the script is too long, or it is no UTF-8
+pub data Unfit (s : List ℕ) : Refusal → Type 0 where
+  too_long : 16384 < length s → Unfit s Refusal.ScriptLength
+  not_text : length s ≤ 16384 → characters s ≡ none → Unfit s Refusal.NotUtf8
+
+abbrev pub Admits : {A : Type 0} → List ℕ → Result A Refusal → Type 0
+Admits s r = MatchResult r (λ u. Stands s origin × (length s ≤ 16384)) (Unfit s)

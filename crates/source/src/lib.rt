@@ -1,10 +1,13 @@
-// Tests for UTF-8 (RFC 3629), and moves a cursor over the characters of a script.
+// Tests a script's length and UTF-8 (RFC 3629), and moves a cursor over its characters.
 #![tactic(auto)]
 
 ghost use Rattle.std.specs.Prelude.{◌≡◌, ◌+◌, ◌<◌, ◌≤◌, length};
 ghost use Rattle.definition.specs.Source.{lead, utf8};
-ghost use Rattle.source.specs.Place.{more, Stands, Stepped, along_line};
+ghost use Rattle.source.specs.Place.{more, Stands, Stepped, along_line, PlaceOf, Admits};
 
+use definition::limit;
+use definition::place::Place;
+use definition::refusal::Refusal;
 use std::str::from_utf8;
 
 // ---- UTF-8
@@ -14,6 +17,19 @@ pub fn valid(s: &[u8]) -> bool
     ensures { result ≡ utf8 s.now }
 {
     from_utf8(s).is_ok()
+}
+
+// The tests that each operation on a script begins with.
+pub fn admitted(script: &[u8]) -> Result<(), Refusal>
+    ensures { Admits script.now result }
+{
+    if limit::SCRIPT_BYTES < script.len() {
+        return Err(Refusal::ScriptLength);
+    }
+    if !valid(script) {
+        return Err(Refusal::NotUtf8);
+    }
+    Ok(())
 }
 
 // The number of bytes of the character that begins with `b`; 1 where none does.
@@ -46,6 +62,17 @@ impl Cursor {
         line: 1,
         column: 1,
     };
+}
+
+impl From<Cursor> for Place {
+    ghost from_gives = { PlaceOf };
+
+    fn from(c: Cursor) -> Place {
+        Place {
+            line: c.line,
+            column: c.column,
+        }
+    }
 }
 
 // Steps over the character at `c`. A newline belongs to the line it ends.

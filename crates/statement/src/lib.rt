@@ -4,24 +4,27 @@
 pub mod declarations;
 mod simple;
 
-ghost use Rattle.definition.specs.Kind as K;
 ghost use Rattle.definition.specs.Parser as P;
+ghost use Rattle.definition.specs.Places.{place_of};
 ghost use Rattle.statement.specs.Rules.{guarded_rule};
 ghost use Rattle.statement.specs.Post.{statements_on};
 ghost use Rattle.steps.specs.Contract.{Asked, Parses};
 ghost use Rattle.expression_laws.specs.Contract.{LoopOn};
-ghost use Rattle.statement.specs.Contract.{Starts, ReadsBody};
+ghost use Rattle.statement.specs.Contract.{ParsesPaid, ReadsBody};
 
+use declarations::declaration;
 use definition::kind::Kind;
 use definition::parse_error::ParseError;
+use definition::place::Place;
 use definition::refusal::Refusal;
 use definition::tag::Tag;
 use expression::expression;
+use fallible::error::Error;
 use fallible::parser::Parser;
-use fallible::{Stop, abandon, entry, recover};
+use fallible::{Stop, abandon, recover};
 use leaves::{counted, leaf};
 use node::Numbers;
-use simple::{break_statement, expression_statement, return_statement, var_statement};
+use simple::{expression_statement, return_statement};
 use steps::tokens::Tokens;
 use steps::{expect, write_node};
 
@@ -46,6 +49,7 @@ pub fn body(
 
 // The loop of parse_body, after `{`: {statement} `}`. Apart from the loops of a list and of a module: each ends in a way
 // of its own, and a shared one would take closures for the item, for what stands between two, and for the end.
+// No iterator: a turn consumes as many tokens as its statement has, and only the statement's parser knows how many.
 #[cycle(statement)]
 fn body_rest(
     tokens: Tokens,
@@ -64,66 +68,16 @@ fn body_rest(
             return Ok(count);
         }
         if let Kind::End = t.kind {
-            let error = entry(ParseError::BodyAtEnd, 0, Kind::End, Kind::End);
+            let error = Error::at_end(ParseError::BodyAtEnd);
             parser.note(tokens.count, error)?;
             return Ok(count);
         }
-        let b = statement(tokens, file, parser, nesting);
-        let parsed = recover(b)?;
+        let parsed = recover(statement(tokens, file, parser, nesting))?;
         count = counted(parsed, count);
     }
 }
 
 // ---- statements
-
-// A block: a body as a statement.
-#[cycle(statement)]
-fn block(
-    tokens: Tokens,
-    file: &mut [u8],
-    parser: &mut Parser,
-    nesting: usize,
-) -> Result<usize, Stop>
-    requires { Starts K.LBrace tokens file parser }
-    ensures { Parses P.statement_rule tokens file parser nesting result }
-{
-    let t = tokens.peek(parser.state.at);
-    let count = body(tokens, file, parser, nesting)?;
-    write_node(
-        file,
-        tokens.text,
-        &mut parser.state,
-        Ok(t.place),
-        t.place,
-        Tag::Block,
-        Numbers::Two(count),
-    )
-}
-
-// `loop` statement
-#[cycle(statement)]
-fn loop_statement(
-    tokens: Tokens,
-    file: &mut [u8],
-    parser: &mut Parser,
-    nesting: usize,
-) -> Result<usize, Stop>
-    requires { Starts K.KwLoop tokens file parser }
-    ensures { Parses P.statement_rule tokens file parser nesting result }
-{
-    let t = tokens.peek(parser.state.at);
-    parser.state.at = t.next;
-    let a = statement(tokens, file, parser, nesting);
-    write_node(
-        file,
-        tokens.text,
-        &mut parser.state,
-        a,
-        t.place,
-        Tag::Loop,
-        Numbers::None,
-    )
-}
 
 // A condition and the statement it guards: expression statement
 #[cycle(statement)]
@@ -132,85 +86,48 @@ fn guarded(
     file: &mut [u8],
     parser: &mut Parser,
     nesting: usize,
-) -> Result<usize, Stop>
+) -> Result<Place, Stop>
     requires { Asked tokens file parser }
     ensures { Parses guarded_rule tokens file parser nesting result }
 {
     let from = parser.state;
     expression(tokens, file, parser, nesting)?;
     let before = parser.state;
-    let b = statement(tokens, file, parser, nesting);
-    abandon(&mut parser.reported, &mut parser.state, b, from, before)
+    let inner = statement(tokens, file, parser, nesting);
+    abandon(&mut parser.reported, &mut parser.state, inner, from, before)
 }
 
-// `while` guarded
-#[cycle(statement)]
-fn while_statement(
-    tokens: Tokens,
-    file: &mut [u8],
-    parser: &mut Parser,
-    nesting: usize,
-) -> Result<usize, Stop>
-    requires { Starts K.KwWhile tokens file parser }
-    ensures { Parses P.statement_rule tokens file parser nesting result }
-{
-    let t = tokens.peek(parser.state.at);
-    parser.state.at = t.next;
-    let a = guarded(tokens, file, parser, nesting);
-    write_node(
-        file,
-        tokens.text,
-        &mut parser.state,
-        a,
-        t.place,
-        Tag::While,
-        Numbers::None,
-    )
-}
-
-// `if` guarded [`else` statement]
+// Parses what follows `if`: guarded [`else` statement]
 #[cycle(statement)]
 fn if_statement(
     tokens: Tokens,
     file: &mut [u8],
     parser: &mut Parser,
+    place: Place,
     nesting: usize,
-) -> Result<usize, Stop>
-    requires { Starts K.KwIf tokens file parser }
-    ensures { Parses P.statement_rule tokens file parser nesting result }
+) -> Result<Place, Stop>
+    requires { Asked tokens file parser }
+    ensures { ParsesPaid (P.parse_if (place_of place)) tokens file parser nesting result }
 {
     let from = parser.state;
-    let t = tokens.peek(from.at);
-    parser.state.at = t.next;
-    let a = guarded(tokens, file, parser, nesting);
-    let Ok(_) = a else {
-        return a;
-    };
+    guarded(tokens, file, parser, nesting)?;
     let before = parser.state;
-    let u = tokens.peek(before.at);
-    let Kind::KwElse = u.kind else {
-        return write_node(
-            file,
-            tokens.text,
-            &mut parser.state,
-            a,
-            t.place,
-            Tag::If,
-            Numbers::Byte(2),
-        );
+    let t = tokens.peek(before.at);
+    let Kind::KwElse = t.kind else {
+        let numbers = Numbers::Byte(2);
+        return Ok(write_node(file, &mut parser.state, place, Tag::If, numbers));
     };
-    parser.state.at = u.next;
-    let b = statement(tokens, file, parser, nesting);
-    let c = abandon(&mut parser.reported, &mut parser.state, b, from, before);
-    write_node(
-        file,
-        tokens.text,
+    parser.state.at = t.next;
+    let branch = statement(tokens, file, parser, nesting);
+    abandon(
+        &mut parser.reported,
         &mut parser.state,
-        c,
-        t.place,
-        Tag::If,
-        Numbers::Byte(3),
-    )
+        branch,
+        from,
+        before,
+    )?;
+    let numbers = Numbers::Byte(3);
+    Ok(write_node(file, &mut parser.state, place, Tag::If, numbers))
 }
 
 // parse_statement without its nesting count: chooses the statement by its first token.
@@ -220,28 +137,60 @@ fn statement_rule(
     file: &mut [u8],
     parser: &mut Parser,
     nesting: usize,
-) -> Result<usize, Stop>
+) -> Result<Place, Stop>
     requires { Asked tokens file parser }
     ensures { Parses P.statement_rule tokens file parser nesting result }
 {
     let t = tokens.peek(parser.state.at);
+    let place = t.place;
     match t.kind {
-        Kind::KwReturn => return_statement(tokens, file, parser, nesting),
-        Kind::KwVar => var_statement(tokens, file, parser, nesting),
-        Kind::LBrace => block(tokens, file, parser, nesting),
-        Kind::KwLoop => loop_statement(tokens, file, parser, nesting),
-        Kind::KwWhile => while_statement(tokens, file, parser, nesting),
-        Kind::KwBreak => break_statement(tokens, file, parser),
-        Kind::KwIf => if_statement(tokens, file, parser, nesting),
+        Kind::KwReturn => {
+            parser.state.at = t.next;
+            return_statement(tokens, file, parser, place, nesting)
+        }
+        Kind::KwVar => {
+            parser.state.at = t.next;
+            declaration(
+                tokens,
+                file,
+                parser,
+                Tag::VariableDeclaration,
+                place,
+                nesting,
+            )
+        }
+        Kind::LBrace => {
+            let numbers = Numbers::Two(body(tokens, file, parser, nesting)?);
+            Ok(write_node(file, &mut parser.state, place, Tag::Block, numbers))
+        }
+        Kind::KwLoop => {
+            parser.state.at = t.next;
+            statement(tokens, file, parser, nesting)?;
+            Ok(write_node(file, &mut parser.state, place, Tag::Loop, Numbers::None))
+        }
+        Kind::KwWhile => {
+            parser.state.at = t.next;
+            guarded(tokens, file, parser, nesting)?;
+            Ok(write_node(file, &mut parser.state, place, Tag::While, Numbers::None))
+        }
+        Kind::KwBreak => {
+            parser.state.at = t.next;
+            expect(tokens, parser, Kind::Semicolon)?;
+            Ok(write_node(file, &mut parser.state, place, Tag::Break, Numbers::None))
+        }
+        Kind::KwIf => {
+            parser.state.at = t.next;
+            if_statement(tokens, file, parser, place, nesting)
+        }
         Kind::InlineAssemblyFragment => {
             let tag = Tag::InlineAssembly;
-            Ok(leaf(file, tokens.text, &mut parser.state, t, tag, Numbers::None))
+            Ok(leaf(file, &mut parser.state, t, tag, Numbers::None, t.text))
         }
         Kind::End => {
-            let error = entry(ParseError::StatementAtEnd, 0, Kind::End, Kind::End);
+            let error = Error::at_end(ParseError::StatementAtEnd);
             Err(parser.raise(tokens.count, error))
         }
-        _ => expression_statement(tokens, file, parser, t.place, nesting),
+        _ => expression_statement(tokens, file, parser, place, nesting),
     }
 }
 
@@ -252,7 +201,7 @@ pub fn statement(
     file: &mut [u8],
     parser: &mut Parser,
     nesting: usize,
-) -> Result<usize, Stop>
+) -> Result<Place, Stop>
     requires { Asked tokens file parser }
     ensures { Parses P.parse_statement tokens file parser nesting result }
 {

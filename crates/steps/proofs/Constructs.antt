@@ -12,6 +12,7 @@ use Rattle.definition.specs.Go.{go}
 use Rattle.definition.proofs.Flat.{go_call, go_rule, go_bind}
 use Rattle.fallible.proofs.Grown.{errs_length}
 use Rattle.fallible.specs.declared.parser.State.{State}
+use Rattle.fallible.specs.declared.error.Error.{Error}
 use Rattle.fallible.specs.Answer.{Answer}
 use Rattle.fallible.specs.Answers.{refused_at}
 use Rattle.steps.specs.Shows.{Asks, View, Reads, Goes, node}
@@ -21,9 +22,9 @@ use Rattle.steps.proofs.Answers.{Stopped, say, stops}
 
 -- ---- the counted calls
 
-module _ {w x : List ℕ} {n d : ℕ} {o r f : List ℕ} {s : State} (g : Goal) where
+module _ {w x : List ℕ} {n d : ℕ} {o : List ℕ} {r f : List Error} {s : State} (g : Goal) where
   -- no more call may be opened: refused; else the rule is parsed with one less
-  pub deep : {a : Answer} → Asks w n r f s → d ≡ 0 → a ≡ refused_at n s 10 → Reads node w x n d (call g done) o r f s o r f a
+  pub deep : {a : Answer} → Asks n r f s → d ≡ 0 → a ≡ refused_at n s 10 → Reads node w x n d (call g done) o r f s o r f a
   unfolding parse
   deep q z e =
       rw e (record {
@@ -32,7 +33,7 @@ module _ {w x : List ℕ} {n d : ℕ} {o r f : List ℕ} {s : State} (g : Goal) 
         is = λ rd. record { told = rw z (go_call 0 g _) };
       })
 
-  pub down : {o' r' f' : List ℕ} {a : Answer} → (d ≡ 0 → ⊥) → Reads node w x n (d - 1) (rule g) o r f s o' r' f' a
+  pub down : {o' : List ℕ} {r' f' : List Error} {a : Answer} → (d ≡ 0 → ⊥) → Reads node w x n (d - 1) (rule g) o r f s o' r' f' a
       → Reads node w x n d (call g done) o r f s o' r' f' a
   down z u = record { moved = u.moved; on = u.on; is = λ rd. say (one d z _) (u.is rd) }
     where
@@ -53,14 +54,14 @@ seam d f g h e (gives (fatal es) S) = refl
 seam d f g h e (refused n) = refl
 
 module _ {A B : Type 0} {K : View A} {L : View B} {w x : List ℕ} {n d : ℕ} {m : Act (Ans A)}
-    (k : Fallible A → Act (Ans B)) {o r f o' r' f' : List ℕ} {s : State} {a : Answer}
+    (k : Fallible A → Act (Ans B)) {o : List ℕ} {r f : List Error} {o' : List ℕ} {r' f' : List Error} {s : State} {a : Answer}
     (u : Reads K w x n d m o r f s o' r' f' a) where
   -- the answer is returned by `?`
   pub then_stops : Stopped a → Reads L w x n d (m >>? k) o r f s o' r' f' a
   then_stops nd = record { moved = u.moved; on = u.on; is = λ rd. say (go_bind d m (or_return k) _) (stops d k _ nd (u.is rd)) }
 
   -- a function continues the answer
-  pub then_goes : {o'' r'' f'' : List ℕ} {y : Answer} → s.pos ≤ length o → s.reported ≤ length r
+  pub then_goes : {o'' : List ℕ} {r'' f'' : List Error} {y : Answer} → s.pos ≤ length o → s.reported ≤ length r
       → Goes K L w x n d k s.pos s.reported o' r' f' a o'' r'' f'' y
       → Reads L w x n d (m >>? k) o r f s o'' r'' f'' y
   then_goes h g v =

@@ -12,6 +12,7 @@ use Rattle.definition.specs.Parser as P
 use Rattle.definition.specs.Go.{go}
 use Rattle.definition.proofs.Flat.{go_bind}
 use Rattle.fallible.proofs.Grown.{errs_length}
+use Rattle.fallible.specs.declared.error.Error.{Error}
 use Rattle.fallible.specs.Answer.{Status, Done, Fatal, Refused, Answer}
 use Rattle.fallible.specs.Lists.{errs}
 use Rattle.fallible.specs.Answers.{AbandonedOf}
@@ -23,8 +24,8 @@ use Rattle.steps.proofs.Answers.{alike, abandons, follows}
 abbrev pub expecting : {A : Type 0} → Role → ℕ → Fallible A → Act (Ans A)
 expecting role k e = P.expect_as role k >>? λ _. done (ok e)
 
-module _ {A : Type 0} {K : View A} {w x : List ℕ} {n k i j : ℕ} {r f r' f' : List ℕ} {a y : Answer}
-    (p : Follows w n r f a i j) (u : Expected w n k i j r f a r' f' y) (role : Role) (d : ℕ) {T : List ℕ}
+module _ {A : Type 0} {K : View A} {w x : List ℕ} {n k i j : ℕ} {r f r' f' : List Error} {a y : Answer}
+    (p : Follows n r f a i j) (u : Expected w n k i j r f a r' f' y) (role : Role) (d : ℕ) {T : List ℕ}
     {E : List Err} {rs : List Rec} {es : List Err} {o : List ℕ} {q : Res (Ans A)} (li : length T ≡ i)
     (lj : length E ≡ j) where
   -- the answer is done

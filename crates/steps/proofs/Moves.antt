@@ -1,16 +1,16 @@
 -- How the numbers of a state change, from one state to a later one. Assumes nothing.
 use mathlib.Core.Path.{◌≡◌, refl, ap}
 use mathlib.Core.List.{List}
-use Prim.Native.Nat.{ℕ, ◌+◌, ◌<◌}
+use Prim.Native.Nat.{ℕ, ◌<◌}
 use native.Mathlib.Omega.{arith}
 use lib.ListN.{length}
 use mathlib.Core.Bool.{Bool, true, false}
 use lib.Dec.{ltb}
 use borrow.Author.Tests.{ltb-true}
 use Rattle.definition.specs.Choice.{pick}
-use Rattle.node.specs.Put.{Room}
+use Rattle.fallible.specs.declared.error.Error.{Error}
 use Rattle.fallible.specs.declared.parser.State.{State}
-use Rattle.fallible.specs.Answer.{Status, Answer}
+use Rattle.fallible.specs.Answer.{nowhere, Status, Answer}
 use Rattle.fallible.specs.Answers.{refused_at, one_more, making, Abandoned}
 use Rattle.steps.specs.declared.tokens.Token.{Token}
 use Rattle.steps.specs.Tokens.{budget, Seen}
@@ -21,7 +21,7 @@ use Rattle.steps.proofs.Records.{budget_nil, fore}
 pub spent : (w : List ℕ) (n : ℕ) → budget w n n ≡ 0
 spent w n = budget_nil w n n (omega arith)
 
-module _ {w : List ℕ} {n : ℕ} {r f : List ℕ} {s : State} (q : Asks w n r f s) where
+module _ {w : List ℕ} {n : ℕ} {r f : List Error} {s : State} (q : Asks n r f s) where
   pub stays : Moved w n s.pos s.reported s s
   stays =
       record {
@@ -54,7 +54,7 @@ module _ {w : List ℕ} {n : ℕ} {r f : List ℕ} {s : State} (q : Asks w n r f
     where
       go : (b : Bool) → (b ≡ true → s.full < 255) → ltb s.full 255 ≡ b
           → Moved w n s.pos s.reported s
-          (pick b (record { status = h; state = one_more s; place = 0; count = 0 }) (refused_at n s 12)).state
+          (pick b (record { status = h; state = one_more s; place = nowhere; count = 0 }) (refused_at n s 12)).state
       go true g e =
           let l = g refl in
           record {
@@ -69,9 +69,9 @@ module _ {w : List ℕ} {n : ℕ} {r f : List ℕ} {s : State} (q : Asks w n r f
           }
       go false g e = refused_moved 12
 
-  module _ {t : Token} (v : Seen w n s.at t) where
-    pub asks_fore : Asks w n r f (fore s t)
-    asks_fore = record { held = q.held; at = v.end; reported = q.reported; few = q.few; reps = q.reps; fulls = q.fulls }
+  module _ {x : List ℕ} {t : Token} (v : Seen w x n s.at t) where
+    pub asks_fore : Asks n r f (fore s t)
+    asks_fore = record { at = v.end; reported = q.reported; few = q.few; reps = q.reps; fulls = q.fulls }
 
     pub fore_moved : Moved w n s.pos s.reported s (fore s t)
     fore_moved =
@@ -100,11 +100,11 @@ moved_trans p q =
     }
 
 -- what is required holds in a later state
-pub asks_moved : {w : List ℕ} {n i j : ℕ} {r f r' f' : List ℕ} {s t : State} → Asks w n r f s → Moved w n i j s t
-    → length r' ≡ length r → length f' ≡ length f → Asks w n r' f' t
-asks_moved q m h g = record { held = q.held; at = m.end; reported = omega arith; few = m.few; reps = omega arith; fulls = omega arith }
+pub asks_moved : {w : List ℕ} {n i j : ℕ} {r f r' f' : List Error} {s t : State} → Asks n r f s → Moved w n i j s t
+    → length r' ≡ length r → length f' ≡ length f → Asks n r' f' t
+asks_moved q m h g = record { at = m.end; reported = omega arith; few = m.few; reps = omega arith; fulls = omega arith }
 
-pub abandoned_moved : {w : List ℕ} {n i j k : ℕ} {r r' : List ℕ} {s : State} {b c : Answer}
+pub abandoned_moved : {w : List ℕ} {n i j k : ℕ} {r r' : List Error} {s : State} {b c : Answer}
     → Moved w n s.pos s.reported s b.state → Abandoned r b i j k r' c → Moved w n i j s c.state
 abandoned_moved {w} {n} m v =
     record {
@@ -118,16 +118,12 @@ abandoned_moved {w} {n} m v =
       few = omega arith;
     }
 
-module _ {w x : List ℕ} {n : ℕ} {o r f : List ℕ} {s : State} (q : Asked w x n o r f s) where
+module _ {w : List ℕ} {n : ℕ} {o : List ℕ} {r f : List Error} {s : State} (q : Asked w n o r f s) where
   -- after a token
-  pub asked_seen : {t : Token} → Seen w n s.at t → Asked w x n o r f (fore s t)
-  asked_seen v = record { asks = asks_fore q.asks v; parts = q.parts; room = omega arith }
-
-  -- room for a record with the token's text
-  pub room_token : {t : Token} → Seen w n s.at t → Room o x s.pos (16 + t.len) t.start t.len
-  room_token v = record { room = omega (arith, q.room, v.pays); part = v.part q.parts }
+  pub asked_seen : {x : List ℕ} {t : Token} → Seen w x n s.at t → Asked w n o r f (fore s t)
+  asked_seen v = record { asks = asks_fore q.asks v; room = omega arith }
 
   -- in a later state, for slices of the same lengths
-  pub asked_moved : {i j : ℕ} {o' r' f' : List ℕ} {t : State} → Moved w n i j s t → length o' ≡ length o
-      → length r' ≡ length r → length f' ≡ length f → Asked w x n o' r' f' t
-  asked_moved m a b c = record { asks = asks_moved q.asks m b c; parts = q.parts; room = omega arith }
+  pub asked_moved : {i j : ℕ} {o' : List ℕ} {r' f' : List Error} {t : State} → Moved w n i j s t → length o' ≡ length o
+      → length r' ≡ length r → length f' ≡ length f → Asked w n o' r' f' t
+  asked_moved m a b c = record { asks = asks_moved q.asks m b c; room = omega arith }

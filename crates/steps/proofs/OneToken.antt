@@ -14,27 +14,25 @@ use Rattle.definition.specs.Act.{Act, Role, plain, Consumed, now_read, run}
 use Rattle.definition.specs.Numbers.{kind_number}
 use Rattle.definition.specs.Parser as P
 use Rattle.definition.specs.Go.{go}
-use Rattle.std.specs.Prelude.{Result, Ok, Err}
-use Rattle.fallible.specs.declared.Stop.{Stop}
+use Rattle.fallible.specs.declared.error.Error.{Error}
 use Rattle.fallible.specs.declared.parser.State.{State}
-use Rattle.fallible.specs.Answer.{Status, Done, Fatal, Refused, done_of, Answer, node_answer, count_answer}
-use Rattle.fallible.specs.Lists.{unpack, error_at, errs}
-use Rattle.fallible.specs.Answers.{refused_at, one_more, making, raised, Raised, AbandonedOf, Abandoned}
-use Rattle.node.specs.Put.{Wrote, rec_of, size_of}
-use Rattle.node.specs.declared.Record.{Record}
+use Rattle.fallible.specs.Answer.{nowhere, Status, Done, Fatal, Refused, done_of, Answer}
+use Rattle.fallible.specs.Lists.{err_of, error_at, errs}
+use Rattle.fallible.specs.Answers.{refused_at, one_more, making, raised, Raised}
+use Rattle.definition.specs.Node.{Rec}
 use Rattle.steps.specs.declared.tokens.Token.{Token}
-use Rattle.steps.specs.Tokens.{rest, budget, Seen}
-use Rattle.steps.specs.Shows.{st_of, Asks, Moved, token, Expects, Follows, ExpectedOf, Expected, NodeWrittenOf, NodeWritten}
+use Rattle.steps.specs.Tokens.{rest, Seen}
+use Rattle.steps.specs.Shows.{Follows, ExpectedOf, Expected, st_of, Asks, Moved, token, Expects, NodeWrittenOf, NodeWritten}
 use Rattle.steps.proofs.Records.{yes, no, other, fore, adv}
-use Rattle.steps.proofs.Moves.{asks_fore, fore_moved, making_moved, moved_trans, abandoned_moved}
-use Rattle.steps.proofs.Answers.{Stopped, say, not_done, raise_same, raise_shows}
+use Rattle.steps.proofs.Moves.{asks_fore, fore_moved, making_moved, moved_trans}
+use Rattle.steps.proofs.Answers.{not_done, Stopped, say, raise_same, raise_shows}
 
 -- ---- the answer of a raised error
 
 raised_status : (n : ℕ) (s : State) → done_of (raised n s).status ≡ 0
 raised_status n s = go (ltb s.full 255)
   where
-    go : (b : Bool) → done_of (pick b (record { status = Fatal; state = one_more s; place = 0; count = 0 }) (refused_at n s 12)).status ≡ 0
+    go : (b : Bool) → done_of (pick b (record { status = Fatal; state = one_more s; place = nowhere; count = 0 }) (refused_at n s 12)).status ≡ 0
     go true = refl
     go false = refl
 
@@ -42,11 +40,11 @@ raised_status n s = go (ltb s.full 255)
 pub making_pos : (h : Status) (n : ℕ) (s : State) → (making h n s).state.pos ≡ s.pos
 making_pos h n s = go (ltb s.full 255)
   where
-    go : (b : Bool) → (pick b (record { status = h; state = one_more s; place = 0; count = 0 }) (refused_at n s 12)).state.pos ≡ s.pos
+    go : (b : Bool) → (pick b (record { status = h; state = one_more s; place = nowhere; count = 0 }) (refused_at n s 12)).state.pos ≡ s.pos
     go true = refl
     go false = refl
 
-module _ {w : List ℕ} {n : ℕ} {r f : List ℕ} {s : State} {t : Token} (q : Asks w n r f s) (v : Seen w n s.at t) where
+module _ {w x : List ℕ} {n : ℕ} {r f : List Error} {s : State} {t : Token} (q : Asks n r f s) (v : Seen w x n s.at t) where
   -- the token is there
   there : {m : Role → Act (Ans Tok)} {k : ℕ} (of : Role → Role) → 0 < k → kind_number t.kind ≡ k
       → ((x : List ℕ) (role : Role) (d : ℕ) (rd : List Consumed)
@@ -76,19 +74,19 @@ module _ {w : List ℕ} {n : ℕ} {r f : List ℕ} {s : State} {t : Token} (q : 
   }
 
   -- an error is raised after the token
-  missing : {m : Role → Act (Ans Tok)} {e : ℕ} {r' f' : List ℕ} {a : Answer} (of : Role → Role)
+  missing : {m : Role → Act (Ans Tok)} {e : Error} {r' f' : List Error} {a : Answer} (of : Role → Role)
       → Raised (raised n (fore s t)) r f (fore s t) e r' f' a
       → ((x : List ℕ) (role : Role) (d : ℕ) (rd : List Consumed)
       → go d (m role) (st_of w x n f rd s)
-      ≡ go d (P.raise {A = Tok} (unpack e))
+      ≡ go d (P.raise {A = Tok} (err_of e))
       (st_of w x n f (rd ++ now_read (λ _. of role) (rest w x n s.at)) (fore s t)))
       → Expects w n m r f s r' f' a
   missing {m} {e} {r'} {f'} {a} of g h =
       let mv : Moved w n s.pos s.reported s a.state = rw g.is
-      (moved_trans (fore_moved q v) (making_moved (asks_fore q v) Fatal)) in
+      (moved_trans (fore_moved q v) (making_moved {w = w} (asks_fore q v) Fatal)) in
       let nd : done_of a.status ≡ 0 = rw g.is (raised_status n (fore s t)) in
       let ps : a.state.pos ≡ s.pos = rw g.is (making_pos Fatal n (fore s t)) in
-      let up : t.next ≤ a.state.at = rw g.is (making_moved (asks_fore q v) Fatal).at in
+      let up : t.next ≤ a.state.at = rw g.is (making_moved {w = w} (asks_fore q v) Fatal).at in
       record {
         moved = mv;
         pos = ps;
@@ -109,12 +107,12 @@ module _ {w : List ℕ} {n : ℕ} {r f : List ℕ} {s : State} {t : Token} (q : 
   unfolding go run
   expect_there {k} g z = there (λ role. role) g z (λ x role d rd. rw (run, yes v z, v.tail))
 
-  module _ {k e : ℕ} {r' f' : List ℕ} {a : Answer} (m : kind_number t.kind ≡ k → ⊥) (g : Raised (raised n (fore s t)) r f (fore s t) e r' f' a) where
-    pub expect_end : kind_number t.kind ≡ 0 → unpack e ≡ error_at 3 0 k 0 → Expects w n (λ role. P.expect_as role k) r f s r' f' a
+  module _ {k : ℕ} {e : Error} {r' f' : List Error} {a : Answer} (m : kind_number t.kind ≡ k → ⊥) (g : Raised (raised n (fore s t)) r f (fore s t) e r' f' a) where
+    pub expect_end : kind_number t.kind ≡ 0 → err_of e ≡ error_at 3 nowhere k 0 → Expects w n (λ role. P.expect_as role k) r f s r' f' a
     unfolding go run
     expect_end z i = missing (λ role. role) g (λ x role d rd. rw (run, no v m, yes v z) (raise_same d (sym i) (adv s v (λ _. role) f rd _)))
 
-    pub expect_other : (kind_number t.kind ≡ 0 → ⊥) → unpack e ≡ error_at 2 t.place k (kind_number t.kind)
+    pub expect_other : (kind_number t.kind ≡ 0 → ⊥) → err_of e ≡ error_at 2 t.place k (kind_number t.kind)
         → Expects w n (λ role. P.expect_as role k) r f s r' f' a
     unfolding go run
     expect_other z i =
@@ -129,14 +127,14 @@ module _ {w : List ℕ} {n : ℕ} {r f : List ℕ} {s : State} {t : Token} (q : 
   unfolding go run
   identifier_there z = there (λ role. plain) (omega arith) z (λ x role d rd. rw (run, yes v z, v.tail))
 
-  module _ {e : ℕ} {r' f' : List ℕ} {a : Answer} (g : Raised (raised n (fore s t)) r f (fore s t) e r' f' a) where
-    pub identifier_end : kind_number t.kind ≡ 0 → unpack e ≡ error_at 5 0 0 0 → Expects w n (λ role. P.expect_identifier) r f s r' f' a
+  module _ {e : Error} {r' f' : List Error} {a : Answer} (g : Raised (raised n (fore s t)) r f (fore s t) e r' f' a) where
+    pub identifier_end : kind_number t.kind ≡ 0 → err_of e ≡ error_at 5 nowhere 0 0 → Expects w n (λ role. P.expect_identifier) r f s r' f' a
     unfolding go run
     identifier_end z i =
         missing (λ role. plain) g
         (λ x role d rd. rw (run, other v z 1 refl, yes v z) (raise_same d (sym i) (adv s v (λ _. plain) f rd _)))
 
-    pub identifier_other : (kind_number t.kind ≡ 1 → ⊥) → (kind_number t.kind ≡ 0 → ⊥) → unpack e ≡ error_at 4 t.place 0 0
+    pub identifier_other : (kind_number t.kind ≡ 1 → ⊥) → (kind_number t.kind ≡ 0 → ⊥) → err_of e ≡ error_at 4 t.place 0 0
         → Expects w n (λ role. P.expect_identifier) r f s r' f' a
     unfolding go run
     identifier_other m z i =
@@ -145,8 +143,8 @@ module _ {w : List ℕ} {n : ℕ} {r f : List ℕ} {s : State} {t : Token} (q : 
 
 -- ---- `expect` after an answer
 
-module _ {w : List ℕ} {n k i j : ℕ} {r f : List ℕ} {a : Answer} (q : Follows w n r f a i j) where
-  -- a fatal or refused answer is returned; after a good one `expect(..)?` runs
+module _ {w : List ℕ} {n k i j : ℕ} {r f : List Error} {a : Answer} (q : Follows n r f a i j) where
+  -- a fatal or refused answer is returned
   pub expected_stop : Stopped a → Expected w n k i j r f a r f a
   expected_stop nd = record {
     moved =
@@ -170,100 +168,14 @@ module _ {w : List ℕ} {n k i j : ℕ} {r f : List ℕ} {a : Answer} (q : Follo
       one Fatal nd = (refl, (refl, refl))
       one (Refused m) nd = (refl, (refl, refl))
 
-  pub expected_on : {r1 r' f' : List ℕ} {b c y : Answer} → a.status ≡ Done
-      → Expects w n (λ role. P.expect_as role k) r f a.state r1 f' b
-      → Abandoned r1 b i j a.state.reported r' c → y.status ≡ c.status → y.state ≡ c.state
-      → (y.status ≡ Done → (y.place ≡ a.place) × (y.count ≡ a.count)) → Expected w n k i j r f a r' f' y
-  expected_on {r1} {r'} {f'} {b} {c} {y} z e v hs ht hn =
-      let at : budget w n c.state.at ≡ budget w n b.state.at = ap (λ (k : ℕ). budget w n k) v.at in
-      let hw : done_of c.status ≤ done_of b.status = fewer b.status refl v.is in
-      record {
-        moved = rw ht (abandoned_moved e.moved v);
-        high = rw ht (omega (arith, e.pos, v.high));
-        pays = rw (ht, hs) (omega (arith, e.pays));
-        is = rw z (record {
-          b = b;
-          c = c;
-          between = r1;
-          expects = e;
-          abandoned = v;
-          status = hs;
-          state = ht;
-          numbers = hn;
-        });
-      }
-    where
-      fewer : (h : Status) → b.status ≡ h → AbandonedOf h r1 b i j a.state.reported r' c → done_of c.status ≤ done_of b.status
-      fewer Done y m = rw m.0 (omega arith)
-      fewer Fatal y m = rw m.status (omega arith)
-      fewer (Refused u) y m = rw m.0 (omega arith)
-
 -- ---- a record after an answer
 
-module _ {x o : List ℕ} {a : Answer} {v : Record} where
+module _ {o : List ℕ} {a : Answer} {v : Rec} where
   -- after a fatal or refused answer nothing is written; after a good one the record is
-  pub write_node_stop : Stopped a → NodeWritten x o a v o a
+  pub write_node_stop : Stopped a → NodeWritten o a v o a
   write_node_stop nd = record { at = refl; reported = refl; full = refl; low = omega arith; high = omega arith; is = one a.status nd }
     where
-      one : (h : Status) → (h ≡ Done → ⊥) → NodeWrittenOf h x o a v o a
+      one : (h : Status) → (h ≡ Done → ⊥) → NodeWrittenOf h o a v o a
       one Done nd = absurd (nd refl)
       one Fatal nd = (refl, refl)
       one (Refused m) nd = (refl, refl)
-
-  pub write_node_on : {o' : List ℕ} {p : ℕ} → a.status ≡ Done → Wrote o a.state.pos (rec_of x v) (size_of v) o' p
-      → NodeWritten x o a v o' (record {
-        status = a.status;
-        state = record { at = a.state.at; pos = p; reported = a.state.reported; full = a.state.full };
-        place = v.place;
-        count = 0;
-      })
-  write_node_on z u =
-      record {
-        at = refl;
-        reported = refl;
-        full = refl;
-        low = omega (arith, u.end);
-        high = omega (arith, u.end);
-        is = rw z (refl, (u, refl));
-      }
-
--- a record after a good answer depends only on its state
-pub written_at : {x o o' : List ℕ} {a a' y : Answer} {v : Record} → a.status ≡ Done → a'.status ≡ Done → a'.state ≡ a.state
-    → NodeWritten x o a v o' y → NodeWritten x o a' v o' y
-written_at z z' s u =
-    record {
-      at = rw s u.at;
-      reported = rw s u.reported;
-      full = rw s u.full;
-      low = rw s u.low;
-      high = rw s u.high;
-      is = rw (z', s) (rw z at u.is);
-    }
-
--- the number that `expect_after` passes on is the count of a list
-pub counted_expected : {w : List ℕ} {n k i j v : ℕ} {r f r' f' : List ℕ} {s t : State} (y : Result ℕ Stop)
-    → Expected w n k i j r f (node_answer (Ok v) s) r' f' (node_answer y t)
-    → Expected w n k i j r f (count_answer (Ok v) s) r' f' (count_answer y t)
-counted_expected y u =
-    let g = u.is in
-    record {
-      moved = u.moved;
-      high = u.high;
-      pays = u.pays;
-      is = record {
-        b = g.b;
-        c = g.c;
-        between = g.between;
-        expects = g.expects;
-        abandoned = g.abandoned;
-        status = g.status;
-        state = g.state;
-        numbers = λ z. (refl, (g.numbers z).0);
-      };
-    }
-
--- a record after a list is written as after a node
-pub counted_written : {x o o' : List ℕ} (b : Result ℕ Stop) {s : State} {y : Answer} {v : Record}
-    → NodeWritten x o (node_answer b s) v o' y → NodeWritten x o (count_answer b s) v o' y
-counted_written (Ok k) u = written_at refl refl refl u
-counted_written (Err e) u = u

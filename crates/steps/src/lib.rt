@@ -1,25 +1,33 @@
 // Steps of parser.rs on single tokens: the next token, `expect`, `expect_identifier`, a record after a call.
+//
+// The functions of the parser take one by one: the tokens, the file, the parser, and how many more calls may be opened. A
+// parser that held them all would have to say in each contract that it keeps the tokens and the reference of the file, and
+// its nesting would have to be put back after each call. What they require (`Asks`, `Asked`) relates the state to the
+// tokens and the file; what it says of the counts of errors alone would, as ghost fields of `Parser`, have to be proved
+// after each call that is lent its parts (`abandon`). The file's offset is in the state, which `abandon` sets back.
 #![tactic(auto)]
 
 pub mod tokens;
 
-ghost use Rattle.std.specs.Prelude.{◌+◌, ◌<◌};
+ghost use Rattle.std.specs.Prelude.{[], ◌+◌, ◌<◌, ◌≤◌, length};
 ghost use Rattle.definition.specs.Numbers.{kind_number};
 ghost use Rattle.definition.specs.Parser as P;
-ghost use Rattle.node.specs.Contract.{Room};
-ghost use Rattle.steps.specs.Shows.{texted, untexted};
+ghost use Rattle.definition.specs.Slices.{at_entry};
+ghost use Rattle.node.specs.Put.{placed};
 ghost use Rattle.steps.specs.Contract.{Asks, Follows, Expects, Expected, WritesNode};
 
 use definition::kind::Kind;
 use definition::parse_error::ParseError;
+use definition::place::Place;
 use definition::tag::Tag;
+use fallible::error::Error;
 use fallible::parser::{Parser, State};
-use fallible::{Stop, abandon, entry};
+use fallible::{Stop, abandon};
 use node::{Numbers, Record, write_record};
 use tokens::Tokens;
 
 // `expect`: consumes the next token. Another kind than `wanted`, or the end, is a fatal error.
-pub fn expect(tokens: Tokens, parser: &mut Parser, wanted: Kind) -> Result<usize, Stop>
+pub fn expect(tokens: Tokens, parser: &mut Parser, wanted: Kind) -> Result<Place, Stop>
     requires { Asks tokens parser × (0 < kind_number wanted) }
     ensures { Expects (λ role. P.expect_as role (kind_number wanted)) tokens parser result }
 {
@@ -29,16 +37,16 @@ pub fn expect(tokens: Tokens, parser: &mut Parser, wanted: Kind) -> Result<usize
         return Ok(t.place);
     }
     if let Kind::End = t.kind {
-        let error = entry(ParseError::ExpectedAtEnd, 0, wanted, Kind::End);
+        let error = Error::new(ParseError::ExpectedAtEnd, Place::NOWHERE, wanted, Kind::End);
         return Err(parser.raise(tokens.count, error));
     }
-    let error = entry(ParseError::Expected, t.place, wanted, t.kind);
+    let error = Error::new(ParseError::Expected, t.place, wanted, t.kind);
     Err(parser.raise(tokens.count, error))
 }
 
 // `expect_identifier`: consumes the next token. Another kind than an identifier, or the end, is a fatal error. Apart from
 // `expect`, since both errors are others.
-pub fn expect_identifier(tokens: Tokens, parser: &mut Parser) -> Result<usize, Stop>
+pub fn expect_identifier(tokens: Tokens, parser: &mut Parser) -> Result<Place, Stop>
     requires { Asks tokens parser }
     ensures { Expects (λ role. P.expect_identifier) tokens parser result }
 {
@@ -47,73 +55,63 @@ pub fn expect_identifier(tokens: Tokens, parser: &mut Parser) -> Result<usize, S
     match t.kind {
         Kind::Identifier => Ok(t.place),
         Kind::End => {
-            let error = entry(ParseError::EndOfFile, 0, Kind::End, Kind::End);
+            let error = Error::at_end(ParseError::EndOfFile);
             Err(parser.raise(tokens.count, error))
         }
         _ => {
-            let error = entry(ParseError::Identifier, t.place, Kind::End, Kind::End);
+            let error = Error::at(ParseError::Identifier, t.place);
             Err(parser.raise(tokens.count, error))
         }
     }
 }
 
-// `expect(..)?` after the call `called`, unless it stopped, in a construct that began in the state `from`.
+// `expect(..)?` in a construct that began in the state `from`.
 pub fn expect_after(
     tokens: Tokens,
     parser: &mut Parser,
-    called: Result<usize, Stop>,
     wanted: Kind,
     from: State,
-) -> Result<usize, Stop>
-    requires { Follows tokens parser called from × (0 < kind_number wanted) }
-    ensures { Expected (kind_number wanted) tokens parser called from result }
+) -> Result<Place, Stop>
+    requires { Follows tokens parser from × (0 < kind_number wanted) }
+    ensures { Expected (kind_number wanted) tokens parser from result }
 {
-    let number = called?;
     let before = parser.state;
     let token = expect(tokens, parser, wanted);
-    abandon(&mut parser.reported, &mut parser.state, token, from, before)?;
-    Ok(number)
+    abandon(&mut parser.reported, &mut parser.state, token, from, before)
 }
 
-// Writes a record after the call `called`, unless it stopped; its text is a part of the text slice.
+// Writes the record of a node, and returns its place.
 pub fn write_text_node(
     file: &mut [u8],
-    text: &[u8],
     state: &mut State,
-    called: Result<usize, Stop>,
-    place: usize,
+    place: Place,
     tag: Tag,
     numbers: Numbers,
-    start: usize,
-    len: usize,
-) -> Result<usize, Stop>
-    requires { Room file text state.old.pos (16 + len) start len }
-    ensures { WritesNode (texted place tag numbers start len) file text state called result }
+    text: &[u8],
+) -> Place
+    requires { state.old.pos + 16 + length text.now ≤ length file.old }
+    ensures { WritesNode (placed place tag numbers (at_entry text)) file state result }
 {
-    called?;
-    let v = Record {
+    let record = Record {
         tag,
-        place,
+        place: Some(place),
         numbers,
-        start,
-        len,
+        text,
     };
-    state.pos = write_record(file, text, state.pos, v);
-    Ok(place)
+    state.pos = write_record(file, state.pos, record);
+    place
 }
 
 // Like `write_text_node`, with no text.
 pub fn write_node(
     file: &mut [u8],
-    text: &[u8],
     state: &mut State,
-    called: Result<usize, Stop>,
-    place: usize,
+    place: Place,
     tag: Tag,
     numbers: Numbers,
-) -> Result<usize, Stop>
-    requires { Room file text state.old.pos 16 0 0 }
-    ensures { WritesNode (untexted place tag numbers) file text state called result }
+) -> Place
+    requires { state.old.pos + 16 ≤ length file.old }
+    ensures { WritesNode (placed place tag numbers []) file state result }
 {
-    write_text_node(file, text, state, called, place, tag, numbers, 0, 0)
+    write_text_node(file, state, place, tag, numbers, &[])
 }

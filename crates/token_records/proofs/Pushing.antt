@@ -1,15 +1,15 @@
 -- The laws of `push_errors`. Assumes nothing.
 use mathlib.Core.Path.{◌≡◌, refl, sym, ap}
 use mathlib.Core.List.{List, [], ◌∷◌, ◌++◌}
-use Prim.Native.Nat.{ℕ, zero, suc, ◌+◌, ◌-◌, ◌*◌, ◌<◌, ◌≤◌}
+use Prim.Native.Nat.{ℕ, zero, suc, ◌+◌, ◌*◌}
+use native.Mathlib.Numerals.{add-one}
 use native.Mathlib.Omega.{arith}
-use lib.ListN.{length, replicate, length-replicate}
+use lib.ListN.{replicate}
 use Rattle.definition.specs.Fallible.{Err}
 use Rattle.definition.specs.Records.{errors_words}
 use Rattle.slices.specs.Written.{Wrote}
 use Rattle.slices.proofs.Writing.{wrote_none, wrote_trans}
 use Rattle.token_records.specs.declared.State.{State}
-use Rattle.token_records.specs.Push.{ErrorsWent}
 
 error_words : Err → List ℕ
 error_words e = e.number ∷ e.place.line ∷ e.place.column ∷ 0 ∷ []
@@ -20,50 +20,22 @@ unfolding errors_words error_words
 errors_snoc zero e = refl
 errors_snoc (suc n) e = ap (λ (l : List ℕ). e.number ∷ e.place.line ∷ e.place.column ∷ 0 ∷ l) (errors_snoc n e)
 
--- the invariant: the errors up to i are pushed
-pub record Pushing (E₀ : List ℕ) (f : State) (count : ℕ) (e : Err) (total : ℕ) (E : List ℕ) (i : ℕ) : Type 0 where
-  pub sum : total ≡ f.errors + count
-  pub few : total ≤ 255
-  pub low : f.errors ≤ i
-  pub high : i ≤ total
-  pub wide : 1024 ≤ length E
-  pub wrote : Wrote E₀ (4 * f.errors) (errors_words (replicate (i - f.errors) e)) E (4 * i)
+-- the invariant: k errors are pushed
+pub record Pushing (E₀ : List ℕ) (f : State) (e : Err) (E : List ℕ) (at k : ℕ) : Type 0 where
+  pub there : at ≡ 4 * (f.errors + k)
+  pub wrote : Wrote E₀ (4 * f.errors) (errors_words (replicate k e)) E at
 
-pub pushing : {E : List ℕ} {f : State} {n : ℕ} {e : Err} {total : ℕ} → total ≡ f.errors + n → total ≤ 255
-    → 1024 ≤ length E → Pushing E f n e total E f.errors
+pub pushing : {E : List ℕ} {f : State} {e : Err} → Pushing E f e E (4 * f.errors) 0
 unfolding errors_words
-pushing {E} {f} {n} {e} {total} h k w =
-    let z : f.errors - f.errors ≡ 0 = omega arith in
-    record { sum = h; few = k; low = omega arith; high = omega arith; wide = w; wrote = rw z wrote_none }
+pushing = record { there = omega arith; wrote = wrote_none }
 
-module _ {E₀ : List ℕ} {f : State} {n : ℕ} {e : Err} {total : ℕ} {E : List ℕ} {i : ℕ} (q : Pushing E₀ f n e total E i) where
-  pub pushing_more : {E' : List ℕ} {m v : ℕ} → i < total
-      → v ≡ e.number → Wrote E (4 * i) (v ∷ e.place.line ∷ e.place.column ∷ 0 ∷ []) E' m
-      → Pushing E₀ f n e total E' (i + 1)
+module _ {E₀ : List ℕ} {f : State} {e : Err} {E : List ℕ} {at k : ℕ} (q : Pushing E₀ f e E at k) where
+  pub pushing_more : {E' : List ℕ} {m v : ℕ} → v ≡ e.number → Wrote E at (v ∷ e.place.line ∷ e.place.column ∷ 0 ∷ []) E' m
+      → Pushing E₀ f e E' m (k + 1)
   unfolding error_words
-  pushing_more {E'} {m} h v w₀ =
-      let w = rw v at w₀ in
-      let z : i + 1 - f.errors ≡ suc (i - f.errors) = omega (arith, q.low) in
-      let y : 4 * (i + 1) ≡ m = omega (arith, w.count) in
+  pushing_more {E'} {m} h w₀ =
+      let w = rw h at w₀ in
       record {
-        sum = q.sum;
-        few = q.few;
-        low = omega (arith, q.low);
-        high = omega arith;
-        wide = omega (arith, q.wide, w.size);
-        wrote = rw (z, y, sym (errors_snoc (i - f.errors) e)) (wrote_trans q.wrote w);
-      }
-
-  pub pushing_end : total ≤ i
-      → ErrorsWent E₀ f (replicate n e) E (record { cursor = f.cursor; tokens = f.tokens; errors = total; text = f.text })
-  pushing_end h =
-      let y : i ≡ total = omega (arith, q.high) in
-      let z : i - f.errors ≡ n = omega (arith, q.sum, q.high) in
-      record {
-        few = omega (arith, q.sum, q.few, length-replicate n e);
-        cursor = refl;
-        tokens = refl;
-        errors = omega (arith, q.sum, length-replicate n e);
-        text = refl;
-        wrote = rw (z, y) at q.wrote;
+        there = omega (arith, q.there, w.count);
+        wrote = rw (add-one, sym (errors_snoc k e)) (wrote_trans q.wrote w);
       }

@@ -8,6 +8,8 @@ use borrow.Author.Tests.{leb-true, eqb-true, lt-ltb, le-leb, lt-leb, ne_eqb}
 use lib.Dec.{eqb, leb}
 use lib.ListN.{length, get_or, take, drop}
 use Rattle.std.specs.Bool.{MatchBool}
+use Rattle.std.specs.Simd.{first_chunks}
+use Rattle.token_records.proofs.Chunks.{chunk_words}
 use Rattle.std.specs.List.{AllWithin, HoldsAt}
 use Rattle.definition.specs.Choice.{pick}
 use Rattle.definition.specs.Classes as C
@@ -96,24 +98,35 @@ module _ (ws text : List ℕ) (i : ℕ) where
   pub text_short : length ws / 8 ≤ i → [] ≡ text_of ws text i
   text_short h = sym (text_by false _ _ (lt-leb (8 * i + 8) (length ws) (omega arith)) refl refl)
 
-  module _ (k : i < length ws / 8) where
-    there : whole_record ≡ true
-    there = le-leb (8 * i + 8) (length ws) (omega arith)
+  -- the record r at index i
+  module _ {cs : List (List ℕ)} {r : List ℕ} (f : cs ≡ first_chunks 8 (length ws / 8) ws) (l : length cs ≡ length ws / 8)
+      (h : (i < length cs) × HoldsAt (λ y. r ≡ y) cs i) where
+    here : words_at r 0 ≡ words_at ws i
+    here =
+        ap (λ (q : List ℕ). words_at q 0) (h.1 r ∙ ap (λ (x : List (List ℕ)). get_or x i r) f)
+        ∙ chunk_words ws (length ws / 8) i r (omega (arith, l, h.0))
 
-    pub text_bad : valid_alone text (words_at ws i) ≡ false → [] ≡ text_of ws text i
-    text_bad e = sym (text_by true (has_text (words_at ws i).kind) false there refl e ∙ simp and_none)
+    by : (g v : Bool) → has_text (words_at r 0).kind ≡ g → valid_alone text (words_at r 0) ≡ v
+        → text_of ws text i ≡ pick (g && v) (part text (words_at r 0)) []
+    by g v p q =
+        text_by true g v (le-leb (8 * i + 8) (length ws) (omega (arith, l, h.0)))
+        (ap (λ (x : TokenWords). has_text x.kind) (sym here) ∙ p) (ap (valid_alone text) (sym here) ∙ q)
+        ∙ ap (λ (x : TokenWords). pick (g && v) (part text x) []) (sym here)
 
-    module _ {w : TokenWords} {h : Bool} (e : (valid_alone text (words_at ws i) ≡ true) × (w ≡ words_at ws i)) (f : h ≡ has_text w.kind) where
-      kind_text : (u : Bool) → h ≡ u → has_text (words_at ws i).kind ≡ u
-      kind_text u g = ap (λ (x : TokenWords). has_text x.kind) (sym e.1) ∙ sym f ∙ g
+    pub text_bad : valid_alone text (words_at r 0) ≡ false → [] ≡ text_of ws text i
+    text_bad e = sym (by (has_text (words_at r 0).kind) false refl e ∙ simp and_none)
 
-      pub text_none : h ≡ false → [] ≡ text_of ws text i
-      text_none g = sym (text_by true false true there (kind_text false g) e.0)
+    module _ {w : TokenWords} {g : Bool} (e : (valid_alone text (words_at r 0) ≡ true) × (w ≡ words_at r 0)) (p : g ≡ has_text w.kind) where
+      kind_text : (u : Bool) → g ≡ u → has_text (words_at r 0).kind ≡ u
+      kind_text u q = ap (λ (x : TokenWords). has_text x.kind) (sym e.1) ∙ sym p ∙ q
 
-      pub text_some : h ≡ true → take (w.start + w.size - w.start) (drop w.start text) ≡ text_of ws text i
-      text_some g =
+      pub text_none : g ≡ false → [] ≡ text_of ws text i
+      text_none q = sym (by false true (kind_text false q) e.0)
+
+      pub text_some : g ≡ true → take (w.start + w.size - w.start) (drop w.start text) ≡ text_of ws text i
+      text_some q =
           let z : w.start + w.size - w.start ≡ w.size = omega arith in
-          rw z (ap (part text) e.1 ∙ sym (text_by true true true there (kind_text true g) e.0))
+          rw z (ap (part text) e.1 ∙ sym (by true true (kind_text true q) e.0))
 
 -- the text of a valid record is within the slice
 pub text_inside : (text : List ℕ) (v : TokenWords) {w : TokenWords} {h : Bool} → (valid_alone text v ≡ true) × (w ≡ v)

@@ -4,19 +4,9 @@ use Rattle.definition.specs.Fallible.{Err}
 use Rattle.definition.specs.Numbers.{kind_number}
 use Rattle.definition.specs.declared.refusal.Refusal.{Refusal}
 use Rattle.definition.specs.Records.{errors_words}
-use Rattle.definition.specs.Source as S
-use Rattle.source.specs.declared.Cursor.{Cursor}
 use Rattle.slices.specs.Written.{Wrote}
 use Rattle.token_records.specs.declared.State.{State}
 use Rattle.token_records.specs.declared.Token.{Token}
-use Rattle.token_records.specs.declared.Place.{Place}
-
--- the definition's place
-abbrev pub place_of : Place → S.Place
-place_of p = S.place_at p.line p.column
-
-abbrev pub PlaceOf : Cursor → Place → Type 0
-PlaceOf c p = p ≡ record { line = c.line; column = c.column }
 
 -- the words of a token
 abbrev pub words_of_token : Token → List ℕ

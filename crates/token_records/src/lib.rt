@@ -5,23 +5,26 @@ ghost use Rattle.std.specs.Prelude.{◌≡◌, ◌&&◌, ◌+◌, ◌*◌, ◌<�
 ghost use Rattle.definition.specs.Classes as C;
 ghost use Rattle.definition.specs.Records as R;
 ghost use Rattle.definition.specs.Tokenizer as Z;
-ghost use Rattle.slices.specs.Contract.{Wrote};
 ghost use Rattle.definition.specs.Numbers.{kind_number, token_error_number};
-ghost use Rattle.token_records.specs.Push.{PlaceOf, place_of, words_of_token};
+ghost use Rattle.definition.specs.Places.{place_of};
+ghost use Rattle.token_records.specs.Push.{words_of_token};
 ghost use Rattle.token_records.specs.Tested.{Validates, part_fits, text_fits, words_of};
 ghost use Rattle.token_records.specs.Contract.{TokenPushed, ErrorsPushed};
 
 use classes::character::is_digit_of;
 use definition::kind::Kind;
 use definition::limit;
+use definition::place::Place;
 use definition::refusal::Refusal;
 use definition::token_error::TokenError;
+use slices::put_all;
 use source::{Cursor, valid};
 
 // ---- writing
 
-// The tokenizer's state: its cursor, and the counts of tokens, errors and text bytes in the lent slices. They are no
-// part of it: each function that takes it would have to ensure that it keeps the references and their lengths.
+// The tokenizer's state: its cursor, and the counts of tokens, errors and text bytes in the lent slices. The
+// slices are no part of it, and each function asks for their lengths: a struct that lends them would have to say in
+// each contract that it keeps the references.
 #[derive(Clone, Copy)]
 pub struct State {
     pub cursor: Cursor,
@@ -30,25 +33,8 @@ pub struct State {
     pub text: usize,
 }
 
-// A place in the script: a line and a column, both from 1.
-#[derive(Clone, Copy, PartialEq, Eq, PartialOrd, Ord)]
-pub struct Place {
-    pub line: u32,
-    pub column: u32,
-}
-
-impl From<Cursor> for Place {
-    ghost from_gives = { PlaceOf };
-
-    fn from(c: Cursor) -> Place {
-        Place {
-            line: c.line,
-            column: c.column,
-        }
-    }
-}
-
-// A token, as its record has it: its kind and place, its part of the text, and its base, 0 but for an integer.
+// A token, as its record has it: its kind and place, its part of the text, and its base, 0 but for an integer. The base
+// is a number, as it is in `is_digit_of`: a record that is read can have any number there.
 #[derive(Clone, Copy)]
 pub struct Token {
     pub kind: Kind,
@@ -58,13 +44,14 @@ pub struct Token {
     pub base: u32,
 }
 
-// Writes a record, and returns the offset after it.
-fn put<const N: usize>(words: &mut [u32], at: usize, record: &[u32; N]) -> usize
-    requires { at + N ≤ length words.old }
-    ensures { Wrote record.now words at result }
-{
-    words[at..at + N].copy_from_slice(record);
-    at + N
+impl Token {
+    // Where its part of the text begins and ends.
+    pub fn part(self) -> (usize, usize)
+        ensures { (result.0 ≡ self.start) × (result.1 ≡ self.start + self.size) }
+    {
+        let start = self.start as usize;
+        (start, start + self.size as usize)
+    }
 }
 
 // Pushes a token. Refuses where `most` tokens are there already.
@@ -90,7 +77,7 @@ pub fn push_token(
         0,
         0,
     ];
-    put(tokens, 8 * st.tokens, &record);
+    put_all(tokens, 8 * st.tokens, &record);
     Ok(State {
         tokens: st.tokens + 1,
         ..st
@@ -112,12 +99,11 @@ pub fn push_errors(
     if limit::TOKEN_ERRORS < total {
         return Err(Refusal::TokenErrors);
     }
-    for i in st.errors..total {
-        put(
-            errors,
-            4 * i,
-            &[u32::from(error), place.line, place.column, 0],
-        );
+    let record = [u32::from(error), place.line, place.column, 0];
+    // The offset is counted here: the library states nothing of a slice after `as_chunks_mut`.
+    let mut at = 4 * st.errors;
+    for _ in 0..count {
+        at = put_all(errors, at, &record);
     }
     Ok(State {
         errors: total,
@@ -126,16 +112,6 @@ pub fn push_errors(
 }
 
 // ---- validating
-
-// Whether tokens of the kind with this number have a text.
-pub fn has_text(number: u32) -> bool
-    ensures { result ≡ R.has_text number }
-{
-    match Kind::try_from(number) {
-        Ok(kind) => kind.has_text(),
-        Err(_) => false,
-    }
-}
 
 fn base_fits(kind: Kind, base: u32) -> bool
     ensures { result ≡ R.base_fits (kind_number kind) base }
@@ -147,16 +123,14 @@ fn base_fits(kind: Kind, base: u32) -> bool
     }
 }
 
-// The largest line and column.
-const PLACES: u32 = 16384;
+const LARGEST_LINE_OR_COLUMN: u32 = 16384;
 
-impl Place {
-    // Whether the line and the column are within the limits.
-    pub fn valid(self) -> bool
-        ensures { result ≡ C.between 1 16384 self.line && C.between 1 16384 self.column }
-    {
-        matches!(self.line, 1..=PLACES) & matches!(self.column, 1..=PLACES)
-    }
+// Whether the line and the column are within the limits.
+pub fn valid_place(place: Place) -> bool
+    ensures { result ≡ C.between 1 16384 place.line && C.between 1 16384 place.column }
+{
+    matches!(place.line, 1..=LARGEST_LINE_OR_COLUMN)
+        & matches!(place.column, 1..=LARGEST_LINE_OR_COLUMN)
 }
 
 // Whether a part is digits of the base, at least one.
@@ -185,29 +159,25 @@ fn part_fits(text: &[u8], start: usize, end: usize) -> bool
 }
 
 // The token of a record, if it is valid, apart from the comparisons with the record before it.
-pub fn valid_token(tokens: &[u32], at: usize, text: &[u8]) -> Option<Token>
-    requires { 8 * at + 8 ≤ length tokens.now }
-    ensures { Validates text.now (R.words_at tokens.now at) result }
+pub fn valid_token(words: &[u32; 8], text: &[u8]) -> Option<Token>
+    ensures { Validates text.now (R.words_at words.now 0) result }
 {
-    let i = 8 * at;
-    let Ok(kind) = Kind::try_from(tokens[i]) else {
+    let [kind, line, column, start, size, base, seventh, eighth] = *words;
+    let Ok(kind) = Kind::try_from(kind) else {
         return None;
     };
     let token = Token {
         kind,
-        place: Place {
-            line: tokens[i + 1],
-            column: tokens[i + 2],
-        },
-        start: tokens[i + 3],
-        size: tokens[i + 4],
-        base: tokens[i + 5],
+        place: Place { line, column },
+        start,
+        size,
+        base,
     };
     let fields_fit = (kind != Kind::End)
-        & token.place.valid()
-        & base_fits(kind, token.base)
-        & (tokens[i + 6] == 0)
-        & (tokens[i + 7] == 0);
+        & valid_place(token.place)
+        & base_fits(kind, base)
+        & (seventh == 0)
+        & (eighth == 0);
     if fields_fit & text_fits(token, text) {
         Some(token)
     } else {
@@ -222,8 +192,7 @@ fn text_fits(token: Token, text: &[u8]) -> bool
     if !token.kind.has_text() {
         return (token.start == 0) & (token.size == 0);
     }
-    let start = token.start as usize;
-    let end = start + token.size as usize;
+    let (start, end) = token.part();
     if !part_fits(text, start, end) {
         return false;
     }
@@ -236,13 +205,12 @@ fn text_fits(token: Token, text: &[u8]) -> bool
 pub fn token_text<'a>(tokens: &[u32], text: &'a [u8], at: usize) -> &'a [u8]
     ensures { result.now ≡ R.text_of tokens.now text.now at }
 {
-    if tokens.len() / 8 <= at {
+    let Some(words) = tokens.as_chunks::<8>().0.get(at) else {
         return &text[..0];
-    }
-    match valid_token(tokens, at, text) {
+    };
+    match valid_token(words, text) {
         Some(token) if token.kind.has_text() => {
-            let start = token.start as usize;
-            let end = start + token.size as usize;
+            let (start, end) = token.part();
             &text[start..end]
         }
         _ => &text[..0],

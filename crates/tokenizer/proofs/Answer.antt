@@ -3,21 +3,20 @@ use mathlib.Core.Path.{◌≡◌, refl, sym, ap, ◌∙◌}
 use Rattle.std.specs.Prelude.{Ok}
 use mathlib.Core.Bool.{Bool, true, false, ◌&&◌}
 use mathlib.Core.List.{List, []}
-use mathlib.Core.Option.{Option, none, some}
-use Prim.Native.Nat.{ℕ, ◌*◌, ◌<◌, ◌≤◌}
+use mathlib.Core.Option.{some}
+use Prim.Native.Nat.{ℕ, ◌*◌, ◌≤◌}
 use native.Mathlib.Omega.{arith}
 use borrow.Author.Tests.{lt-ltb, le-ltb, leb-true}
 use lib.Dec.{leb}
 use lib.ListN.{length}
-use Rattle.definition.specs.Source.{Ch, characters, is_some, utf8}
+use Rattle.definition.specs.Source.{Ch, characters}
 use Rattle.definition.specs.Records.{tokens_words, tokens_text, errors_words}
 use Rattle.definition.specs.Operations.{Tokenised, untouched, tokenised, tokenise}
 use Rattle.definition.specs.Tokenizer as Z
 use Rattle.definition.proofs.Tests.{left_true, right_true}
 use Rattle.definition.specs.Numbers.{refusal_number}
 use Rattle.definition.specs.declared.refusal.Refusal.{Refusal}
-use Rattle.source.specs.Place.{Stands, rest, origin}
-use Rattle.source.proofs.Laws.{stands_start}
+use Rattle.source.specs.Place.{Stands, rest, origin, Unfit, too_long, not_text}
 use Rattle.token_records.specs.declared.State.{State}
 use Rattle.slices.specs.Cleared.{Cleared}
 use Rattle.slices.proofs.Clearing.{cleared_filled}
@@ -44,42 +43,25 @@ wide_all T E X e =
 
 -- ---- before any work
 
-pub no_characters : (s : List ℕ) → utf8 s ≡ false → characters s ≡ none
-unfolding utf8
-no_characters s e = go (characters s) e
-  where
-    go : (o : Option (List Ch)) → is_some o ≡ false → o ≡ none
-    go none f = refl
-    go (some cs) f = absurd (let z : ◌≡◌ {A = ℕ} 0 1 = cc in omega arith)
-
--- the cursor at the start of a UTF-8 script
-pub at_start : (s : List ℕ) {v : Bool} → v ≡ utf8 s → v ≡ true → Stands s origin
-at_start s e n = stands_start s origin (sym e ∙ n) refl refl refl
-
 pub the_characters : (s : List ℕ) → Stands s origin → characters s ≡ some (rest s origin)
 unfolding characters
 the_characters s z = z.is
 
-module _ (s T E X : List ℕ) where
-  pub too_long : 16384 < length s → untouched 1 T E X ≡ tokenise s T E X
-  unfolding tokenise
-  too_long h = rw (lt-ltb 16384 (length s) h, tokenise)
+pub unfit : (s T E X : List ℕ) {x : Refusal} → Unfit s x → untouched (refusal_number x) T E X ≡ tokenise s T E X
+unfolding tokenise
+unfit s T E X (too_long h) = rw (lt-ltb 16384 (length s) h, tokenise)
+unfit s T E X (not_text h n) = rw (le-ltb 16384 (length s) h, n, tokenise)
 
-  pub not_text : {v : Bool} → length s ≤ 16384 → v ≡ utf8 s → v ≡ false → untouched 2 T E X ≡ tokenise s T E X
-  unfolding tokenise
-  not_text h e n = rw (le-ltb 16384 (length s) h, no_characters s (sym e ∙ n), tokenise)
-
-of_characters : (s T E X : List ℕ) {v : Bool} → length s ≤ 16384 → v ≡ utf8 s → v ≡ true → (t : Bool)
-    → wide_enough T E X ≡ t
+of_characters : (s T E X : List ℕ) → Stands s origin × (length s ≤ 16384) → (t : Bool) → wide_enough T E X ≡ t
     → tokenise s T E X
     ≡ elim t as (λ _. Tokenised)
     [ true ↦ tokenised T E X (Z.tokenize (rest s origin)) | false ↦ untouched 3 T E X ]
 unfolding tokenise
-of_characters s T E X h e n t w = rw (le-ltb 16384 (length s) h, the_characters s (at_start s e n), w, tokenise)
+of_characters s T E X q t w = rw (le-ltb 16384 (length s) q.1, the_characters s q.0, w, tokenise)
 
-pub too_narrow : (s T E X : List ℕ) {v : Bool} → length s ≤ 16384 → v ≡ utf8 s → v ≡ true
+pub too_narrow : (s T E X : List ℕ) → Stands s origin × (length s ≤ 16384)
     → wide_enough T E X ≡ false → untouched 3 T E X ≡ tokenise s T E X
-too_narrow s T E X h e n w = sym (of_characters s T E X h e n false w)
+too_narrow s T E X q w = sym (of_characters s T E X q false w)
 
 -- ---- after the loop
 
@@ -92,10 +74,10 @@ answer_eq : {a a' b b' c c' : ℕ} {x x' y y' w w' : List ℕ} → a ≡ a' → 
     (record { number = 0; tokens = a'; errors = b'; bytes = c'; toks = x'; errs = y'; text = w' })
 answer_eq p q r t u v = rw (p, q, r, t, u, v)
 
-module _ (s T E X : List ℕ) {v : Bool} (h : length s ≤ 16384) (e : v ≡ utf8 s) (n : v ≡ true)
+module _ (s T E X : List ℕ) (q : Stands s origin × (length s ≤ 16384))
     (w : wide_enough T E X ≡ true) where
   ran : tokenise s T E X ≡ tokenised T E X (Z.tokenize_within 2048 (rest s origin))
-  ran = of_characters s T E X h e n true w ∙ ap (tokenised T E X) (within_limit _)
+  ran = of_characters s T E X q true w ∙ ap (tokenised T E X) (within_limit _)
 
   module _ {T₁ E₁ X₁ T₂ E₂ X₂ : List ℕ} (lt : length T₁ ≡ length T) (le : length E₁ ≡ length E) (lx : length X₁ ≡ length X) where
     pub refused_answer : {x : Refusal} → NotDone 2048 (rest s origin) x → Cleared T₁ 0 T₂ → Cleared E₁ 0 E₂ → Cleared X₁ 0 X₂

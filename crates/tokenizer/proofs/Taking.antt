@@ -7,7 +7,7 @@ use mathlib.Core.Bool.{false}
 use mathlib.Core.List.{List, [], ◌∷◌}
 use Prim.Native.Nat.{ℕ, ◌≤◌}
 use native.Mathlib.Omega.{arith}
-use lib.ListN.{length, get_or, replicate}
+use lib.ListN.{length, get_or}
 use Rattle.definition.specs.Source.{Ch, code}
 use Rattle.definition.specs.Records.{has_text}
 use Rattle.definition.specs.Tokenizer.{Turn, goes, refused, Foreign, White, Comment, Pair, Symbol, Quote, Word, Dash, Zero, Digit, Unknown}
@@ -108,6 +108,6 @@ module _ {s : List ℕ} (st : State) {c : Cursor} {d : ℕ} {k : Class} (x : Cla
   taken_plain p f g w = taken (end_plain a.few room p f g w)
 
   pub taken_error : {E E' : List ℕ} {r : Result State Refusal} → begun ≡ goes (rest s c) (Z.token_error 4 (placed st.cursor) ∷ []) []
-      → ErrorsPushed E (at_cursor st c) (replicate 1 (Z.token_error 4 (placed st.cursor))) E' r
+      → ErrorsPushed E (at_cursor st c) (Z.token_error 4 (placed st.cursor) ∷ []) E' r
       → Taken most (turn_of (rest s st.cursor)) s st T E X r T E' X
   taken_error f g = taken (end_errors {es = []} a.few (on_text a.few (passed_none z.stands) wrote_none room) f g)

@@ -13,13 +13,14 @@ use definition::refusal::Refusal;
 use definition::token_error::TokenError;
 use scan::{Scan, comment, look, skip};
 use slices::fill_from;
-use source::{Cursor, step, valid};
+use source::{Cursor, admitted, step};
 use token_records::State;
-use turns::{Turn, dash_turn, number_turn, plain, string_turn, with_errors, word_turn, zero_turn};
+use turns::{Turn, dash_turn, integer_turn, plain, string_turn, with_error, word_turn, zero_turn};
 
 // ---- the loop
 
-// One turn of the loop, at a character: dispatches on its class.
+// One turn of the loop, at a character: dispatches on its class. What it asks is no invariant for the reasons that are
+// beside `turns::Turn`.
 fn turn(
     most: usize,
     s: &[u8],
@@ -55,18 +56,20 @@ fn turn(
         Class::Word => word_turn(turn, b, tokens, errors, text),
         Class::Dash => dash_turn(turn, tokens, text),
         Class::Zero => zero_turn(turn, tokens, text),
-        Class::Digit => number_turn(turn, b, tokens, text),
+        Class::Digit => integer_turn(turn, Some(b), 10, tokens, text),
         Class::Unknown => {
             let end = Scan {
                 cursor: c,
                 n: st.text,
             };
-            with_errors(errors, st, from, end, 1, TokenError::UnknownCharacter)
+            with_error(st, end, TokenError::UnknownCharacter, errors)
         }
     }
 }
 
-// The tokenizer's loop: turns until the end or a refusal. Does not clear the slices after the records.
+// The tokenizer's loop: turns until the end or a refusal. Does not clear the slices after the records. Each turn moves
+// the cursor over as many characters as it reads, so no iterator gives its steps. The reason for `most`: docs/DECISIONS.md
+// (The limit of tokens is an argument).
 pub fn run(
     most: usize,
     s: &[u8],
@@ -109,12 +112,7 @@ pub fn tokenize(
     ensures { answer result tokens.new errors.new text.new
         ≡ O.tokenise script.now tokens.old errors.old text.old }
 {
-    if limit::SCRIPT_BYTES < script.len() {
-        return Err(Refusal::ScriptLength);
-    }
-    if !valid(script) {
-        return Err(Refusal::NotUtf8);
-    }
+    admitted(script)?;
     let wide = (limit::TOKEN_WORDS <= tokens.len())
         & (limit::ERROR_WORDS <= errors.len())
         & (limit::TEXT_BYTES <= text.len());

@@ -1,25 +1,24 @@
 -- The laws of the turns for numbers and for a dash. Assumes nothing.
 use mathlib.Core.Path.{◌≡◌, refl, sym, ap, ◌∙◌}
 use mathlib.Core.Bool.{Bool, true, false}
-use mathlib.Core.List.{List, [], ◌∷◌}
+use mathlib.Core.List.{List, [], ◌∷◌, ◌++◌}
 use Prim.Native.Nat.{ℕ, ◌-◌, ◌<◌, ◌≤◌}
 use native.Mathlib.Omega.{arith}
 use borrow.Author.Tests.{eq-eqb, ne_eqb}
 use lib.ListN.{length, get_or}
-use Rattle.std.specs.Prelude.{Result, Err}
+use Rattle.std.specs.Prelude.{Option, None, unwrap_or, Result, Err}
 use Rattle.definition.specs.Source.{Place, Ch}
 use Rattle.definition.specs.declared.refusal.Refusal.{Refusal}
 use Rattle.definition.specs.Token.{Tok, tok}
 use Rattle.definition.specs.Classes as C
 use Rattle.definition.specs.Kind as K
-use Rattle.definition.specs.Tokenizer.{goes, refused}
+use Rattle.definition.specs.Tokenizer.{refused}
 use Rattle.definition.specs.Tokenizer as Z
 use Rattle.source.specs.declared.Cursor.{Cursor}
 use Rattle.source.specs.Place.{Stepped, rest}
 use Rattle.source.proofs.Laws.{rest_end}
-use Rattle.scan.specs.declared.Scan.{Scan}
 use Rattle.slices.specs.Written.{Wrote}
-use Rattle.scan.specs.Scan.{Passed, Spanned}
+use Rattle.scan.specs.Scan.{Passed}
 use Rattle.slices.proofs.Writing.{wrote_trans}
 use Rattle.token_records.specs.declared.State.{State}
 use Rattle.token_records.specs.Push.{TokenPushed}
@@ -39,43 +38,31 @@ some_left : (t : List ℕ) → (length t ≡ 0 → ⊥) → Z.or_zero t ≡ t
 some_left [] e = absurd (e refl)
 some_left (b ∷ t) e = refl
 
-module _ {most : ℕ} {s : List ℕ} {st : State} {c : Cursor} {T X X₁ T' : List ℕ} {p : Place} {r : Result State Refusal}
-    (a : Ready most s T X st c × (st.text < c.at)) where
-  -- a decimal integer after its first character b
-  pub number_law : {X₂ : List ℕ} {b n : ℕ} {d : Scan} → Wrote X st.text (b ∷ []) X₁ n → Spanned s c X₁ n (Z.digits 10 (rest s c)) X₂ d →
-      TokenPushed most T (at_text st d.cursor d.n)
-      (K.Integer ∷ p.line ∷ p.column ∷ st.text ∷ (d.n - st.text) ∷ 10 ∷ 0 ∷ 0 ∷ []) T' r
-      → (E : List ℕ) → Turned most (Z.integer p 10 (b ∷ []) (Z.digits 10 (rest s c))) s st c T E X r T' E X₂
-  number_law {b = b} {d = d} w q k E =
-      let y = wrote_trans w q.wrote in
-      end_token a.0.few (on_text a.0.few q.passed y q.room) refl
-      (with_words (number p 10 (b ∷ (Z.digits 10 (rest s c)).text)) refl refl (omega (arith, y.count)) k)
+module _ {X : List ℕ} {x : ℕ} {u X₁ : List ℕ} {n : ℕ} (w : Wrote X x u X₁ n) where
+  -- no text is `0`
+  pub none_written : {X₂ : List ℕ} {m : ℕ} → n ≡ x → Wrote X₁ x (48 ∷ []) X₂ m → Wrote X x (Z.or_zero u) X₂ m
+  none_written e v =
+      let z : u ≡ [] = none_left _ (omega (arith, w.count)) in
+      rw z (wrote_trans (rw (e, z) at w) v)
 
-  -- no digits: the text is `0`
-  pub zero_alone : {X₂ : List ℕ} {base m : ℕ} {d : Scan} → Spanned s c X st.text (Z.digits base (rest s c)) X₁ d
-      → d.n ≡ st.text → Wrote X₁ st.text (48 ∷ []) X₂ m →
-      TokenPushed most T (at_text st d.cursor m)
-      (K.Integer ∷ p.line ∷ p.column ∷ st.text ∷ (m - st.text) ∷ base ∷ 0 ∷ 0 ∷ []) T' r
-      → (E : List ℕ) → Turned most (Z.integer p base [] (Z.digits base (rest s c))) s st c T E X r T' E X₂
-  zero_alone {base = base} {d = d} q e x k E =
-      let z : (Z.digits base (rest s c)).text ≡ [] = none_left _ (omega (arith, q.wrote.count)) in
-      let y = wrote_trans (rw (e, z) at q.wrote) x in
-      end_token a.0.few (on_text a.0.few q.passed y (omega (arith, y.count, q.passed.forward)))
-      (ap (λ (u : List ℕ). goes (Z.digits base (rest s c)).rest [] (number p base (Z.or_zero u) ∷ [])) z)
-      (with_words (number p base (48 ∷ [])) refl refl (omega (arith, y.count)) k)
+  pub some_written : (n ≡ x → ⊥) → Wrote X x (Z.or_zero u) X₁ n
+  some_written e = rw (some_left u (λ i. e (omega (arith, w.count)))) w
 
-  pub zero_digits : {base : ℕ} {d : Scan} → Spanned s c X st.text (Z.digits base (rest s c)) X₁ d → (d.n ≡ st.text → ⊥) →
-      TokenPushed most T (at_text st d.cursor d.n)
-      (K.Integer ∷ p.line ∷ p.column ∷ st.text ∷ (d.n - st.text) ∷ base ∷ 0 ∷ 0 ∷ []) T' r
-      → (E : List ℕ) → Turned most (Z.integer p base [] (Z.digits base (rest s c))) s st c T E X r T' E X₁
-  zero_digits {base = base} {d = d} q e k E =
-      let z : Z.or_zero (Z.digits base (rest s c)).text ≡ (Z.digits base (rest s c)).text = some_left _
-      (λ i. e (omega (arith, q.wrote.count))) in
-      end_token a.0.few (on_text a.0.few q.passed q.wrote q.room)
-      (ap (λ (u : List ℕ). goes (Z.digits base (rest s c)).rest [] (number p base u ∷ [])) z)
-      (with_words (number p base (Z.digits base (rest s c)).text) refl refl (omega (arith, q.wrote.count)) k)
+pub integer_law : {most : ℕ} {s : List ℕ} {st : State} {c : Cursor} {T X T' X' : List ℕ} {p : Place} {r : Result State Refusal}
+    {base n : ℕ} (before : List ℕ) {d : Cursor} → Ready most s T X st c → Passed s c (Z.digits base (rest s c)).rest d
+    → Wrote X st.text (Z.or_zero (before ++ (Z.digits base (rest s c)).text)) X' n → n ≤ d.at →
+    TokenPushed most T (at_text st d n)
+    (K.Integer ∷ p.line ∷ p.column ∷ st.text ∷ (n - st.text) ∷ base ∷ 0 ∷ 0 ∷ []) T' r
+    → (E : List ℕ) → Turned most (Z.integer p base before (Z.digits base (rest s c))) s st c T E X r T' E X'
+integer_law {p = p} {base = base} before a q y h k E =
+    end_token a.few (on_text a.few q y h) refl
+    (with_words (number p base (Z.or_zero (before ++ (Z.digits base _).text))) refl refl (omega (arith, y.count)) k)
 
 -- ---- zero
+
+-- no character is like the number 0
+pub looked_end : {o : Option ℕ} {n : ℕ} → unwrap_or o 0 ≡ n → o ≡ None → 0 ≡ n
+looked_end h e = rw e at h
 
 zero_hexadecimal : (p : Place) (cs : List Ch) → Z.look cs ≡ 120 → Z.zero_turn p cs ≡ Z.integer p 16 [] (Z.digits 16 (Z.drop_one cs))
 unfolding Z.zero_turn
@@ -90,8 +77,8 @@ zero_decimal : (p : Place) (cs : List Ch) → (Z.look cs ≡ 120 → ⊥) → (Z
 unfolding Z.zero_turn
 zero_decimal p cs e f = rw (ne_eqb _ _ e, ne_eqb _ _ f, Z.zero_turn)
 
-module _ {most : ℕ} {s : List ℕ} {st : State} {c : Cursor} {T X : List ℕ} {b : ℕ} {p : Place} {r : Result State Refusal}
-    {T' X' : List ℕ} (k : b ≡ Z.look (rest s c)) where
+module _ {most : ℕ} {s : List ℕ} {st : State} {c : Cursor} {T X : List ℕ} {p : Place} {r : Result State Refusal}
+    {T' X' : List ℕ} where
   based : {d : Cursor} {base : ℕ}
       → Z.zero_turn p (rest s c) ≡ Z.integer p base [] (Z.digits base (Z.drop_one (rest s c)))
       → Passed s c (Z.drop_one (rest s c)) d →
@@ -99,20 +86,20 @@ module _ {most : ℕ} {s : List ℕ} {st : State} {c : Cursor} {T X : List ℕ} 
       → (E : List ℕ) → Turned most (Z.zero_turn p (rest s c)) s st c T E X r T' E X'
   based {base = base} e q g E = turned_on (e ∙ ap (λ (cs : List Ch). Z.integer p base [] (Z.digits base cs)) (sym q.is)) q (g E)
 
-  pub hexadecimal_law : {d : Cursor} → b ≡ 120 → Passed s c (Z.drop_one (rest s c)) d
+  pub hexadecimal_law : {b : ℕ} {d : Cursor} → b ≡ Z.look (rest s c) → b ≡ 120 → Passed s c (Z.drop_one (rest s c)) d
       → ((E : List ℕ) → Turned most (Z.integer p 16 [] (Z.digits 16 (rest s d))) s st d T E X r T' E X')
       → (E : List ℕ) → Turned most (Z.zero_turn p (rest s c)) s st c T E X r T' E X'
-  hexadecimal_law e = based (zero_hexadecimal _ _ (sym k ∙ e))
+  hexadecimal_law k e = based (zero_hexadecimal _ _ (sym k ∙ e))
 
-  pub binary_law : {d : Cursor} → b ≡ 98 → Passed s c (Z.drop_one (rest s c)) d
+  pub binary_law : {b : ℕ} {d : Cursor} → b ≡ Z.look (rest s c) → b ≡ 98 → Passed s c (Z.drop_one (rest s c)) d
       → ((E : List ℕ) → Turned most (Z.integer p 2 [] (Z.digits 2 (rest s d))) s st d T E X r T' E X')
       → (E : List ℕ) → Turned most (Z.zero_turn p (rest s c)) s st c T E X r T' E X'
-  binary_law e = based (zero_binary _ _ (sym k ∙ e))
+  binary_law k e = based (zero_binary _ _ (sym k ∙ e))
 
-  pub decimal_law : (b ≡ 120 → ⊥) → (b ≡ 98 → ⊥)
+  pub decimal_law : {b : ℕ} → b ≡ Z.look (rest s c) → (b ≡ 120 → ⊥) → (b ≡ 98 → ⊥)
       → ((E : List ℕ) → Turned most (Z.integer p 10 [] (Z.digits 10 (rest s c))) s st c T E X r T' E X')
       → (E : List ℕ) → Turned most (Z.zero_turn p (rest s c)) s st c T E X r T' E X'
-  decimal_law e f g E = turned_same (zero_decimal _ _ (λ q. e (k ∙ q)) (λ q. f (k ∙ q))) (g E)
+  decimal_law k e f g E = turned_same (zero_decimal _ _ (λ q. e (k ∙ q)) (λ q. f (k ∙ q))) (g E)
 
 -- ---- dash
 

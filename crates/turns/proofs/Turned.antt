@@ -26,7 +26,7 @@ use Rattle.scan.specs.Scan.{Passed}
 use Rattle.slices.proofs.Writing.{wrote_none, wrote_trans}
 use Rattle.token_records.specs.declared.State.{State}
 use Rattle.token_records.specs.Push.{ErrorsPushed, TokenPushed}
-use Rattle.turns.specs.Turn.{at_text, at_cursor, Few, Ready, bounded, Turned}
+use Rattle.turns.specs.Turn.{at_text, at_cursor, Few, bounded, Turned}
 
 -- ---- cursors
 
@@ -43,34 +43,6 @@ passed_trans a b =
       is = b.is;
       forward = omega (arith, a.forward, b.forward);
       shorter = omega (arith, a.shorter, b.shorter);
-    }
-
-pub ready_on : {most : ℕ} {s T X : List ℕ} {f : State} {c d : Cursor} {cs : List Ch} → Ready most s T X f c
-    → Passed s c cs d → Ready most s T X f d
-ready_on a p =
-    record {
-      asks = record {
-        stands = p.stands;
-        small = a.asks.small;
-        room = omega (arith, a.asks.room, p.forward);
-        wide = a.asks.wide;
-      };
-      few = a.few;
-      wide = a.wide;
-    }
-
-pub ready_wrote : {most : ℕ} {s T X : List ℕ} {f : State} {c : Cursor} {n : ℕ} {t X' : List ℕ} {m : ℕ} → Ready most s T X f c
-    → Wrote X n t X' m → Ready most s T X' f c
-ready_wrote a w =
-    record {
-      asks = record {
-        stands = a.asks.stands;
-        small = a.asks.small;
-        room = a.asks.room;
-        wide = omega (arith, a.asks.wide, w.size);
-      };
-      few = a.few;
-      wide = a.wide;
     }
 
 -- ---- records

@@ -5,8 +5,8 @@ use mathlib.Core.List.{List, [], ◌∷◌}
 use Prim.Native.Nat.{ℕ, zero, suc, ◌-◌, ◌<◌, ◌≤◌}
 use native.Mathlib.Omega.{arith}
 use borrow.Author.Tests.{ltb-true, le-leb, lt-leb, eq-eqb, ne_eqb}
-use lib.ListN.{length, take, drop, replicate}
-use Rattle.std.specs.Prelude.{Option, Some, None, option_map, Result, Err}
+use lib.ListN.{length, take, drop}
+use Rattle.std.specs.Prelude.{Option, Some, None, MatchOption, option_map, unwrap_or, Result, Err}
 use Rattle.definition.specs.Source.{Place, Ch}
 use Rattle.definition.specs.Classes as C
 use Rattle.definition.specs.Kind as K
@@ -55,7 +55,7 @@ above_word b h =
     )
 
 white_runs : (cs : List Ch) → All Coded cs → Z.white cs ≡ run_of (C.is_foreign (Z.look (blanks cs))) (record { text = []; rest = blanks cs })
-unfolding Z.white blanks
+unfolding Z.white span_while
 white_runs [] q = refl
 white_runs (c ∷ cs) q =
     coded_same q.0 (λ n. by (C.is_foreign n) (C.is_white n)) Z.foreign (λ n e. rw e)
@@ -66,11 +66,12 @@ white_runs (c ∷ cs) q =
         elim t as (λ _. Z.Run)
         [ true ↦ Z.foreign | false ↦ elim u as (λ _. Z.Run) [ true ↦ Z.white cs | false ↦ Z.ends (record { text = []; rest = c ∷ cs }) ] ]
 
+    sp : Bool → Span
+    sp u = elim u as (λ _. Span) [ true ↦ Z.ahead (c.byte ∷ []) (span_while C.is_white cs) | false ↦ record { text = []; rest = c ∷ cs } ]
+
     go : Z.white cs ≡ run_of (C.is_foreign (Z.look (blanks cs))) (record { text = []; rest = blanks cs }) → (t : Bool)
         → C.is_foreign c.byte ≡ t → (u : Bool) → C.is_white c.byte ≡ u →
-        by t u
-        ≡ run_of (C.is_foreign (Z.look (elim u as (λ _. List Ch) [ true ↦ blanks cs | false ↦ c ∷ cs ])))
-        (record { text = []; rest = elim u as (λ _. List Ch) [ true ↦ blanks cs | false ↦ c ∷ cs ] })
+        by t u ≡ run_of (C.is_foreign (Z.look (sp u).rest)) (record { text = []; rest = (sp u).rest })
     go ih true e true f = never_both f (above_white c.byte (ltb-true _ _ e))
     go ih true e false f = rw e
     go ih false e true f = ih
@@ -127,17 +128,17 @@ asm_run s w cs o p k t e =
     white_runs cs o ∙ ap (λ (q : List Ch). run_of (C.is_foreign (Z.look q)) (record { text = []; rest = q })) (sym p)
     ∙ ap (λ (u : Bool). run_of u (record { text = []; rest = rest s w })) (ap C.is_foreign (sym k) ∙ e)
 
-module _ {most : ℕ} {s : List ℕ} {st : State} {c w : Cursor} {b : ℕ} {v : Bool} {T X : List ℕ} (p : Place)
-    (a : Ready most s T X st c) (pw : Passed s c (blanks (rest s c)) w) (k : b ≡ Z.look (rest s w)) (f : v ≡ C.is_foreign b) where
-  white_run : (t : Bool) → v ≡ t → Z.white (rest s c) ≡ run_of t (record { text = []; rest = rest s w })
-  white_run t e = asm_run s w _ (stands_coded a.asks.stands) pw.is k t (sym f ∙ e)
+module _ {most : ℕ} {s : List ℕ} {st : State} {c w : Cursor} {b : ℕ} {T X : List ℕ} (p : Place)
+    (a : Ready most s T X st c) (pw : Passed s c (blanks (rest s c)) w) (k : b ≡ Z.look (rest s w)) where
+  white_run : (t : Bool) → C.is_foreign b ≡ t → Z.white (rest s c) ≡ run_of t (record { text = []; rest = rest s w })
+  white_run t e = asm_run s w _ (stands_coded a.asks.stands) pw.is k t e
 
-  pub asm_foreign_law : {E T' E' X' : List ℕ} → v ≡ true
+  pub asm_foreign_law : {v : Bool} {E T' E' X' : List ℕ} → v ≡ C.is_foreign b → v ≡ true
       → Turned most (Z.assembly_turn p (Z.white (rest s c))) s st c T E X (Err Refusal.ForeignCharacter) T' E' X'
-  asm_foreign_law h =
-      end_refused Refusal.ForeignCharacter (ap (Z.assembly_turn p) (white_run true h) ∙ asm_foreign p) (omega arith)
+  asm_foreign_law f h =
+      end_refused Refusal.ForeignCharacter (ap (Z.assembly_turn p) (white_run true (sym f ∙ h)) ∙ asm_foreign p) (omega arith)
 
-  module _ (h : v ≡ false) {d : Cursor} (pd : Passed s w (Z.drop_one (rest s w)) d) where
+  module _ {d : Cursor} (pd : Passed s w (Z.drop_one (rest s w)) d) where
     pub asm_open_law : {E X₁ : List ℕ} {n : Scan} {r : Result State Refusal} {T' : List ℕ} → b ≡ 123
         → Spanned s d X st.text (Z.assembly (rest s d)) X₁ n →
         TokenPushed most T (at_text st n.cursor n.n)
@@ -146,15 +147,15 @@ module _ {most : ℕ} {s : List ℕ} {st : State} {c w : Cursor} {b : ℕ} {v : 
     asm_open_law e sp g =
         let z : Z.assembly (rest s d) ≡ Z.assembly (Z.drop_one (rest s w)) = ap Z.assembly pd.is in
         end_token a.few (on_text a.few (passed_trans (passed_trans pw pd) sp.passed) sp.wrote sp.room)
-        (ap (Z.assembly_turn p) (white_run false h) ∙ asm_open p _ (sym k ∙ e)
+        (ap (Z.assembly_turn p) (white_run false (ap C.is_foreign e)) ∙ asm_open p _ (sym k ∙ e)
         ∙ ap (λ (q : Span). Z.token_text q.rest K.InlineAssemblyFragment p q.text 0) (sym z))
         (with_words (tok K.InlineAssemblyFragment p (Z.assembly (rest s d)).text 0) refl refl
         (omega (arith, sp.wrote.count)) g)
 
-    pub asm_other_law : {E E' : List ℕ} {r : Result State Refusal} → (b ≡ 123 → ⊥)
-        → ErrorsPushed E (at_cursor st d) (replicate 1 (Z.token_error 3 p)) E' r
+    pub asm_other_law : {E E' : List ℕ} {r : Result State Refusal} → (b ≡ 123 → ⊥) → C.is_foreign b ≡ false
+        → ErrorsPushed E (at_cursor st d) (Z.token_error 3 p ∷ []) E' r
         → Turned most (Z.assembly_turn p (Z.white (rest s c))) s st c T E X r T E' X
-    asm_other_law e g =
+    asm_other_law e h g =
         end_errors a.few (on_text a.few (passed_trans pw pd) wrote_none (omega (arith, pw.forward, pd.forward, a.asks.room)))
         (ap (Z.assembly_turn p) (white_run false h) ∙ asm_other p _ (λ q. e (k ∙ q))) g
 
@@ -181,14 +182,14 @@ word_keyword : (p : Place) (s : Span) (k : ℕ) → (k ≡ 0 → ⊥) → word_k
 word_keyword p s zero e = absurd (e refl)
 word_keyword p s (suc k) e = refl
 
-word_run : (s : List ℕ) (w : Cursor) {b : ℕ} (cs : List Ch) (first : ℕ) → All Coded cs → rest s w ≡ (letters cs).rest
-    → b ≡ Z.look (rest s w) → (t : Bool) → C.is_foreign b ≡ t
+word_run : (s : List ℕ) (w : Cursor) (cs : List Ch) (first : ℕ) → All Coded cs → rest s w ≡ (letters cs).rest
+    → (t : Bool) → C.is_foreign (Z.look (rest s w)) ≡ t
     → Z.run_ahead (first ∷ []) (Z.word cs) ≡ run_of t (Z.ahead (first ∷ []) (letters cs))
-word_run s w cs first o p k t e =
+word_run s w cs first o p t e =
     ap (Z.run_ahead (first ∷ [])) (word_runs cs o)
     ∙ ahead_runs (C.is_foreign (Z.look (letters cs).rest)) (first ∷ []) (letters cs)
     ∙ ap (λ (u : Bool). run_of u (Z.ahead (first ∷ []) (letters cs)))
-    (ap (λ (q : List Ch). C.is_foreign (Z.look q)) (sym p) ∙ ap C.is_foreign (sym k) ∙ e)
+    (ap (λ (q : List Ch). C.is_foreign (Z.look q)) (sym p) ∙ e)
 
 -- the word as the code reads it back, and as the definition has it
 abbrev taken : State → Scan → List ℕ → List ℕ
@@ -200,10 +201,14 @@ spelled first cs = Z.ahead (first ∷ []) (letters cs)
 abbrev turn_at : Place → ℕ → List Ch → Turn
 turn_at p first cs = Z.word_turn p (Z.run_ahead (first ∷ []) (Z.word cs))
 
-module _ {most : ℕ} {s : List ℕ} {st : State} {c : Cursor} {T X X₁ X₂ : List ℕ} {first n b : ℕ} {u : Bool} {w : Scan}
+-- whether the next character is foreign; there may be none
+pub foreign_told : (o : Option ℕ) {b : ℕ} {u : Bool} → unwrap_or o 0 ≡ b → MatchOption o (u ≡ false) (λ x. u ≡ C.is_foreign x) → u ≡ C.is_foreign b
+foreign_told None e f = rw (sym e) f
+foreign_told (Some x) e f = rw (sym e) f
+
+module _ {most : ℕ} {s : List ℕ} {st : State} {c : Cursor} {T X X₁ X₂ : List ℕ} {first n : ℕ} {u : Bool} {w : Scan}
     (p : Place) (a : Ready most s T X st c) (q : Wrote X st.text (first ∷ []) X₁ n)
-    (sp : Spanned s c X₁ n (letters (rest s c)) X₂ w) (k : b ≡ Z.look (rest s w.cursor))
-    (i : u ≡ C.is_foreign b) where
+    (sp : Spanned s c X₁ n (letters (rest s c)) X₂ w) (i : u ≡ C.is_foreign (Z.look (rest s w.cursor))) where
   within : st.text ≤ length X
   within = omega (arith, a.asks.room, a.asks.wide, a.asks.small, a.asks.stands.inside)
 
@@ -214,7 +219,7 @@ module _ {most : ℕ} {s : List ℕ} {st : State} {c : Cursor} {T X X₁ X₂ : 
   taken_is = part_of within written (omega (arith, sp.room, sp.passed.stands.inside, a.asks.wide, a.asks.small))
 
   run : (t : Bool) → u ≡ t → Z.run_ahead (first ∷ []) (Z.word (rest s c)) ≡ run_of t (Z.ahead (first ∷ []) (letters (rest s c)))
-  run t e = word_run s w.cursor _ first (stands_coded a.asks.stands) sp.passed.is k t (sym i ∙ e)
+  run t e = word_run s w.cursor _ first (stands_coded a.asks.stands) sp.passed.is t (sym i ∙ e)
 
   pub word_foreign_law : {E T' E' X' : List ℕ} → u ≡ true
       → Turned most (turn_at p first (rest s c)) s st c T E X (Err Refusal.ForeignCharacter) T' E' X'

@@ -1,10 +1,11 @@
 -- What a turn requires and ensures: the records of Turn, stated over its parameters, with slices as they are now, or
 -- at entry and at exit. First the turn of the definition, then the parameters in order. Assumes nothing.
-use Rattle.std.specs.Prelude.{List, ℕ, Result}
+use Rattle.std.specs.Prelude.{List, ℕ, ◌-◌, Result}
 use Rattle.definition.specs.Slices.{MutSlice, MutLent, old, new}
 use Rattle.definition.specs.Source.{Place, Ch}
 use Rattle.definition.specs.Tokenizer as Z
 use Rattle.definition.specs.declared.refusal.Refusal.{Refusal}
+use Rattle.scan.specs.declared.Scan.{Scan}
 use Rattle.source.specs.Place.{placed, rest}
 use Rattle.token_records.specs.declared.State.{State}
 use Rattle.token_records.specs.Contract.{TokenPushed}
@@ -17,6 +18,11 @@ Ready t tokens text = T.Ready t.most t.s.now tokens.now text.now t.st t.c
 -- a token without text is pushed, at the end of the turn
 abbrev pub Plain : ℕ → Turn → MutLent → Result State Refusal → Type 0
 Plain k t tokens r = TokenPushed (T.token_record t.st.cursor k 0 0 0) t.most tokens (T.at_cursor t.st t.c) r
+
+-- a token is pushed whose text was written up to the end of a scan
+abbrev pub WithText : ℕ → ℕ → Turn → Scan → MutLent → Result State Refusal → Type 0
+WithText k base t end tokens r =
+    TokenPushed (T.token_record t.st.cursor k t.st.text (end.n - t.st.text) base) t.most tokens (T.at_text t.st end.cursor end.n) r
 
 -- the turn f, given the place of the token and the characters from c on
 abbrev pub Turned : (Place → List Ch → Z.Turn) → Turn → MutLent → MutLent → MutLent → Result State Refusal → Type 0

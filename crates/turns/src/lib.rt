@@ -2,26 +2,29 @@
 // passed one by one, for the reason that is beside `State`.
 #![tactic(auto)]
 
-ghost use Rattle.std.specs.Prelude.{false, [], ◌∷◌, ◌*◌, ◌-◌, ◌<◌, ◌≤◌, length, replicate};
+ghost use Rattle.std.specs.Prelude.{false, [], ◌∷◌, option_to_list, ◌≡◌, ◌*◌, ◌<◌, ◌≤◌, length};
 ghost use Rattle.definition.specs.Tokenizer as Z;
 ghost use Rattle.definition.specs.Numbers.{kind_number, token_error_number};
 ghost use Rattle.source.specs.Place.{placed};
-ghost use Rattle.token_records.specs.Contract.{TokenPushed, ErrorsPushed};
-ghost use Rattle.turns.specs.Turn.{at_text, token_record, Few};
-ghost use Rattle.turns.specs.Contract.{Ready, Plain, Turned, TurnedClean};
+ghost use Rattle.token_records.specs.Contract.{ErrorsPushed};
+ghost use Rattle.turns.specs.Turn.{at_text, Few};
+ghost use Rattle.turns.specs.Contract.{Ready, Plain, WithText, Turned, TurnedClean};
 
 use classes::character::{is_digit, is_foreign};
 use classes::spelling::keyword;
 use definition::kind::Kind;
+use definition::place::Place;
 use definition::refusal::Refusal;
 use definition::token_error::TokenError;
 use scan::{Scan, assembly, digits, look, quoted, skip, white, word};
 use slices::put;
 use source::{Cursor, step};
-use token_records::{Place, State, Token, push_errors, push_token};
+use token_records::{State, Token, push_errors, push_token};
 
 // What a turn reads, at most how many tokens there may be, the state before it, whose cursor is the token's place, and
-// the cursor after the characters already consumed.
+// the cursor after the characters already consumed. `Ready` is no invariant of it: it speaks of the written slices
+// too, and what it says of the cursor and the state, as ghost fields, would be proved anew for each
+// `Turn { c: .., ..turn }`, as it is now for each call.
 #[derive(Clone, Copy)]
 pub struct Turn<'a> {
     pub s: &'a [u8],
@@ -48,86 +51,75 @@ pub fn plain(turn: Turn, kind: Kind, tokens: &mut [u32]) -> Result<State, Refusa
     push_token(most, tokens, State { cursor: c, ..st }, token)
 }
 
-// Ends the turn where a scan did, with a token placed at `from`, whose text is what was written.
+// Ends the turn where a scan did, with a token whose text is what was written.
 fn with_text(
-    most: usize,
-    tokens: &mut [u32],
-    st: State,
-    from: Cursor,
+    turn: Turn,
     end: Scan,
     kind: Kind,
     base: u32,
+    tokens: &mut [u32],
 ) -> Result<State, Refusal>
-    requires { Few most st × (8 * most ≤ length tokens.old) × (st.text ≤ end.n) × (end.n ≤ 16384) }
-    ensures { TokenPushed (token_record from (kind_number kind) st.text (end.n - st.text) base)
-        most tokens (at_text st end.cursor end.n) result }
+    requires { Few turn.most turn.st × (8 * turn.most ≤ length tokens.old) × (turn.st.text ≤ end.n) × (end.n ≤ 16384) }
+    ensures { WithText (kind_number kind) base turn.entry end tokens result }
 {
+    let Turn { most, st, .. } = turn;
     let token = Token {
         kind,
-        place: Place::from(from),
+        place: Place::from(st.cursor),
         start: st.text as u32,
         size: (end.n - st.text) as u32,
         base,
     };
-    let on = State {
-        cursor: end.cursor,
-        text: end.n,
-        ..st
-    };
-    push_token(most, tokens, on, token)
+    push_token(most, tokens, at_scan(st, end), token)
 }
 
-// Ends the turn with `count` errors placed at `from`. The text up to `end` is kept.
-pub fn with_errors(
-    errors: &mut [u32],
+// Ends the turn where a scan did, with an error at the place of the turn. The text up to the scan's end is kept.
+pub fn with_error(
     st: State,
-    from: Cursor,
     end: Scan,
-    count: usize,
     error: TokenError,
+    errors: &mut [u32],
 ) -> Result<State, Refusal>
-    requires { (1024 ≤ length errors.old) × (st.errors ≤ 255) × (count ≤ 16384) }
-    ensures { ErrorsPushed (replicate count (Z.token_error (token_error_number error) (placed from))) errors (at_text st end.cursor end.n) result }
+    requires { (1024 ≤ length errors.old) × (st.errors ≤ 255) }
+    ensures { ErrorsPushed (Z.token_error (token_error_number error) (placed st.cursor) ∷ []) errors (at_text st end.cursor end.n) result }
 {
-    let on = State {
+    push_errors(errors, at_scan(st, end), 1, error, Place::from(st.cursor))
+}
+
+// The state where a scan ended.
+fn at_scan(st: State, end: Scan) -> State
+    ensures { result ≡ at_text st end.cursor end.n }
+{
+    State {
         cursor: end.cursor,
         text: end.n,
         ..st
-    };
-    push_errors(errors, on, count, error, Place::from(from))
+    }
 }
 
 // ---- numbers
 
-// A decimal integer, after its first digit or dash `first`.
-pub fn number_turn(
+// An integer of a base, a number as in `is_digit_of`. Its text begins with `first`, if there is one; no text gives `0`.
+pub fn integer_turn(
     turn: Turn,
-    first: u8,
+    first: Option<u8>,
+    base: u32,
     tokens: &mut [u32],
     text: &mut [u8],
 ) -> Result<State, Refusal>
     requires { Ready turn tokens text × (turn.st.text < turn.c.at) }
-    ensures { TurnedClean (λ p cs. Z.integer p 10 (first ∷ []) (Z.digits 10 cs)) turn.entry tokens text result }
+    ensures { TurnedClean (λ p cs. Z.integer p base (option_to_list first) (Z.digits base cs)) turn.entry tokens text result }
 {
-    let Turn { s, most, st, c } = turn;
-    let n = put(text, st.text, first);
-    let end = digits(s, c, 10, text, n);
-    with_text(most, tokens, st, st.cursor, end, Kind::Integer, 10)
-}
-
-// An integer after its leading `0` and the letter of its base, if any. No digits give the text `0`.
-fn based_turn(turn: Turn, base: u32, tokens: &mut [u32], text: &mut [u8]) -> Result<State, Refusal>
-    requires { Ready turn tokens text × (turn.st.text < turn.c.at) }
-    ensures { TurnedClean (λ p cs. Z.integer p base [] (Z.digits base cs)) turn.entry tokens text result }
-{
-    let Turn { s, most, st, c } = turn;
-    let end = digits(s, c, base, text, st.text);
-    if end.n == st.text {
-        let n = put(text, st.text, b'0');
-        let end = Scan { n, ..end };
-        return with_text(most, tokens, st, st.cursor, end, Kind::Integer, base);
+    let Turn { s, st, c, .. } = turn;
+    let mut n = st.text;
+    if let Some(b) = first {
+        n = put(text, n, b);
     }
-    with_text(most, tokens, st, st.cursor, end, Kind::Integer, base)
+    let mut end = digits(s, c, base, text, n);
+    if end.n == st.text {
+        end.n = put(text, st.text, b'0');
+    }
+    with_text(turn, end, Kind::Integer, base, tokens)
 }
 
 // An integer after its leading `0`: `x` or `b` sets the base.
@@ -136,16 +128,12 @@ pub fn zero_turn(turn: Turn, tokens: &mut [u32], text: &mut [u8]) -> Result<Stat
     ensures { TurnedClean Z.zero_turn turn.entry tokens text result }
 {
     let Turn { s, c, .. } = turn;
-    let b = look(s, c);
-    if b == b'x' {
-        let d = skip(s, c);
-        return based_turn(Turn { c: d, ..turn }, 16, tokens, text);
-    }
-    if b == b'b' {
-        let d = skip(s, c);
-        return based_turn(Turn { c: d, ..turn }, 2, tokens, text);
-    }
-    based_turn(turn, 10, tokens, text)
+    let (base, c) = match look(s, c) {
+        Some(b'x') => (16, skip(s, c)),
+        Some(b'b') => (2, skip(s, c)),
+        _ => (10, c),
+    };
+    integer_turn(Turn { c, ..turn }, None, base, tokens, text)
 }
 
 // After a dash: an arrow `->`, a negative integer, or Minus, which consumes the next character too.
@@ -163,7 +151,7 @@ pub fn dash_turn(turn: Turn, tokens: &mut [u32], text: &mut [u8]) -> Result<Stat
         return plain(Turn { c: d, ..turn }, Kind::RArrow, tokens);
     }
     if is_digit(b) {
-        return number_turn(turn, b'-', tokens, text);
+        return integer_turn(turn, Some(b'-'), 10, tokens, text);
     }
     plain(Turn { c: d, ..turn }, Kind::Minus, tokens)
 }
@@ -180,30 +168,23 @@ fn asm_turn(
     requires { Ready turn tokens text × (1024 ≤ length errors.old) }
     ensures { Turned (λ p cs. Z.assembly_turn p (Z.white cs)) turn.entry tokens errors text result }
 {
-    let Turn { s, most, st, c } = turn;
+    let Turn { s, st, c, .. } = turn;
     let w = white(s, c);
-    let b = look(s, w);
-    if is_foreign(b) {
-        return Err(Refusal::ForeignCharacter);
-    }
     let d = skip(s, w);
-    if b == b'{' {
-        let end = assembly(s, d, text, st.text);
-        return with_text(
-            most,
-            tokens,
-            st,
-            st.cursor,
-            end,
-            Kind::InlineAssemblyFragment,
-            0,
-        );
+    match look(s, w) {
+        Some(b'{') => {
+            let end = assembly(s, d, text, st.text);
+            with_text(turn, end, Kind::InlineAssemblyFragment, 0, tokens)
+        }
+        Some(b) if is_foreign(b) => Err(Refusal::ForeignCharacter),
+        _ => {
+            let end = Scan {
+                cursor: d,
+                n: st.text,
+            };
+            with_error(st, end, TokenError::NoAssembly, errors)
+        }
     }
-    let end = Scan {
-        cursor: d,
-        n: st.text,
-    };
-    with_errors(errors, st, st.cursor, end, 1, TokenError::NoAssembly)
 }
 
 const ASSEMBLY: &[u8] = b"asm";
@@ -220,10 +201,10 @@ pub fn word_turn(
     ensures { Turned (λ p cs. Z.word_turn p (Z.run_ahead (first ∷ []) (Z.word cs)))
         turn.entry tokens errors text result }
 {
-    let Turn { s, most, st, c } = turn;
+    let Turn { s, st, c, .. } = turn;
     let n = put(text, st.text, first);
     let end = word(s, c, text, n);
-    if is_foreign(look(s, end.cursor)) {
+    if look(s, end.cursor).is_some_and(is_foreign) {
         return Err(Refusal::ForeignCharacter);
     }
     let spelled = &text[st.text..end.n];
@@ -236,7 +217,7 @@ pub fn word_turn(
     }
     match keyword(spelled) {
         Some(kind) => plain(after, kind, tokens),
-        None => with_text(most, tokens, st, st.cursor, end, Kind::Identifier, 0),
+        None => with_text(turn, end, Kind::Identifier, 0, tokens),
     }
 }
 
@@ -252,17 +233,15 @@ pub fn string_turn(
     requires { Ready turn tokens text × (1024 ≤ length errors.old) }
     ensures { Turned (λ p cs. Z.string_turn p (Z.quoted false cs)) turn.entry tokens errors text result }
 {
-    let Turn { s, most, st, c } = turn;
-    let from = st.cursor;
+    let Turn { s, st, c, .. } = turn;
     let q = quoted(s, c, text, st.text);
-    let dropped = Scan {
-        n: st.text,
-        ..q.end
-    };
-    let unknown = TokenError::UnknownEscape;
-    let st = with_errors(errors, st, from, dropped, q.unknown, unknown)?;
-    if q.closed {
-        return with_text(most, tokens, st, from, q.end, Kind::String, 0);
+    let place = Place::from(st.cursor);
+    let st = push_errors(errors, st, q.unknown, TokenError::UnknownEscape, place)?;
+    match q.end {
+        Ok(end) => with_text(Turn { st, ..turn }, end, Kind::String, 0, tokens),
+        Err(end) => {
+            let dropped = Scan { n: st.text, ..end };
+            with_error(st, dropped, TokenError::UnclosedString, errors)
+        }
     }
-    with_errors(errors, st, from, dropped, 1, TokenError::UnclosedString)
 }

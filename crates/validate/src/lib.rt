@@ -1,17 +1,19 @@
 // Validates the token and error records passed to Read: the counts, the lengths of the slices, and each record.
 #![tactic(auto)]
 
-ghost use Rattle.std.specs.Prelude.{◌≡◌, ◌*◌, ◌≤◌, length};
+ghost use Rattle.std.specs.Prelude.{◌≡◌, List, ℕ};
+ghost use Rattle.std.specs.Simd.{first_chunks};
 ghost use Rattle.definition.specs.Slices.{at_entry};
 ghost use Rattle.definition.specs.Records as R;
 ghost use Rattle.definition.specs.Operations as O;
 ghost use Rattle.definition.specs.Source.{nowhere, is_some};
-ghost use Rattle.token_records.specs.Push.{place_of};
+ghost use Rattle.definition.specs.Places.{place_of};
 ghost use Rattle.token_records.specs.Tested.{words_of};
 
 use definition::limit;
+use definition::place::Place;
 use definition::token_error::TokenError;
-use token_records::{Place, Token, valid_token};
+use token_records::{Token, valid_place, valid_token};
 
 // ---- tokens
 
@@ -36,7 +38,7 @@ fn remember(previous: Previous, token: Token) -> Previous
         × (result.end ≡ R.text_end previous.end (words_of token)) }
 {
     let end = if token.kind.has_text() {
-        token.start as usize + token.size as usize
+        token.part().1
     } else {
         previous.end
     };
@@ -46,18 +48,17 @@ fn remember(previous: Previous, token: Token) -> Previous
     }
 }
 
-// Whether each of `count` token records is valid.
-fn valid_tokens(tokens: &[u32], count: usize, text: &[u8]) -> bool
-    requires { 8 * count ≤ length tokens.now }
-    ensures { result ≡ is_some (R.tokens_of (at_entry tokens) (at_entry text) nowhere 0 0 count) }
+// Whether each token record is valid. Each is compared with those before it.
+fn valid_tokens(records: &[[u32; 8]], text: &[u8]) -> bool
+    ensures { (tokens : List ℕ) (n : ℕ) → at_entry records ≡ first_chunks 8 n tokens
+        → result ≡ is_some (R.tokens_of tokens (at_entry text) nowhere 0 0 n) }
 {
-    let start = Place { line: 0, column: 0 };
     let mut previous = Previous {
-        place: start,
+        place: Place::NOWHERE,
         end: 0,
     };
-    for i in 0..count {
-        let Some(token) = valid_token(tokens, i, text) else {
+    for words in records {
+        let Some(token) = valid_token(words, text) else {
             return false;
         };
         if !follows(previous, token) {
@@ -70,29 +71,20 @@ fn valid_tokens(tokens: &[u32], count: usize, text: &[u8]) -> bool
 
 // ---- errors
 
-fn valid_error(number: u32, place: Place, fourth: u32) -> bool
-    ensures { result ≡ R.valid_error
-        (record { number = number; line = place.line; column = place.column; fourth = fourth }) }
+fn valid_error(words: &[u32; 4]) -> bool
+    ensures { result ≡ R.valid_error (R.error_at words.now 0) }
 {
-    TokenError::try_from(number).is_ok() & place.valid() & (fourth == 0)
+    let [number, line, column, fourth] = *words;
+    let place = Place { line, column };
+    TokenError::try_from(number).is_ok() & valid_place(place) & (fourth == 0)
 }
 
-// Whether each of `count` error records is valid.
-fn valid_errors(errors: &[u32], count: usize) -> bool
-    requires { 4 * count ≤ length errors.now }
-    ensures { result ≡ is_some (R.errors_of (at_entry errors) 0 count) }
+// Whether each error record is valid.
+fn valid_errors(records: &[[u32; 4]]) -> bool
+    ensures { (errors : List ℕ) (n : ℕ) → at_entry records ≡ first_chunks 4 n errors
+        → result ≡ is_some (R.errors_of errors 0 n) }
 {
-    for i in 0..count {
-        let k = 4 * i;
-        let place = Place {
-            line: errors[k + 1],
-            column: errors[k + 2],
-        };
-        if !valid_error(errors[k], place, errors[k + 3]) {
-            return false;
-        }
-    }
-    true
+    records.iter().all(valid_error)
 }
 
 // ---- both
@@ -111,8 +103,11 @@ pub fn valid_records(
     if (limit::TOKENS < count) | (limit::TOKEN_ERRORS < error_count) {
         return false;
     }
-    if (tokens.len() < 8 * count) | (errors.len() < 4 * error_count) {
+    let Some(token_records) = tokens.as_chunks().0.get(..count) else {
         return false;
-    }
-    valid_tokens(tokens, count, text) & valid_errors(errors, error_count)
+    };
+    let Some(error_records) = errors.as_chunks().0.get(..error_count) else {
+        return false;
+    };
+    valid_tokens(token_records, text) & valid_errors(error_records)
 }

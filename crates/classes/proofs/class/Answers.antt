@@ -14,11 +14,11 @@ returns-then-is_white-clause-class c = white_begins _ _ (sym c.is_white.ensures 
 pub returns-then-is_foreign-clause-class : goal.returns-then-is_foreign-clause-class
 returns-then-is_foreign-clause-class c = rw class_is (search yes)
 
-pub returns-then-c-d-clause-class : goal.returns-then-c-d-clause-class
-returns-then-c-d-clause-class c = rw class_is (search (no, is))
+pub returns-then-opens_comment-clause-class : goal.returns-then-opens_comment-clause-class
+returns-then-opens_comment-clause-class c = rw class_is (search (no, yes))
 
 pub returns-in-Some-clause-class : goal.returns-in-Some-clause-class
-returns-in-Some-clause-class c = rw class_is (search (no, is, not, kind_there))
+returns-in-Some-clause-class c = rw class_is (search (no, is, kind_there))
 
 pub returns-in-Some-symbol-clause-class : goal.returns-in-Some-symbol-clause-class
 returns-in-Some-symbol-clause-class c = rw class_is (search (no, is, not, kind_there, no_spelling) depth 7)

@@ -1,6 +1,6 @@
 use Rattle.expression_laws.specs.Post.{suffixes_on, operators_on, casts_on, LoopOn, listed_on}
 use Rattle.expression_laws.proofs.Turns.{GoesTurned, ItemsTurned}
-use Rattle.fallible.specs.Answer.{node_answer}
+use Rattle.steps.specs.Contract.{going}
 use Prim.Native.Nat.{◌-◌, ◌+◌, ◌*◌}
 use Rattle.expression_laws.proofs.Levels.{Levelled}
 use Rattle.leaves.specs.Leaves.{listed_of, level_of}
@@ -84,40 +84,37 @@ decreases-typed_name l = 32 * (l.tokens.count - l.parser.now.state.at) + 3
 abbrev pub decreases-unary : goal.decreases-unary
 decreases-unary l = 32 * (l.tokens.count - l.parser.now.state.at) + 10
 
-abbrev pub invariant-access-loop-a : goal.invariant-access-loop-a
-invariant-access-loop-a l =
+abbrev pub invariant-access-loop-tokens : goal.invariant-access-loop-tokens
+invariant-access-loop-tokens l =
     let t = l.tokens in
     let p = l.initial.parser in
     let q = l.parser in
     GoesTurned suffixes_on t.records.now t.text.now t.count l.nesting l.from.pos l.from.reported
-    l.initial.file p.reported p.full (node_answer l.initial.a p.state) l.file q.reported q.full
-    (node_answer l.a q.state)
+    l.initial.file p.reported p.full (going p.state l.initial.place 0) l.file q.reported q.full
+    (going q.state l.place 0)
 
-abbrev pub decreases-access-loop-a : goal.decreases-access-loop-a
-decreases-access-loop-a l = l.tokens.count - l.parser.state.at
+abbrev pub decreases-access-loop-tokens : goal.decreases-access-loop-tokens
+decreases-access-loop-tokens l = l.tokens.count - l.parser.state.at
 
-abbrev pub invariant-bit_or-loop-k : goal.invariant-bit_or-loop-k
-invariant-bit_or-loop-k l =
+abbrev pub invariant-bit_or-loop-level : goal.invariant-bit_or-loop-level
+invariant-bit_or-loop-level l =
     let t = l.tokens in
     let p = l.initial.parser in
     let q = l.parser in
     Levelled t.records.now t.text.now t.count l.nesting l.from l.initial.file p.reported p.full
-    (node_answer l.initial.a p.state) l.file q.reported q.full (node_answer l.a q.state) l.k
+    (going p.state l.initial.place 0) l.file q.reported q.full (going q.state l.place 0) l.level-index
 
-abbrev pub decreases-bit_or-loop-k : goal.decreases-bit_or-loop-k
-decreases-bit_or-loop-k l = 6 - l.k
-
-abbrev pub invariant-cast-loop-a : goal.invariant-cast-loop-a
-invariant-cast-loop-a l =
+abbrev pub invariant-cast-loop-parser : goal.invariant-cast-loop-parser
+invariant-cast-loop-parser l =
     let t = l.tokens in
     let p = l.initial.parser in
     let q = l.parser in
     GoesTurned casts_on t.records.now t.text.now t.count l.nesting l.from.pos l.from.reported
-    l.initial.file p.reported p.full (node_answer l.initial.a p.state) l.file q.reported q.full
-    (node_answer l.a q.state)
+    l.initial.file p.reported p.full (going p.state l.initial.place 0) l.file q.reported q.full
+    (going q.state l.place 0)
 
-abbrev pub decreases-cast-loop-a : goal.decreases-cast-loop-a
-decreases-cast-loop-a l = l.tokens.count - l.parser.state.at
+abbrev pub decreases-cast-loop-parser : goal.decreases-cast-loop-parser
+decreases-cast-loop-parser l = l.tokens.count - l.parser.state.at
 
 abbrev pub invariant-list-loop-error : goal.invariant-list-loop-error
 invariant-list-loop-error l =
@@ -131,14 +128,14 @@ invariant-list-loop-error l =
 abbrev pub decreases-list-loop-error : goal.decreases-list-loop-error
 decreases-list-loop-error l = l.tokens.count - l.parser.state.at
 
-abbrev pub invariant-operators-loop-a : goal.invariant-operators-loop-a
-invariant-operators-loop-a l =
+abbrev pub invariant-operators-loop-op : goal.invariant-operators-loop-op
+invariant-operators-loop-op l =
     let t = l.tokens in
     let p = l.initial.parser in
     let q = l.parser in
     GoesTurned (operators_on (level_of l.level)) t.records.now t.text.now t.count l.nesting l.from.pos l.from.reported
-    l.initial.file p.reported p.full (node_answer l.initial.a p.state) l.file q.reported q.full
-    (node_answer l.a q.state)
+    l.initial.file p.reported p.full (going p.state l.initial.place 0) l.file q.reported q.full
+    (going q.state l.place 0)
 
-abbrev pub decreases-operators-loop-a : goal.decreases-operators-loop-a
-decreases-operators-loop-a l = l.tokens.count - l.parser.state.at
+abbrev pub decreases-operators-loop-op : goal.decreases-operators-loop-op
+decreases-operators-loop-op l = l.tokens.count - l.parser.state.at

@@ -1,12 +1,7 @@
 use mathlib.Core.Path.{sym, ◌∙◌}
 use Rattle.fallible.proofs.Calls.{left, refused_is, not_refused, exit_refused}
-use Rattle.leaves.proofs.Atoms.{close_ended, close_refused, close_on}
+use Rattle.leaves.proofs.Atoms.{close_refused, close_on}
 use Rattle.leaves.proofs.close.Goals as goal
-
-pub returns-in_err-recover : goal.returns-in_err-recover
-returns-in_err-recover c =
-    let g = sym c.recover.ensures ∙ c.in_err-recover.was in
-    rw (left c.from_residual.ensures.1 ∙ sym (refused_is _ g)) (close_ended c.requires (exit_refused _ g))
 
 pub returns-in_err-recover-2 : goal.returns-in_err-recover-2
 returns-in_err-recover-2 c =

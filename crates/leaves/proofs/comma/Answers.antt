@@ -19,4 +19,4 @@ pub returns : goal.returns
 returns c =
     comma_other c.requires c.peek-t.ensures (other_number c.in_default.not-Comma)
     (unequal_kinds c.peek-t.result.kind c.args.close c.eq.ensures c.if-eq.false)
-    (other_number c.in_default-kind.not-End) c.entry-error.ensures c.note.ensures
+    (other_number c.in_default-kind.not-End) c.new-error.ensures c.note.ensures

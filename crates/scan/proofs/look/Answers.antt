@@ -1,9 +1,8 @@
-use Rattle.scan.proofs.Laws.{look_end, look_here}
-use borrow.Author.Rules.{rules}
+use mathlib.Core.Path.{ap, ◌∙◌}
+use native.Mathlib.Omega.{arith}
+use Rattle.std.specs.Option.{unwrap_or}
+use Rattle.scan.proofs.Laws.{looked}
 use Rattle.scan.proofs.look.Goals as goal
 
-pub returns-then-c-s : goal.returns-then-c-s
-returns-then-c-s c = search (look_here, rules)
-
-pub returns-else-c-s : goal.returns-else-c-s
-returns-else-c-s c = search (look_end, rules)
+pub returns : goal.returns
+returns c = ap (λ o. unwrap_or o 0) c.copied.ensures ∙ c.get.ensures.lookup.4 (omega arith) 0 ∙ looked c.requires

@@ -1,10 +1,7 @@
-use native.Mathlib.Omega.{arith}
-use Rattle.sentences.proofs.Saying.{told_short}
-use Rattle.sentences.proofs.Messages.{token_says}
+use mathlib.Core.Path.{sym}
+use Rattle.sentences.proofs.Saying.{said_none, said_same}
+use Rattle.sentences.proofs.Messages.{token_none}
 use Rattle.sentences.proofs.say_token_error.Goals as goal
 
-pub returns : goal.returns
-returns c =
-    let t = c.say_token_message.ensures in
-    let s = told_short t (token_says c.args.script.now c.args.errors.now c.args.i c.character_of.ensures) c.requires.2 in
-    grind (arith, s, t.same)
+pub returns-in_default : goal.returns-in_default
+returns-in_default c = said_same said_none (sym (token_none c.args.script.now c.args.words.now c.in_default.ensures.1))

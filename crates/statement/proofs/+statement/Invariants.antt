@@ -4,9 +4,6 @@ use Rattle.expression_laws.specs.Post.{LoopOn}
 use Rattle.statement.specs.Post.{statements_on}
 use Rattle.statement.proofs.+statement.Given as goal
 
-abbrev pub decreases-block : goal.decreases-block
-decreases-block l = 32 * (l.tokens.count - l.parser.now.state.at) + 2
-
 abbrev pub decreases-body : goal.decreases-body
 decreases-body l = 32 * (l.tokens.count - l.parser.now.state.at) + 1
 
@@ -17,19 +14,13 @@ abbrev pub decreases-guarded : goal.decreases-guarded
 decreases-guarded l = 32 * (l.tokens.count - l.parser.now.state.at) + 5
 
 abbrev pub decreases-if_statement : goal.decreases-if_statement
-decreases-if_statement l = 32 * (l.tokens.count - l.parser.now.state.at) + 2
-
-abbrev pub decreases-loop_statement : goal.decreases-loop_statement
-decreases-loop_statement l = 32 * (l.tokens.count - l.parser.now.state.at) + 2
+decreases-if_statement l = 32 * (l.tokens.count - l.parser.now.state.at) + 6
 
 abbrev pub decreases-statement : goal.decreases-statement
 decreases-statement l = 32 * (l.tokens.count - l.parser.now.state.at) + 4
 
 abbrev pub decreases-statement_rule : goal.decreases-statement_rule
 decreases-statement_rule l = 32 * (l.tokens.count - l.parser.now.state.at) + 3
-
-abbrev pub decreases-while_statement : goal.decreases-while_statement
-decreases-while_statement l = 32 * (l.tokens.count - l.parser.now.state.at) + 2
 
 abbrev pub invariant-body_rest-loop-parser : goal.invariant-body_rest-loop-parser
 invariant-body_rest-loop-parser l =

@@ -9,10 +9,10 @@ returns-then-eq c =
 pub returns-in-End : goal.returns-in-End
 returns-in-End c =
     expect_end c.requires.0 c.peek-t.ensures (unequal_kinds c.peek-t.result.kind c.args.wanted c.eq.ensures c.if-eq.false) c.raise.ensures
-    (same_number c.in-End.is) c.entry-error.ensures
+    (same_number c.in-End.is) c.new-error.ensures
 
 pub returns : goal.returns
 returns c =
     expect_other c.requires.0 c.peek-t.ensures
     (unequal_kinds c.peek-t.result.kind c.args.wanted c.eq.ensures c.if-eq.false) c.raise-2.ensures
-    (other_number c.in_default.not-End) c.entry-error-2.ensures
+    (other_number c.in_default.not-End) c.new-error-2.ensures

@@ -8,10 +8,10 @@ returns-in-Identifier c = identifier_there c.requires c.peek-t.ensures (same_num
 pub returns-in-End : goal.returns-in-End
 returns-in-End c =
     identifier_end c.requires c.peek-t.ensures c.raise.ensures (same_number c.in-End.is)
-    c.entry-error.ensures
+    c.at_end-error.ensures
 
 pub returns-in_default : goal.returns-in_default
 returns-in_default c =
     identifier_other c.requires c.peek-t.ensures c.raise-in_default.ensures
     (other_number c.in_default.not-Identifier) (other_number c.in_default.not-End)
-    c.entry-error-in_default.ensures
+    c.at-error.ensures

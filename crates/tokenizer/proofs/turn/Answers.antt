@@ -55,7 +55,7 @@ pub returns-in-Digit : goal.returns-in-Digit
 returns-in-Digit c =
     taken c.args.st Class.Digit c.in-Digit.is c.step-c.ensures
     c.look-next.ensures c.class.ensures.class c.requires.0
-    (c.number_turn.ensures _)
+    (c.integer_turn.ensures _)
 
 pub returns-in-Unknown : goal.returns-in-Unknown
 returns-in-Unknown c = search (taken_error, rules)

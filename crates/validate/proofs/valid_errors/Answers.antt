@@ -1,13 +1,13 @@
-use Rattle.validate.proofs.Turns.{error_more, error_bad, errors_end}
+use mathlib.Core.Path.{◌≡◌}
+use mathlib.Core.Bool.{true, false}
+use borrow.Author.Rules.{rules}
+use Rattle.std.proofs.lemmas.Iterator.{cases_from_all, YieldsList-from_slice}
+use Rattle.definition.specs.Records.{valid_error, error_at}
+use Rattle.validate.proofs.Turns.{errors_tested}
 use Rattle.validate.proofs.valid_errors.Goals as goal
 
-pub returns-then-not-valid_error : goal.returns-then-not-valid_error
-returns-then-not-valid_error c =
-    error_bad c.loop-i.invariant c.loop-i-test.true c.valid_error.ensures c.if-not-valid_error.true
-
-pub loop-i-preserved : goal.loop-i-preserved
-loop-i-preserved c =
-    error_more c.loop-i.invariant c.loop-i-test.true c.valid_error.ensures c.if-not-valid_error.false
-
 pub returns : goal.returns
-returns c = errors_end c.loop-i.invariant c.loop-i-test.false
+returns c = λ E n e.
+    errors_tested E _ n e
+    (cases_from_all _ _ _ (λ r. valid_error (error_at r 0) ≡ true) (λ r. valid_error (error_at r 0) ≡ false) c.all.ensures.ran
+    (YieldsList-from_slice c.args.records.now (cc)) (λ x q k. search rules) (λ x q k. search rules))

@@ -1,61 +1,44 @@
-use Rattle.steps.proofs.SameKind.{same_number, other_number}
-use Rattle.fallible.proofs.Calls.{passed_on, is_done, is_stop}
-use Rattle.items.proofs.Aliased.{alias_end, alias_other, alias_stops, alias_follows, alias_room, alias_done}
-use Rattle.steps.proofs.Moves.{asks_fore, asked_seen, asked_moved}
 use mathlib.Core.Path.{refl}
+use Rattle.fallible.specs.Answer.{nowhere}
+use Rattle.fallible.proofs.Calls.{left, stop_is}
+use Rattle.steps.proofs.OneToken.{expected_stop, write_node_stop}
+use Rattle.items.proofs.Aliased.{named_on, alias_stops, alias_done}
+use Rattle.items.specs.Rules.{alias_rule}
 use native.Mathlib.Omega.{arith}
 use Rattle.items.proofs.others.alias.Goals as goal
 
-pub peek-t-requires : goal.peek-t-requires
-peek-t-requires c = (c.requires.asks.held, c.requires.asks.at)
-
-pub returns-in-End : goal.returns-in-End
-returns-in-End c = alias_end _ _ _ c.requires c.peek-t.ensures (same_number c.in-End.is) c.refuse.ensures
-
-pub entry-error-requires : goal.entry-error-requires
-entry-error-requires c = omega (arith, c.peek-t.ensures.places)
-
-pub returns-in_default-kind : goal.returns-in_default-kind
-returns-in_default-kind c =
-    alias_other _ _ _ c.requires c.peek-t.ensures (other_number c.in_default.not-End) (other_number c.in_default-kind.not-Identifier)
-    c.entry-error.ensures c.raise.ensures
-
-pub expect-requires : goal.expect-requires
-expect-requires c = (asks_fore c.requires.asks c.peek-t.ensures, omega arith)
+pub returns-in_err-t : goal.returns-in_err-t
+unfolding alias_rule
+returns-in_err-t c = rw (left c.from_residual.ensures.1) (c.in_err-t.ensures _ _ _)
 
 pub returns-in_err-expect : goal.returns-in_err-expect
-returns-in_err-expect c = rw (passed_on c.in_err-expect.was c.from_residual.ensures.1)
-    (alias_stops _ _ _ c.requires c.peek-t.ensures (same_number c.in-Identifier.is)
-    c.expect.ensures (is_stop c.in_err-expect.was))
+returns-in_err-expect c = rw (left c.from_residual-in_err-expect.ensures.1)
+    (alias_stops _ _ _ c.requires c.in_ok-t.ensures.seen c.in_ok-t.ensures.kind
+    (named_on c.in_ok-t.ensures c.in_err-expect.ensures) (stop_is _))
 
-pub ty-b-requires : goal.ty-b-requires
-ty-b-requires c =
-    asked_moved (asked_seen c.requires c.peek-t.ensures) c.expect.ensures.moved refl
-    (omega (arith, c.expect.auto)) (omega (arith, c.expect.auto))
+pub returns-in_err-ty : goal.returns-in_err-ty
+returns-in_err-ty c = rw (left c.from_residual-in_err-ty.ensures.1)
+    (alias_done _ _ _ c.requires c.in_ok-t.ensures.seen c.in_ok-t.ensures.kind
+    (named_on c.in_ok-t.ensures c.in_ok-expect.ensures) refl c.in_err-ty.ensures
+    (omega arith) (omega arith) (λ p. expected_stop p (stop_is _)) refl (write_node_stop (stop_is _)))
 
-pub expect_after-c-requires : goal.expect_after-c-requires
-expect_after-c-requires c = (
-  alias_follows c.requires c.peek-t.ensures c.expect.ensures c.ty-b.ensures
-      (is_done c.in_ok-expect.was) (omega (arith, c.ty-b.auto, c.expect.auto))
-      (omega (arith, c.ty-b.auto, c.expect.auto)),
-  omega arith,
-)
+pub returns-in_err-expect_after : goal.returns-in_err-expect_after
+returns-in_err-expect_after c = rw (left c.from_residual-in_err-expect_after.ensures.1)
+    (alias_done _ _ _ c.requires c.in_ok-t.ensures.seen c.in_ok-t.ensures.kind
+    (named_on c.in_ok-t.ensures c.in_ok-expect.ensures) refl c.in_ok-ty.ensures
+    (omega arith) (omega arith) (λ _. c.in_err-expect_after.ensures _ _) refl (write_node_stop (stop_is _)))
 
 pub write_text_node-requires : goal.write_text_node-requires
-write_text_node-requires c =
-    alias_room c.requires c.peek-t.ensures c.expect.ensures c.ty-b.ensures
-    (same_number c.in-Identifier.is) c.expect_after-c.ensures (omega (arith, c.ty-b.auto))
-
-pub shape_of-file : goal.shape_of-file
-shape_of-file c = omega (arith, c.ty-b.auto, c.write_text_node.auto)
+write_text_node-requires c = omega (
+  arith,
+  (c.in_ok-expect_after.ensures nowhere 0).high,
+  c.in_ok-t.ensures.seen.pays,
+  (named_on c.in_ok-t.ensures c.in_ok-expect.ensures).moved.room,
+)
 
 pub returns : goal.returns
 returns c =
-    alias_done _ _ _ c.requires c.peek-t.ensures (same_number c.in-Identifier.is)
-    c.expect.ensures (is_done c.in_ok-expect.was) c.ty-b.ensures
-    (omega (arith, c.ty-b.auto, c.expect.auto))
-    (omega (arith, c.ty-b.auto, c.expect.auto)) c.expect_after-c.ensures
-    c.write_text_node.ensures
-
-pub raise-requires : goal.raise-requires
-raise-requires c = omega (arith, c.requires.asks)
+    alias_done _ _ _ c.requires c.in_ok-t.ensures.seen c.in_ok-t.ensures.kind
+    (named_on c.in_ok-t.ensures c.in_ok-expect.ensures) refl c.in_ok-ty.ensures
+    (omega arith) (omega arith) (λ _. c.in_ok-expect_after.ensures _ _)
+    (rw (c.from.ensures, c.from-2.ensures)) (c.write_text_node.ensures _ _)

@@ -1,36 +1,19 @@
-use Rattle.steps.proofs.SameKind.{same_number, other_number}
-use Rattle.items.proofs.Aliased.{path_end, path_other, path_room, path_done}
-use Rattle.steps.proofs.Moves.{asks_fore}
-use native.Mathlib.Omega.{arith}
+use Rattle.fallible.proofs.Calls.{left, stop_is}
+use Rattle.steps.proofs.OneToken.{write_node_stop}
+use Rattle.items.specs.Rules.{path_rule}
+use Rattle.items.proofs.Aliased.{named_on, path_done}
 use Rattle.items.proofs.others.path.Goals as goal
 
-pub peek-t-requires : goal.peek-t-requires
-peek-t-requires c = (c.requires.asks.held, c.requires.asks.at)
+pub returns-in_err-t : goal.returns-in_err-t
+unfolding path_rule
+returns-in_err-t c = rw (left c.from_residual.ensures.1) (λ d. c.in_err-t.ensures d _ _)
 
-pub returns-in-End : goal.returns-in-End
-returns-in-End c = λ d. path_end d _ c.requires c.peek-t.ensures (same_number c.in-End.is) c.refuse.ensures
-
-pub entry-error-requires : goal.entry-error-requires
-entry-error-requires c = omega (arith, c.peek-t.ensures.places)
-
-pub returns-in_default-kind : goal.returns-in_default-kind
-returns-in_default-kind c =
-    λ d. path_other d _ c.requires c.peek-t.ensures (other_number c.in_default.not-End) (other_number c.in_default-kind.not-String)
-    c.entry-error.ensures c.raise.ensures
-
-pub expect-a-requires : goal.expect-a-requires
-expect-a-requires c = (asks_fore c.requires.asks c.peek-t.ensures, omega arith)
-
-pub write_text_node-requires : goal.write_text_node-requires
-write_text_node-requires c = path_room c.requires c.peek-t.ensures (same_number c.in-String.is) c.expect-a.ensures
-
-pub shape_of-file : goal.shape_of-file
-shape_of-file c = omega (arith, c.write_text_node.auto, c.expect-a.auto)
+pub returns-in_err-expect : goal.returns-in_err-expect
+returns-in_err-expect c = rw (left c.from_residual-in_err-expect.ensures.1)
+    (λ d. path_done d _ c.requires c.in_ok-t.ensures.seen c.in_ok-t.ensures.kind
+    (named_on c.in_ok-t.ensures c.in_err-expect.ensures) (write_node_stop (stop_is _)))
 
 pub returns : goal.returns
 returns c =
-    λ d. path_done d _ c.requires c.peek-t.ensures (same_number c.in-String.is)
-    c.expect-a.ensures c.write_text_node.ensures
-
-pub raise-requires : goal.raise-requires
-raise-requires c = omega (arith, c.requires.asks)
+    λ d. path_done d _ c.requires c.in_ok-t.ensures.seen c.in_ok-t.ensures.kind
+    (named_on c.in_ok-t.ensures c.in_ok-expect.ensures) (c.write_text_node.ensures _ _)

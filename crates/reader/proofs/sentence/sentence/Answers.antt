@@ -1,17 +1,10 @@
-use Rattle.reader.proofs.Complaints.{sentence_long, sentence_foreign}
-use Rattle.tokenizer.proofs.Answer.{at_start}
+use Rattle.fallible.proofs.Calls.{left}
+use Rattle.reader.proofs.Cases.{examine_unfit}
+use Rattle.reader.proofs.Complaints.{sentence_stopped, sentence_is}
 use Rattle.reader.proofs.sentence.sentence.Goals as goal
 
-pub returns-then-script-gt-SCRIPT_BYTES : goal.returns-then-script-gt-SCRIPT_BYTES
-returns-then-script-gt-SCRIPT_BYTES c = sentence_long _ _ _ _ c.if-script-gt-SCRIPT_BYTES.true
-
-pub returns-then-not-valid : goal.returns-then-not-valid
-returns-then-not-valid c =
-    sentence_foreign _ _ _ _ c.if-script-gt-SCRIPT_BYTES.false c.valid.ensures c.if-not-valid.true
-
-pub sentence_of_valid-requires : goal.sentence_of_valid-requires
-sentence_of_valid-requires c =
-    (at_start _ c.valid.ensures c.if-not-valid.false, c.if-script-gt-SCRIPT_BYTES.false)
+pub returns-in_err-admitted : goal.returns-in_err-admitted
+returns-in_err-admitted c = rw (left c.from_residual.ensures.1) (sentence_stopped _ _ (examine_unfit _ c.in_err-admitted.ensures) _ _ _)
 
 pub returns : goal.returns
-returns c = c.sentence_of_valid.ensures
+returns c = rw (c.sentence_of_valid.ensures, c.ok.ensures.value) (sentence_is _ _ _ _ _ c.try_from.ensures)

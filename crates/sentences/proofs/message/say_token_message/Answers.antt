@@ -1,14 +1,9 @@
-use mathlib.Core.Path.{refl}
-use mathlib.Core.List.{[]}
+use mathlib.Core.Path.{sym}
 use Rattle.definition.specs.Ascii.{ascii}
-use Rattle.definition.specs.Sentence.{compose, token_messages, token_sentence}
-use Rattle.sentences.specs.Messages.{meaning_of, spoken}
-use Rattle.sentences.proofs.Saying.{told_same}
-use Rattle.sentences.proofs.Tables.{entry_same}
+use Rattle.definition.specs.Sentence.{compose, token_messages, token_meaning, character_of, token_sentence}
+use Rattle.sentences.proofs.Saying.{told_last}
 use Rattle.sentences.proofs.message.say_token_message.Goals as goal
 
-pub returns : goal.returns
-unfolding compose token_messages token_sentence ascii
-returns c =
-    told_same c.say_message.ensures
-    (entry_same (spoken (meaning_of c.args.m.now)) (compose (meaning_of c.args.m.now)) [] refl _ token_messages refl _)
+pub returns-in-UnknownCharacter : goal.returns-in-UnknownCharacter
+unfolding compose token_messages token_meaning character_of token_sentence ascii
+returns-in-UnknownCharacter c = rw (c.in-UnknownCharacter.is, sym c.character_at.ensures) (told_last c.say_all-in-UnknownCharacter.ensures c.say_all-in-UnknownCharacter-2.ensures)

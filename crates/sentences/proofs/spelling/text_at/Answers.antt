@@ -1,6 +1,6 @@
 use mathlib.Core.Path.{refl}
 use native.Mathlib.Omega.{arith}
-use Rattle.sentences.proofs.Tables.{entry_or}
+use Rattle.sentences.proofs.Spelled.{entry_or}
 use Rattle.sentences.proofs.spelling.text_at.Goals as goal
 
 pub returns : goal.returns

@@ -1,70 +1,44 @@
 use Rattle.steps.proofs.SameKind.{same_number, other_number}
-use Rattle.fallible.proofs.Calls.{passed_on, is_done, is_stop}
+use Rattle.fallible.proofs.Calls.{left, refusal_is, stop_is}
 use Rattle.statement.proofs.Declared.{compound_stops, compound_array, compound_struct, compound_end, compound_other}
-use Rattle.steps.proofs.Moves.{asked_moved, asks_moved}
-use mathlib.Core.Path.{refl, ◌∙◌}
+use Rattle.steps.proofs.OneToken.{write_node_stop}
+use Rattle.steps.proofs.Moves.{asks_moved}
+use mathlib.Core.Path.{refl}
 use native.Mathlib.Omega.{arith}
 use Rattle.statement.proofs.declarations.compound.Goals as goal
-
-pub expect-requires : goal.expect-requires
-expect-requires c = (c.requires.asks, omega arith)
+use Rattle.statement.proofs.declarations.compound.Goals.{in-LBracket, in-LBrace}
 
 pub returns-in_err-expect : goal.returns-in_err-expect
-returns-in_err-expect c = rw (passed_on c.in_err-expect.was c.from_residual.ensures.1)
-    (compound_stops c.expect.ensures (is_stop c.in_err-expect.was))
-
-pub peek-t-requires : goal.peek-t-requires
-peek-t-requires c = (c.requires.asks.held, c.expect.ensures.moved.end)
-
-pub raise-requires : goal.raise-requires
-raise-requires c = omega (arith, c.requires.asks, c.expect.ensures.moved)
+returns-in_err-expect c = rw (left c.from_residual.ensures.1)
+    (compound_stops c.in_err-expect.ensures (stop_is _))
 
 pub returns-in-End : goal.returns-in-End
 returns-in-End c =
-    compound_end c.expect.ensures (is_done c.in_ok-expect.was) c.peek-t.ensures
+    compound_end c.in_ok-expect.ensures refl c.peek-t.ensures
     (asks_moved c.requires.asks c.expect.ensures.moved (omega (arith, c.expect.auto))
     (omega (arith, c.expect.auto)))
-    c.raise.ensures (same_number c.in-End.is) c.entry-error.ensures
-
-pub values-requires : goal.values-requires
-values-requires c =
-    record {
-      asked = asked_moved c.requires c.expect.ensures.moved refl
-          (omega (arith, c.expect.auto)) (omega (arith, c.expect.auto));
-      kind = c.peek-t.ensures.kind _ ∙ (same_number c.in-LBracket.is);
-    }
-
-pub shape_of-file-in-LBracket : goal.shape_of-file-in-LBracket
-shape_of-file-in-LBracket c = omega (arith, c.values.auto, c.expect.auto)
-
-pub returns-in-LBracket : goal.returns-in-LBracket
-returns-in-LBracket c =
-    compound_array c.expect.ensures (is_done c.in_ok-expect.was) c.peek-t.ensures
-    (same_number c.in-LBracket.is) c.values.ensures
-
-pub values-requires-in-LBrace : goal.values-requires-in-LBrace
-values-requires-in-LBrace c =
-    record {
-      asked = asked_moved c.requires c.expect.ensures.moved refl
-          (omega (arith, c.expect.auto)) (omega (arith, c.expect.auto));
-      kind = c.peek-t.ensures.kind _ ∙ (same_number c.in-LBrace.is);
-    }
-
-pub shape_of-file-in-LBrace : goal.shape_of-file-in-LBrace
-shape_of-file-in-LBrace c = omega (arith, c.values-in-LBrace.auto, c.expect.auto)
-
-pub returns-in-LBrace : goal.returns-in-LBrace
-returns-in-LBrace c =
-    compound_struct c.expect.ensures (is_done c.in_ok-expect.was)
-    c.peek-t.ensures (same_number c.in-LBrace.is) c.values-in-LBrace.ensures
-
-pub raise-requires-in_default : goal.raise-requires-in_default
-raise-requires-in_default c = omega (arith, c.requires.asks, c.expect.ensures.moved)
+    c.raise.ensures (same_number c.in-End.is) c.at_end-error.ensures
 
 pub returns-in_default : goal.returns-in_default
 returns-in_default c =
-    compound_other c.expect.ensures (is_done c.in_ok-expect.was) c.peek-t.ensures
+    compound_other c.in_ok-expect.ensures refl c.peek-t.ensures
     (asks_moved c.requires.asks c.expect.ensures.moved (omega (arith, c.expect.auto))
     (omega (arith, c.expect.auto)))
     c.raise-in_default.ensures (other_number c.in_default.not-End) (other_number c.in_default.not-LBracket) (other_number c.in_default.not-LBrace)
-    c.entry-error-in_default.ensures
+    c.new-error.ensures
+
+pub returns : goal.returns
+returns c = elim c.match-t.branch [
+  | in-LBracket w ↦ let F = rw w.what-is at c.write_node.ensures in
+      compound_array c.in_ok-expect.ensures refl c.peek-t.ensures (same_number w.in-LBracket.is) (rw w.what-is at c.in_ok-count.ensures) (F _ _)
+  | in-LBrace w ↦ let F = rw w.what-is at c.write_node.ensures in
+      compound_struct c.in_ok-expect.ensures refl c.peek-t.ensures (same_number w.in-LBrace.is) (rw w.what-is at c.in_ok-count.ensures) (F _ _)
+]
+
+pub returns-in_err-count : goal.returns-in_err-count
+returns-in_err-count c = rw (left c.from_residual-in_err-count.ensures.1) (elim c.match-t.branch [
+  | in-LBracket w ↦ compound_array c.in_ok-expect.ensures refl c.peek-t.ensures (same_number w.in-LBracket.is)
+      (rw w.what-is at c.in_err-count.ensures) (write_node_stop (refusal_is _))
+  | in-LBrace w ↦ compound_struct c.in_ok-expect.ensures refl c.peek-t.ensures (same_number w.in-LBrace.is)
+      (rw w.what-is at c.in_err-count.ensures) (write_node_stop (refusal_is _))
+])

@@ -1,41 +1,30 @@
+use Rattle.fallible.proofs.Calls.{left, stop_is}
+use Rattle.steps.proofs.OneToken.{expected_stop, write_node_stop}
 use Rattle.statement.proofs.Declared.{declaration_room, declaration_reads}
-use Rattle.steps.proofs.Moves.{asks_moved}
+use mathlib.Core.Path.{refl}
 use native.Mathlib.Omega.{arith}
 use Rattle.statement.proofs.declarations.declaration.Goals as goal
 
-pub var_like_declaration-a-requires : goal.var_like_declaration-a-requires
-var_like_declaration-a-requires c = c.requires
+pub returns-in_err-var_like_declaration : goal.returns-in_err-var_like_declaration
+returns-in_err-var_like_declaration c = rw (left c.from_residual.ensures.1)
+    (declaration_reads c.requires c.peek-t.ensures c.in_err-var_like_declaration.ensures
+    (λ p. expected_stop p (stop_is _)) c.args.tag (omega (arith, c.var_like_declaration.auto))
+    (omega (arith, c.var_like_declaration.auto)) (write_node_stop (stop_is _)))
 
-pub expect_after-b-requires : goal.expect_after-b-requires
-expect_after-b-requires c = (
-  record {
-    asks = asks_moved c.requires.asks c.var_like_declaration-a.ensures.moved
-        (omega (arith, c.var_like_declaration-a.auto))
-        (omega (arith, c.var_like_declaration-a.auto));
-    pos = c.var_like_declaration-a.ensures.moved.pos;
-    reported = c.var_like_declaration-a.ensures.moved.reported;
-  },
-  omega arith,
-)
+pub returns-in_err-expect_after : goal.returns-in_err-expect_after
+returns-in_err-expect_after c = rw (left c.from_residual-in_err-expect_after.ensures.1)
+    (declaration_reads c.requires c.peek-t.ensures c.in_ok-var_like_declaration.ensures
+    (λ _. c.in_err-expect_after.ensures _ _) c.args.tag (omega (arith, c.var_like_declaration.auto))
+    (omega (arith, c.var_like_declaration.auto)) (write_node_stop (stop_is _)))
 
-pub named-requires : goal.named-requires
-named-requires c =
-    declaration_room c.requires c.var_like_declaration-a.ensures
-    c.expect_after-b.ensures
-    (omega (arith, c.var_like_declaration-a.auto))
-
-pub shape_of-file : goal.shape_of-file
-shape_of-file c =
-    omega (
-      arith,
-      c.named.auto,
-      c.expect_after-b.auto,
-      c.var_like_declaration-a.auto,
-    )
+pub write_text_node-requires : goal.write_text_node-requires
+write_text_node-requires c =
+    rw c.name_of-name.ensures (declaration_room c.requires c.peek-t.ensures c.in_ok-var_like_declaration.ensures
+    (c.in_ok-expect_after.ensures _ _) refl (omega (arith, c.var_like_declaration.auto)))
 
 pub returns : goal.returns
 returns c =
-    declaration_reads c.requires c.var_like_declaration-a.ensures
-    (omega (arith, c.var_like_declaration-a.auto))
-    (omega (arith, c.var_like_declaration-a.auto))
-    c.expect_after-b.ensures c.named.ensures
+    let N = rw c.name_of-name.ensures at c.write_text_node.ensures in
+    declaration_reads c.requires c.peek-t.ensures c.in_ok-var_like_declaration.ensures
+    (λ _. c.in_ok-expect_after.ensures _ _) c.args.tag (omega (arith, c.var_like_declaration.auto))
+    (omega (arith, c.var_like_declaration.auto)) (N _ _)
