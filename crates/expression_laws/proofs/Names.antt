@@ -8,6 +8,7 @@ use lib.Dec.{eqb}
 use lib.ListN.{length, take}
 use lib.Seq.{length-take-le}
 use borrow.Author.Tests.{eq-eqb, ne_eqb}
+use Rattle.definition.specs.declared.place.Place.{Place}
 use Rattle.definition.specs.Kind as K
 use Rattle.definition.specs.Choice.{pick}
 use Rattle.definition.specs.Numbers.{kind_number}
@@ -178,6 +179,24 @@ module _ {w x : List ℕ} {n d j : ℕ} {o : List ℕ} {r f r1 f1 r2 : List Erro
     pub typed_type : b.status ≡ Done → Reads node w x n d P.parse_type o r2 f1 b.state o3 r3 f3 c
         → Abandoned r3 c s.pos j b.state.reported r4 y → TypedOn w x n d j o r f s o3 r4 f3 y
     typed_type z u k = let h = kept_done v z in typed_there (rw h.0 at z) (rw (h.0, h.1) at u) (rw h.0 at k)
+
+-- the same where `expect(..)?` is one step
+module _ {w x : List ℕ} {n d j : ℕ} {o : List ℕ} {r f r2 f1 : List Error} {s : State} {p : Place} {k : ℕ} {b : Answer}
+    (q : Asked w n o r f s × (j ≤ s.reported))
+    (X : Expected w n 49 s.pos j r f (record { status = Done; state = s; place = p; count = k }) r2 f1 b) where
+  pub colon_stops : Stopped b → TypedOn w x n d j o r f s o r2 f1 b
+  colon_stops nd =
+      let F = X.is in
+      let t : TypedOn w x n d j o r f s o r2 f1 F.c = typed_colon q F.expects F.abandoned (λ z. nd (F.status ∙ z)) in
+      record {
+        moved = rw F.state t.moved;
+        spare = rw (F.state, F.status) t.spare;
+        is = λ rd name E es le h. alike F.status F.state (λ z. absurd (nd z)) (t.is rd name E es le h);
+      }
+
+  pub colon_read : {o3 : List ℕ} {r3 f3 r4 : List Error} {c y : Answer} → b.status ≡ Done → Reads node w x n d P.parse_type o r2 f1 b.state o3 r3 f3 c
+      → Abandoned r3 c s.pos j b.state.reported r4 y → TypedOn w x n d j o r f s o3 r4 f3 y
+  colon_read z u v = let F = X.is in typed_type q F.expects F.abandoned (sym F.status ∙ z) (rw F.state at u) (rw F.state at v)
 
 -- ---- an error is noted: there is room for it, or not
 

@@ -18,7 +18,7 @@ pub enum ErrorList {
     Full,
 }
 
-// A tag of no list of errors.
+// A tag of no list of errors. Each conversion has a type of its own for what it refuses, as `NoKind` and `NoTokenError`.
 #[derive(Clone, Copy)]
 pub struct NoErrorList(pub u32);
 

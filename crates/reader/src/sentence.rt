@@ -22,7 +22,7 @@ use steps::tokens::Tokens;
 use tokenizer::run;
 
 // Tokenises and parses a valid script into lent slices and a new parser, as the whole operation does; the tree goes to
-// `file`.
+// `file`. Apart from `read_into`, which parses by `read_tokens`, whose parser ends with it.
 fn examine<'a>(
     script: &'a [u8],
     tokens: &'a mut [u32],

@@ -1,3 +1,4 @@
+use Rattle.fallible.specs.Answer.{nowhere}
 use Rattle.steps.proofs.Moves.{moved_trans, asked_moved}
 use mathlib.Core.Path.{refl, sym, ◌∙◌}
 use Rattle.steps.proofs.SameKind.{same_number, other_number, equal_kinds, unequal_kinds}
@@ -14,7 +15,7 @@ use Rattle.definition.specs.Numbers.{kind_number}
 use Rattle.leaves.specs.Leaves.{level_of}
 use Rattle.expression_laws.proofs.Levels.{levels_stop, not_some, operators_none, levels_start, levels_more, levels_end, levels_pass, and_on, and_none, and_found, casts_none, casts_more, compare_on, compare_none, compare_found, operators_more}
 use Rattle.steps.proofs.Constructs.{then_stops, deep, down}
-use Rattle.expression_laws.proofs.Names.{bare_stops, field_follows, field_stops, field_room, field_done, named_reads, typed_colon, typed_type, identifier_name, identifier_end, identifier_refused, identifier_noted}
+use Rattle.expression_laws.proofs.Names.{bare_stops, field_follows, field_stops, field_room, field_done, named_reads, colon_stops, colon_read, identifier_name, identifier_end, identifier_refused, identifier_noted}
 use Rattle.expression_laws.proofs.Lists.{list_refused, list_on, rest_end, rest_closed, rest_item, rest_comma, rest_next, rest_asked}
 use Rattle.expression_laws.proofs.Operands.{name_operand}
 use Rattle.fallible.proofs.Calls.{left, passed_on, is_done, is_stop, stop_is, not_refused, item_is, refused_is, exit_refused, is_whole, is_refused, refusal_is, not_whole}
@@ -577,17 +578,34 @@ ty-returns-in_default t c =
     (other_number c.in_default.not-Star) (other_number c.in_default.not-LBracket) (other_number c.in_default.not-KwStruct) (other_number c.in_default.not-End)
     c.new-error.ensures c.raise-in_default.ensures
 
-pub typed-returns-in_err-abandon : goal.typed-returns-in_err-abandon
-typed-returns-in_err-abandon t c =
-    let same = c.requires.1.0 in
-    rw (passed_on c.in_err-abandon.was c.from_residual.ensures.1)
-    (typed_colon (c.requires.0, c.requires.1.1) c.expect-colon.ensures (rw same at c.abandon.ensures) (is_stop c.in_err-abandon.was))
+pub typed-returns-in_err-expect_after : goal.typed-returns-in_err-expect_after
+typed-returns-in_err-expect_after t c =
+    let X = rw c.in_err-expect_after.was at c.expect_after.ensures nowhere 0 in
+    rw (left c.from_residual.ensures.1) (colon_stops (c.requires.0, c.requires.1.1) (rw c.requires.1.0 at X) (stop_is _))
+
+pub typed-ty-of-requires : goal.typed-ty-of-requires
+typed-ty-of-requires t c =
+    let M = (c.expect_after.ensures nowhere 0).moved in (
+      omega (arith, c.decreases, M.at, M.end),
+      asked_moved c.requires.0 M refl (omega (arith, c.expect_after.auto)) (omega (arith, c.expect_after.auto)),
+    )
+
+pub typed-abandon-requires : goal.typed-abandon-requires
+typed-abandon-requires t c =
+    let M = (c.expect_after.ensures nowhere 0).moved in
+    let T = c.ty-of.ensures.moved in
+    record {
+      pos = omega (arith, M.pos, T.pos);
+      order = M.reported;
+      own = T.reported;
+      within = omega (arith, c.requires.0.asks, M.less, M.few, T.less, T.few, c.ty-of.auto, c.expect_after.auto);
+    }
 
 pub typed-returns : goal.typed-returns
 typed-returns t c =
+    let X = rw c.in_ok-expect_after.was at c.expect_after.ensures nowhere 0 in
     let same = c.requires.1.0 in
-    typed_type (c.requires.0, c.requires.1.1) c.expect-colon.ensures (rw same at c.in_ok-abandon.ensures)
-    refl c.ty-of.ensures (rw same at c.abandon-2.ensures)
+    colon_read (c.requires.0, c.requires.1.1) (rw same at X) refl c.ty-of.ensures (rw same at c.abandon.ensures)
 
 pub named-returns-in_err-typed_name : goal.named-returns-in_err-typed_name
 named-returns-in_err-typed_name t c =
