@@ -1,15 +1,15 @@
--- The table of docs/FORMAT.md (Records by tag), as a value: the parts of each body of a record, and the kinds of its
--- children as `node.rs` types them. The body of an error field is `err_body`. Assumes nothing.
+-- The tables of docs/FORMAT.md (Records by tag, Error fields), as a value: the parts of each field's body, and the kinds
+-- of a record's children as `node.rs` types them. Assumes nothing.
 use Rattle.std.specs.Prelude.{true, false, List, [], ◌∷◌, ◌++◌, ℕ, ◌-◌, eqb, replicate}
 use Rattle.std.proofs.Math.Option.{Option, none, some}
 use Rattle.definition.specs.Tag as T
 use Rattle.definition.specs.Node as N
 use Rattle.definition.specs.Node.{Num, Rec}
 
--- A part of a body: a place; a number in one byte, within two bounds; the base of an Integer, in one byte; a count,
--- in two bytes; a number in eight bytes; a text, up to the end of the body
+-- A part of a body: a place; a place or 0:0; a number in one byte, within two bounds; the base of an Integer, in one
+-- byte; a count, in two bytes; a number in eight bytes; a text, up to the end of the body
 pub data Part : Type 0 where
-  place : Part
+  place place_or_nowhere : Part
   byte : ℕ → ℕ → Part
   base count eight text : Part
 
@@ -42,10 +42,12 @@ item = T.FunctionDefinition
 
 -- ---- the table
 
--- A node of a kind; or the root, which is the module
+-- A node of a kind; the root, which is the module; or an error of a list: 1 that of the tokenizer, 2 the reported one,
+-- 3 the full one, in the order in which they follow the module
 pub data Sort : Type 0 where
   node : ℕ → Sort
   root : Sort
+  error : ℕ → Sort
 
 -- The row of a tag: its sort, the parts of its body, and the kinds of its children, for the body's byte b and count c
 pub record Row : Type 0 where
@@ -106,6 +108,9 @@ rows =
     row T.TopLevelVariable (node item) (place ∷ text ∷ []) (λ b c. type ∷ initial_value ∷ []) ∷
     row T.TopLevelAssembly (node item) (place ∷ text ∷ []) (λ b c. []) ∷
     row T.Module root (count ∷ []) (λ b c. replicate c item) ∷
+    row T.TokenError (error 1) (byte 1 4 ∷ place ∷ byte 0 0 ∷ byte 0 0 ∷ []) (λ b c. []) ∷
+    row T.ReportedError (error 2) (byte 1 19 ∷ place_or_nowhere ∷ byte 0 54 ∷ byte 0 54 ∷ []) (λ b c. []) ∷
+    row T.FullError (error 3) (byte 1 19 ∷ place_or_nowhere ∷ byte 0 54 ∷ byte 0 54 ∷ []) (λ b c. []) ∷
     []
 
 -- the row of a tag

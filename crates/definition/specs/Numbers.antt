@@ -1,5 +1,5 @@
 -- The numbers of the code's enums, by the names that the definitions use. Assumes nothing.
-use Rattle.std.specs.Prelude.{◌≡◌, true, false, ℕ, ◌<◌, ◌≤◌, Result, MatchResult}
+use Rattle.std.specs.Prelude.{◌≡◌, Bool, true, false, ◌||◌, ℕ, ◌<◌, ◌≤◌, Result, MatchResult}
 use Rattle.definition.specs.Classes.{between}
 use Rattle.definition.specs.Kind as K
 use Rattle.definition.specs.TokenError as E
@@ -11,6 +11,7 @@ use Rattle.definition.specs.declared.token_error.TokenError.{TokenError}
 use Rattle.definition.specs.declared.token_error.NoTokenError.{NoTokenError}
 use Rattle.definition.specs.declared.refusal.Refusal.{Refusal}
 use Rattle.definition.specs.declared.tag.Tag.{Tag}
+use Rattle.definition.specs.declared.tag.NoTag.{NoTag}
 use Rattle.definition.specs.declared.parse_error.ParseError.{ParseError}
 
 -- ---- kinds of tokens
@@ -112,6 +113,8 @@ refusal_number Refusal.Nesting = 10
 refusal_number Refusal.EndAfterWord = 11
 refusal_number Refusal.Errors = 12
 refusal_number Refusal.SentenceLength = 13
+refusal_number Refusal.BadField = 14
+refusal_number Refusal.BadTree = 15
 
 abbrev pub RefusalNumber : Refusal → ℕ → Type 0
 RefusalNumber refusal n = n ≡ refusal_number refusal
@@ -170,6 +173,15 @@ tag_number Tag.TokenError = T.TokenError
 
 abbrev pub TagNumber : Tag → ℕ → Type 0
 TagNumber tag n = n ≡ tag_number tag
+
+abbrev pub is_tag : ℕ → Bool
+is_tag n =
+    between T.Name T.NamedType n || between T.Identifier T.Sizeof n || between T.CompoundArray T.CompoundValue n
+    || between T.Block T.InlineAssembly n || between T.FunctionDefinition T.TopLevelAssembly n || between T.Module T.TokenError n
+
+-- the tag with a number, or that none has it
+abbrev pub TagOf : ℕ → Result Tag NoTag → Type 0
+TagOf n r = MatchResult r (λ tag. tag_number tag ≡ n) (λ e. (e.0 ≡ n) × (is_tag n ≡ false))
 
 -- ---- the parser's errors
 

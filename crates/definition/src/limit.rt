@@ -16,3 +16,7 @@ pub const ERROR_WORDS: usize = 1024;
 pub const TEXT_BYTES: usize = 16384;
 
 pub const FILE_BYTES: usize = 65536;
+
+pub const STEPS: usize = 21845;
+
+pub const STEP_WORDS: usize = 87380;

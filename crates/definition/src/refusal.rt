@@ -16,6 +16,8 @@ pub enum Refusal {
     EndAfterWord = 11,
     Errors = 12,
     SentenceLength = 13,
+    BadField = 14,
+    BadTree = 15,
 }
 
 impl From<Refusal> for u32 {
