@@ -162,10 +162,10 @@ walk zero at p (b ∷ bs) =
     elim (step (b ∷ bs)) [
       | end ↦ finish p
       | bad ↦ refused 14
-      | skipped size ↦ walk (2 + size) (suc at) p bs
+      | skipped size ↦ walk (suc (suc size)) (suc at) p bs
       | found f ↦ elim (judge f.sort f.children p) [
         | none ↦ refused 15
-        | some q ↦ ahead (step_at at f ∷ []) (walk (2 + f.size) (suc at) q bs)
+        | some q ↦ ahead (step_at at f ∷ []) (walk (suc (suc f.size)) (suc at) q bs)
       ]
     ]
 

@@ -1,0 +1,148 @@
+-- The walk over a stored file, field by field: over the bytes of a field, and at an offset, as a loop goes over it; and
+-- how children come off the kinds that wait. Assumes nothing.
+use mathlib.Core.Path.{◌≡◌, refl, sym, ap, ◌∙◌}
+use mathlib.Core.Bool.{true}
+use mathlib.Core.Option.{Option, none, some}
+use mathlib.Core.List.{List, [], ◌∷◌, ◌++◌}
+use Prim.Native.Nat.{ℕ, zero, suc, ◌+◌, ◌≤◌, ◌<◌}
+use native.Mathlib.Omega.{arith}
+use lib.ListN.{length, drop}
+use lib.Seq.{drop-drop}
+use Rattle.definition.specs.Node.{field}
+use Rattle.definition.specs.Format.{Row, rows, find, Numbers, no_numbers}
+use Rattle.definition.specs.Stored.{numbers, Found, Field, end, bad, skipped, found, step, Phase, off, pop, judge, Step, step_at, finish, Loaded, refused, ahead, walk}
+use Rattle.definition.proofs.StoredFields.{Listed, listed, field_of, step_found, Stepped, is_bad, is_skipped, is_found, stepped}
+
+-- ---- over the bytes of a field
+
+pass : (xs : List ℕ) (n : ℕ) (q : Phase) (rest : List ℕ) → walk (length xs) n q (xs ++ rest) ≡ walk 0 (n + length xs) q rest
+unfolding walk
+pass [] n q rest = ap (λ (m : ℕ). walk 0 m q rest) (omega arith)
+pass (x ∷ xs) n q rest = pass xs (suc n) q rest ∙ ap (λ (m : ℕ). walk 0 m q rest) (omega arith)
+
+-- a field that stands right
+pub walk_found : (t : ℕ) (body rest : List ℕ) (w : Row) (m : Numbers) (n : ℕ) (p q : Phase) → length body < 65536
+    → find t rows ≡ some w → numbers w.body body no_numbers ≡ some m → judge w.sort (w.children m.byte m.count) p ≡ some q
+    → walk 0 n p (field t body ++ rest)
+    ≡ ahead (record { tag = t; children = length (w.children m.byte m.count); offset = n + 3; size = length body } ∷ []) (walk 0 (n + length (field t body)) q rest)
+unfolding walk
+walk_found t body rest w m n p q h f e j =
+    let c : ℕ = length (w.children m.byte m.count) in
+    let on : walk (length body) (suc (suc (suc n))) q (body ++ rest) ≡ walk 0 (n + length (field t body)) q rest =
+    pass body (suc (suc (suc n))) q rest ∙ ap (λ (k : ℕ). walk 0 k q rest) (omega arith) in
+    rw (walk, step_found t body rest w m h f e, j)
+    (ap (λ (k : ℕ). ahead (record { tag = k; children = c; offset = n + 3; size = length body } ∷ []) (walk (length body) (suc (suc (suc n))) q (body ++ rest))) (sym (listed t w f).tag)
+    ∙ ap (ahead (record { tag = t; children = c; offset = n + 3; size = length body } ∷ [])) on)
+
+-- ---- at an offset
+
+-- the walk from an offset
+abbrev pub from : List ℕ → ℕ → Phase → Loaded
+from file n p = walk 0 n p (drop n file)
+
+passed : (k n : ℕ) (p : Phase) (bs : List ℕ) → k ≤ length bs → walk k n p bs ≡ walk 0 (n + k) p (drop k bs)
+unfolding walk
+passed zero n p bs h = ap (λ (m : ℕ). walk 0 m p bs) (omega arith)
+passed (suc k) n p [] h = absurd (omega arith)
+passed (suc k) n p (b ∷ bs) h =
+    passed k (suc n) p bs (omega arith) ∙ ap (λ (m : ℕ). walk 0 m p (drop k bs)) (omega arith)
+
+-- the bytes of a field after its tag
+after_tag : Field → ℕ
+after_tag end = 0
+after_tag bad = 0
+after_tag (skipped size) = suc (suc size)
+after_tag (found f) = suc (suc f.size)
+
+within : {b : ℕ} {bs : List ℕ} {f : Field} → Stepped b bs f → after_tag f ≤ length bs
+unfolding after_tag
+within is_bad = omega arith
+within (is_skipped z t) = omega arith
+within (is_found w m z t i j) = omega arith
+
+module _ (b : ℕ) (bs : List ℕ) (n size : ℕ) where
+  after_it : (q : Phase) → suc (suc size) ≤ length bs
+      → walk (suc (suc size)) (suc n) q bs ≡ walk 0 (n + (3 + size)) q (drop (3 + size) (b ∷ bs))
+  after_it q h =
+      let m : suc n + (suc (suc size)) ≡ n + (3 + size) = omega arith in
+      let k : suc (suc (suc size)) ≡ 3 + size = omega arith in
+      passed (suc (suc size)) (suc n) q bs h
+      ∙ ap (λ (x : ℕ). walk 0 x q (drop (suc (suc (suc size))) (b ∷ bs))) m
+      ∙ ap (λ (x : ℕ). walk 0 (n + (3 + size)) q (drop x (b ∷ bs))) k
+
+  over : (p : Phase) → step (b ∷ bs) ≡ skipped size
+      → walk 0 n p (b ∷ bs) ≡ walk 0 (n + (3 + size)) p (drop (3 + size) (b ∷ bs))
+  unfolding walk after_tag
+  over p e = rw (walk, e) (after_it p (rw e at (within (stepped b bs))))
+
+on : (b : ℕ) (bs : List ℕ) (n : ℕ) (p q : Phase) (f : Found) → step (b ∷ bs) ≡ found f → judge f.sort f.children p ≡ some q
+    → walk 0 n p (b ∷ bs) ≡ ahead (step_at n f ∷ []) (walk 0 (n + (3 + f.size)) q (drop (3 + f.size) (b ∷ bs)))
+unfolding walk after_tag
+on b bs n p q f e j =
+    rw (walk, e, j) (ap (ahead (step_at n f ∷ [])) (after_it b bs n f.size q (rw e at (within (stepped b bs)))))
+
+module _ (file : List ℕ) (n : ℕ) (p : Phase) where
+  pub at_end : step (drop n file) ≡ end → from file n p ≡ finish p
+  unfolding walk
+  at_end e = go (drop n file) e
+    where
+      go : (bs : List ℕ) → step bs ≡ end → walk 0 n p bs ≡ finish p
+      go [] e = refl
+      go (b ∷ bs) e = rw (walk, e)
+
+  pub at_bad : step (drop n file) ≡ bad → from file n p ≡ refused 14
+  unfolding walk step
+  at_bad e = go (drop n file) e
+    where
+      go : (bs : List ℕ) → step bs ≡ bad → walk 0 n p bs ≡ refused 14
+      go [] e = let z : ◌≡◌ {A = ℕ} 0 1 = cc in absurd (omega arith)
+      go (b ∷ bs) e = rw (walk, e)
+
+  pub at_skipped : (size : ℕ) → step (drop n file) ≡ skipped size → from file n p ≡ from file (n + (3 + size)) p
+  unfolding step
+  at_skipped size e = go (drop n file) e ∙ ap (walk 0 (n + (3 + size)) p) (drop-drop (3 + size) n file)
+    where
+      go : (bs : List ℕ) → step bs ≡ skipped size → walk 0 n p bs ≡ walk 0 (n + (3 + size)) p (drop (3 + size) bs)
+      go [] e = let z : ◌≡◌ {A = ℕ} 0 1 = cc in absurd (omega arith)
+      go (b ∷ bs) e = over b bs n size p e
+
+  pub at_wrong : (f : Found) → step (drop n file) ≡ found f → judge f.sort f.children p ≡ none → from file n p ≡ refused 15
+  unfolding walk step
+  at_wrong f e j = go (drop n file) e
+    where
+      go : (bs : List ℕ) → step bs ≡ found f → walk 0 n p bs ≡ refused 15
+      go [] e = let z : ◌≡◌ {A = ℕ} 0 1 = cc in absurd (omega arith)
+      go (b ∷ bs) e = rw (walk, e, j)
+
+  pub at_found : (f : Found) (q : Phase) → step (drop n file) ≡ found f → judge f.sort f.children p ≡ some q
+      → from file n p ≡ ahead (step_at n f ∷ []) (from file (n + (3 + f.size)) q)
+  unfolding step
+  at_found f q e j =
+      go (drop n file) e
+      ∙ ap (λ (bs : List ℕ). ahead (step_at n f ∷ []) (walk 0 (n + (3 + f.size)) q bs)) (drop-drop (3 + f.size) n file)
+    where
+      go : (bs : List ℕ) → step bs ≡ found f
+          → walk 0 n p bs ≡ ahead (step_at n f ∷ []) (walk 0 (n + (3 + f.size)) q (drop (3 + f.size) bs))
+      go [] e = let z : ◌≡◌ {A = ℕ} 0 1 = cc in absurd (omega arith)
+      go (b ∷ bs) e = on b bs n p q f e j
+
+-- ---- children
+
+abbrev pub then_pop : List ℕ → Option (List ℕ) → Option (List ℕ)
+then_pop ks none = none
+then_pop ks (some st) = pop ks st
+
+none_popped : (o : Option (List ℕ)) → o ≡ then_pop [] o
+unfolding pop
+none_popped none = refl
+none_popped (some st) = refl
+
+one_popped : (k : ℕ) (ks : List ℕ) (o : Option (List ℕ)) → off k (then_pop ks o) ≡ then_pop (k ∷ ks) o
+unfolding pop
+one_popped k ks none = refl
+one_popped k ks (some st) = refl
+
+pub pop_append : (xs ys st : List ℕ) → pop (xs ++ ys) st ≡ then_pop xs (pop ys st)
+unfolding pop
+pop_append [] ys st = none_popped (pop ys st)
+pop_append (x ∷ xs) ys st = ap (off x) (pop_append xs ys st) ∙ one_popped x xs (pop ys st)
