@@ -1,5 +1,5 @@
--- What is accepted, written again from its steps, is the same file without its skipped fields; and that is accepted with
--- the same steps but for their offsets. Assumes nothing.
+-- What is accepted, written again from its steps, is the same file without its skipped fields; that is accepted too,
+-- with the same steps but for their offsets. Assumes nothing.
 use mathlib.Core.Path.{◌≡◌, refl, sym, ap, ◌∙◌, subst}
 use mathlib.Core.Bool.{Bool, true, false}
 use mathlib.Core.List.{List, [], ◌∷◌, ◌++◌, map}
@@ -136,13 +136,13 @@ without_short stays zero (b ∷ bs) =
     let next : ℕ = suc (suc (word bs 0)) in
     omega (arith, pick_short (ltb b 0x70) b (without (ltb b 0x70) next bs), without_short (ltb b 0x70) next bs)
 
--- What is accepted, written again from its steps, is the file without its skipped fields.
+-- what is accepted, written again from its steps, is the file without its skipped fields
 pub written_same : (file : List ℕ) → Bytes file → (ss : List Step) → load file ≡ steps ss
     → written_again file ss ≡ unskipped file
 unfolding unskipped
 written_same file a ss e = again_from file (stored file ss e).walked (omega arith) a refl
 
--- Without its skipped fields it is accepted too, with the same steps but for their offsets.
+-- without its skipped fields it is accepted too, with the same steps but for their offsets
 pub accepted_same : (file : List ℕ) → Bytes file → (ss : List Step) → load file ≡ steps ss
     → (ts : List Step) × (load (unskipped file) ≡ steps ts) × (map unplaced ts ≡ map unplaced ss)
 unfolding unskipped load
