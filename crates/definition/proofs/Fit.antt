@@ -25,7 +25,7 @@ pub record Fit (r : Rec) : Type 0 where
   pub holds : Body row.body r.place r.numbers r.text
   pub short : length (body r) < 65536
 
-recs_length_append : (xs ys : List Rec)
+pub recs_length_append : (xs ys : List Rec)
     → length (recs_bytes (xs ++ ys)) ≡ length (recs_bytes xs) + length (recs_bytes ys)
 recs_length_append xs ys = omega (arith, ap length (recs_append xs ys), length-append (recs_bytes xs) (recs_bytes ys))
 

@@ -3,7 +3,7 @@ use mathlib.Core.Path.{◌≡◌, refl, ap, ◌∙◌}
 use mathlib.Core.Bool.{Bool, true, false, ◌&&◌}
 use mathlib.Core.Option.{Option, none, some}
 use mathlib.Core.List.{List, [], ◌∷◌, ◌++◌}
-use Prim.Native.Nat.{ℕ, suc, ◌+◌, ◌*◌, ◌/◌, ◌%◌, ◌≤◌, ◌<◌}
+use Prim.Native.Nat.{ℕ, ◌+◌, ◌*◌, ◌/◌, ◌%◌, ◌≤◌, ◌<◌}
 use native.Mathlib.Omega.{arith}
 use borrow.Author.Tests.{le-leb, lt-ltb, ltb-true, leb-true, eqb-true}
 use lib.Dec.{eqb, ltb, leb}
@@ -11,11 +11,11 @@ use lib.ListN.{length, take, drop, length-append, drop_of_length-le}
 use lib.Seq.{take_at}
 use Rattle.definition.specs.Classes.{between}
 use Rattle.definition.specs.Source.{Place}
-use Rattle.definition.specs.Node.{Num, byte, eight, u16, at_place, nums_bytes, field}
+use Rattle.definition.specs.Node.{Num, eight, u16, at_place, nums_bytes, field}
 use Rattle.definition.specs.Format as F
 use Rattle.definition.specs.Format.{Part, Row, rows, find, Numbers, no_numbers, numbers_of}
 use Rattle.definition.specs.Stored.{width, may_hold, noted, numbers, Found, Field, bad, skipped, found, with_numbers, with_row, step}
-use Rattle.definition.proofs.Tests.{both_true, between_true, parts_true, left_true, right_true, chosen}
+use Rattle.definition.proofs.Tests.{both_true, between_true, parts_true, chosen}
 use Rattle.definition.proofs.Tokens.{Placed}
 use Rattle.definition.proofs.Leaves.{Suits, nothing, with_text, with_byte, with_base, with_count, with_eight, Body, bare, at}
 

@@ -1,7 +1,6 @@
 -- The walk over a stored file, field by field: over the bytes of a field, and at an offset, as a loop goes over it; and
 -- how children come off the kinds that wait. Assumes nothing.
 use mathlib.Core.Path.{◌≡◌, refl, sym, ap, ◌∙◌}
-use mathlib.Core.Bool.{true}
 use mathlib.Core.Option.{Option, none, some}
 use mathlib.Core.List.{List, [], ◌∷◌, ◌++◌}
 use Prim.Native.Nat.{ℕ, zero, suc, ◌+◌, ◌≤◌, ◌<◌}
@@ -10,8 +9,8 @@ use lib.ListN.{length, drop}
 use lib.Seq.{drop-drop}
 use Rattle.definition.specs.Node.{field}
 use Rattle.definition.specs.Format.{Row, rows, find, Numbers, no_numbers}
-use Rattle.definition.specs.Stored.{numbers, Found, Field, end, bad, skipped, found, step, Phase, off, pop, judge, Step, step_at, finish, Loaded, refused, ahead, walk}
-use Rattle.definition.proofs.StoredFields.{Listed, listed, field_of, step_found, Stepped, is_bad, is_skipped, is_found, stepped}
+use Rattle.definition.specs.Stored.{numbers, Found, Field, end, bad, skipped, found, step, Phase, off, pop, judge, step_at, finish, Loaded, refused, ahead, walk}
+use Rattle.definition.proofs.StoredFields.{listed, step_found, Stepped, is_bad, is_skipped, is_found, stepped}
 
 -- ---- over the bytes of a field
 

@@ -1,5 +1,5 @@
 -- The numbers of the code's enums, by the names that the definitions use. Assumes nothing.
-use Rattle.std.specs.Prelude.{◌≡◌, Bool, true, false, ◌||◌, ℕ, ◌<◌, ◌≤◌, Result, MatchResult}
+use Rattle.std.specs.Prelude.{◌≡◌, Bool, true, false, ◌||◌, ℕ, ◌<◌, ◌≤◌, Result, Ok, Err, MatchResult}
 use Rattle.definition.specs.Classes.{between}
 use Rattle.definition.specs.Kind as K
 use Rattle.definition.specs.TokenError as E
@@ -118,6 +118,15 @@ refusal_number Refusal.BadTree = 15
 
 abbrev pub RefusalNumber : Refusal → ℕ → Type 0
 RefusalNumber refusal n = n ≡ refusal_number refusal
+
+-- the number and the count of an answer
+abbrev pub number_in : Result ℕ Refusal → ℕ
+number_in (Ok count) = 0
+number_in (Err refusal) = refusal_number refusal
+
+abbrev pub count_in : Result ℕ Refusal → ℕ
+count_in (Ok count) = count
+count_in (Err refusal) = 0
 
 -- ---- tags of fields
 

@@ -1,5 +1,6 @@
 // What an operation refuses.
-ghost use Rattle.definition.specs.Numbers.{RefusalNumber};
+ghost use Rattle.std.specs.Prelude.{◌≡◌};
+ghost use Rattle.definition.specs.Numbers.{RefusalNumber, number_in, count_in};
 
 #[derive(Clone, Copy, PartialEq, Eq)]
 pub enum Refusal {
@@ -25,5 +26,22 @@ impl From<Refusal> for u32 {
 
     fn from(refusal: Refusal) -> u32 {
         refusal as u32
+    }
+}
+
+// The form that the entries for C take: stores the count of an answer to `count`, 0 for a refusal, and returns the
+// number of the refusal or 0.
+pub fn number_and_count(answer: Result<usize, Refusal>, count: &mut usize) -> u32
+    ensures { (result ≡ number_in answer) × (count.new ≡ count_in answer) }
+{
+    match answer {
+        Ok(n) => {
+            *count = n;
+            0
+        }
+        Err(refusal) => {
+            *count = 0;
+            u32::from(refusal)
+        }
     }
 }

@@ -1,0 +1,8 @@
+use Rattle.stored.proofs.Parts.{read, not_read}
+use Rattle.stored.proofs.body.Body.byte.Goals as goal
+
+pub returns-then-not-is_byte : goal.returns-then-not-is_byte
+returns-then-not-is_byte c = not_read _ c.args.self ?
+
+pub returns : goal.returns
+returns c = read _ c.args.self ? ? ? ?

@@ -1,0 +1,8 @@
+use Rattle.stored.proofs.Parts.{read, not_read}
+use Rattle.stored.proofs.body.Body.count.Goals as goal
+
+pub returns-then-not-is_count : goal.returns-then-not-is_count
+returns-then-not-is_count c = not_read _ c.args.self ?
+
+pub returns : goal.returns
+returns c = read _ c.args.self ? ? ? ?

@@ -1,0 +1,57 @@
+-- The code's kinds, sorts and children as those of the table. Assumes nothing.
+use Rattle.std.specs.Prelude.{◌≡◌, List, [], ◌++◌, ℕ, ◌+◌, replicate}
+use Rattle.std.proofs.Math.Option.{Option, none, some}
+use Rattle.definition.specs.declared.tag.Tag.{Tag}
+use Rattle.definition.specs.Numbers.{tag_number}
+use Rattle.definition.specs.Format as F
+use Rattle.definition.specs.Format.{Part, Row, rows, find}
+use Rattle.definition.specs.Stored as S
+use Rattle.stored.specs.declared.children.NodeKind.{NodeKind}
+use Rattle.stored.specs.declared.children.Run.{Run}
+use Rattle.stored.specs.declared.children.Children.{Children}
+use Rattle.stored.specs.declared.field.Sort.{Sort}
+use Rattle.stored.specs.declared.field.Found.{Found}
+
+abbrev pub kind_number : NodeKind → ℕ
+kind_number NodeKind.Type = F.type
+kind_number NodeKind.NamedType = F.named_type
+kind_number NodeKind.Expression = F.expression
+kind_number NodeKind.Compound = F.compound
+kind_number NodeKind.CompoundField = F.compound_field
+kind_number NodeKind.InitialValue = F.initial_value
+kind_number NodeKind.Statement = F.statement
+kind_number NodeKind.Item = F.item
+
+abbrev pub NodeKindNumber : NodeKind → ℕ → Type 0
+NodeKindNumber kind n = n ≡ kind_number kind
+
+abbrev pub kinds_in : Run → List ℕ
+kinds_in r = replicate r.count (kind_number r.kind)
+
+abbrev pub kinds : Children → List ℕ
+kinds c = kinds_in c.first ++ (kinds_in c.second ++ kinds_in c.third)
+
+abbrev pub as_sort : Sort → F.Sort
+as_sort (Sort.Node kind) = F.node (kind_number kind)
+as_sort Sort.Root = F.root
+as_sort (Sort.Error list) = F.error list
+
+abbrev pub as_found : Found → S.Found
+as_found f = record { tag = tag_number f.tag; size = f.size; sort = as_sort f.sort; children = kinds f.children }
+
+-- ---- the row of a tag
+
+abbrev pub row_of : Tag → Option Row
+row_of tag = find (tag_number tag) rows
+
+abbrev pub parts_in : Option Row → List Part
+parts_in none = []
+parts_in (some w) = w.body
+
+abbrev pub sort_in : Option Row → F.Sort
+sort_in none = F.root
+sort_in (some w) = w.sort
+
+abbrev pub children_in : Option Row → ℕ → ℕ → List ℕ
+children_in none b c = []
+children_in (some w) b c = w.children b c

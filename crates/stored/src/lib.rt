@@ -1,0 +1,129 @@
+// Loading a stored tree (docs/FORMAT.md, Load): walks the fields of a tree file, judges each, and writes its step.
+#![tactic(auto)]
+
+pub mod body;
+pub mod children;
+pub mod field;
+pub mod waiting;
+
+use definition::limit;
+use definition::refusal::{Refusal, number_and_count};
+use field::{Field, Found, Sort, step};
+use slices::{fill_from, put_all};
+use waiting::lead;
+
+// Where a walk stands: the offset of the next field, and how many steps were written.
+#[derive(Clone, Copy)]
+pub struct Reached {
+    pub at: usize,
+    pub count: usize,
+}
+
+// Writes the step of a field, and goes on after the field.
+fn write_step(reached: Reached, found: Found, records: &mut [u32]) -> Reached {
+    let step = [
+        u8::from(found.tag) as u32,
+        found.children.count() as u32,
+        (reached.at + 3) as u32,
+        found.size as u32,
+    ];
+    put_all(records, 4 * reached.count, &step);
+    Reached {
+        at: reached.at + 3 + found.size,
+        count: reached.count + 1,
+    }
+}
+
+// Goes on after a field that is skipped.
+fn skip(reached: Reached, size: usize) -> Reached {
+    Reached {
+        at: reached.at + 3 + size,
+        count: reached.count,
+    }
+}
+
+// The fields up to the module's. The nodes that wait for their parent are those from `top` on, the last one first, as
+// the numbers of their kinds.
+fn tree(file: &[u8], records: &mut [u32]) -> Result<Reached, Refusal> {
+    let mut waiting = [0u8; limit::STEPS];
+    let mut top = limit::STEPS;
+    let mut reached = Reached { at: 0, count: 0 };
+    while reached.at < file.len() {
+        match step(file, reached.at)? {
+            Field::End => return Err(Refusal::BadTree),
+            Field::Skipped(size) => reached = skip(reached, size),
+            Field::Found(found) => {
+                if !lead(&waiting[top..], found.children) {
+                    return Err(Refusal::BadTree);
+                }
+                top += found.children.count();
+                match found.sort {
+                    Sort::Node(kind) => {
+                        top -= 1;
+                        waiting[top] = u8::from(kind);
+                        reached = write_step(reached, found, records);
+                    }
+                    Sort::Root => {
+                        if top < limit::STEPS {
+                            return Err(Refusal::BadTree);
+                        }
+                        return Ok(write_step(reached, found, records));
+                    }
+                    Sort::Error(_) => return Err(Refusal::BadTree),
+                }
+            }
+        }
+    }
+    Err(Refusal::BadTree)
+}
+
+// The fields after the module's: gives the count of all steps.
+fn errors(file: &[u8], from: Reached, records: &mut [u32]) -> Result<usize, Refusal> {
+    let mut reached = from;
+    let mut last = 0;
+    while reached.at < file.len() {
+        match step(file, reached.at)? {
+            Field::End => {}
+            Field::Skipped(size) => reached = skip(reached, size),
+            Field::Found(found) => {
+                let Sort::Error(list) = found.sort else {
+                    return Err(Refusal::BadTree);
+                };
+                if list < last {
+                    return Err(Refusal::BadTree);
+                }
+                last = list;
+                reached = write_step(reached, found, records);
+            }
+        }
+    }
+    Ok(reached.count)
+}
+
+// Load after its test of the slice: gives the count of steps, with what follows them in the slice as it was.
+fn steps(file: &[u8], records: &mut [u32]) -> Result<usize, Refusal> {
+    if limit::FILE_BYTES < file.len() {
+        return Err(Refusal::BadField);
+    }
+    let module = tree(file, records)?;
+    errors(file, module, records)
+}
+
+// Load: writes the steps of a stored file. Gives their count.
+pub fn load(file: &[u8], records: &mut [u32]) -> Result<usize, Refusal> {
+    if records.len() < limit::STEP_WORDS {
+        return Err(Refusal::SliceLength);
+    }
+    let loaded = steps(file, records);
+    let count = match loaded {
+        Ok(count) => count,
+        Err(_) => 0,
+    };
+    fill_from(records, 4 * count, 0);
+    loaded
+}
+
+// `load` in the form for C.
+pub fn dn_load(file: &[u8], records: &mut [u32], count: &mut usize) -> u32 {
+    number_and_count(load(file, records), count)
+}
