@@ -8,6 +8,14 @@
  *     size_t bytes;
  *     uint32_t number = dn_read(script, script_len, file, sizeof file, &bytes);
  *
+ * dn_load takes a tree file, one that was just written or one that was stored, refuses it if it is none, and
+ * writes a step for each of its fields to a buffer of words: what it is, how many children it has, where its
+ * body is.
+ *
+ *     static uint32_t steps[DN_STEP_BUFFER_WORDS];
+ *     size_t count;
+ *     number = dn_load(file, bytes, steps, DN_STEP_BUFFER_WORDS, &count);
+ *
  * dn_sentence takes the script again and writes what one of these errors says in words, here the first
  * of the full list.
  *
@@ -30,11 +38,11 @@
  * asm { fn f(w: T) is read as assembly alone, and there is no function f.
  *
  * In the repository, docs/FORMAT.md defines the language, the tree file and each answer, and examples/tree.c
- * builds the tree of a file and prints it, with the errors in words.
+ * prints the tree of a script or of a stored file, with the errors of a script in words.
  *
- * Names: DN_REFUSED_ what the calls return, DN_MAX_ limits, DN_TAG_ fields of the file, DN_OP_ operators,
- * DN_ALIAS_ words before a type alias, DN_TOKEN_ERROR_ and DN_PARSE_ERROR_ numbers of errors, DN_KIND_
- * kinds of tokens. tools/header compares each number with the definition.
+ * Names: DN_REFUSED_ what the calls return, DN_MAX_ limits, DN_STEP_ words of a step, DN_TAG_ fields of the
+ * file, DN_OP_ operators, DN_ALIAS_ words before a type alias, DN_TOKEN_ERROR_ and DN_PARSE_ERROR_ numbers of
+ * errors, DN_KIND_ kinds of tokens. tools/header compares each number with the definition.
  */
 #ifndef DELTA_NULL_H
 #define DELTA_NULL_H
@@ -59,9 +67,9 @@ extern "C" {
  * is 0 it rises for both. PATCH rises where neither did.
  */
 #define DN_VERSION_MAJOR 0
-#define DN_VERSION_MINOR 2
+#define DN_VERSION_MINOR 3
 #define DN_VERSION_PATCH 0
-#define DN_VERSION_STRING "0.2.0"
+#define DN_VERSION_STRING "0.3.0"
 
 /* ---- limits ---- */
 
@@ -71,9 +79,14 @@ extern "C" {
 #define DN_MAX_ERRORS 255         /* errors of the parser: entries of the full list */
 #define DN_MAX_NESTING 96         /* open calls of the parser for statements, expressions, prefixed
                                      operands and types */
+#define DN_MAX_STEPS 21845        /* steps of a tree file */
 
-/* The least length of a file buffer. The tree file of each script that is read fits into it. */
+/* The least length of a file buffer. The tree file of each script that is read fits into it. A longer file is
+ * no tree file. */
 #define DN_FILE_BUFFER_BYTES 65536
+
+/* The least length of a buffer for steps, in words. The steps of each file that is loaded fit into it. */
+#define DN_STEP_BUFFER_WORDS 87380
 
 /* The bytes of the longest sentence. A sentence buffer may be shorter; this one is never too short. */
 #define DN_SENTENCE_BUFFER_BYTES 98333
@@ -82,16 +95,18 @@ extern "C" {
 
 /*
  * Take a number that is not listed here for a refusal too: a later version may have more of them. What is
- * said of the file buffer is about dn_read; dn_sentence changes nothing in its buffer if it refuses.
+ * said of the file buffer is about dn_read; dn_sentence changes nothing in its buffer if it refuses. dn_load
+ * returns 0, 3, 14 or 15.
  */
 enum dn_number {
-    DN_OK = 0, /* the script was read: there is a tree file, or a sentence */
+    DN_OK = 0, /* the script was read: there is a tree file, or a sentence; or a tree file was loaded */
 
     /* refused before any work: the file buffer is not changed; tested in this order */
     DN_REFUSED_SCRIPT_LENGTH = 1, /* the script has more than DN_MAX_SCRIPT_BYTES bytes */
     DN_REFUSED_NOT_UTF8 = 2,      /* the script is not UTF-8 (RFC 3629) */
     DN_REFUSED_BUFFER_LENGTH = 3, /* the file buffer has fewer than DN_FILE_BUFFER_BYTES bytes;
-                                     dn_sentence has none and never returns this */
+                                     dn_sentence has none and never returns this. Of dn_load: the buffer
+                                     for steps has fewer than DN_STEP_BUFFER_WORDS words */
 
     /* refused by the tokenizer, which stops at the first: the file buffer is all zeros */
     DN_REFUSED_FOREIGN_CHARACTER = 4,     /* a character above 127, and not in a string, a comment or
@@ -110,7 +125,12 @@ enum dn_number {
     DN_REFUSED_TOO_MANY_ERRORS = 12, /* more than DN_MAX_ERRORS */
 
     /* refused by dn_sentence alone, of a script that is read */
-    DN_REFUSED_SENTENCE_LENGTH = 13 /* the sentence buffer is shorter than the sentence */
+    DN_REFUSED_SENTENCE_LENGTH = 13, /* the sentence buffer is shorter than the sentence */
+
+    /* refused by dn_load alone, which stops at the first field with a fault: the buffer is all zeros */
+    DN_REFUSED_BAD_FIELD = 14, /* the file has more than DN_FILE_BUFFER_BYTES bytes, or a field is cut short
+                                  or has a tag or a body that no field has */
+    DN_REFUSED_BAD_TREE = 15   /* the fields are not one tree, then its errors */
 };
 
 /* ---- the calls ---- */
@@ -178,6 +198,73 @@ uint32_t dn_read(const uint8_t *script, size_t script_len,
 uint32_t dn_sentence(const uint8_t *script, size_t script_len, uint32_t list, size_t position,
                      uint8_t *sentence, size_t sentence_len, size_t *bytes);
 
+/*
+ * Loads the tree file file[0 .. file_len - 1]: tests it, and writes its steps to records[0 .. records_len - 1]
+ * (see the steps of a file). The file may be what dn_read wrote, or a stored one.
+ *
+ * Give it exactly the file: file_len is what dn_read set *bytes to, or the length of what was stored. The zeros
+ * after it in the buffer are DN_REFUSED_BAD_FIELD.
+ *
+ * What DN_OK says. The fields are the records of one tree, then DN_TAG_MODULE, then errors in the order of
+ * DN_TAG_TOKEN_ERROR, DN_TAG_REPORTED_ERROR, DN_TAG_FULL_ERROR. Each body lies in the file and is as enum dn_tag
+ * says, so that a program need not test it again: its length, its numbers, its text, which is UTF-8. Lines and
+ * columns are 1 to 16384, or both 0 in the two lists of the parser; counts are at most 2048. Each record has
+ * the children that enum dn_tag says, but any statement may be a function's body, and DN_TAG_VOID may stand
+ * where a type may. Each file that dn_read writes is accepted.
+ *
+ * Not tested: whether there is such a script, how many records or errors there are, whether the text of an
+ * integer is digits, whether a reported error is in the full list.
+ *
+ * Skipped fields. A field with a tag from 0x70 on has no step. It may stand anywhere, after DN_TAG_MODULE too,
+ * and have any body, but be cut short; its bytes count for the length of the file. So of a later version's file
+ * you have the steps of what this version knows. To see whether there were such fields compare the length of
+ * the file with that of the fields that have steps; to read them walk over the fields yourself.
+ *
+ * Numbers, tested in this order. *count is set by every call: to the number of steps, which is at most
+ * DN_MAX_STEPS, or to 0 if there is a refusal.
+ *     1. A buffer of fewer than DN_STEP_BUFFER_WORDS words: DN_REFUSED_BUFFER_LENGTH.
+ *     2. A file of more than DN_FILE_BUFFER_BYTES bytes: DN_REFUSED_BAD_FIELD.
+ *     3. The first field with a fault decides. At each DN_REFUSED_BAD_FIELD is tested before
+ *        DN_REFUSED_BAD_TREE.
+ *     4. No DN_TAG_MODULE, so an empty file too: DN_REFUSED_BAD_TREE.
+ *     5. DN_OK and the steps.
+ *
+ * Buffers. All three are the caller's, as with dn_read. No pointer may be NULL, even if its length is 0.
+ * The file, the buffer and *count must not overlap.
+ *     file     is only read; it may have any bytes and any length. The steps say where in it the bodies are, so
+ *              keep it with them.
+ *     records  is written; what it held before does not matter. Its length is in words and not in bytes. With
+ *              DN_OK the words after the steps are set to 0, to the buffer's end; with DN_REFUSED_BAD_FIELD and
+ *              DN_REFUSED_BAD_TREE all are. Shorter than DN_STEP_BUFFER_WORDS, it is not changed.
+ * No byte outside of them is read or written.
+ *
+ * Threads. As with dn_read: each with a buffer and *count of its own. They may share a file that none of them
+ * changes.
+ *
+ * Stack. Give each thread that calls a stack of 1 MiB, as with dn_read. No theorem bounds the stack.
+ */
+uint32_t dn_load(const uint8_t *file, size_t file_len, uint32_t *records, size_t records_len, size_t *count);
+
+/* ---- the steps of a file ---- */
+
+/*
+ * dn_load writes DN_STEP_WORDS words for each record and each error of the file, in the order of the file. The
+ * words of step i, from 0, begin at records[i * DN_STEP_WORDS].
+ *
+ * The children of a step come before it, each with its own children before it. So the last child of step i is
+ * step i - 1, and the child before a child is as many steps before it as that child and all below it are; or
+ * keep a stack: each record pops its children and is pushed. DN_TAG_MODULE is the root. The steps after it are
+ * errors.
+ */
+#define DN_STEP_WORDS 4
+
+enum dn_step {
+    DN_STEP_TAG = 0,      /* enum dn_tag */
+    DN_STEP_CHILDREN = 1, /* how many children it has; an error has none */
+    DN_STEP_OFFSET = 2,   /* where its body begins, from the start of the file */
+    DN_STEP_LENGTH = 3    /* how many bytes its body has */
+};
+
 /* ---- the tree file ---- */
 
 /*
@@ -188,11 +275,12 @@ uint32_t dn_sentence(const uint8_t *script, size_t script_len, uint32_t list, si
  *                         | DN_TAG_FULL_ERROR ..
  *
  * Tags from 0x70 on are left for fields that a later version may add: skip one that you do not know, by
- * its length.
+ * its length, as dn_load does.
  *
  * The children of a record come before it, in the order in which they were read, each with its own
  * children before it: a program that builds the tree keeps a stack and, for each record, pops its
- * children and pushes the record. After DN_TAG_MODULE the stack holds the module alone.
+ * children and pushes the record. After DN_TAG_MODULE the stack holds the module alone. dn_load says how many
+ * children each record has.
  *
  * A body is a place (line and column, 2 bytes each), then numbers, then text to the body's end.
  * Lines and columns count from 1, columns in characters. Tags marked "no place" have no
