@@ -1,13 +1,14 @@
 /*
- * tree SCRIPT: reads a script with dn_read and prints its tree, a line for each node, children indented
- * below their parent; then the errors, each with its sentence by dn_sentence and its line of the script.
- * tree --file FILE: the same of a stored tree file. Without its script there are no sentences and no lines:
- * an error is printed as its numbers.
+ * tree SCRIPT: reads a script with dn_read, loads its tree file with dn_load and prints its tree, a line for each
+ * node, children indented below their parent; then the errors, each with its sentence by dn_sentence and its line
+ * of the script.
+ * tree --file FILE: loads a stored tree file and prints the same of it. Without its script there are no sentences
+ * and no lines: an error is printed as its numbers.
  * `-` is standard input.
  *
  * Status: 0 read without an error, 1 read with errors, 2 refused, 3 something else failed.
  *
- * C99 and C++11. What it is given may be broken: each length, count and number is tested before use.
+ * C99 and C++11. A file may be broken, and dn_load refuses it then: what it accepts is not tested here again.
  */
 #include <inttypes.h>
 #include <stdio.h>
@@ -19,81 +20,84 @@ enum status { CLEAN = 0, ERRORS = 1, REFUSED = 2, FAILED = 3 };
 
 /* One byte more than there may be, so that an input that is too long is refused and not cut. */
 static uint8_t script[DN_MAX_SCRIPT_BYTES + 1];
-static size_t script_bytes;
+static size_t script_bytes; /* 0 where a stored file is printed */
 static uint8_t file[DN_FILE_BUFFER_BYTES + 1];
+static size_t file_bytes;
+static uint32_t steps[DN_STEP_BUFFER_WORDS];
+static size_t step_count;
 static uint8_t sentence[DN_SENTENCE_BUFFER_BYTES];
 
 /* ---- what the fields of each tag hold ---- */
 
 /*
  * The parts of a body, a letter for each:
- *     p place    b byte, a number    c count of children, 2 bytes    s size, 8 bytes    t text
- *     n byte, a count of children    x byte, 1 where the last child is missing
+ *     p place    b byte, a number    c count, 2 bytes    s size, 8 bytes    t text
  */
 struct layout {
-    int tag;
+    uint32_t tag;
     const char *name; /* tests/run --example compares it with the definition's */
     const char *body;
-    unsigned least, most; /* of its byte */
-    unsigned children;    /* those that it has besides the counted ones */
-    const char *counted;  /* what its count is of */
+    const char *counted; /* what its count is of */
 };
 
 static const struct layout LAYOUTS[] = {
-    {DN_TAG_NAME, "name", "pt", 0, 0, 0, ""},
-    {DN_TAG_VOID, "void", "p", 0, 0, 0, ""},
-    {DN_TAG_POINTER, "pointer", "p", 0, 0, 1, ""},
-    {DN_TAG_ARRAY, "array", "ps", 0, 0, 1, ""},
-    {DN_TAG_STRUCT, "struct", "pc", 0, 0, 0, "field"},
-    {DN_TAG_NAMED_TYPE, "named type", "t", 0, 0, 1, ""},
-    {DN_TAG_IDENTIFIER, "identifier", "pt", 0, 0, 0, ""},
-    {DN_TAG_INTEGER, "integer", "pbt", 2, 16, 0, ""},
-    {DN_TAG_BOOLEAN, "boolean", "pb", 0, 1, 0, ""},
-    {DN_TAG_STRING, "string", "pt", 0, 0, 0, ""},
-    {DN_TAG_CALL, "call", "pc", 0, 0, 1, "argument"},
-    {DN_TAG_INDEX, "index", "p", 0, 0, 2, ""},
-    {DN_TAG_CAST, "cast", "p", 0, 0, 2, ""},
-    {DN_TAG_POINTER_TAKE, "pointer take", "p", 0, 0, 1, ""},
-    {DN_TAG_POINTER_DEREFERENCE, "pointer dereference", "p", 0, 0, 1, ""},
-    {DN_TAG_FIELD_ACCESS, "field access", "pt", 0, 0, 1, ""},
-    {DN_TAG_BITWISE_NOT, "bitwise not", "p", 0, 0, 1, ""},
-    {DN_TAG_BOOLEAN_NOT, "boolean not", "p", 0, 0, 1, ""},
-    {DN_TAG_BOOLEAN_AND, "boolean and", "p", 0, 0, 2, ""},
-    {DN_TAG_ARITHMETIC_BIN_OP, "arithmetic", "pb", 0, DN_OP_RIGHT_SHIFT, 2, ""},
-    {DN_TAG_COMPARISON_BIN_OP, "comparison", "pb", 0, DN_OP_LESS_THAN_OR_EQUALS, 2, ""},
-    {DN_TAG_SIZEOF, "sizeof", "p", 0, 0, 1, ""},
-    {DN_TAG_COMPOUND_ARRAY, "compound array", "pc", 0, 0, 0, "value"},
-    {DN_TAG_COMPOUND_STRUCT, "compound struct", "pc", 0, 0, 0, "field"},
-    {DN_TAG_COMPOUND_FIELD, "compound field", "pt", 0, 0, 1, ""},
-    {DN_TAG_NO_VALUE, "no value", "", 0, 0, 0, ""},
-    {DN_TAG_ASSIGNED_VALUE, "assigned value", "", 0, 0, 1, ""},
-    {DN_TAG_COMPOUND_VALUE, "compound value", "", 0, 0, 1, ""},
-    {DN_TAG_BLOCK, "block", "pc", 0, 0, 0, "statement"},
-    {DN_TAG_EXPRESSION, "expression", "p", 0, 0, 1, ""},
-    {DN_TAG_VARIABLE_DECLARATION, "variable declaration", "pt", 0, 0, 2, ""},
-    {DN_TAG_ASSIGNMENT, "assignment", "p", 0, 0, 2, ""},
-    {DN_TAG_COMPOUND_ASSIGNMENT, "compound assignment", "p", 0, 0, 2, ""},
-    {DN_TAG_RETURN, "return", "pn", 0, 1, 0, ""},
-    {DN_TAG_LOOP, "loop", "p", 0, 0, 1, ""},
-    {DN_TAG_WHILE, "while", "p", 0, 0, 2, ""},
-    {DN_TAG_BREAK, "break", "p", 0, 0, 0, ""},
-    {DN_TAG_IF, "if", "pn", 2, 3, 0, ""},
-    {DN_TAG_INLINE_ASSEMBLY, "inline assembly", "pt", 0, 0, 0, ""},
-    {DN_TAG_FUNCTION_DEFINITION, "function definition", "pxct", 0, 1, 2, "parameter"},
-    {DN_TAG_TYPE_ALIAS, "type alias", "pbt", 0, DN_ALIAS_DISTINCT + DN_ALIAS_INTERNAL, 1, ""},
-    {DN_TAG_USE, "use", "pt", 0, 0, 0, ""},
-    {DN_TAG_TOP_LEVEL_VARIABLE, "top level variable", "pt", 0, 0, 2, ""},
-    {DN_TAG_TOP_LEVEL_ASSEMBLY, "top level assembly", "pt", 0, 0, 0, ""},
-    {DN_TAG_MODULE, "module", "c", 0, 0, 0, "item"},
+    {DN_TAG_NAME, "name", "pt", ""},
+    {DN_TAG_VOID, "void", "p", ""},
+    {DN_TAG_POINTER, "pointer", "p", ""},
+    {DN_TAG_ARRAY, "array", "ps", ""},
+    {DN_TAG_STRUCT, "struct", "pc", "field"},
+    {DN_TAG_NAMED_TYPE, "named type", "t", ""},
+    {DN_TAG_IDENTIFIER, "identifier", "pt", ""},
+    {DN_TAG_INTEGER, "integer", "pbt", ""},
+    {DN_TAG_BOOLEAN, "boolean", "pb", ""},
+    {DN_TAG_STRING, "string", "pt", ""},
+    {DN_TAG_CALL, "call", "pc", "argument"},
+    {DN_TAG_INDEX, "index", "p", ""},
+    {DN_TAG_CAST, "cast", "p", ""},
+    {DN_TAG_POINTER_TAKE, "pointer take", "p", ""},
+    {DN_TAG_POINTER_DEREFERENCE, "pointer dereference", "p", ""},
+    {DN_TAG_FIELD_ACCESS, "field access", "pt", ""},
+    {DN_TAG_BITWISE_NOT, "bitwise not", "p", ""},
+    {DN_TAG_BOOLEAN_NOT, "boolean not", "p", ""},
+    {DN_TAG_BOOLEAN_AND, "boolean and", "p", ""},
+    {DN_TAG_ARITHMETIC_BIN_OP, "arithmetic", "pb", ""},
+    {DN_TAG_COMPARISON_BIN_OP, "comparison", "pb", ""},
+    {DN_TAG_SIZEOF, "sizeof", "p", ""},
+    {DN_TAG_COMPOUND_ARRAY, "compound array", "pc", "value"},
+    {DN_TAG_COMPOUND_STRUCT, "compound struct", "pc", "field"},
+    {DN_TAG_COMPOUND_FIELD, "compound field", "pt", ""},
+    {DN_TAG_NO_VALUE, "no value", "", ""},
+    {DN_TAG_ASSIGNED_VALUE, "assigned value", "", ""},
+    {DN_TAG_COMPOUND_VALUE, "compound value", "", ""},
+    {DN_TAG_BLOCK, "block", "pc", "statement"},
+    {DN_TAG_EXPRESSION, "expression", "p", ""},
+    {DN_TAG_VARIABLE_DECLARATION, "variable declaration", "pt", ""},
+    {DN_TAG_ASSIGNMENT, "assignment", "p", ""},
+    {DN_TAG_COMPOUND_ASSIGNMENT, "compound assignment", "p", ""},
+    {DN_TAG_RETURN, "return", "pb", ""},
+    {DN_TAG_LOOP, "loop", "p", ""},
+    {DN_TAG_WHILE, "while", "p", ""},
+    {DN_TAG_BREAK, "break", "p", ""},
+    {DN_TAG_IF, "if", "pb", ""},
+    {DN_TAG_INLINE_ASSEMBLY, "inline assembly", "pt", ""},
+    {DN_TAG_FUNCTION_DEFINITION, "function definition", "pbct", "parameter"},
+    {DN_TAG_TYPE_ALIAS, "type alias", "pbt", ""},
+    {DN_TAG_USE, "use", "pt", ""},
+    {DN_TAG_TOP_LEVEL_VARIABLE, "top level variable", "pt", ""},
+    {DN_TAG_TOP_LEVEL_ASSEMBLY, "top level assembly", "pt", ""},
+    {DN_TAG_MODULE, "module", "c", "item"},
 };
 
-static const struct layout *layout_of(int tag)
+/* for another tag, which no step of this version has */
+static const struct layout UNKNOWN = {0, "unknown node", "", ""};
+
+static const struct layout *layout_of(uint32_t tag)
 {
     size_t i;
     for (i = 0; i < sizeof LAYOUTS / sizeof LAYOUTS[0]; i++)
         if (LAYOUTS[i].tag == tag)
             return &LAYOUTS[i];
-    return NULL;
+    return &UNKNOWN;
 }
 
 /* ---- words for numbers ---- */
@@ -113,6 +117,8 @@ static const char *const REFUSALS[] = {
     "the script ends after `type`, `use` or a dot, where a name has to follow",
     "too many errors",
     "the sentence buffer is too short",
+    "the file is too long, or a field of it is damaged",
+    "the fields of the file are not one tree and its errors",
 };
 
 static const char *const ARITHMETIC[] = {"+", "-", "*", "&", "^", "|", "<<", ">>"};
@@ -120,7 +126,7 @@ static const char *const COMPARISON[] = {"==", ">", ">=", "<", "<="};
 
 /* The compiler refuses a table that does not end with the last number. */
 #define ENDS_WITH(table, last) typedef char table##_ends_with[sizeof table / sizeof table[0] == (last) + 1 ? 1 : -1]
-ENDS_WITH(REFUSALS, DN_REFUSED_SENTENCE_LENGTH);
+ENDS_WITH(REFUSALS, DN_REFUSED_BAD_TREE);
 ENDS_WITH(ARITHMETIC, DN_OP_RIGHT_SHIFT);
 ENDS_WITH(COMPARISON, DN_OP_LESS_THAN_OR_EQUALS);
 
@@ -129,13 +135,17 @@ static const char *refusal(uint32_t number)
     return number < sizeof REFUSALS / sizeof REFUSALS[0] ? REFUSALS[number] : "unknown number";
 }
 
-/* ---- fields ---- */
+/* ---- the steps ---- */
 
-struct field {
-    int tag;
-    const uint8_t *body;
-    size_t length;
-};
+static uint32_t word(size_t step, enum dn_step which)
+{
+    return steps[step * DN_STEP_WORDS + which];
+}
+
+static const uint8_t *body_of(size_t step)
+{
+    return file + word(step, DN_STEP_OFFSET);
+}
 
 struct place {
     unsigned line, column; /* 0:0 where there is none, and of an error at the script's end */
@@ -159,30 +169,7 @@ static struct place place_at(const uint8_t *bytes)
     return p;
 }
 
-/* Takes the field at *at, which is below bytes, and goes past it; whether it ends in the file. */
-static int next_field(size_t bytes, size_t *at, struct field *f)
-{
-    size_t left = bytes - *at;
-    if (left < DN_FIELD_HEAD_BYTES)
-        return 0;
-    f->tag = file[*at];
-    f->length = (size_t)number_at(file + *at + 1, 2);
-    f->body = file + *at + DN_FIELD_HEAD_BYTES;
-    if (left - DN_FIELD_HEAD_BYTES < f->length)
-        return 0;
-    *at += DN_FIELD_HEAD_BYTES + f->length;
-    return 1;
-}
-
-/* Tags from here on are of later versions: their fields are skipped. */
-#define LATER_TAGS 0x70
-
-/* ---- the tree ---- */
-
-/* There are fewer nodes than this, since each field has its head. */
-#define NODES (DN_FILE_BUFFER_BYTES / DN_FIELD_HEAD_BYTES + 1)
-
-/* Nodes are numbered from 1; 0 is none. */
+/* what the body of a node holds */
 struct node {
     const struct layout *layout;
     struct place place;
@@ -190,105 +177,40 @@ struct node {
     uint64_t size;
     const uint8_t *text;
     size_t text_bytes;
-    size_t parent, first_child, next;
 };
 
-static struct node nodes[NODES];
-static size_t node_count;
-
-/* nodes that have no parent yet, in the order of the file */
-static size_t stack[NODES];
-static size_t stacked;
-
-/* the bytes of a part of a body; text has all that are left */
-static size_t width_of(char part, size_t left)
+static struct node node_of(size_t step)
 {
-    switch (part) {
-    case 'p':
-        return DN_PLACE_BYTES;
-    case 's':
-        return 8;
-    case 'c':
-        return 2;
-    case 't':
-        return left;
-    default:
-        return 1;
-    }
-}
-
-/* Reads the body of a field by its layout; whether it fits. */
-static int read_body(const struct field *f, struct node *n)
-{
-    const uint8_t *at = f->body;
-    size_t left = f->length;
+    struct node n;
+    const uint8_t *at = body_of(step);
+    const uint8_t *end = at + word(step, DN_STEP_LENGTH);
     const char *part;
-    for (part = n->layout->body; *part != '\0'; part++) {
-        size_t width = width_of(*part, left);
-        if (left < width)
-            return 0;
+    memset(&n, 0, sizeof n);
+    n.layout = layout_of(word(step, DN_STEP_TAG));
+    for (part = n.layout->body; *part != '\0'; part++)
         switch (*part) {
         case 'p':
-            n->place = place_at(at);
+            n.place = place_at(at);
+            at += DN_PLACE_BYTES;
             break;
-        case 's':
-            n->size = number_at(at, width);
+        case 'b':
+            n.byte = *at;
+            at += 1;
             break;
         case 'c':
-            n->count = (unsigned)number_at(at, width);
+            n.count = (unsigned)number_at(at, 2);
+            at += 2;
             break;
-        case 't':
-            n->text = at;
-            n->text_bytes = width;
+        case 's':
+            n.size = number_at(at, 8);
+            at += 8;
             break;
-        default:
-            n->byte = at[0];
-            if (n->byte < n->layout->least || n->byte > n->layout->most)
-                return 0;
+        case 't': /* to the body's end */
+            n.text = at;
+            n.text_bytes = (size_t)(end - at);
+            break;
         }
-        at += width;
-        left -= width;
-    }
-    return left == 0;
-}
-
-/* how many children a node has */
-static size_t children_of(const struct node *n)
-{
-    size_t children = (size_t)n->layout->children + n->count;
-    if (strchr(n->layout->body, 'n') != NULL)
-        children += n->byte;
-    if (strchr(n->layout->body, 'x') != NULL)
-        children -= n->byte;
-    return children;
-}
-
-/* Makes a node of a record: pops its children off the stack and pushes it. Whether the record is good. */
-static int add_node(const struct field *f)
-{
-    struct node *n;
-    size_t children, i;
-    if (node_count + 1 >= NODES)
-        return 0;
-    node_count++;
-    n = &nodes[node_count];
-    memset(n, 0, sizeof *n);
-    n->layout = layout_of(f->tag);
-    if (n->layout == NULL || !read_body(f, n))
-        return 0;
-    children = children_of(n);
-    if (children > stacked)
-        return 0;
-    stacked -= children;
-    for (i = 0; i < children; i++) {
-        struct node *child = &nodes[stack[stacked + i]];
-        child->parent = node_count;
-        child->next = i + 1 < children ? stack[stacked + i + 1] : 0;
-    }
-    n->first_child = children > 0 ? stack[stacked] : 0;
-    stack[stacked] = node_count;
-    stacked++;
-    return 1;
+    return n;
 }
 
 /* ---- printing ---- */
@@ -361,24 +283,39 @@ static void print_node(const struct node *n, size_t depth)
     putchar('\n');
 }
 
-/* a node, then its children, each with its own; no recursion, so that no depth is too deep */
+/*
+ * The steps have each child before its parent: the last child of a step is the step before it, and the child before
+ * a child stands before all that is below that child.
+ */
+static size_t sizes[DN_MAX_STEPS];  /* of a step: how many steps it is with all below it */
+static size_t depths[DN_MAX_STEPS]; /* and how many are above it */
+static size_t waiting[DN_MAX_STEPS];
+
+/* Prints the tree of a step: a node, then its children, each with its own. No recursion, so that no depth is too
+ * deep. */
 static void print_tree(size_t root)
 {
-    size_t at = root, depth = 0;
-    for (;;) {
-        print_node(&nodes[at], depth);
-        if (nodes[at].first_child != 0) {
-            at = nodes[at].first_child;
-            depth++;
-            continue;
+    size_t step, below, left, count = 0;
+    for (step = 0; step <= root; step++) {
+        sizes[step] = 1;
+        for (left = word(step, DN_STEP_CHILDREN); left > 0; left--)
+            sizes[step] += sizes[step - sizes[step]];
+    }
+    waiting[count++] = root;
+    depths[root] = 0;
+    while (count > 0) {
+        struct node n;
+        step = waiting[--count];
+        n = node_of(step);
+        print_node(&n, depths[step]);
+        below = 1;
+        /* the first child is put there last, and taken first */
+        for (left = word(step, DN_STEP_CHILDREN); left > 0; left--) {
+            size_t child = step - below;
+            below += sizes[child];
+            depths[child] = depths[step] + 1;
+            waiting[count++] = child;
         }
-        while (at != root && nodes[at].next == 0) {
-            at = nodes[at].parent;
-            depth--;
-        }
-        if (at == root)
-            return;
-        at = nodes[at].next;
     }
 }
 
@@ -410,11 +347,11 @@ static void print_line(struct place p)
 }
 
 /* Prints the sentence of an error; whether there is one. A control character is printed as \xHH. */
-static int print_sentence(int list, size_t position)
+static int print_sentence(uint32_t list, size_t position)
 {
     size_t bytes = 0, i;
-    uint32_t number = dn_sentence(script, script_bytes, (uint32_t)list, position, sentence, sizeof sentence, &bytes);
-    if (number != DN_OK || bytes == 0 || bytes > sizeof sentence)
+    uint32_t number = dn_sentence(script, script_bytes, list, position, sentence, sizeof sentence, &bytes);
+    if (number != DN_OK || bytes == 0)
         return 0;
     for (i = 0; i < bytes; i++)
         if (sentence[i] < 32 || sentence[i] == 127)
@@ -436,69 +373,60 @@ static void print_numbers(const uint8_t *body)
     putchar('\n');
 }
 
-/* Prints an error, which is at a position of its list; whether it could be printed. */
-static int print_error(const struct field *f, size_t position)
+/* Prints an error, which is at a position of its list. */
+static void print_error(size_t step, size_t position)
 {
-    struct place p;
-    if (f->length != DN_ERROR_BODY_BYTES)
-        return 0;
-    p = place_at(f->body + 1);
+    struct place p = place_at(body_of(step) + 1);
     print_place(p);
     if (p.line == 0)
         printf("end of script: ");
-    if (script_bytes == 0)
-        print_numbers(f->body);
-    else if (!print_sentence(f->tag, position))
-        return 0;
+    if (script_bytes == 0 || !print_sentence(word(step, DN_STEP_TAG), position))
+        print_numbers(body_of(step));
     print_line(p);
-    return 1;
 }
 
-/* the lists in the order of the file */
-static const struct list {
-    int tag;
-    const char *name;
-} LISTS[] = {
-    {DN_TAG_TOKEN_ERROR, "All errors of the tokenizer"},
-    {DN_TAG_REPORTED_ERROR, "Errors of the parser that the Rust front end reports"},
-    {DN_TAG_FULL_ERROR, "All errors of the parser"},
-};
+static const char *list_name(uint32_t tag)
+{
+    switch (tag) {
+    case DN_TAG_TOKEN_ERROR:
+        return "All errors of the tokenizer";
+    case DN_TAG_REPORTED_ERROR:
+        return "Errors of the parser that the Rust front end reports";
+    default:
+        return "All errors of the parser";
+    }
+}
 
 /* ---- the file ---- */
 
-/* Builds the tree, which ends with the module's field, prints it, then prints the lists of errors. */
-static enum status print_file(size_t bytes)
+/* how many bytes of the file have no step: those of fields that the library skips */
+static size_t skipped_bytes(void)
 {
-    size_t at = 0, list = 0, errors = 0, position = 0;
-    int heading = -1;
-    struct field f;
-    do {
-        if (at == bytes || !next_field(bytes, &at, &f))
-            return FAILED;
-        if (f.tag < LATER_TAGS && !add_node(&f))
-            return FAILED;
-    } while (f.tag != DN_TAG_MODULE);
-    if (stacked != 1)
-        return FAILED;
-    print_tree(stack[0]);
-    while (at < bytes) {
-        if (!next_field(bytes, &at, &f))
-            return FAILED;
-        if (f.tag >= LATER_TAGS)
-            continue;
-        while (list < sizeof LISTS / sizeof LISTS[0] && LISTS[list].tag != f.tag)
-            list++;
-        if (list == sizeof LISTS / sizeof LISTS[0])
-            return FAILED;
-        position = heading == f.tag ? position + 1 : 0;
-        if (heading != f.tag)
-            printf("\n%s:\n", LISTS[list].name);
-        heading = f.tag;
-        if (!print_error(&f, position))
-            return FAILED;
-        errors++;
+    size_t step, left = file_bytes;
+    for (step = 0; step < step_count; step++)
+        left -= DN_FIELD_HEAD_BYTES + word(step, DN_STEP_LENGTH);
+    return left;
+}
+
+/* Prints the tree, whose last step is the module, then the errors, list by list. */
+static enum status print_file(void)
+{
+    size_t module = 0, step, position = 0, skipped = skipped_bytes();
+    while (word(module, DN_STEP_TAG) != DN_TAG_MODULE)
+        module++;
+    print_tree(module);
+    for (step = module + 1; step < step_count; step++) {
+        uint32_t tag = word(step, DN_STEP_TAG);
+        position++;
+        if (tag != word(step - 1, DN_STEP_TAG)) {
+            printf("\n%s:\n", list_name(tag));
+            position = 0;
+        }
+        print_error(step, position);
     }
-    if (errors == 0) {
+    if (skipped > 0)
+        printf("\nSkipped: %lu bytes of fields that this version does not know.\n", (unsigned long)skipped);
+    if (module + 1 == step_count) {
         printf("\nRead, no error found.\n");
         return CLEAN;
     }
@@ -523,34 +451,28 @@ static int read_input(const char *path, uint8_t *buffer, size_t length, size_t *
     return !failed;
 }
 
-static enum status print_script(void)
-{
-    size_t bytes = 0;
-    uint32_t number = dn_read(script, script_bytes, file, DN_FILE_BUFFER_BYTES, &bytes);
-    if (number != DN_OK) {
-        printf("Refused, no tree: %s (%" PRIu32 ")\n", refusal(number), number);
-        return REFUSED;
-    }
-    return bytes <= DN_FILE_BUFFER_BYTES ? print_file(bytes) : FAILED;
-}
-
 int main(int argc, char **argv)
 {
     int stored = argc == 3 && strcmp(argv[1], "--file") == 0;
-    size_t bytes = 0;
-    enum status status;
+    uint32_t number = DN_OK;
+    enum status status = REFUSED;
     if (argc != 2 && !stored) {
         fprintf(stderr, "usage: tree SCRIPT, or tree --file FILE\n");
         return FAILED;
     }
-    if (stored ? !read_input(argv[2], file, sizeof file, &bytes)
+    if (stored ? !read_input(argv[2], file, sizeof file, &file_bytes)
                : !read_input(argv[1], script, sizeof script, &script_bytes)) {
         perror(argv[argc - 1]);
         return FAILED;
     }
-    status = !stored ? print_script() : bytes <= DN_FILE_BUFFER_BYTES ? print_file(bytes) : FAILED;
-    if (status == FAILED)
-        fprintf(stderr, "tree: not a tree file\n");
+    if (!stored)
+        number = dn_read(script, script_bytes, file, DN_FILE_BUFFER_BYTES, &file_bytes);
+    if (number == DN_OK)
+        number = dn_load(file, file_bytes, steps, DN_STEP_BUFFER_WORDS, &step_count);
+    if (number == DN_OK)
+        status = print_file();
+    else
+        printf("Refused, no tree: %s (%" PRIu32 ")\n", refusal(number), number);
     if (fflush(stdout) != 0 || ferror(stdout)) {
         perror("standard output");
         return FAILED;
