@@ -284,15 +284,14 @@ static void print_node(const struct node *n, size_t depth)
 }
 
 /*
- * The steps have each child before its parent: the last child of a step is the step before it, and the child before
- * a child stands before all that is below that child.
+ * Children come before their parent. So the last child of a step is the step before it, and each other child is the
+ * step before the next child and all that is below that.
  */
-static size_t sizes[DN_MAX_STEPS];  /* of a step: how many steps it is with all below it */
-static size_t depths[DN_MAX_STEPS]; /* and how many are above it */
-static size_t waiting[DN_MAX_STEPS];
+static size_t sizes[DN_MAX_STEPS];   /* of each step: how many steps it is, with all below it */
+static size_t depths[DN_MAX_STEPS];  /* and how many are above it */
+static size_t waiting[DN_MAX_STEPS]; /* steps that are still to be printed, the next one last */
 
-/* Prints the tree of a step: a node, then its children, each with its own. No recursion, so that no depth is too
- * deep. */
+/* Prints a step, then its children, each with its own. No recursion, so that no depth is too deep. */
 static void print_tree(size_t root)
 {
     size_t step, below, left, count = 0;
@@ -309,7 +308,6 @@ static void print_tree(size_t root)
         n = node_of(step);
         print_node(&n, depths[step]);
         below = 1;
-        /* the first child is put there last, and taken first */
         for (left = word(step, DN_STEP_CHILDREN); left > 0; left--) {
             size_t child = step - below;
             below += sizes[child];

@@ -8,24 +8,23 @@
  *     size_t bytes;
  *     uint32_t number = dn_read(script, script_len, file, sizeof file, &bytes);
  *
- * dn_load takes a tree file, one that was just written or one that was stored, refuses it if it is none, and
- * writes a step for each of its fields to a buffer of words: what it is, how many children it has, where its
- * body is.
+ * dn_load takes a tree file, just written or stored before, and tests it. It writes a step for each node and
+ * each error to a buffer of words: its tag, how many children it has, and where its body is in the file.
  *
  *     static uint32_t steps[DN_STEP_BUFFER_WORDS];
  *     size_t count;
  *     number = dn_load(file, bytes, steps, DN_STEP_BUFFER_WORDS, &count);
  *
- * dn_sentence takes the script again and writes what one of these errors says in words, here the first
- * of the full list.
+ * dn_sentence takes the script again and writes what one of its errors says in words, here the first of
+ * the full list.
  *
  *     static uint8_t sentence[DN_SENTENCE_BUFFER_BYTES];
  *     number = dn_sentence(script, script_len, DN_TAG_FULL_ERROR, 0, sentence, sizeof sentence, &bytes);
  *
  * Compile and link with `pkg-config --cflags --libs delta_null`.
  *
- * DN_OK says that the script was read, not that it is good. Look at the fields of errors, which come after
- * DN_TAG_MODULE: the part of the script that an error is about may be missing from the tree.
+ * DN_OK says that the script was read, or the file loaded, not that the script is good. Look at the errors,
+ * which come after DN_TAG_MODULE: the part of the script that an error is about may be missing from the tree.
  * DN_TAG_TOKEN_ERROR fields are all errors of the tokenizer, DN_TAG_FULL_ERROR fields all errors of the
  * parser. That there is no DN_TAG_REPORTED_ERROR field proves nothing: errors in the arguments of a call
  * and in the fields of a struct type are not reported.
@@ -81,8 +80,8 @@ extern "C" {
                                      operands and types */
 #define DN_MAX_STEPS 21845        /* steps of a tree file */
 
-/* The least length of a file buffer. The tree file of each script that is read fits into it. A longer file is
- * no tree file. */
+/* The least length of a file buffer. The tree file of each script that is read fits into it. A longer
+ * file is no tree file. */
 #define DN_FILE_BUFFER_BYTES 65536
 
 /* The least length of a buffer for steps, in words. The steps of each file that is loaded fit into it. */
@@ -95,8 +94,8 @@ extern "C" {
 
 /*
  * Take a number that is not listed here for a refusal too: a later version may have more of them. What is
- * said of the file buffer is about dn_read; dn_sentence changes nothing in its buffer if it refuses. dn_load
- * returns 0, 3, 14 or 15.
+ * said of the file buffer is about dn_read; dn_sentence changes nothing in its buffer if it refuses.
+ * dn_load returns 0, 3, 14 or 15.
  */
 enum dn_number {
     DN_OK = 0, /* the script was read: there is a tree file, or a sentence; or a tree file was loaded */
@@ -105,8 +104,8 @@ enum dn_number {
     DN_REFUSED_SCRIPT_LENGTH = 1, /* the script has more than DN_MAX_SCRIPT_BYTES bytes */
     DN_REFUSED_NOT_UTF8 = 2,      /* the script is not UTF-8 (RFC 3629) */
     DN_REFUSED_BUFFER_LENGTH = 3, /* the file buffer has fewer than DN_FILE_BUFFER_BYTES bytes;
-                                     dn_sentence has none and never returns this. Of dn_load: the buffer
-                                     for steps has fewer than DN_STEP_BUFFER_WORDS words */
+                                     dn_sentence has none and never returns this. Of dn_load: the
+                                     buffer for steps has fewer than DN_STEP_BUFFER_WORDS words */
 
     /* refused by the tokenizer, which stops at the first: the file buffer is all zeros */
     DN_REFUSED_FOREIGN_CHARACTER = 4,     /* a character above 127, and not in a string, a comment or
@@ -115,7 +114,7 @@ enum dn_number {
     DN_REFUSED_TOO_MANY_TOKENS = 6,       /* more than DN_MAX_TOKENS */
     DN_REFUSED_TOO_MANY_TOKEN_ERRORS = 7, /* more than DN_MAX_TOKEN_ERRORS */
 
-    /* for token records that a caller passes; both calls make their own and never return this */
+    /* for token records that a caller passes; no call takes them, and none returns this */
     DN_REFUSED_BAD_RECORD = 8,
 
     /* refused by the parser, which stops at the first: the file buffer is all zeros */
@@ -127,9 +126,9 @@ enum dn_number {
     /* refused by dn_sentence alone, of a script that is read */
     DN_REFUSED_SENTENCE_LENGTH = 13, /* the sentence buffer is shorter than the sentence */
 
-    /* refused by dn_load alone, which stops at the first field with a fault: the buffer is all zeros */
-    DN_REFUSED_BAD_FIELD = 14, /* the file has more than DN_FILE_BUFFER_BYTES bytes, or a field is cut short
-                                  or has a tag or a body that no field has */
+    /* refused by dn_load alone, which stops at the first: its buffer is all zeros */
+    DN_REFUSED_BAD_FIELD = 14, /* the file has more than DN_FILE_BUFFER_BYTES bytes, or a field is cut
+                                  short, or it has a tag or a body that no field has */
     DN_REFUSED_BAD_TREE = 15   /* the fields are not one tree, then its errors */
 };
 
@@ -199,47 +198,49 @@ uint32_t dn_sentence(const uint8_t *script, size_t script_len, uint32_t list, si
                      uint8_t *sentence, size_t sentence_len, size_t *bytes);
 
 /*
- * Loads the tree file file[0 .. file_len - 1]: tests it, and writes its steps to records[0 .. records_len - 1]
- * (see the steps of a file). The file may be what dn_read wrote, or a stored one.
+ * Loads the tree file file[0 .. file_len - 1], which dn_read wrote or which was stored: tests it, and writes
+ * its steps to records[0 .. records_len - 1] (see the steps of a file, below).
  *
- * Give it exactly the file: file_len is what dn_read set *bytes to, or the length of what was stored. The zeros
- * after it in the buffer are DN_REFUSED_BAD_FIELD.
+ * Give it exactly the file: file_len is what dn_read set *bytes to, or the length of what was stored. The
+ * zeros that follow it in the buffer are no fields: DN_REFUSED_BAD_FIELD.
  *
- * What DN_OK says. The fields are the records of one tree, then DN_TAG_MODULE, then errors in the order of
- * DN_TAG_TOKEN_ERROR, DN_TAG_REPORTED_ERROR, DN_TAG_FULL_ERROR. Each body lies in the file and is as enum dn_tag
- * says, so that a program need not test it again: its length, its numbers, its text, which is UTF-8. Lines and
- * columns are 1 to 16384, or both 0 in the two lists of the parser; counts are at most 2048. Each record has
- * the children that enum dn_tag says, but any statement may be a function's body, and DN_TAG_VOID may stand
- * where a type may. Each file that dn_read writes is accepted.
+ * What DN_OK says. The fields are the records of one tree, with DN_TAG_MODULE as the last, then errors, in
+ * the order of DN_TAG_TOKEN_ERROR, DN_TAG_REPORTED_ERROR, DN_TAG_FULL_ERROR. Each body lies in the file and
+ * has the length, the numbers and the text that enum dn_tag says, so a program need not test them again.
+ * Lines and columns are 1 to 16384, or both 0 in the two lists of the parser; counts are at most 2048; text is
+ * UTF-8. Each record has the children that enum dn_tag says, but any statement may be a function's body, and
+ * DN_TAG_VOID may stand wherever a type may. Each file that dn_read writes is accepted.
  *
- * Not tested: whether there is such a script, how many records or errors there are, whether the text of an
- * integer is digits, whether a reported error is in the full list.
+ * Not tested: whether there is a script with this tree, how many records or errors there are, whether the
+ * text of a DN_TAG_INTEGER is digits, whether a reported error is in the full list.
  *
- * Skipped fields. A field with a tag from 0x70 on has no step. It may stand anywhere, after DN_TAG_MODULE too,
- * and have any body, but be cut short; its bytes count for the length of the file. So of a later version's file
- * you have the steps of what this version knows. To see whether there were such fields compare the length of
- * the file with that of the fields that have steps; to read them walk over the fields yourself.
+ * Skipped fields. A field with a tag from 0x70 on has no step. It may stand anywhere, after DN_TAG_MODULE
+ * too, and have any body. Its bytes count for the length of the file, and cut short it is
+ * DN_REFUSED_BAD_FIELD. So a program loads the files of a later version, without what that added in such
+ * fields. To see whether there are any, compare the length of the file with the sum of DN_FIELD_HEAD_BYTES
+ * and the length of the body over all steps; to read them, walk over the fields. What is not skipped has to
+ * be known here: an error number that this version does not list is DN_REFUSED_BAD_FIELD.
  *
  * Numbers, tested in this order. *count is set by every call: to the number of steps, which is at most
  * DN_MAX_STEPS, or to 0 if there is a refusal.
  *     1. A buffer of fewer than DN_STEP_BUFFER_WORDS words: DN_REFUSED_BUFFER_LENGTH.
  *     2. A file of more than DN_FILE_BUFFER_BYTES bytes: DN_REFUSED_BAD_FIELD.
- *     3. The first field with a fault decides. At each DN_REFUSED_BAD_FIELD is tested before
- *        DN_REFUSED_BAD_TREE.
- *     4. No DN_TAG_MODULE, so an empty file too: DN_REFUSED_BAD_TREE.
+ *     3. The fields, one after the other, up to the first with a fault: DN_REFUSED_BAD_FIELD if it has one by
+ *        itself, else DN_REFUSED_BAD_TREE.
+ *     4. No DN_TAG_MODULE, so also an empty file: DN_REFUSED_BAD_TREE.
  *     5. DN_OK and the steps.
  *
  * Buffers. All three are the caller's, as with dn_read. No pointer may be NULL, even if its length is 0.
- * The file, the buffer and *count must not overlap.
- *     file     is only read; it may have any bytes and any length. The steps say where in it the bodies are, so
- *              keep it with them.
- *     records  is written; what it held before does not matter. Its length is in words and not in bytes. With
- *              DN_OK the words after the steps are set to 0, to the buffer's end; with DN_REFUSED_BAD_FIELD and
- *              DN_REFUSED_BAD_TREE all are. Shorter than DN_STEP_BUFFER_WORDS, it is not changed.
+ * The file, the buffer for steps and *count must not overlap.
+ *     file     is only read; it may have any bytes, and any length. Keep it as long as the steps: they say
+ *              where in it the bodies are.
+ *     records  is written; what it held before does not matter. records_len counts words, not bytes. With
+ *              DN_OK the words after the steps are set to 0, to the buffer's end; with DN_REFUSED_BAD_FIELD
+ *              or DN_REFUSED_BAD_TREE all words are. Shorter than DN_STEP_BUFFER_WORDS, it is not changed.
  * No byte outside of them is read or written.
  *
- * Threads. As with dn_read: each with a buffer and *count of its own. They may share a file that none of them
- * changes.
+ * Threads. As with dn_read: each with a buffer for steps and *count of its own. They may share a file that
+ * none of them changes.
  *
  * Stack. Give each thread that calls a stack of 1 MiB, as with dn_read. No theorem bounds the stack.
  */
@@ -248,13 +249,13 @@ uint32_t dn_load(const uint8_t *file, size_t file_len, uint32_t *records, size_t
 /* ---- the steps of a file ---- */
 
 /*
- * dn_load writes DN_STEP_WORDS words for each record and each error of the file, in the order of the file. The
- * words of step i, from 0, begin at records[i * DN_STEP_WORDS].
+ * dn_load writes DN_STEP_WORDS words for each record and each error, in the order of the file. Those of step
+ * i, from 0, begin at records[i * DN_STEP_WORDS].
  *
- * The children of a step come before it, each with its own children before it. So the last child of step i is
- * step i - 1, and the child before a child is as many steps before it as that child and all below it are; or
- * keep a stack: each record pops its children and is pushed. DN_TAG_MODULE is the root. The steps after it are
- * errors.
+ * The children of a step come before it, each with its own children before it. So the last child of step i
+ * is step i - 1; and if step k is a child, and n steps are below it, the child before it is step k - n - 1.
+ * Or keep a stack: each record pops its children and is pushed. DN_TAG_MODULE is the root, and the steps
+ * after it are errors.
  */
 #define DN_STEP_WORDS 4
 
