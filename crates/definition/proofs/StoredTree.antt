@@ -51,7 +51,7 @@ pick_some true x y e = cc
 pick_some false x y e = let z : ◌≡◌ {A = ℕ} 0 1 = cc in absurd (omega arith)
 
 -- how many kinds are taken off
-popped : (ks st us : List ℕ) → pop ks st ≡ some us → length st ≡ length ks + length us
+pub popped : (ks st us : List ℕ) → pop ks st ≡ some us → length st ≡ length ks + length us
 unfolding pop
 popped [] st us e = let z : st ≡ us = cc in omega (arith, ap length z)
 popped (k ∷ ks) st us e = go (pop ks st) e (popped ks st)

@@ -1,6 +1,6 @@
 -- The walk over a stored file, field by field: over the bytes of a field, and at an offset, as a loop goes over it; and
 -- how children come off the kinds that wait. Assumes nothing.
-use mathlib.Core.Path.{◌≡◌, refl, sym, ap, ◌∙◌}
+use mathlib.Core.Path.{◌≡◌, refl, sym, ap, ◌∙◌, subst}
 use mathlib.Core.Option.{Option, none, some}
 use mathlib.Core.List.{List, [], ◌∷◌, ◌++◌}
 use Prim.Native.Nat.{ℕ, zero, suc, ◌+◌, ◌≤◌, ◌<◌}
@@ -46,18 +46,23 @@ passed (suc k) n p [] h = absurd (omega arith)
 passed (suc k) n p (b ∷ bs) h =
     passed k (suc n) p bs (omega arith) ∙ ap (λ (m : ℕ). walk 0 m p (drop k bs)) (omega arith)
 
--- the bytes of a field after its tag
-after_tag : Field → ℕ
-after_tag end = 0
-after_tag bad = 0
-after_tag (skipped size) = suc (suc size)
-after_tag (found f) = suc (suc f.size)
+-- how long a field is
+abbrev pub size_of : Field → ℕ
+size_of end = 0
+size_of bad = 0
+size_of (skipped size) = 3 + size
+size_of (found f) = 3 + f.size
 
-within : {b : ℕ} {bs : List ℕ} {f : Field} → Stepped b bs f → after_tag f ≤ length bs
-unfolding after_tag
+-- it stands within the bytes
+within : {b : ℕ} {bs : List ℕ} {f : Field} → Stepped b bs f → size_of f ≤ length (b ∷ bs)
 within is_bad = omega arith
 within (is_skipped z t) = omega arith
 within (is_found w m z t i j) = omega arith
+
+pub stands_within : (bs : List ℕ) (f : Field) → step bs ≡ f → size_of f ≤ length bs
+unfolding step
+stands_within [] f e = let z : end ≡ f = e in subst (λ f. size_of f ≤ 0) z (omega arith)
+stands_within (b ∷ bs) f e = subst (λ f. size_of f ≤ suc (length bs)) e (within (stepped b bs))
 
 module _ (b : ℕ) (bs : List ℕ) (n size : ℕ) where
   after_it : (q : Phase) → suc (suc size) ≤ length bs
@@ -71,14 +76,15 @@ module _ (b : ℕ) (bs : List ℕ) (n size : ℕ) where
 
   over : (p : Phase) → step (b ∷ bs) ≡ skipped size
       → walk 0 n p (b ∷ bs) ≡ walk 0 (n + (3 + size)) p (drop (3 + size) (b ∷ bs))
-  unfolding walk after_tag
-  over p e = rw (walk, e) (after_it p (rw e at (within (stepped b bs))))
+  unfolding walk
+  over p e = rw (walk, e) (after_it p (omega (arith, stands_within (b ∷ bs) (skipped size) e)))
 
 on : (b : ℕ) (bs : List ℕ) (n : ℕ) (p q : Phase) (f : Found) → step (b ∷ bs) ≡ found f → judge f.sort f.children p ≡ some q
     → walk 0 n p (b ∷ bs) ≡ ahead (step_at n f ∷ []) (walk 0 (n + (3 + f.size)) q (drop (3 + f.size) (b ∷ bs)))
-unfolding walk after_tag
+unfolding walk
 on b bs n p q f e j =
-    rw (walk, e, j) (ap (ahead (step_at n f ∷ [])) (after_it b bs n f.size q (rw e at (within (stepped b bs)))))
+    let h : suc (suc f.size) ≤ length bs = omega (arith, stands_within (b ∷ bs) (found f) e) in
+    rw (walk, e, j) (ap (ahead (step_at n f ∷ [])) (after_it b bs n f.size q h))
 
 module _ (file : List ℕ) (n : ℕ) (p : Phase) where
   pub at_end : step (drop n file) ≡ end → from file n p ≡ finish p

@@ -190,7 +190,8 @@ is_tag n =
 
 -- the tag with a number, or that none has it
 abbrev pub TagOf : ℕ → Result Tag NoTag → Type 0
-TagOf n r = MatchResult r (λ tag. tag_number tag ≡ n) (λ e. (e.0 ≡ n) × (is_tag n ≡ false))
+TagOf n r =
+    MatchResult r (λ tag. (tag_number tag ≡ n) × (is_tag n ≡ true)) (λ e. (e.0 ≡ n) × (is_tag n ≡ false))
 
 -- ---- the parser's errors
 

@@ -1,17 +1,13 @@
 -- What a call that stopped, or did not, says of its answer. Assumes nothing.
 use mathlib.Core.Path.{◌≡◌, refl, sym, ap, ◌∙◌}
 use Rattle.std.specs.Prelude.{ℕ, Result, Option, Ok, Err, IsErrAnd}
-use Rattle.std.proofs.lemmas.Result.{err_from_is_err_and}
 use native.Mathlib.Omega.{arith}
 use Rattle.definition.specs.declared.place.Place.{Place}
 use Rattle.definition.specs.declared.refusal.Refusal.{Refusal}
 use Rattle.definition.specs.Numbers.{refusal_number}
+pub use Rattle.definition.proofs.Question.{left}
 use Rattle.fallible.specs.declared.Stop.{Stop}
 use Rattle.fallible.specs.Answer.{Status, Done, Refused, done_of, item_status, status_of, refusal_status, stop_status, recovered}
-
--- what the exit of a `?` returns
-pub left : {T E : Type 0} {r : Result T E} {e : E} → IsErrAnd r (λ y. y ≡ e) → r ≡ Err e
-left {r = r} h = let p = err_from_is_err_and r h in rw p.1 (rw p.2)
 
 -- the exit of a `?` returns what the call gave
 pub passed_on : {T : Type 0} {called r : Result T Stop} {e : Stop} → called ≡ Err e → IsErrAnd r (λ y. y ≡ e) → r ≡ called

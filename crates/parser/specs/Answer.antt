@@ -1,7 +1,7 @@
 -- The answer of Read, and what the end of a file holds. Assumes nothing.
-use Rattle.std.specs.Prelude.{◌≡◌, Result, Ok, Err, List, ◌++◌, ℕ, ◌+◌, ◌*◌, ◌≤◌, length, take}
+use Rattle.std.specs.Prelude.{◌≡◌, Result, List, ◌++◌, ℕ, ◌+◌, ◌*◌, ◌≤◌, length, take}
 use Rattle.definition.specs.declared.refusal.Refusal.{Refusal}
-use Rattle.definition.specs.Numbers.{refusal_number}
+use Rattle.definition.specs.Numbers.{number_in, count_in}
 use Rattle.definition.specs.Tag as Tag
 use Rattle.definition.specs.Node.{u16, field}
 use Rattle.definition.specs.Fallible as F
@@ -12,16 +12,8 @@ use Rattle.fallible.specs.declared.error.Error.{Error}
 use Rattle.fallible.specs.Lists.{errs}
 use Rattle.steps.specs.Tokens.{budget}
 
-abbrev pub number_in : Result ℕ Refusal → ℕ
-number_in (Ok bytes) = 0
-number_in (Err refusal) = refusal_number refusal
-
-abbrev pub bytes_in : Result ℕ Refusal → ℕ
-bytes_in (Ok bytes) = bytes
-bytes_in (Err refusal) = 0
-
 abbrev pub answer : Result ℕ Refusal → List ℕ → O.Written
-answer r o = record { number = number_in r; bytes = bytes_in r; file = o }
+answer r o = record { number = number_in r; bytes = count_in r; file = o }
 
 -- ---- after the tree
 

@@ -4,7 +4,7 @@
 mod found;
 pub mod sentence;
 
-ghost use Rattle.std.specs.Prelude.{◌≡◌, [], ◌≤◌, length};
+ghost use Rattle.std.specs.Prelude.{◌≡◌, ◌≤◌, length};
 ghost use Rattle.definition.specs.Numbers.{refusal_number};
 ghost use Rattle.definition.specs.Operations as O;
 ghost use Rattle.source.specs.Place.{Stands, origin};
@@ -13,7 +13,7 @@ ghost use Rattle.parser.specs.Answer.{answer};
 ghost use Rattle.reader.specs.OneTree.{OneTree};
 
 use definition::limit;
-use definition::refusal::Refusal;
+use definition::refusal::{Refusal, number_and_count};
 use parser::read_tokens;
 use slices::fill_from;
 use source::admitted;
@@ -94,29 +94,12 @@ pub fn read_script(script: &[u8], file: &mut [u8]) -> Result<usize, Refusal>
     read_valid(script, file)
 }
 
-// The form that the entries for C take: stores a count of bytes to `bytes`, 0 for a refusal, and returns the number of
-// the refusal or 0.
-fn number_and_bytes(written: Result<usize, Refusal>, bytes: &mut usize) -> u32
-    ensures { record { number = result; bytes = bytes.new; file = [] } ≡ answer written [] }
-{
-    match written {
-        Ok(count) => {
-            *bytes = count;
-            0
-        }
-        Err(refusal) => {
-            *bytes = 0;
-            u32::from(refusal)
-        }
-    }
-}
-
 // `read_script` in the form for C.
 pub fn dn_read(script: &[u8], file: &mut [u8], bytes: &mut usize) -> u32
     ensures { record { number = result; bytes = bytes.new; file = file.new }
         ≡ O.whole script.now file.old }
 {
-    number_and_bytes(read_script(script, file), bytes)
+    number_and_count(read_script(script, file), bytes)
 }
 
 // The results for two scripts.

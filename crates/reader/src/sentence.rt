@@ -9,9 +9,8 @@ ghost use Rattle.parser.specs.Answer.{answer};
 ghost use Rattle.reader.specs.Sentences.{said_in, listed, sentence_of, tokens_in, found_in, ExamineAsks, FoundIn};
 
 use crate::found::{ErrorList, Found};
-use crate::number_and_bytes;
 use definition::limit;
-use definition::refusal::Refusal;
+use definition::refusal::{Refusal, number_and_count};
 use fallible::error::Error;
 use fallible::parser::Parser;
 use items::module;
@@ -150,5 +149,5 @@ pub fn dn_sentence(
     ensures { record { number = result; bytes = bytes.new; file = out.new }
         ≡ S.sentence script.now list position out.old }
 {
-    number_and_bytes(sentence(script, list, position, out), bytes)
+    number_and_count(sentence(script, list, position, out), bytes)
 }

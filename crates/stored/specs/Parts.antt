@@ -1,5 +1,5 @@
 -- What reading a part of a body ensures. Assumes nothing.
-use Rattle.std.specs.Prelude.{◌≡◌, List, [], ◌∷◌, ℕ, Option, MatchOption}
+use Rattle.std.specs.Prelude.{◌≡◌, List, [], ◌∷◌, ℕ, drop, Option, MatchOption}
 use Rattle.std.proofs.Math.Option as Math
 use Rattle.std.proofs.Math.Option.{none, some}
 use Rattle.definition.specs.Format as F
@@ -14,6 +14,10 @@ as_numbers n = record { byte = n.byte; count = n.count }
 -- the numbers of the parts ps, from what is left of a body on
 abbrev pub left : List Part → Body → Math.Option F.Numbers
 left ps b = S.numbers ps b.rest.now (as_numbers b.numbers)
+
+-- n bytes were read, and the numbers are now m
+abbrev pub Past : ℕ → F.Numbers → Body → Body → Type 0
+Past n m b b' = (b'.rest.now ≡ drop n b.rest.now) × (as_numbers b'.numbers ≡ m)
 
 -- the part p is read, or what is left does not begin with it
 abbrev pub Reads : Part → Body → Option Body → Type 0

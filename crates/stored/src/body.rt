@@ -4,7 +4,7 @@ ghost use Rattle.definition.specs.Classes.{between};
 ghost use Rattle.definition.specs.Format as F;
 ghost use Rattle.definition.specs.Stored as S;
 ghost use Rattle.stored.specs.Table.{row_of, parts_in};
-ghost use Rattle.stored.specs.Parts.{as_numbers, Reads, ReadsAll, NumbersOf};
+ghost use Rattle.stored.specs.Parts.{as_numbers, Past, Reads, ReadsAll, NumbersOf};
 
 use definition::limit;
 use definition::tag::Tag;
@@ -14,22 +14,22 @@ use source::valid;
 #[derive(Clone, Copy)]
 pub struct Numbers {
     pub byte: u8,
-    pub count: usize,
+    pub count: u16,
 }
 
 // The number in two bytes, at an offset.
-pub fn word(bytes: &[u8], at: usize) -> usize
+pub fn word(bytes: &[u8], at: usize) -> u16
     requires { at + 1 < length bytes.now }
     ensures { result ≡ S.word bytes.now at }
 {
-    256 * bytes[at] as usize + bytes[at + 1] as usize
+    256 * bytes[at] as u16 + bytes[at + 1] as u16
 }
 
 // Whether a line or a column is one of a script.
-fn stands(n: usize) -> bool
+fn stands(n: u16) -> bool
     ensures { result ≡ between 1 16384 n }
 {
-    1 <= n && n <= limit::SCRIPT_BYTES
+    1 <= n && n as usize <= limit::SCRIPT_BYTES
 }
 
 // ---- what a part may hold
@@ -74,7 +74,21 @@ fn is_base(bytes: &[u8]) -> bool
 fn is_count(bytes: &[u8]) -> bool
     ensures { result ≡ S.fits F.count bytes.now }
 {
-    2 <= bytes.len() && word(bytes, 0) <= limit::TOKENS
+    2 <= bytes.len() && word(bytes, 0) as usize <= limit::TOKENS
+}
+
+// A number in eight bytes.
+fn is_eight(bytes: &[u8]) -> bool
+    ensures { result ≡ S.fits F.eight bytes.now }
+{
+    8 <= bytes.len()
+}
+
+// A text, to the body's end.
+fn is_text(bytes: &[u8]) -> bool
+    ensures { result ≡ S.fits F.text bytes.now }
+{
+    valid(bytes)
 }
 
 // ---- a body
@@ -90,7 +104,7 @@ impl<'a> Body<'a> {
     // After so many bytes.
     fn after(self, bytes: usize) -> Body<'a>
         requires { bytes ≤ length self.rest.now }
-        ensures { (result.rest.now ≡ drop bytes self.entry.rest.now) × (result.numbers ≡ self.entry.numbers) }
+        ensures { Past bytes (as_numbers self.entry.numbers) self.entry result }
     {
         Body {
             rest: &self.rest[bytes..],
@@ -101,15 +115,27 @@ impl<'a> Body<'a> {
     // After a byte, which is the last one.
     fn after_byte(self) -> Body<'a>
         requires { 1 ≤ length self.rest.now }
-        ensures { (result.rest.now ≡ drop 1 self.entry.rest.now)
-            × (result.numbers.byte ≡ get_or self.entry.rest.now 0 0)
-            × (result.numbers.count ≡ self.entry.numbers.count) }
+        ensures { Past 1 (record { byte = get_or self.entry.rest.now 0 0; count = self.entry.numbers.count }) self.entry result }
     {
         Body {
             rest: &self.rest[1..],
             numbers: Numbers {
                 byte: self.rest[0],
                 count: self.numbers.count,
+            },
+        }
+    }
+
+    // After a count, which is the last one.
+    fn after_count(self) -> Body<'a>
+        requires { 2 ≤ length self.rest.now }
+        ensures { Past 2 (record { byte = self.entry.numbers.byte; count = S.word self.entry.rest.now 0 }) self.entry result }
+    {
+        Body {
+            rest: &self.rest[2..],
+            numbers: Numbers {
+                byte: self.numbers.byte,
+                count: word(self.rest, 0),
             },
         }
     }
@@ -156,31 +182,22 @@ impl<'a> Body<'a> {
         if !is_count(self.rest) {
             return None;
         }
-        let count = word(self.rest, 0);
-        Some(Body {
-            rest: &self.rest[2..],
-            numbers: Numbers {
-                byte: self.numbers.byte,
-                count,
-            },
-        })
+        Some(self.after_count())
     }
 
-    // A number in eight bytes.
     fn eight(self) -> Option<Body<'a>>
         ensures { Reads F.eight self.entry result }
     {
-        if self.rest.len() < 8 {
+        if !is_eight(self.rest) {
             return None;
         }
         Some(self.after(8))
     }
 
-    // A text, to the body's end.
     fn text(self) -> Option<Body<'a>>
         ensures { Reads F.text self.entry result }
     {
-        if !valid(self.rest) {
+        if !is_text(self.rest) {
             return None;
         }
         Some(self.after(self.rest.len()))
@@ -220,7 +237,9 @@ impl<'a> Body<'a> {
             | Tag::Use
             | Tag::TopLevelVariable
             | Tag::TopLevelAssembly => self.place()?.text(),
-            Tag::Struct | Tag::Call | Tag::CompoundArray | Tag::CompoundStruct | Tag::Block => self.place()?.count(),
+            Tag::Struct | Tag::Call | Tag::CompoundArray | Tag::CompoundStruct | Tag::Block => self
+                .place()?
+                .count(),
             Tag::Array => self.place()?.eight(),
             Tag::Integer => self.place()?.base()?.text(),
             Tag::Boolean | Tag::Return => self.place()?.byte(0, 1),
@@ -231,7 +250,11 @@ impl<'a> Body<'a> {
             Tag::TypeAlias => self.place()?.byte(0, 3)?.text(),
             Tag::Module => self.count(),
             Tag::TokenError => self.byte(1, 4)?.place()?.byte(0, 0)?.byte(0, 0),
-            Tag::ReportedError | Tag::FullError => self.byte(1, 19)?.place_or_nowhere()?.byte(0, 54)?.byte(0, 54),
+            Tag::ReportedError | Tag::FullError => self
+                .byte(1, 19)?
+                .place_or_nowhere()?
+                .byte(0, 54)?
+                .byte(0, 54),
         }
     }
 }
@@ -245,8 +268,8 @@ pub fn numbers_of(tag: Tag, body: &[u8]) -> Option<Numbers>
         numbers: Numbers { byte: 0, count: 0 },
     };
     let end = start.parts(tag)?;
-    if end.rest.is_empty() {
-        return Some(end.numbers);
+    if 0 < end.rest.len() {
+        return None;
     }
-    None
+    Some(end.numbers)
 }

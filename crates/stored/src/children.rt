@@ -30,7 +30,7 @@ impl From<NodeKind> for u8 {
 #[derive(Clone, Copy)]
 pub struct Run {
     pub kind: NodeKind,
-    pub count: usize,
+    pub count: u16,
 }
 
 // Children in order: three runs, of which some may be empty.
@@ -49,15 +49,14 @@ const NONE: Run = Run {
 impl Children {
     // How many they are.
     pub fn count(self) -> usize
-        requires { (self.first.count ≤ 2048) × (self.second.count ≤ 2048) × (self.third.count ≤ 2048) }
-        ensures { result ≡ length (kinds self) }
+        ensures { (result ≡ length (kinds self)) × (result ≤ 196605) }
     {
-        self.first.count + self.second.count + self.third.count
+        self.first.count as usize + self.second.count as usize + self.third.count as usize
     }
 }
 
 // So many children of one kind.
-fn some(kind: NodeKind, count: usize) -> Children
+fn some(kind: NodeKind, count: u16) -> Children
     ensures { kinds result ≡ replicate count (kind_number kind) }
 {
     Children {
@@ -68,7 +67,7 @@ fn some(kind: NodeKind, count: usize) -> Children
 }
 
 // A child of a kind, then so many of another.
-fn one_and(kind: NodeKind, other: NodeKind, count: usize) -> Children
+fn one_and(kind: NodeKind, other: NodeKind, count: u16) -> Children
     ensures { kinds result ≡ kind_number kind ∷ replicate count (kind_number other) }
 {
     Children {
@@ -83,7 +82,7 @@ fn one_and(kind: NodeKind, other: NodeKind, count: usize) -> Children
 pub fn children_of(tag: Tag, numbers: Numbers) -> Children
     ensures { kinds result ≡ children_in (row_of tag) numbers.byte numbers.count }
 {
-    let byte = numbers.byte as usize;
+    let byte = numbers.byte as u16;
     let count = numbers.count;
     match tag {
         Tag::Name
@@ -100,7 +99,10 @@ pub fn children_of(tag: Tag, numbers: Numbers) -> Children
         | Tag::ReportedError
         | Tag::FullError
         | Tag::TokenError => some(NodeKind::Type, 0),
-        Tag::Pointer | Tag::Array | Tag::NamedType | Tag::Sizeof | Tag::TypeAlias => some(NodeKind::Type, 1),
+        Tag::Pointer | Tag::Array | Tag::NamedType | Tag::Sizeof | Tag::TypeAlias => some(
+            NodeKind::Type,
+            1,
+        ),
         Tag::Struct => some(NodeKind::NamedType, count),
         Tag::Call => one_and(NodeKind::Expression, NodeKind::Expression, count),
         Tag::Index
@@ -121,12 +123,20 @@ pub fn children_of(tag: Tag, numbers: Numbers) -> Children
         Tag::CompoundStruct => some(NodeKind::CompoundField, count),
         Tag::CompoundValue => some(NodeKind::Compound, 1),
         Tag::Block => some(NodeKind::Statement, count),
-        Tag::VariableDeclaration | Tag::TopLevelVariable => one_and(NodeKind::Type, NodeKind::InitialValue, 1),
+        Tag::VariableDeclaration | Tag::TopLevelVariable => one_and(
+            NodeKind::Type,
+            NodeKind::InitialValue,
+            1,
+        ),
         Tag::CompoundAssignment => one_and(NodeKind::Expression, NodeKind::Compound, 1),
         Tag::Return => some(NodeKind::Expression, byte),
         Tag::Loop => some(NodeKind::Statement, 1),
         Tag::While => one_and(NodeKind::Expression, NodeKind::Statement, 1),
-        Tag::If => one_and(NodeKind::Expression, NodeKind::Statement, byte.saturating_sub(1)),
+        Tag::If => one_and(
+            NodeKind::Expression,
+            NodeKind::Statement,
+            byte.saturating_sub(1),
+        ),
         Tag::FunctionDefinition => Children {
             first: Run {
                 kind: NodeKind::NamedType,
@@ -138,7 +148,7 @@ pub fn children_of(tag: Tag, numbers: Numbers) -> Children
             },
             third: Run {
                 kind: NodeKind::Statement,
-                count: 1usize.saturating_sub(byte),
+                count: 1u16.saturating_sub(byte),
             },
         },
         Tag::Module => some(NodeKind::Item, count),

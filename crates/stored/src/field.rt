@@ -1,4 +1,9 @@
 // One field of a stored file.
+ghost use Rattle.std.specs.Prelude.{◌≡◌, ◌<◌, ◌≤◌, length, drop};
+ghost use Rattle.definition.specs.Format.{rows, find};
+ghost use Rattle.stored.specs.Table.{row_of, as_sort, sort_in};
+ghost use Rattle.stored.specs.Walk.{WithRow, Stepped};
+
 use crate::body::{numbers_of, word};
 use crate::children::{Children, NodeKind, children_of};
 use definition::refusal::Refusal;
@@ -33,9 +38,14 @@ pub enum Field {
 // The first number of the tags that are skipped.
 const SKIPPED: u8 = 0x70;
 
-fn sort_of(tag: Tag) -> Sort {
+#[tactic(auto, unfolding(definition::specs::Format::find, definition::specs::Format::rows))]
+fn sort_of(tag: Tag) -> Sort
+    ensures { as_sort result ≡ sort_in (row_of tag) }
+{
     match tag {
-        Tag::Name | Tag::Void | Tag::Pointer | Tag::Array | Tag::Struct => Sort::Node(NodeKind::Type),
+        Tag::Name | Tag::Void | Tag::Pointer | Tag::Array | Tag::Struct => Sort::Node(
+            NodeKind::Type,
+        ),
         Tag::NamedType => Sort::Node(NodeKind::NamedType),
         Tag::Identifier
         | Tag::Integer
@@ -55,7 +65,9 @@ fn sort_of(tag: Tag) -> Sort {
         | Tag::Sizeof => Sort::Node(NodeKind::Expression),
         Tag::CompoundArray | Tag::CompoundStruct => Sort::Node(NodeKind::Compound),
         Tag::CompoundField => Sort::Node(NodeKind::CompoundField),
-        Tag::NoValue | Tag::AssignedValue | Tag::CompoundValue => Sort::Node(NodeKind::InitialValue),
+        Tag::NoValue | Tag::AssignedValue | Tag::CompoundValue => Sort::Node(
+            NodeKind::InitialValue,
+        ),
         Tag::Block
         | Tag::Expression
         | Tag::VariableDeclaration
@@ -80,8 +92,13 @@ fn sort_of(tag: Tag) -> Sort {
 }
 
 // The field with this number as its tag, and this body.
-fn with_tag(number: u8, body: &[u8]) -> Option<Found> {
-    let tag = Tag::try_from(number).ok()?;
+fn with_tag(number: u8, body: &[u8]) -> Option<Found>
+    requires { number < 0x70 }
+    ensures { WithRow (find number rows) body.now result }
+{
+    let Ok(tag) = Tag::try_from(number) else {
+        return None;
+    };
     let numbers = numbers_of(tag, body)?;
     Some(Found {
         tag,
@@ -91,24 +108,34 @@ fn with_tag(number: u8, body: &[u8]) -> Option<Found> {
     })
 }
 
-// The field at an offset, its tag and the length of its body in three bytes.
-pub fn step(file: &[u8], at: usize) -> Result<Field, Refusal> {
-    let left = file.len() - at;
-    if left == 0 {
+// The field that the bytes begin with: its tag, the length of its body in two bytes, and its body.
+fn first(bytes: &[u8]) -> Result<Field, Refusal>
+    ensures { Stepped bytes.now result }
+{
+    if bytes.len() == 0 {
         return Ok(Field::End);
     }
-    if left < 3 {
+    if bytes.len() < 3 {
         return Err(Refusal::BadField);
     }
-    let size = word(file, at + 1);
-    if left - 3 < size {
+    let size = word(bytes, 1) as usize;
+    if bytes.len() - 3 < size {
         return Err(Refusal::BadField);
     }
-    if SKIPPED <= file[at] {
+    let number = bytes[0];
+    if SKIPPED <= number {
         return Ok(Field::Skipped(size));
     }
-    match with_tag(file[at], &file[at + 3..at + 3 + size]) {
+    match with_tag(number, &bytes[3..3 + size]) {
         Some(found) => Ok(Field::Found(found)),
         None => Err(Refusal::BadField),
     }
+}
+
+// The field at an offset of a file.
+pub fn step(file: &[u8], at: usize) -> Result<Field, Refusal>
+    requires { at ≤ length file.now }
+    ensures { Stepped (drop at file.now) result }
+{
+    first(&file[at..])
 }

@@ -6,6 +6,11 @@ pub mod children;
 pub mod field;
 pub mod waiting;
 
+ghost use Rattle.std.specs.Prelude.{◌≡◌, ◌+◌, ◌*◌, ◌≤◌, length};
+ghost use Rattle.definition.specs.Slices.{old, new};
+ghost use Rattle.definition.specs.Stored as S;
+ghost use Rattle.stored.specs.Walk.{Walked, WroteStep, TreeWalked, AllWalked, walked, answer};
+
 use definition::limit;
 use definition::refusal::{Refusal, number_and_count};
 use field::{Field, Found, Sort, step};
@@ -20,7 +25,10 @@ pub struct Reached {
 }
 
 // Writes the step of a field, and goes on after the field.
-fn write_step(reached: Reached, found: Found, records: &mut [u32]) -> Reached {
+fn write_step(reached: Reached, found: Found, records: &mut [u32]) -> Reached
+    requires { (reached.at + 3 + found.size ≤ 65536) × (4 * reached.count + 4 ≤ length records.old) }
+    ensures { WroteStep reached found records.old result records.new }
+{
     let step = [
         u8::from(found.tag) as u32,
         found.children.count() as u32,
@@ -35,7 +43,10 @@ fn write_step(reached: Reached, found: Found, records: &mut [u32]) -> Reached {
 }
 
 // Goes on after a field that is skipped.
-fn skip(reached: Reached, size: usize) -> Reached {
+fn skip(reached: Reached, size: usize) -> Reached
+    requires { reached.at + 3 + size ≤ 65536 }
+    ensures { (result.at ≡ reached.at + 3 + size) × (result.count ≡ reached.count) }
+{
     Reached {
         at: reached.at + 3 + size,
         count: reached.count,
@@ -44,11 +55,14 @@ fn skip(reached: Reached, size: usize) -> Reached {
 
 // The fields up to the module's. The nodes that wait for their parent are those from `top` on, the last one first, as
 // the numbers of their kinds.
-fn tree(file: &[u8], records: &mut [u32]) -> Result<Reached, Refusal> {
+fn tree(file: &[u8], records: &mut [u32]) -> Result<Reached, Refusal>
+    requires { (length file.now ≤ 65536) × (87380 ≤ length records.old) }
+    ensures { TreeWalked file.now result records }
+{
     let mut waiting = [0u8; limit::STEPS];
     let mut top = limit::STEPS;
     let mut reached = Reached { at: 0, count: 0 };
-    while reached.at < file.len() {
+    loop {
         match step(file, reached.at)? {
             Field::End => return Err(Refusal::BadTree),
             Field::Skipped(size) => reached = skip(reached, size),
@@ -74,16 +88,18 @@ fn tree(file: &[u8], records: &mut [u32]) -> Result<Reached, Refusal> {
             }
         }
     }
-    Err(Refusal::BadTree)
 }
 
 // The fields after the module's: gives the count of all steps.
-fn errors(file: &[u8], from: Reached, records: &mut [u32]) -> Result<usize, Refusal> {
+fn errors(file: &[u8], from: Reached, records: &mut [u32]) -> Result<usize, Refusal>
+    requires { Walked file.now (S.closed 0) from records.old × (length file.now ≤ 65536) × (87380 ≤ length records.old) }
+    ensures { AllWalked (walked file.now) result records }
+{
     let mut reached = from;
     let mut last = 0;
-    while reached.at < file.len() {
+    loop {
         match step(file, reached.at)? {
-            Field::End => {}
+            Field::End => return Ok(reached.count),
             Field::Skipped(size) => reached = skip(reached, size),
             Field::Found(found) => {
                 let Sort::Error(list) = found.sort else {
@@ -97,11 +113,13 @@ fn errors(file: &[u8], from: Reached, records: &mut [u32]) -> Result<usize, Refu
             }
         }
     }
-    Ok(reached.count)
 }
 
 // Load after its test of the slice: gives the count of steps, with what follows them in the slice as it was.
-fn steps(file: &[u8], records: &mut [u32]) -> Result<usize, Refusal> {
+fn steps(file: &[u8], records: &mut [u32]) -> Result<usize, Refusal>
+    requires { 87380 ≤ length records.old }
+    ensures { AllWalked (S.load file.now) result records }
+{
     if limit::FILE_BYTES < file.len() {
         return Err(Refusal::BadField);
     }
@@ -110,20 +128,21 @@ fn steps(file: &[u8], records: &mut [u32]) -> Result<usize, Refusal> {
 }
 
 // Load: writes the steps of a stored file. Gives their count.
-pub fn load(file: &[u8], records: &mut [u32]) -> Result<usize, Refusal> {
+pub fn load(file: &[u8], records: &mut [u32]) -> Result<usize, Refusal>
+    ensures { answer result records.new ≡ S.load_into file.now records.old }
+{
     if records.len() < limit::STEP_WORDS {
         return Err(Refusal::SliceLength);
     }
     let loaded = steps(file, records);
-    let count = match loaded {
-        Ok(count) => count,
-        Err(_) => 0,
-    };
-    fill_from(records, 4 * count, 0);
+    fill_from(records, 4 * loaded.unwrap_or(0), 0);
     loaded
 }
 
 // `load` in the form for C.
-pub fn dn_load(file: &[u8], records: &mut [u32], count: &mut usize) -> u32 {
+pub fn dn_load(file: &[u8], records: &mut [u32], count: &mut usize) -> u32
+    ensures { record { number = result; count = count.new; records = records.new }
+        ≡ S.load_into file.now records.old }
+{
     number_and_count(load(file, records), count)
 }

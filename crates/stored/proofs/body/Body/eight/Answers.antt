@@ -1,8 +1,8 @@
 use Rattle.stored.proofs.Parts.{read, not_read}
 use Rattle.stored.proofs.body.Body.eight.Goals as goal
 
-pub returns-then-self-lt8 : goal.returns-then-self-lt8
-returns-then-self-lt8 c = not_read _ c.args.self ?
+pub returns-then-not-is_eight : goal.returns-then-not-is_eight
+returns-then-not-is_eight c = not_read _ c.args.self c.is_eight.ensures c.if-not-is_eight.true
 
 pub returns : goal.returns
-returns c = read _ c.args.self ? ? ? ?
+returns c = read _ c.args.self c.is_eight.ensures c.after.result c.if-not-is_eight.false c.after.ensures
