@@ -57,14 +57,12 @@ module _ (tag : Tag) (n : ℕ) (body : List ℕ) (h : n < 0x70) (q : (tag_number
   pub bad_body : S.numbers (parts_in (row_of tag)) body no_numbers ≡ none → with_row (length body) body (find n rows) ≡ bad
   bad_body e = rw (f, rw (q.0, f) at e)
 
-  pub good_body : (m : F.Numbers) (s : F.Sort) (ks : List ℕ) → S.numbers (parts_in (row_of tag)) body no_numbers ≡ some m
-      → s ≡ sort_in (row_of tag) → ks ≡ children_in (row_of tag) m.byte m.count
-      → with_row (length body) body (find n rows) ≡ found (record { tag = tag_number tag; size = length body; sort = s; children = ks })
-  good_body m s ks e i j =
+  pub good_body : (m : F.Numbers) → S.numbers (parts_in (row_of tag)) body no_numbers ≡ some m
+      → with_row (length body) body (find n rows)
+        ≡ found (record { tag = tag_number tag; size = length body; sort = sort_in (row_of tag); children = children_in (row_of tag) m.byte m.count })
+  good_body m e =
       let b : S.numbers w.body body no_numbers ≡ some m = rw (q.0, f) at e in
-      let i' : s ≡ w.sort = rw (q.0, f) at i in
-      let j' : ks ≡ w.children m.byte m.count = rw (q.0, f) at j in
-      rw (f, b, i', j') (λ x. found (record { tag = sym (q.0 ∙ (listed n w f).tag) x; size = length body; sort = w.sort; children = w.children m.byte m.count }))
+      rw (q.0, f, b) (λ x. found (record { tag = sym ((listed n w f).tag) x; size = length body; sort = w.sort; children = w.children m.byte m.count }))
 
 -- ---- three bytes, and a body
 

@@ -12,15 +12,15 @@ use Rattle.std.proofs.lemmas.List.{drop-set, length-take-le}
 use Rattle.definition.specs.Choice.{pick}
 use Rattle.definition.specs.declared.refusal.Refusal.{Refusal}
 use Rattle.definition.specs.Numbers.{tag_number, refusal_number}
+use Rattle.definition.specs.Format as F
 use Rattle.definition.specs.Operations.{filled}
 use Rattle.definition.specs.Stored as S
 use Rattle.definition.specs.Stored.{Field, end, bad, skipped, found, step, pop, then_put, then_closed, Step, step_at, Phase, waiting, closed, judge, Loaded, steps, refused, ahead, load, steps_words, load_into}
 use Rattle.definition.proofs.StoredWalk.{at_end, at_bad, at_skipped, at_wrong, at_found, size_of, stands_within}
-use Rattle.stored.specs.declared.children.NodeKind.{NodeKind}
 use Rattle.stored.specs.declared.field.Sort.{Sort}
 use Rattle.stored.specs.declared.field.Found.{Found}
 use Rattle.stored.specs.declared.Reached.{Reached}
-use Rattle.stored.specs.Table.{kind_number, as_sort, as_found, kinds}
+use Rattle.stored.specs.Table.{as_sort, as_found}
 use Rattle.stored.specs.Walk.{Taken, Walked, WroteStep, Finished, walked, from, answer}
 use Rattle.std.specs.Prelude.{Result, Ok, Err, MatchResult}
 use Rattle.std.specs.Result.{result_unwrap_or}
@@ -30,7 +30,7 @@ use Rattle.stored.proofs.Taking.{enough}
 
 -- ---- a step is written
 
-pub wrote : {o o' : List ℕ} {m : ℕ} (r : Reached) (f : Found) (t : ℕ) (n : ℕ) → t ≡ tag_number f.tag → n ≡ length (kinds f.children)
+pub wrote : {o o' : List ℕ} {m : ℕ} (r : Reached) (f : Found) (t : ℕ) (n : ℕ) → t ≡ tag_number f.tag → n ≡ length (as_found f).children
     → take m o' ≡ take (4 * r.count) o ++ (t ∷ n ∷ (r.at + 3) ∷ f.size ∷ []) → m ≡ 4 * r.count + 4 → length o' ≡ length o
     → WroteStep r f o (record { at = r.at + 3 + f.size; count = r.count + 1 }) o'
 unfolding steps_words
@@ -84,7 +84,7 @@ module _ {file o : List ℕ} {p : Phase} {r : Reached} (w : Walked file p r o) w
   }
 
   pub walk_finds : {o' : List ℕ} (f : Found) (q : Phase) (r' : Reached) → step (drop r.at file) ≡ found (as_found f)
-      → judge (as_sort f.sort) (kinds f.children) p ≡ some q → WroteStep r f o r' o' → Walked file q r' o'
+      → judge (as_found f).sort (as_found f).children p ≡ some q → WroteStep r f o r' o' → Walked file q r' o'
   walk_finds {o'} f q r' e j x =
       let s : Step = step_at r.at (as_found f) in
       record {
@@ -107,7 +107,7 @@ module _ {file o : List ℕ} {p : Phase} {r : Reached} (w : Walked file p r o) w
   walk_bad n e = refuse n (at_bad file r.at p e.0 ∙ ap refused (sym e.1))
 
   pub walk_wrong : (f : Found) → step (drop r.at file) ≡ found (as_found f)
-      → judge (as_sort f.sort) (kinds f.children) p ≡ none → walked file ≡ refused 15
+      → judge (as_found f).sort (as_found f).children p ≡ none → walked file ≡ refused 15
   walk_wrong f e j = refuse 15 (at_wrong file r.at p (as_found f) e j)
 
 -- the file ends before the module
@@ -140,22 +140,21 @@ field_shorter {file} {o} {p} {r} w f e at' h z = omega (arith, field_inside file
 
 module _ {file o : List ℕ} {m : ℕ} {r : Reached} (w : Walked file (closed m) r o) (f : Found)
     (e : step (drop r.at file) ≡ found (as_found f)) where
-  pub error_more : {o' : List ℕ} (list : ℕ) (r' : Reached) → f.sort ≡ Sort.Error list → m ≤ list → WroteStep r f o r' o'
+  pub error_more : {o' : List ℕ} (list : ℕ) (r' : Reached) → (as_found f).sort ≡ F.error list → m ≤ list → WroteStep r f o r' o'
       → Walked file (closed list) r' o'
   error_more list r' s l x =
       walk_finds w f (closed list) r' e (rw s (ap (λ b. pick b (some (closed list)) none) (le-leb m list l))) x
 
-  pub error_early : (list : ℕ) → f.sort ≡ Sort.Error list → list < m → walked file ≡ refused 15
-  error_early list s l =
-      walk_wrong w f e (rw s (ap (λ b. pick b (some (closed list)) none) (lt-leb m list l)))
+  pub error_early : (list : ℕ) → (as_found f).sort ≡ F.error list → list < m → walked file ≡ refused 15
+  error_early list s l = walk_wrong w f e (rw s (ap (λ b. pick b (some (closed list)) none) (lt-leb m list l)))
 
-  pub error_not : ((list : ℕ) → f.sort ≡ Sort.Error list → ⊥) → walked file ≡ refused 15
-  error_not z = walk_wrong w f e (go f.sort refl)
+  pub error_not : (s : Sort) → as_sort s ≡ (as_found f).sort → ((list : ℕ) → s ≡ Sort.Error list → ⊥) → walked file ≡ refused 15
+  error_not s q z = walk_wrong w f e (ap (λ s. judge s (as_found f).children (closed m)) (sym q) ∙ go s z)
     where
-      go : (s : Sort) → f.sort ≡ s → judge (as_sort s) (kinds f.children) (closed m) ≡ none
-      go (Sort.Node kind) q = refl
-      go Sort.Root q = refl
-      go (Sort.Error list) q = absurd (z list q)
+      go : (s : Sort) → ((list : ℕ) → s ≡ Sort.Error list → ⊥) → judge (as_sort s) (as_found f).children (closed m) ≡ none
+      go (Sort.Node kind) z = refl
+      go Sort.Root z = refl
+      go (Sort.Error list) z = absurd (z list refl)
 
 -- ---- the tree
 
@@ -195,62 +194,65 @@ module _ {file w o : List ℕ} {n top : ℕ} {r : Reached} (b : Building file n 
   all_waiting = ap (λ n. take (n - top) (drop top w)) (sym b.nodes) ∙ rest_is top w
 
   -- its children do not wait there
-  pub node_wrong : Taken (kinds f.children) (take (21845 - top) (drop top w)) false → walked file ≡ refused 15
-  node_wrong t = walk_wrong b.walk f e (go f.sort (rw all_waiting at t))
+  pub node_wrong : (ks : List ℕ) → ks ≡ (as_found f).children → Taken ks (take (21845 - top) (drop top w)) false
+      → walked file ≡ refused 15
+  node_wrong ks k t = walk_wrong b.walk f e (go (as_found f).sort (rw (k, all_waiting) at t))
     where
-      go : (s : Sort) → Taken (kinds f.children) (drop top w) false
-          → judge (as_sort s) (kinds f.children) (waiting (drop top w)) ≡ none
-      go (Sort.Node kind) t = ap (then_put (kind_number kind)) t
-      go Sort.Root t = ap then_closed t
-      go (Sort.Error list) t = refl
+      go : (s : F.Sort) → Taken (as_found f).children (drop top w) false
+          → judge s (as_found f).children (waiting (drop top w)) ≡ none
+      go (F.node kind) t = ap (then_put kind) t
+      go F.root t = ap then_closed t
+      go (F.error list) t = refl
 
-  pub node_error : (list : ℕ) → f.sort ≡ Sort.Error list → walked file ≡ refused 15
+  pub node_error : (list : ℕ) → (as_found f).sort ≡ F.error list → walked file ≡ refused 15
   node_error list s = walk_wrong b.walk f e (rw s refl)
 
-  -- its children wait there, m of them
-  module _ (t : Taken (kinds f.children) (take (21845 - top) (drop top w)) true) (m : ℕ) (c : m ≡ length (kinds f.children)) where
+  -- its children, m of them, wait there
+  module _ {ks : List ℕ} (k : ks ≡ (as_found f).children) (t : Taken ks (take (21845 - top) (drop top w)) true)
+      (m : ℕ) (c : m ≡ length ks) where
     left : List ℕ
-    left = drop (length (kinds f.children)) (drop top w)
+    left = drop (length ks) (drop top w)
 
-    t' : pop (kinds f.children) (drop top w) ≡ some left
+    popped_off : pop (as_found f).children (drop top w) ≡ some left
     unfolding left
-    t' = rw all_waiting at t
+    popped_off = ap (λ ks. pop ks (drop top w)) (sym k) ∙ rw all_waiting at t
 
     left_is : left ≡ drop (top + m) w
     unfolding left
-    left_is = drop-drop (length (kinds f.children)) top w ∙ ap (λ k. drop k w) (omega (arith, c))
+    left_is = drop-drop (length ks) top w ∙ ap (λ n. drop n w) (omega (arith, c))
 
     pub node_room : top + m ≤ 21845
-    node_room = omega (arith, b.nodes, b.start, enough (drop top w) (kinds f.children) m c (rw all_waiting at t), length-drop top w)
+    node_room = omega (arith, b.nodes, b.start, enough (drop top w) ks m c (rw all_waiting at t), length-drop top w)
 
-    pub root_early : f.sort ≡ Sort.Root → top + m < 21845 → walked file ≡ refused 15
+    pub root_early : (as_found f).sort ≡ F.root → top + m < 21845 → walked file ≡ refused 15
     root_early s l =
-        let d : left ≡ get_or w (top + m) 0 ∷ drop (suc (top + m)) w = left_is ∙ drop-cons w (top + m) 0 (omega (arith, b.nodes)) in
-        walk_wrong b.walk f e (rw s (ap then_closed t' ∙ ap (λ l. then_closed (some l)) d))
+        let d : left ≡ get_or w (top + m) 0 ∷ drop (suc (top + m)) w =
+        left_is ∙ drop-cons w (top + m) 0 (omega (arith, b.nodes)) in
+        walk_wrong b.walk f e (rw s (ap then_closed popped_off ∙ ap (λ l. then_closed (some l)) d))
 
-    pub root_closes : {o' : List ℕ} (r' : Reached) → f.sort ≡ Sort.Root → 21845 ≤ top + m → WroteStep r f o r' o'
+    pub root_closes : {o' : List ℕ} (r' : Reached) → (as_found f).sort ≡ F.root → 21845 ≤ top + m → WroteStep r f o r' o'
         → Walked file (closed 0) r' o'
     root_closes r' s l x =
         let d : left ≡ [] = left_is ∙ drop_of_length-le w {i = top + m} (omega (arith, b.nodes)) in
-        walk_finds b.walk f (closed 0) r' e (rw s (ap then_closed t' ∙ ap (λ l. then_closed (some l)) d)) x
+        walk_finds b.walk f (closed 0) r' e (rw s (ap then_closed popped_off ∙ ap (λ l. then_closed (some l)) d)) x
 
-    -- there is room for one more node
+    -- there is room for one node more
     pub node_above : length file ≤ 65536 → 1 ≤ top + m
-    node_above h =
-        omega (arith, b.few, b.walk.few, walk_room b.walk h (found (as_found f)) e)
+    node_above h = omega (arith, b.few, b.walk.few, walk_room b.walk h (found (as_found f)) e)
 
-    pub node_put : {o' : List ℕ} (kind : NodeKind) (k : ℕ) (r' : Reached) → length file ≤ 65536 → f.sort ≡ Sort.Node kind
-        → k ≡ kind_number kind → WroteStep r f o r' o' → Building file n (set w (top + m - 1) k) (top + m - 1) r' o'
-    node_put kind k r' h s q x =
+    pub node_put : {o' : List ℕ} (kind : ℕ) (r' : Reached) → length file ≤ 65536 → (as_found f).sort ≡ F.node kind
+        → WroteStep r f o r' o' → Building file n (set w (top + m - 1) kind) (top + m - 1) r' o'
+    node_put kind r' h s x =
         let a : 1 ≤ top + m = node_above h in
-        let d : drop (top + m - 1) (set w (top + m - 1) k) ≡ k ∷ left =
-        drop-set w (top + m - 1) k (omega (arith, b.nodes, node_room)) ∙ ap (λ i. k ∷ drop i w) (omega (arith, a)) ∙ ap (λ l. k ∷ l) (sym left_is) in
-        let j : judge (as_sort f.sort) (kinds f.children) (waiting (drop top w))
-        ≡ some (waiting (drop (top + m - 1) (set w (top + m - 1) k))) =
-        rw s (ap (then_put (kind_number kind)) t' ∙ ap (λ x. some (waiting (x ∷ left))) (sym q) ∙ ap (λ l. some (waiting l)) (sym d)) in
+        let d : drop (top + m - 1) (set w (top + m - 1) kind) ≡ kind ∷ left =
+        drop-set w (top + m - 1) kind (omega (arith, b.nodes, node_room))
+        ∙ ap (λ i. kind ∷ drop i w) (omega (arith, a)) ∙ ap (λ l. kind ∷ l) (sym left_is) in
+        let j : judge (as_found f).sort (as_found f).children (waiting (drop top w))
+            ≡ some (waiting (drop (top + m - 1) (set w (top + m - 1) kind))) =
+        rw s (ap (then_put kind) popped_off ∙ ap (λ l. some (waiting l)) (sym d)) in
         record {
           walk = walk_finds b.walk f _ r' e j x;
-          nodes = length-set w (top + m - 1) k ∙ b.nodes;
+          nodes = length-set w (top + m - 1) kind ∙ b.nodes;
           start = omega (arith, node_room);
           few = omega (arith, b.few, x.count);
           words = x.size ∙ b.words;

@@ -36,9 +36,6 @@ as_sort (Sort.Node kind) = F.node (kind_number kind)
 as_sort Sort.Root = F.root
 as_sort (Sort.Error list) = F.error list
 
-abbrev pub as_found : Found → S.Found
-as_found f = record { tag = tag_number f.tag; size = f.size; sort = as_sort f.sort; children = kinds f.children }
-
 -- ---- the row of a tag
 
 abbrev pub row_of : Tag → Option Row
@@ -55,3 +52,7 @@ sort_in (some w) = w.sort
 abbrev pub children_in : Option Row → ℕ → ℕ → List ℕ
 children_in none b c = []
 children_in (some w) b c = w.children b c
+
+-- a field with a tag, by the row
+abbrev pub as_found : Found → S.Found
+as_found f = record { tag = tag_number f.tag; size = f.size; sort = sort_in (row_of f.tag); children = children_in (row_of f.tag) f.numbers.byte f.numbers.count }

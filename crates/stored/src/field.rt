@@ -1,10 +1,10 @@
 // One field of a stored file.
 ghost use Rattle.std.specs.Prelude.{◌≡◌, ◌<◌, ◌≤◌, length, drop};
 ghost use Rattle.definition.specs.Format.{rows, find};
-ghost use Rattle.stored.specs.Table.{row_of, as_sort, sort_in};
+ghost use Rattle.stored.specs.Table.{kinds, row_of, as_sort, sort_in, as_found};
 ghost use Rattle.stored.specs.Walk.{WithRow, Stepped};
 
-use crate::body::{numbers_of, word};
+use crate::body::{Numbers, numbers_of, word};
 use crate::children::{Children, NodeKind, children_of};
 use definition::refusal::Refusal;
 use definition::tag::Tag;
@@ -18,13 +18,28 @@ pub enum Sort {
     Error(u8),
 }
 
-// A field with a tag: the length of its body, its sort and its children.
+// A field with a tag: the length of its body, and the numbers there.
 #[derive(Clone, Copy)]
 pub struct Found {
     pub tag: Tag,
     pub size: usize,
-    pub sort: Sort,
-    pub children: Children,
+    pub numbers: Numbers,
+}
+
+impl Found {
+    // What it is to the tree.
+    pub fn sort(self) -> Sort
+        ensures { as_sort result ≡ (as_found self).sort }
+    {
+        sort_of(self.tag)
+    }
+
+    // Its children.
+    pub fn children(self) -> Children
+        ensures { kinds result ≡ (as_found self).children }
+    {
+        children_of(self.tag, self.numbers)
+    }
 }
 
 // A field, or the end of the file.
@@ -103,8 +118,7 @@ fn with_tag(number: u8, body: &[u8]) -> Option<Found>
     Some(Found {
         tag,
         size: body.len(),
-        sort: sort_of(tag),
-        children: children_of(tag, numbers),
+        numbers,
     })
 }
 

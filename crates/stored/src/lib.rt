@@ -9,6 +9,7 @@ pub mod waiting;
 ghost use Rattle.std.specs.Prelude.{◌≡◌, ◌+◌, ◌*◌, ◌≤◌, length};
 ghost use Rattle.definition.specs.Slices.{old, new};
 ghost use Rattle.definition.specs.Stored as S;
+ghost use Rattle.stored.specs.Table.{as_found};
 ghost use Rattle.stored.specs.Walk.{Walked, WroteStep, TreeWalked, AllWalked, walked, answer};
 
 use definition::limit;
@@ -24,14 +25,15 @@ pub struct Reached {
     pub count: usize,
 }
 
-// Writes the step of a field, and goes on after the field.
-fn write_step(reached: Reached, found: Found, records: &mut [u32]) -> Reached
-    requires { (reached.at + 3 + found.size ≤ 65536) × (4 * reached.count + 4 ≤ length records.old) }
+// Writes the step of a field with so many children, and goes on after the field.
+fn write_step(reached: Reached, found: Found, children: usize, records: &mut [u32]) -> Reached
+    requires { (children ≡ length (as_found found).children) × (children ≤ 196605)
+        × (reached.at + 3 + found.size ≤ 65536) × (4 * reached.count + 4 ≤ length records.old) }
     ensures { WroteStep reached found records.old result records.new }
 {
     let step = [
         u8::from(found.tag) as u32,
-        found.children.count() as u32,
+        children as u32,
         (reached.at + 3) as u32,
         found.size as u32,
     ];
@@ -67,21 +69,23 @@ fn tree(file: &[u8], records: &mut [u32]) -> Result<Reached, Refusal>
             Field::End => return Err(Refusal::BadTree),
             Field::Skipped(size) => reached = skip(reached, size),
             Field::Found(found) => {
-                if !lead(&waiting[top..], found.children) {
+                let children = found.children();
+                if !lead(&waiting[top..], children) {
                     return Err(Refusal::BadTree);
                 }
-                top += found.children.count();
-                match found.sort {
+                let count = children.count();
+                top += count;
+                match found.sort() {
                     Sort::Node(kind) => {
                         top -= 1;
                         waiting[top] = u8::from(kind);
-                        reached = write_step(reached, found, records);
+                        reached = write_step(reached, found, count, records);
                     }
                     Sort::Root => {
                         if top < limit::STEPS {
                             return Err(Refusal::BadTree);
                         }
-                        return Ok(write_step(reached, found, records));
+                        return Ok(write_step(reached, found, count, records));
                     }
                     Sort::Error(_) => return Err(Refusal::BadTree),
                 }
@@ -102,14 +106,14 @@ fn errors(file: &[u8], from: Reached, records: &mut [u32]) -> Result<usize, Refu
             Field::End => return Ok(reached.count),
             Field::Skipped(size) => reached = skip(reached, size),
             Field::Found(found) => {
-                let Sort::Error(list) = found.sort else {
+                let Sort::Error(list) = found.sort() else {
                     return Err(Refusal::BadTree);
                 };
                 if list < last {
                     return Err(Refusal::BadTree);
                 }
                 last = list;
-                reached = write_step(reached, found, records);
+                reached = write_step(reached, found, found.children().count(), records);
             }
         }
     }

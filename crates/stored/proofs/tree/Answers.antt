@@ -1,7 +1,9 @@
-use mathlib.Core.Path.{refl, ap, ◌∙◌}
+use mathlib.Core.Path.{refl, sym, ap, ◌∙◌}
 use native.Mathlib.Omega.{arith}
-use lib.ListN.{length-replicate}
+use lib.ListN.{length}
 use Rattle.definition.proofs.Question.{left}
+use Rattle.definition.specs.Format as F
+use Rattle.stored.specs.Table.{as_sort}
 use Rattle.stored.specs.Walk.{as_field}
 use Rattle.stored.proofs.Walking.{walk_bad, walk_open, walk_room, field_shorter, build_start, build_skips, node_wrong, node_error, node_room, node_above, node_put, root_early, root_closes}
 use Rattle.stored.proofs.tree.Goals as goal
@@ -35,12 +37,12 @@ loop-size-preserved-in-Skipped c =
 pub returns-then-not-lead : goal.returns-then-not-lead
 returns-then-not-lead c =
     let b = c.loop-size.invariant in
-    (node_wrong b c.in-Found.found (c.in_ok-step.ensures ∙ ap as_field c.in-Found.is) c.if-not-lead.ensures, b.words)
+    (node_wrong b c.in-Found.found (c.in_ok-step.ensures ∙ ap as_field c.in-Found.is) _ c.children-children.ensures c.if-not-lead.ensures, b.words)
 
 pub overflow_sub-top : goal.overflow_sub-top
 overflow_sub-top c =
     node_above c.loop-size.invariant c.in-Found.found (c.in_ok-step.ensures ∙ ap as_field c.in-Found.is)
-    c.if-not-lead.ensures _ c.count-top.ensures.0 c.requires.0
+    c.children-children.ensures c.if-not-lead.ensures _ c.count-count.ensures.0 c.requires.0
 
 pub bounds-waiting-top : goal.bounds-waiting-top
 bounds-waiting-top c =
@@ -49,15 +51,15 @@ bounds-waiting-top c =
     let t = c.if-not-lead.ensures in
     omega (
       arith,
-      node_room b c.in-Found.found e t _ c.count-top.ensures.0,
-      node_above b c.in-Found.found e t _ c.count-top.ensures.0 c.requires.0,
+      node_room b c.in-Found.found e c.children-children.ensures t _ c.count-count.ensures.0,
+      node_above b c.in-Found.found e c.children-children.ensures t _ c.count-count.ensures.0 c.requires.0,
     )
 
 pub write_step-reached-requires : goal.write_step-reached-requires
 write_step-reached-requires c =
     let b = c.loop-size.invariant in
     let r = walk_room b.walk c.requires.0 _ (c.in_ok-step.ensures ∙ ap as_field c.in-Found.is) in
-    (omega (arith, r), omega (arith, r, b.walk.few, b.words, c.requires.1))
+    (c.count-count.ensures.0 ∙ ap length c.children-children.ensures, c.count-count.ensures.1, omega (arith, r), omega (arith, r, b.walk.few, b.words, c.requires.1))
 
 pub loop-size-smaller : goal.loop-size-smaller
 loop-size-smaller c =
@@ -67,13 +69,14 @@ loop-size-smaller c =
 pub loop-size-preserved : goal.loop-size-preserved
 loop-size-preserved c =
     node_put c.loop-size.invariant c.in-Found.found (c.in_ok-step.ensures ∙ ap as_field c.in-Found.is)
-    c.if-not-lead.ensures _ c.count-top.ensures.0 _ _ _ c.requires.0 c.in-Node.is c.from.ensures c.write_step-reached.ensures
+    c.children-children.ensures c.if-not-lead.ensures _ c.count-count.ensures.0 _ _ c.requires.0
+    (sym c.sort.ensures ∙ ap as_sort c.in-Node.is ∙ ap F.node (sym c.from.ensures)) c.write_step-reached.ensures
 
 pub returns-then-top-lt-STEPS : goal.returns-then-top-lt-STEPS
 returns-then-top-lt-STEPS c =
     let b = c.loop-size.invariant in (
-      root_early b c.in-Found.found (c.in_ok-step.ensures ∙ ap as_field c.in-Found.is) c.if-not-lead.ensures _ c.count-top.ensures.0
-          c.in-Root.is c.if-top-lt-STEPS.true,
+      root_early b c.in-Found.found (c.in_ok-step.ensures ∙ ap as_field c.in-Found.is) c.children-children.ensures c.if-not-lead.ensures _ c.count-count.ensures.0
+          (sym c.sort.ensures ∙ ap as_sort c.in-Root.is) c.if-top-lt-STEPS.true,
       b.words,
     )
 
@@ -81,17 +84,17 @@ pub write_step-requires : goal.write_step-requires
 write_step-requires c =
     let b = c.loop-size.invariant in
     let r = walk_room b.walk c.requires.0 _ (c.in_ok-step.ensures ∙ ap as_field c.in-Found.is) in
-    (omega (arith, r), omega (arith, r, b.walk.few, b.words, c.requires.1))
+    (c.count-count.ensures.0 ∙ ap length c.children-children.ensures, c.count-count.ensures.1, omega (arith, r), omega (arith, r, b.walk.few, b.words, c.requires.1))
 
 pub returns-in-Root : goal.returns-in-Root
 returns-in-Root c =
     let b = c.loop-size.invariant in (
-      root_closes b c.in-Found.found (c.in_ok-step.ensures ∙ ap as_field c.in-Found.is) c.if-not-lead.ensures _ c.count-top.ensures.0 _
-          c.in-Root.is (omega (arith, c.if-top-lt-STEPS.false)) c.write_step.ensures,
+      root_closes b c.in-Found.found (c.in_ok-step.ensures ∙ ap as_field c.in-Found.is) c.children-children.ensures c.if-not-lead.ensures _ c.count-count.ensures.0 _
+          (sym c.sort.ensures ∙ ap as_sort c.in-Root.is) (omega (arith, c.if-top-lt-STEPS.false)) c.write_step.ensures,
       c.write_step.ensures.size ∙ b.words,
     )
 
 pub returns-in-Error : goal.returns-in-Error
 returns-in-Error c =
     let b = c.loop-size.invariant in
-    (node_error b c.in-Found.found (c.in_ok-step.ensures ∙ ap as_field c.in-Found.is) _ c.in-Error.is, b.words)
+    (node_error b c.in-Found.found (c.in_ok-step.ensures ∙ ap as_field c.in-Found.is) _ (sym c.sort.ensures ∙ ap as_sort c.in-Error.is), b.words)

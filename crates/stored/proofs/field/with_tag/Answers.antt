@@ -10,4 +10,4 @@ pub returns-in_err-numbers : goal.returns-in_err-numbers
 returns-in_err-numbers c = rw c.from_residual.ensures (bad_body c.in-Ok.tag _ _ c.requires c.in-Ok.ensures c.in_err-numbers.ensures)
 
 pub returns : goal.returns
-returns c = good_body c.in-Ok.tag _ _ c.requires c.in-Ok.ensures _ _ _ c.in_ok-numbers.ensures c.sort_of.ensures c.children_of.ensures
+returns c = good_body c.in-Ok.tag _ _ c.requires c.in-Ok.ensures _ c.in_ok-numbers.ensures
