@@ -1,3 +1,4 @@
 pub mod Table
+pub mod Nodes
 pub mod Parts
 pub mod Walk

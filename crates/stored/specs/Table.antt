@@ -1,4 +1,4 @@
--- The code's kinds, sorts and children as those of the table. Assumes nothing.
+-- The code's kinds, sorts and fields as those of the table. Assumes nothing.
 use Rattle.std.specs.Prelude.{◌≡◌, List, [], ◌++◌, ℕ, ◌+◌, replicate}
 use Rattle.std.proofs.Math.Option.{Option, none, some}
 use Rattle.definition.specs.declared.tag.Tag.{Tag}
@@ -6,10 +6,8 @@ use Rattle.definition.specs.Numbers.{tag_number}
 use Rattle.definition.specs.Format as F
 use Rattle.definition.specs.Format.{Part, Row, rows, find}
 use Rattle.definition.specs.Stored as S
-use Rattle.stored.specs.declared.children.NodeKind.{NodeKind}
-use Rattle.stored.specs.declared.children.Run.{Run}
-use Rattle.stored.specs.declared.children.Children.{Children}
-use Rattle.stored.specs.declared.field.Sort.{Sort}
+use Rattle.stored.specs.declared.nodes.NodeKind.{NodeKind}
+use Rattle.stored.specs.declared.judge.Sort.{Sort}
 use Rattle.stored.specs.declared.field.Found.{Found}
 
 abbrev pub kind_number : NodeKind → ℕ
@@ -24,12 +22,6 @@ kind_number NodeKind.Item = F.item
 
 abbrev pub NodeKindNumber : NodeKind → ℕ → Type 0
 NodeKindNumber kind n = n ≡ kind_number kind
-
-abbrev pub kinds_in : Run → List ℕ
-kinds_in r = replicate r.count (kind_number r.kind)
-
-abbrev pub kinds : Children → List ℕ
-kinds c = kinds_in c.first ++ (kinds_in c.second ++ kinds_in c.third)
 
 abbrev pub as_sort : Sort → F.Sort
 as_sort (Sort.Node kind) = F.node (kind_number kind)
@@ -52,6 +44,15 @@ sort_in (some w) = w.sort
 abbrev pub children_in : Option Row → ℕ → ℕ → List ℕ
 children_in none b c = []
 children_in (some w) b c = w.children b c
+
+-- the sort of a row; an error has no children
+abbrev pub Childless : Option Row → Sort → Type 0
+Childless w (Sort.Node kind) = Unit {0}
+Childless w Sort.Root = Unit {0}
+Childless w (Sort.Error list) = (b c : ℕ) → children_in w b c ≡ []
+
+abbrev pub SortOf : Option Row → Sort → Type 0
+SortOf w s = (as_sort s ≡ sort_in w) × Childless w s
 
 -- a field with a tag, by the row
 abbrev pub as_found : Found → S.Found

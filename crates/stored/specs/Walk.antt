@@ -4,15 +4,16 @@ use Rattle.std.proofs.Math.Option as Math
 use Rattle.std.proofs.Math.Option.{none, some}
 use Rattle.definition.specs.declared.refusal.Refusal.{Refusal}
 use Rattle.definition.specs.Slices.{MutLent, old, new}
-use Rattle.definition.specs.Choice.{pick}
 use Rattle.definition.specs.Numbers.{refusal_number, number_in, count_in}
 use Rattle.definition.specs.Format.{Row}
 use Rattle.definition.specs.Stored as S
-use Rattle.definition.specs.Stored.{Step, step_at, Phase, waiting, Loaded, Loading, ahead, pop, steps_words}
+use Rattle.definition.specs.Stored.{Step, step_at, waiting, Loaded, Loading, ahead, steps_words}
 use Rattle.stored.specs.declared.field.Field.{Field}
 use Rattle.stored.specs.declared.field.Found.{Found}
 use Rattle.stored.specs.declared.Reached.{Reached}
+use Rattle.stored.specs.declared.judge.Phase.{Phase}
 use Rattle.stored.specs.Table.{as_found}
+use Rattle.stored.specs.Nodes.{as_phase}
 
 -- ---- a field
 
@@ -30,23 +31,17 @@ WithRow w body r =
 abbrev pub Stepped : List ℕ → Result Field Refusal → Type 0
 Stepped bs r = MatchResult r (λ f. S.step bs ≡ as_field f) (λ e. (S.step bs ≡ S.bad) × (refusal_number e ≡ 14))
 
--- ---- children
-
--- whether children of these kinds come off the kinds that wait
-abbrev pub Taken : List ℕ → List ℕ → Bool → Type 0
-Taken ks st b = pop ks st ≡ pick b (some (drop (length ks) st)) none
-
 -- ---- the walk
 
 -- the walk over a whole file, and from an offset on
 abbrev pub walked : List ℕ → Loaded
 walked file = S.walk 0 0 (waiting []) file
 
-abbrev pub from : List ℕ → ℕ → Phase → Loaded
+abbrev pub from : List ℕ → ℕ → S.Phase → Loaded
 from file at p = S.walk 0 at p (drop at file)
 
 -- the steps so far are written to the slice, and the walk goes on in the phase p
-pub record Walked (file : List ℕ) (p : Phase) (r : Reached) (o : List ℕ) : Type 0 where
+pub record Walked (file : List ℕ) (p : S.Phase) (r : Reached) (o : List ℕ) : Type 0 where
   pub done : List Step
   pub count : r.count ≡ length done
   pub written : take (4 * r.count) o ≡ steps_words done
@@ -69,10 +64,11 @@ pub record Finished (l : Loaded) (n : ℕ) (o : List ℕ) : Type 0 where
   pub written : take (4 * n) o ≡ steps_words done
   pub few : 4 * n ≤ length o
 
-abbrev pub TreeWalked : List ℕ → Result Reached Refusal → MutLent → Type 0
-TreeWalked file r records =
-    MatchResult r (λ m. Walked file (S.closed 0) m (new records)) (λ e. walked file ≡ S.refused (refusal_number e))
-    × (length (new records) ≡ length (old records))
+-- the answer at the end of a file
+abbrev pub Finishes : Phase → ℕ → Result ℕ Refusal → Type 0
+Finishes p count r =
+    MatchResult r (λ n. (n ≡ count) × (S.finish (as_phase p []) ≡ S.steps []))
+    (λ e. S.finish (as_phase p []) ≡ S.refused (refusal_number e))
 
 abbrev pub AllWalked : Loaded → Result ℕ Refusal → MutLent → Type 0
 AllWalked l r records =

@@ -2,21 +2,21 @@
 #![tactic(auto)]
 
 pub mod body;
-pub mod children;
 pub mod field;
-pub mod waiting;
+pub mod judge;
+pub mod nodes;
 
 ghost use Rattle.std.specs.Prelude.{◌≡◌, ◌+◌, ◌*◌, ◌≤◌, length};
 ghost use Rattle.definition.specs.Slices.{old, new};
 ghost use Rattle.definition.specs.Stored as S;
 ghost use Rattle.stored.specs.Table.{as_found};
-ghost use Rattle.stored.specs.Walk.{Walked, WroteStep, TreeWalked, AllWalked, walked, answer};
+ghost use Rattle.stored.specs.Walk.{WroteStep, Finishes, AllWalked, walked, answer};
 
 use definition::limit;
 use definition::refusal::{Refusal, number_and_count};
-use field::{Field, Found, Sort, step};
+use field::{Field, Found, step};
+use judge::{Phase, judge};
 use slices::{fill_from, put_all};
-use waiting::lead;
 
 // Where a walk stands: the offset of the next field, and how many steps were written.
 #[derive(Clone, Copy)]
@@ -27,7 +27,7 @@ pub struct Reached {
 
 // Writes the step of a field with so many children, and goes on after the field.
 fn write_step(reached: Reached, found: Found, children: usize, records: &mut [u32]) -> Reached
-    requires { (children ≡ length (as_found found).children) × (children ≤ 196605)
+    requires { (children ≡ length (as_found found).children) × (children ≤ 65536)
         × (reached.at + 3 + found.size ≤ 65536) × (4 * reached.count + 4 ≤ length records.old) }
     ensures { WroteStep reached found records.old result records.new }
 {
@@ -55,71 +55,40 @@ fn skip(reached: Reached, size: usize) -> Reached
     }
 }
 
-// The fields up to the module's. The nodes that wait for their parent are those from `top` on, the last one first, as
-// the numbers of their kinds.
-fn tree(file: &[u8], records: &mut [u32]) -> Result<Reached, Refusal>
+// The walk over a file: writes a step for each field. Gives their count, with what follows them in the slice as it was.
+fn walk(file: &[u8], records: &mut [u32]) -> Result<usize, Refusal>
     requires { (length file.now ≤ 65536) × (87380 ≤ length records.old) }
-    ensures { TreeWalked file.now result records }
+    ensures { AllWalked (walked file.now) result records }
 {
     let mut waiting = [0u8; limit::STEPS];
-    let mut top = limit::STEPS;
+    let mut phase = Phase::Waiting(limit::STEPS);
     let mut reached = Reached { at: 0, count: 0 };
     loop {
         match step(file, reached.at)? {
-            Field::End => return Err(Refusal::BadTree),
+            Field::End => return finish(phase, reached.count),
             Field::Skipped(size) => reached = skip(reached, size),
             Field::Found(found) => {
-                let children = found.children();
-                if !lead(&waiting[top..], children) {
-                    return Err(Refusal::BadTree);
-                }
-                let count = children.count();
-                top += count;
-                match found.sort() {
-                    Sort::Node(kind) => {
-                        top -= 1;
-                        waiting[top] = u8::from(kind);
-                        reached = write_step(reached, found, count, records);
-                    }
-                    Sort::Root => {
-                        if top < limit::STEPS {
-                            return Err(Refusal::BadTree);
-                        }
-                        return Ok(write_step(reached, found, count, records));
-                    }
-                    Sort::Error(_) => return Err(Refusal::BadTree),
-                }
-            }
-        }
-    }
-}
-
-// The fields after the module's: gives the count of all steps.
-fn errors(file: &[u8], from: Reached, records: &mut [u32]) -> Result<usize, Refusal>
-    requires { Walked file.now (S.closed 0) from records.old × (length file.now ≤ 65536) × (87380 ≤ length records.old) }
-    ensures { AllWalked (walked file.now) result records }
-{
-    let mut reached = from;
-    let mut last = 0;
-    loop {
-        match step(file, reached.at)? {
-            Field::End => return Ok(reached.count),
-            Field::Skipped(size) => reached = skip(reached, size),
-            Field::Found(found) => {
-                let Sort::Error(list) = found.sort() else {
+                let Some(judged) = judge(found, phase, &mut waiting) else {
                     return Err(Refusal::BadTree);
                 };
-                if list < last {
-                    return Err(Refusal::BadTree);
-                }
-                last = list;
-                reached = write_step(reached, found, found.children().count(), records);
+                phase = judged.phase;
+                reached = write_step(reached, found, judged.children, records);
             }
         }
     }
 }
 
-// Load after its test of the slice: gives the count of steps, with what follows them in the slice as it was.
+// The end of a file, after so many steps.
+fn finish(phase: Phase, count: usize) -> Result<usize, Refusal>
+    ensures { Finishes phase count result }
+{
+    match phase {
+        Phase::Waiting(_) => Err(Refusal::BadTree),
+        Phase::Closed(_) => Ok(count),
+    }
+}
+
+// Load after its test of the slice.
 fn steps(file: &[u8], records: &mut [u32]) -> Result<usize, Refusal>
     requires { 87380 ≤ length records.old }
     ensures { AllWalked (S.load file.now) result records }
@@ -127,8 +96,7 @@ fn steps(file: &[u8], records: &mut [u32]) -> Result<usize, Refusal>
     if limit::FILE_BYTES < file.len() {
         return Err(Refusal::BadField);
     }
-    let module = tree(file, records)?;
-    errors(file, module, records)
+    walk(file, records)
 }
 
 // Load: writes the steps of a stored file. Gives their count.

@@ -1,0 +1,5 @@
+use Rattle.stored.proofs.Taking.{none_came}
+use Rattle.stored.proofs.nodes.none.Goals as goal
+
+pub returns : goal.returns
+returns c = none_came _
