@@ -8,7 +8,7 @@ use lib.ListN.{length, take, drop, replicate, length-append, length-drop, drop_o
 use borrow.Author.Tests.{le-ltb, lt-ltb}
 use Rattle.std.proofs.lemmas.List.{length-take-le}
 use Rattle.definition.specs.declared.refusal.Refusal.{Refusal}
-use Rattle.definition.specs.Numbers.{tag_number, refusal_number}
+use Rattle.definition.specs.Numbers.{refusal_number}
 use Rattle.definition.specs.Operations.{filled}
 use Rattle.definition.specs.Stored as S
 use Rattle.definition.specs.Stored.{Field, end, bad, skipped, found, step, Step, step_at, judge, Loaded, steps, refused, ahead, load, steps_words, load_into}
@@ -23,20 +23,21 @@ use Rattle.stored.specs.Walk.{Walked, WroteStep, Finished, Finishes, walked, fro
 use Rattle.std.specs.Prelude.{Result, Ok, Err, MatchResult}
 use Rattle.std.specs.Result.{result_unwrap_or}
 use Rattle.slices.specs.Cleared.{Cleared}
+use Rattle.slices.specs.Written.{Wrote}
 
 -- ---- a step is written
 
-pub wrote : {o o' : List ℕ} {m : ℕ} (r : Reached) (f : Found) (t : ℕ) (n : ℕ) → t ≡ tag_number f.tag → n ≡ length (as_found f).children
-    → take m o' ≡ take (4 * r.count) o ++ (t ∷ n ∷ (r.at + 3) ∷ f.size ∷ []) → m ≡ 4 * r.count + 4 → length o' ≡ length o
+pub wrote : {o o' : List ℕ} {m : ℕ} (r : Reached) (f : Found) (n : ℕ) → n ≡ length (as_found f).children
+    → Wrote o (4 * r.count) (f.number ∷ n ∷ (r.at + 3) ∷ f.size ∷ []) o' m
     → WroteStep r f o (record { at = r.at + 3 + f.size; count = r.count + 1 }) o'
 unfolding steps_words
-wrote {o} {o'} {m} r f t n e k p c s =
-    let same : 4 * (r.count + 1) ≡ m = omega arith in
+wrote {o} {o'} {m} r f n k w =
+    let same : 4 * (r.count + 1) ≡ m = omega (arith, w.count) in
     record {
       at = refl;
       count = refl;
-      words = ap (λ (x : ℕ). take x o') same ∙ p ∙ λ i. take (4 * r.count) o ++ (e i ∷ k i ∷ (r.at + 3) ∷ f.size ∷ []);
-      size = s;
+      words = ap (λ (x : ℕ). take x o') same ∙ w.put ∙ ap (λ n. take (4 * r.count) o ++ (f.number ∷ n ∷ (r.at + 3) ∷ f.size ∷ [])) k;
+      size = w.size;
     }
 
 -- ---- the walk goes on

@@ -56,4 +56,4 @@ SortOf w s = (as_sort s ≡ sort_in w) × Childless w s
 
 -- a field with a tag, by the row
 abbrev pub as_found : Found → S.Found
-as_found f = record { tag = tag_number f.tag; size = f.size; sort = sort_in (row_of f.tag); children = children_in (row_of f.tag) f.numbers.byte f.numbers.count }
+as_found f = record { tag = f.number; size = f.size; sort = sort_in (row_of f.tag); children = children_in (row_of f.tag) f.numbers.byte f.numbers.count }

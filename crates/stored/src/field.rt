@@ -7,10 +7,11 @@ use crate::body::{Numbers, numbers_of, word};
 use definition::refusal::Refusal;
 use definition::tag::Tag;
 
-// A field with a tag: the length of its body, and the numbers there.
+// A field with a tag: its number, the length of its body, and the numbers there.
 #[derive(Clone, Copy)]
 pub struct Found {
     pub tag: Tag,
+    pub number: u8,
     pub size: usize,
     pub numbers: Numbers,
 }
@@ -37,6 +38,7 @@ fn with_tag(number: u8, body: &[u8]) -> Option<Found>
     let numbers = numbers_of(tag, body)?;
     Some(Found {
         tag,
+        number,
         size: body.len(),
         numbers,
     })

@@ -90,9 +90,10 @@ fn node(found: Found, top: usize, waiting: &mut [u8]) -> Option<Judged>
     requires { (1 ≤ top) × (top ≤ length waiting.old) }
     ensures { Judges found (Phase.Waiting top) waiting result }
 {
+    let sort = sort_of(found.tag);
     let children = children(found.tag, found.numbers, &waiting[top..])?;
     let rest = top + children;
-    match sort_of(found.tag) {
+    match sort {
         Sort::Node(kind) => {
             let top = rest - 1;
             waiting[top] = u8::from(kind);

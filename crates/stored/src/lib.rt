@@ -16,7 +16,7 @@ use definition::limit;
 use definition::refusal::{Refusal, number_and_count};
 use field::{Field, Found, step};
 use judge::{Phase, judge};
-use slices::{fill_from, put_all};
+use slices::{fill_from, put};
 
 // Where a walk stands: the offset of the next field, and how many steps were written.
 #[derive(Clone, Copy)]
@@ -31,13 +31,10 @@ fn write_step(reached: Reached, found: Found, children: usize, records: &mut [u3
         × (reached.at + 3 + found.size ≤ 65536) × (4 * reached.count + 4 ≤ length records.old) }
     ensures { WroteStep reached found records.old result records.new }
 {
-    let step = [
-        u8::from(found.tag) as u32,
-        children as u32,
-        (reached.at + 3) as u32,
-        found.size as u32,
-    ];
-    put_all(records, 4 * reached.count, &step);
+    let word = put(records, 4 * reached.count, found.number as u32);
+    let word = put(records, word, children as u32);
+    let word = put(records, word, (reached.at + 3) as u32);
+    put(records, word, found.size as u32);
     Reached {
         at: reached.at + 3 + found.size,
         count: reached.count + 1,
