@@ -7,7 +7,7 @@ use Rattle.definition.specs.Format as F
 use Rattle.definition.specs.Format.{Part, Row, rows, find}
 use Rattle.definition.specs.Stored as S
 use Rattle.stored.specs.declared.nodes.NodeKind.{NodeKind}
-use Rattle.stored.specs.declared.judge.Sort.{Sort}
+use Rattle.stored.specs.declared.nodes.Sort.{Sort}
 use Rattle.stored.specs.declared.field.Found.{Found}
 
 abbrev pub kind_number : NodeKind → ℕ
@@ -44,15 +44,6 @@ sort_in (some w) = w.sort
 abbrev pub children_in : Option Row → ℕ → ℕ → List ℕ
 children_in none b c = []
 children_in (some w) b c = w.children b c
-
--- the sort of a row; an error has no children
-abbrev pub Childless : Option Row → Sort → Type 0
-Childless w (Sort.Node kind) = Unit {0}
-Childless w Sort.Root = Unit {0}
-Childless w (Sort.Error list) = (b c : ℕ) → children_in w b c ≡ []
-
-abbrev pub SortOf : Option Row → Sort → Type 0
-SortOf w s = (as_sort s ≡ sort_in w) × Childless w s
 
 -- a field with a tag, by the row
 abbrev pub as_found : Found → S.Found

@@ -1,74 +1,10 @@
 // What a field is to the walk over a file: whether it stands right, and how the walk goes on.
 ghost use Rattle.std.specs.Prelude.{◌≡◌, ◌≤◌, length};
 ghost use Rattle.definition.specs.Slices.{old, new};
-ghost use Rattle.stored.specs.Table.{row_of, SortOf};
-ghost use Rattle.stored.specs.Nodes.{Judges, top_of};
+ghost use Rattle.stored.specs.Nodes.{Judges, Joins, Follows, top_of};
 
 use crate::field::Found;
-use crate::nodes::{NodeKind, children};
-use definition::tag::Tag;
-
-// What a record is to the tree: a node of a kind; the root, which is the module; or an error of a list, 1 to 3 in the
-// order in which the lists follow the module.
-#[derive(Clone, Copy)]
-pub enum Sort {
-    Node(NodeKind),
-    Root,
-    Error(u8),
-}
-
-#[tactic(auto, unfolding(definition::specs::Format::find, definition::specs::Format::rows))]
-fn sort_of(tag: Tag) -> Sort
-    ensures { SortOf (row_of tag) result }
-{
-    match tag {
-        Tag::Name | Tag::Void | Tag::Pointer | Tag::Array | Tag::Struct => Sort::Node(
-            NodeKind::Type,
-        ),
-        Tag::NamedType => Sort::Node(NodeKind::NamedType),
-        Tag::Identifier
-        | Tag::Integer
-        | Tag::Boolean
-        | Tag::String
-        | Tag::Call
-        | Tag::Index
-        | Tag::Cast
-        | Tag::PointerTake
-        | Tag::PointerDereference
-        | Tag::FieldAccess
-        | Tag::BitwiseNot
-        | Tag::BooleanNot
-        | Tag::BooleanAnd
-        | Tag::ArithmeticBinOp
-        | Tag::ComparisonBinOp
-        | Tag::Sizeof => Sort::Node(NodeKind::Expression),
-        Tag::CompoundArray | Tag::CompoundStruct => Sort::Node(NodeKind::Compound),
-        Tag::CompoundField => Sort::Node(NodeKind::CompoundField),
-        Tag::NoValue | Tag::AssignedValue | Tag::CompoundValue => Sort::Node(
-            NodeKind::InitialValue,
-        ),
-        Tag::Block
-        | Tag::Expression
-        | Tag::VariableDeclaration
-        | Tag::Assignment
-        | Tag::CompoundAssignment
-        | Tag::Return
-        | Tag::Loop
-        | Tag::While
-        | Tag::Break
-        | Tag::If
-        | Tag::InlineAssembly => Sort::Node(NodeKind::Statement),
-        Tag::FunctionDefinition
-        | Tag::TypeAlias
-        | Tag::Use
-        | Tag::TopLevelVariable
-        | Tag::TopLevelAssembly => Sort::Node(NodeKind::Item),
-        Tag::Module => Sort::Root,
-        Tag::TokenError => Sort::Error(1),
-        Tag::ReportedError => Sort::Error(2),
-        Tag::FullError => Sort::Error(3),
-    }
-}
+use crate::nodes::{Record, Sort, record_of};
 
 // Before the module, the nodes that wait for their parent, from an offset on; after it, the list of the last error, 0 if
 // there was none.
@@ -85,15 +21,23 @@ pub struct Judged {
     pub children: usize,
 }
 
-// A field before the module. `waiting` has the nodes that wait, the last one first, from `top` on.
-fn node(found: Found, top: usize, waiting: &mut [u8]) -> Option<Judged>
-    requires { (1 ≤ top) × (top ≤ length waiting.old) }
-    ensures { Judges found (Phase.Waiting top) waiting result }
+// Where the nodes begin that wait; after the module none do.
+fn top(phase: Phase, waiting: &[u8]) -> usize
+    ensures { result ≡ top_of phase waiting.now }
 {
-    let sort = sort_of(found.tag);
-    let children = children(found.tag, found.numbers, &waiting[top..])?;
-    let rest = top + children;
-    match sort {
+    match phase {
+        Phase::Waiting(top) => top,
+        Phase::Closed(_) => waiting.len(),
+    }
+}
+
+// A record before the module, where the nodes from `rest` on are not its children.
+fn join(r: Record, rest: usize, waiting: &mut [u8]) -> Option<Judged>
+    requires { (1 ≤ rest) × (rest ≤ length waiting.old) × (r.children ≤ rest) }
+    ensures { Joins r rest waiting result }
+{
+    let children = r.children;
+    match r.sort {
         Sort::Node(kind) => {
             let top = rest - 1;
             waiting[top] = u8::from(kind);
@@ -115,29 +59,33 @@ fn node(found: Found, top: usize, waiting: &mut [u8]) -> Option<Judged>
     }
 }
 
-// A field after the module, where the last error was one of the list `last`.
-fn error(found: Found, last: u8, waiting: &mut [u8]) -> Option<Judged>
-    ensures { Judges found (Phase.Closed last) waiting result }
+// A record after the module, where the last error was one of the list `last`.
+fn follow(r: Record, last: u8) -> Option<Judged>
+    ensures { Follows r last result }
 {
-    let Sort::Error(list) = sort_of(found.tag) else {
-        return None;
-    };
-    if list < last {
-        return None;
+    match r.sort {
+        Sort::Error(list) => {
+            if list < last {
+                return None;
+            }
+            Some(Judged {
+                phase: Phase::Closed(list),
+                children: r.children,
+            })
+        }
+        _ => None,
     }
-    Some(Judged {
-        phase: Phase::Closed(list),
-        children: 0,
-    })
 }
 
-// Judges a field.
+// Judges a field. `waiting` has the nodes that wait, the last one first.
 pub fn judge(found: Found, phase: Phase, waiting: &mut [u8]) -> Option<Judged>
     requires { (1 ≤ top_of phase waiting.old) × (top_of phase waiting.old ≤ length waiting.old) }
     ensures { Judges found phase waiting result }
 {
+    let top = top(phase, waiting);
+    let record = record_of(found.tag, found.numbers, &waiting[top..])?;
     match phase {
-        Phase::Waiting(top) => node(found, top, waiting),
-        Phase::Closed(last) => error(found, last, waiting),
+        Phase::Waiting(_) => join(record, top + record.children, waiting),
+        Phase::Closed(last) => follow(record, last),
     }
 }

@@ -1,8 +1,9 @@
 // The nodes of a tree: their kinds, and the children that `node.rs` types for each record.
-ghost use Rattle.std.specs.Prelude.{[], ◌∷◌, ◌++◌, List, ℕ, ◌≤◌, length, replicate};
+ghost use Rattle.std.specs.Prelude.{◌≡◌, [], ◌∷◌, ◌++◌, List, ℕ, ◌≤◌, length, replicate, Some};
 ghost use Rattle.stored.specs.declared.nodes.NodeKind.{NodeKind};
-ghost use Rattle.stored.specs.Table.{kind_number, NodeKindNumber, row_of, children_in};
-ghost use Rattle.stored.specs.Nodes.{Come, Came};
+ghost use Rattle.stored.specs.declared.nodes.Sort.{Sort};
+ghost use Rattle.stored.specs.Table.{kind_number, NodeKindNumber, row_of};
+ghost use Rattle.stored.specs.Nodes.{Come, Came, Recorded};
 
 use crate::body::Numbers;
 use definition::tag::Tag;
@@ -51,12 +52,11 @@ fn and_before(waiting: &[u8], from: usize, kind: NodeKind, count: u16) -> Option
     Some(from + count)
 }
 
-// No nodes.
-fn none(waiting: &[u8]) -> Option<usize>
-    ensures { Come [] waiting.now result }
+// No children.
+fn none() -> usize
+    ensures { (w : List ℕ) → Came [] w result }
 {
-    let _ = waiting;
-    Some(0)
+    0
 }
 
 // Whether the first nodes are so many of a kind.
@@ -83,64 +83,86 @@ fn function(waiting: &[u8], parameters: u16, bodies: u16) -> Option<usize>
     and_before(waiting, result, NodeKind::NamedType, parameters)
 }
 
-// How many children the record of a tag has, if they are the first nodes.
+// What a record is to the tree: a node of a kind; the root, which is the module; or an error of a list, 1 to 3 in the
+// order in which the lists follow the module.
+#[derive(Clone, Copy)]
+pub enum Sort {
+    Node(NodeKind),
+    Root,
+    Error(u8),
+}
+
+// A record, and how many children it has.
+#[derive(Clone, Copy)]
+pub struct Record {
+    pub sort: Sort,
+    pub children: usize,
+}
+
+fn node(kind: NodeKind, children: usize) -> Option<Record>
+    ensures { result ≡ Some (record { sort = Sort.Node kind; children = children }) }
+{
+    Some(Record {
+        sort: Sort::Node(kind),
+        children,
+    })
+}
+
+fn error(list: u8, children: usize) -> Option<Record>
+    ensures { result ≡ Some (record { sort = Sort.Error list; children = children }) }
+{
+    Some(Record {
+        sort: Sort::Error(list),
+        children,
+    })
+}
+
+// The record of a tag, if its children are the first nodes.
 #[tactic(auto, unfolding(definition::specs::Format::find, definition::specs::Format::rows))]
-pub fn children(tag: Tag, numbers: Numbers, waiting: &[u8]) -> Option<usize>
-    ensures { Come (children_in (row_of tag) numbers.byte numbers.count) waiting.now result }
+pub fn record_of(tag: Tag, numbers: Numbers, waiting: &[u8]) -> Option<Record>
+    ensures { Recorded (row_of tag) numbers waiting.now result }
 {
     let byte = numbers.byte as u16;
     let count = numbers.count;
     match tag {
-        Tag::Name
-        | Tag::Void
-        | Tag::Identifier
-        | Tag::Integer
-        | Tag::Boolean
-        | Tag::String
-        | Tag::NoValue
-        | Tag::Break
-        | Tag::InlineAssembly
-        | Tag::Use
-        | Tag::TopLevelAssembly
-        | Tag::ReportedError
-        | Tag::FullError
-        | Tag::TokenError => none(waiting),
-        Tag::Pointer | Tag::Array | Tag::NamedType | Tag::Sizeof | Tag::TypeAlias => last(waiting, NodeKind::Type,
-            1,
-        ),
-        Tag::Struct => last(waiting, NodeKind::NamedType, count),
-        Tag::Call => one_and(waiting, NodeKind::Expression, NodeKind::Expression, count),
-        Tag::Index
-        | Tag::BooleanAnd
-        | Tag::ArithmeticBinOp
-        | Tag::ComparisonBinOp
-        | Tag::Assignment => last(waiting, NodeKind::Expression, 2),
-        Tag::Cast => one_and(waiting, NodeKind::Expression, NodeKind::Type, 1),
-        Tag::PointerTake
-        | Tag::PointerDereference
-        | Tag::FieldAccess
-        | Tag::BitwiseNot
-        | Tag::BooleanNot
-        | Tag::CompoundField
-        | Tag::AssignedValue
-        | Tag::Expression => last(waiting, NodeKind::Expression, 1),
-        Tag::CompoundArray => last(waiting, NodeKind::Expression, count),
-        Tag::CompoundStruct => last(waiting, NodeKind::CompoundField, count),
-        Tag::CompoundValue => last(waiting, NodeKind::Compound, 1),
-        Tag::Block => last(waiting, NodeKind::Statement, count),
-        Tag::VariableDeclaration | Tag::TopLevelVariable => one_and(waiting, NodeKind::Type,
-            NodeKind::InitialValue,
-            1,
-        ),
-        Tag::CompoundAssignment => one_and(waiting, NodeKind::Expression, NodeKind::Compound, 1),
-        Tag::Return => last(waiting, NodeKind::Expression, byte),
-        Tag::Loop => last(waiting, NodeKind::Statement, 1),
-        Tag::While => one_and(waiting, NodeKind::Expression, NodeKind::Statement, 1),
-        Tag::If => one_and(waiting, NodeKind::Expression,
-            NodeKind::Statement,
-            byte.saturating_sub(1),
-        ),
-        Tag::FunctionDefinition => function(waiting, count, 1u16.saturating_sub(byte)),
-        Tag::Module => last(waiting, NodeKind::Item, count),
+        Tag::Name | Tag::Void => node(NodeKind::Type, none()),
+        Tag::Pointer | Tag::Array => node(NodeKind::Type, last(waiting, NodeKind::Type, 1)?),
+        Tag::Struct => node(NodeKind::Type, last(waiting, NodeKind::NamedType, count)?),
+        Tag::NamedType => node(NodeKind::NamedType, last(waiting, NodeKind::Type, 1)?),
+        Tag::Identifier | Tag::Integer | Tag::Boolean | Tag::String => node(NodeKind::Expression, none()),
+        Tag::Call => node(NodeKind::Expression, one_and(waiting, NodeKind::Expression, NodeKind::Expression, count)?),
+        Tag::Index | Tag::BooleanAnd | Tag::ArithmeticBinOp | Tag::ComparisonBinOp =>
+            node(NodeKind::Expression, last(waiting, NodeKind::Expression, 2)?),
+        Tag::Cast => node(NodeKind::Expression, one_and(waiting, NodeKind::Expression, NodeKind::Type, 1)?),
+        Tag::PointerTake | Tag::PointerDereference | Tag::FieldAccess | Tag::BitwiseNot | Tag::BooleanNot =>
+            node(NodeKind::Expression, last(waiting, NodeKind::Expression, 1)?),
+        Tag::Sizeof => node(NodeKind::Expression, last(waiting, NodeKind::Type, 1)?),
+        Tag::CompoundArray => node(NodeKind::Compound, last(waiting, NodeKind::Expression, count)?),
+        Tag::CompoundStruct => node(NodeKind::Compound, last(waiting, NodeKind::CompoundField, count)?),
+        Tag::CompoundField => node(NodeKind::CompoundField, last(waiting, NodeKind::Expression, 1)?),
+        Tag::NoValue => node(NodeKind::InitialValue, none()),
+        Tag::AssignedValue => node(NodeKind::InitialValue, last(waiting, NodeKind::Expression, 1)?),
+        Tag::CompoundValue => node(NodeKind::InitialValue, last(waiting, NodeKind::Compound, 1)?),
+        Tag::Block => node(NodeKind::Statement, last(waiting, NodeKind::Statement, count)?),
+        Tag::Expression => node(NodeKind::Statement, last(waiting, NodeKind::Expression, 1)?),
+        Tag::VariableDeclaration => node(NodeKind::Statement, one_and(waiting, NodeKind::Type, NodeKind::InitialValue, 1)?),
+        Tag::Assignment => node(NodeKind::Statement, last(waiting, NodeKind::Expression, 2)?),
+        Tag::CompoundAssignment => node(NodeKind::Statement, one_and(waiting, NodeKind::Expression, NodeKind::Compound, 1)?),
+        Tag::Return => node(NodeKind::Statement, last(waiting, NodeKind::Expression, byte)?),
+        Tag::Loop => node(NodeKind::Statement, last(waiting, NodeKind::Statement, 1)?),
+        Tag::While => node(NodeKind::Statement, one_and(waiting, NodeKind::Expression, NodeKind::Statement, 1)?),
+        Tag::Break | Tag::InlineAssembly => node(NodeKind::Statement, none()),
+        Tag::If => node(NodeKind::Statement, one_and(waiting, NodeKind::Expression, NodeKind::Statement, byte.saturating_sub(1))?),
+        Tag::FunctionDefinition => node(NodeKind::Item, function(waiting, count, 1u16.saturating_sub(byte))?),
+        Tag::TypeAlias => node(NodeKind::Item, last(waiting, NodeKind::Type, 1)?),
+        Tag::Use | Tag::TopLevelAssembly => node(NodeKind::Item, none()),
+        Tag::TopLevelVariable => node(NodeKind::Item, one_and(waiting, NodeKind::Type, NodeKind::InitialValue, 1)?),
+        Tag::Module => Some(Record {
+            sort: Sort::Root,
+            children: last(waiting, NodeKind::Item, count)?,
+        }),
+        Tag::TokenError => error(1, none()),
+        Tag::ReportedError => error(2, none()),
+        Tag::FullError => error(3, none()),
     }
 }

@@ -2,4 +2,4 @@ use Rattle.stored.proofs.Taking.{none_came}
 use Rattle.stored.proofs.nodes.none.Goals as goal
 
 pub returns : goal.returns
-returns c = none_came _
+returns c = λ w. none_came w
