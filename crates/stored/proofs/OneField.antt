@@ -59,7 +59,7 @@ module _ (tag : Tag) (n : ℕ) (body : List ℕ) (h : n < 0x70) (q : (tag_number
 
   pub good_body : (m : F.Numbers) → S.numbers (parts_in (row_of tag)) body no_numbers ≡ some m
       → with_row (length body) body (find n rows)
-        ≡ found (record { tag = n; size = length body; sort = sort_in (row_of tag); children = children_in (row_of tag) m.byte m.count })
+      ≡ found (record { tag = n; size = length body; sort = sort_in (row_of tag); children = children_in (row_of tag) m.byte m.count })
   good_body m e =
       let b : S.numbers w.body body no_numbers ≡ some m = rw (q.0, f) at e in
       rw (q.0, f, b) (λ x. found (record { tag = sym ((listed n w f).tag) x; size = length body; sort = w.sort; children = w.children m.byte m.count }))

@@ -37,7 +37,7 @@ module _ (w : List ℕ) (from k : ℕ) where
   -- one node more
   next : (i : ℕ) → Standing w from k i → from + i < length w
       → pop (replicate (suc i) k) (drop from w)
-        ≡ pick (eqb (get_or w (from + i) 0) k) (some (drop (suc (from + i)) w)) none
+      ≡ pick (eqb (get_or w (from + i) 0) k) (some (drop (suc (from + i)) w)) none
   unfolding pop
   next i p h = rw (p, drop-cons w (from + i) 0 h) refl
 

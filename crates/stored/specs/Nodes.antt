@@ -68,7 +68,7 @@ abbrev pub Joins : Record → ℕ → MutLent → Option Judged → Type 0
 Joins x rest waiting r =
     MatchOption r (judged_first (as_sort x.sort) (drop rest (old waiting)) ≡ none)
     (λ j. (judged_first (as_sort x.sort) (drop rest (old waiting)) ≡ some (as_phase j.phase (new waiting)))
-      × (j.children ≡ x.children) × (rest ≤ top_of j.phase (new waiting) + 1) × (top_of j.phase (new waiting) ≤ length (new waiting)))
+    × (j.children ≡ x.children) × (rest ≤ top_of j.phase (new waiting) + 1) × (top_of j.phase (new waiting) ≤ length (new waiting)))
     × (length (new waiting) ≡ length (old waiting))
 
 -- and after it, where the last error was one of the list m
@@ -76,4 +76,4 @@ abbrev pub Follows : Record → ℕ → Option Judged → Type 0
 Follows x m r =
     MatchOption r ((ks : List ℕ) → S.judge (as_sort x.sort) ks (S.closed m) ≡ none)
     (λ j. ((ks w : List ℕ) → S.judge (as_sort x.sort) ks (S.closed m) ≡ some (as_phase j.phase w)) × (j.children ≡ x.children)
-      × ((w : List ℕ) → top_of j.phase w ≡ length w))
+    × ((w : List ℕ) → top_of j.phase w ≡ length w))

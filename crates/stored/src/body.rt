@@ -84,11 +84,18 @@ fn is_eight(bytes: &[u8]) -> bool
     8 <= bytes.len()
 }
 
-// A text, to the body's end.
+// A text, to the body's end. Most have characters of one byte alone, which is soon seen.
 fn is_text(bytes: &[u8]) -> bool
     ensures { result ≡ S.fits F.text bytes.now }
 {
-    valid(bytes)
+    let mut i = 0;
+    while i < bytes.len() {
+        if 0x80 <= bytes[i] {
+            return valid(bytes);
+        }
+        i += 1;
+    }
+    true
 }
 
 // ---- a body
@@ -140,6 +147,7 @@ impl<'a> Body<'a> {
         }
     }
 
+    #[inline(always)]
     fn place(self) -> Option<Body<'a>>
         ensures { Reads F.place self.entry result }
     {
@@ -194,6 +202,7 @@ impl<'a> Body<'a> {
         Some(self.after(8))
     }
 
+    #[inline(always)]
     fn text(self) -> Option<Body<'a>>
         ensures { Reads F.text self.entry result }
     {

@@ -129,34 +129,95 @@ pub fn record_of(tag: Tag, numbers: Numbers, waiting: &[u8]) -> Option<Record>
         Tag::Pointer | Tag::Array => node(NodeKind::Type, last(waiting, NodeKind::Type, 1)?),
         Tag::Struct => node(NodeKind::Type, last(waiting, NodeKind::NamedType, count)?),
         Tag::NamedType => node(NodeKind::NamedType, last(waiting, NodeKind::Type, 1)?),
-        Tag::Identifier | Tag::Integer | Tag::Boolean | Tag::String => node(NodeKind::Expression, none()),
-        Tag::Call => node(NodeKind::Expression, one_and(waiting, NodeKind::Expression, NodeKind::Expression, count)?),
-        Tag::Index | Tag::BooleanAnd | Tag::ArithmeticBinOp | Tag::ComparisonBinOp =>
-            node(NodeKind::Expression, last(waiting, NodeKind::Expression, 2)?),
-        Tag::Cast => node(NodeKind::Expression, one_and(waiting, NodeKind::Expression, NodeKind::Type, 1)?),
-        Tag::PointerTake | Tag::PointerDereference | Tag::FieldAccess | Tag::BitwiseNot | Tag::BooleanNot =>
-            node(NodeKind::Expression, last(waiting, NodeKind::Expression, 1)?),
+        Tag::Identifier | Tag::Integer | Tag::Boolean | Tag::String => node(
+            NodeKind::Expression,
+            none(),
+        ),
+        Tag::Call => node(
+            NodeKind::Expression,
+            one_and(waiting, NodeKind::Expression, NodeKind::Expression, count)?,
+        ),
+        Tag::Index | Tag::BooleanAnd | Tag::ArithmeticBinOp | Tag::ComparisonBinOp => node(
+            NodeKind::Expression,
+            last(waiting, NodeKind::Expression, 2)?,
+        ),
+        Tag::Cast => node(
+            NodeKind::Expression,
+            one_and(waiting, NodeKind::Expression, NodeKind::Type, 1)?,
+        ),
+        Tag::PointerTake
+        | Tag::PointerDereference
+        | Tag::FieldAccess
+        | Tag::BitwiseNot
+        | Tag::BooleanNot => node(
+            NodeKind::Expression,
+            last(waiting, NodeKind::Expression, 1)?,
+        ),
         Tag::Sizeof => node(NodeKind::Expression, last(waiting, NodeKind::Type, 1)?),
-        Tag::CompoundArray => node(NodeKind::Compound, last(waiting, NodeKind::Expression, count)?),
-        Tag::CompoundStruct => node(NodeKind::Compound, last(waiting, NodeKind::CompoundField, count)?),
-        Tag::CompoundField => node(NodeKind::CompoundField, last(waiting, NodeKind::Expression, 1)?),
+        Tag::CompoundArray => node(
+            NodeKind::Compound,
+            last(waiting, NodeKind::Expression, count)?,
+        ),
+        Tag::CompoundStruct => node(
+            NodeKind::Compound,
+            last(waiting, NodeKind::CompoundField, count)?,
+        ),
+        Tag::CompoundField => node(
+            NodeKind::CompoundField,
+            last(waiting, NodeKind::Expression, 1)?,
+        ),
         Tag::NoValue => node(NodeKind::InitialValue, none()),
-        Tag::AssignedValue => node(NodeKind::InitialValue, last(waiting, NodeKind::Expression, 1)?),
-        Tag::CompoundValue => node(NodeKind::InitialValue, last(waiting, NodeKind::Compound, 1)?),
-        Tag::Block => node(NodeKind::Statement, last(waiting, NodeKind::Statement, count)?),
+        Tag::AssignedValue => node(
+            NodeKind::InitialValue,
+            last(waiting, NodeKind::Expression, 1)?,
+        ),
+        Tag::CompoundValue => node(
+            NodeKind::InitialValue,
+            last(waiting, NodeKind::Compound, 1)?,
+        ),
+        Tag::Block => node(
+            NodeKind::Statement,
+            last(waiting, NodeKind::Statement, count)?,
+        ),
         Tag::Expression => node(NodeKind::Statement, last(waiting, NodeKind::Expression, 1)?),
-        Tag::VariableDeclaration => node(NodeKind::Statement, one_and(waiting, NodeKind::Type, NodeKind::InitialValue, 1)?),
+        Tag::VariableDeclaration => node(
+            NodeKind::Statement,
+            one_and(waiting, NodeKind::Type, NodeKind::InitialValue, 1)?,
+        ),
         Tag::Assignment => node(NodeKind::Statement, last(waiting, NodeKind::Expression, 2)?),
-        Tag::CompoundAssignment => node(NodeKind::Statement, one_and(waiting, NodeKind::Expression, NodeKind::Compound, 1)?),
-        Tag::Return => node(NodeKind::Statement, last(waiting, NodeKind::Expression, byte)?),
+        Tag::CompoundAssignment => node(
+            NodeKind::Statement,
+            one_and(waiting, NodeKind::Expression, NodeKind::Compound, 1)?,
+        ),
+        Tag::Return => node(
+            NodeKind::Statement,
+            last(waiting, NodeKind::Expression, byte)?,
+        ),
         Tag::Loop => node(NodeKind::Statement, last(waiting, NodeKind::Statement, 1)?),
-        Tag::While => node(NodeKind::Statement, one_and(waiting, NodeKind::Expression, NodeKind::Statement, 1)?),
+        Tag::While => node(
+            NodeKind::Statement,
+            one_and(waiting, NodeKind::Expression, NodeKind::Statement, 1)?,
+        ),
         Tag::Break | Tag::InlineAssembly => node(NodeKind::Statement, none()),
-        Tag::If => node(NodeKind::Statement, one_and(waiting, NodeKind::Expression, NodeKind::Statement, byte.saturating_sub(1))?),
-        Tag::FunctionDefinition => node(NodeKind::Item, function(waiting, count, 1u16.saturating_sub(byte))?),
+        Tag::If => node(
+            NodeKind::Statement,
+            one_and(
+                waiting,
+                NodeKind::Expression,
+                NodeKind::Statement,
+                byte.saturating_sub(1),
+            )?,
+        ),
+        Tag::FunctionDefinition => node(
+            NodeKind::Item,
+            function(waiting, count, 1u16.saturating_sub(byte))?,
+        ),
         Tag::TypeAlias => node(NodeKind::Item, last(waiting, NodeKind::Type, 1)?),
         Tag::Use | Tag::TopLevelAssembly => node(NodeKind::Item, none()),
-        Tag::TopLevelVariable => node(NodeKind::Item, one_and(waiting, NodeKind::Type, NodeKind::InitialValue, 1)?),
+        Tag::TopLevelVariable => node(
+            NodeKind::Item,
+            one_and(waiting, NodeKind::Type, NodeKind::InitialValue, 1)?,
+        ),
         Tag::Module => Some(Record {
             sort: Sort::Root,
             children: last(waiting, NodeKind::Item, count)?,

@@ -19,7 +19,7 @@ returns-then-waiting-from-2 c = λ ks w.
 pub loop-i-preserved : goal.loop-i-preserved
 loop-i-preserved c = (
   stand_more _ _ _ _ c.loop-i.invariant.0 (omega (arith, c.if-waiting-from.false, c.loop-i-test.true))
-  (c.if-waiting-from-2.false ∙ c.from-kind.ensures),
+      (c.if-waiting-from-2.false ∙ c.from-kind.ensures),
   omega (arith, c.loop-i-test.true),
 )
 
