@@ -55,6 +55,8 @@ pub fn exit(given: &Given) -> Exit {
         Given::Tokenise { script, .. } | Given::Whole { script, .. } | Given::Sentence { script, .. } => {
             drop(answer(script))
         }
+        // no file is the Rust's
+        Given::Load { .. } => (),
     }
     operations::run(given)
 }

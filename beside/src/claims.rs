@@ -9,7 +9,7 @@ use marked::rules;
 
 /// Prints the scripts of which a statement is wrong; whether there are none.
 pub fn run(classes: &[Class]) -> bool {
-    let mut tally = Tally::default();
+    let mut tally = Tally::beside("the Rust");
     for class in classes {
         classes::scripts(class, &mut |script| {
             let answer = ask::answer(script);

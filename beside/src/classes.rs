@@ -1,7 +1,7 @@
 //! The named classes of scripts: NAME, NAME:COUNT or NAME:COUNT:SEED.
 
 use crate::random::Random;
-use crate::{corpus, damage, fixed, grammar, texts};
+use crate::{corpus, damage, fixed, grammar, stored_files, texts};
 
 const NAMES: &str = "valid damaged soup bytes utf8 boundary limit-length limit-places limit-tokens limit-errors \
                      limit-entries limit-nesting limit-sizes limit-counts paper constructs tests sequences short texts";
@@ -13,24 +13,33 @@ pub const DEFAULT: [&str; 9] = [
 
 pub struct Class {
     pub word: String,
-    name: String,
-    count: usize,
-    seed: u64,
+    pub name: String,
+    pub count: usize,
+    pub seed: u64,
 }
 
 /// Reads the words, or gives the reason why they can't be read.
 pub fn parse(words: &[String]) -> Result<Vec<Class>, String> {
-    if words.is_empty() {
-        return DEFAULT.iter().map(|word| class(word)).collect();
-    }
-    words.iter().map(|word| class(word)).collect()
+    named(words, &DEFAULT, NAMES)
 }
 
-fn class(word: &str) -> Result<Class, String> {
+/// The same of classes of tree files; each class of scripts is one of them.
+pub fn parse_files(words: &[String]) -> Result<Vec<Class>, String> {
+    named(words, &stored_files::DEFAULT, &format!("{} {NAMES}", stored_files::NAMES))
+}
+
+fn named(words: &[String], default: &[&str], names: &str) -> Result<Vec<Class>, String> {
+    if words.is_empty() {
+        return default.iter().map(|word| class(word, names)).collect();
+    }
+    words.iter().map(|word| class(word, names)).collect()
+}
+
+fn class(word: &str, names: &str) -> Result<Class, String> {
     let mut parts = word.split(':');
     let name = parts.next().unwrap().to_owned();
-    if !NAMES.split(' ').any(|known| known == name) {
-        return Err(format!("no class is named {name}; there are: {NAMES}"));
+    if !names.split(' ').any(|known| known == name) {
+        return Err(format!("no class is named {name}; there are: {names}"));
     }
     let standard = match name.as_str() {
         "sequences" | "short" => 2,

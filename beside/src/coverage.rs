@@ -3,8 +3,7 @@
 use crate::ask;
 use crate::classes::{self, Class};
 use crate::lists::{self, Case};
-use crate::sentence_coverage;
-use crate::show;
+use crate::{sentence_coverage, show, stored_coverage};
 use formats::{Given, FILE_SIZE, KINDS, TOKEN_SLICES};
 use std::collections::BTreeMap;
 
@@ -55,11 +54,18 @@ pub fn lists() -> Result<bool, String> {
     let mut complete = true;
     for (sort, cases) in lists::stored()? {
         let mut met = Met::default();
-        let sentences = sort == "sentences";
-        let found = if sentences { sentence_coverage::found_in_case } else { found_in_case };
+        let found = match sort {
+            "sentences" => sentence_coverage::found_in_case,
+            "stored" => stored_coverage::found_in_case,
+            _ => found_in_case,
+        };
         cases.iter().for_each(|case| met.add(&found(case)));
         println!("the list of {sort}, {} cases", cases.len());
-        complete &= if sentences { sentence_coverage::print(&met) } else { print_list(sort, &met) };
+        complete &= match sort {
+            "sentences" => sentence_coverage::print(&met),
+            "stored" => stored_coverage::print(&met),
+            _ => print_list(sort, &met),
+        };
     }
     println!("{}", if complete { "nothing is missing" } else { "something is missing" });
     Ok(complete)
@@ -114,7 +120,7 @@ fn slices((given, _): &Case) -> Vec<(usize, usize)> {
         Given::Tokenise { slices, .. } => slices.iter().copied().zip(TOKEN_SLICES).collect(),
         Given::Read(passed) => vec![(passed.file, FILE_SIZE)],
         Given::Whole { file, .. } => vec![(*file, FILE_SIZE)],
-        Given::Sentence { .. } => Vec::new(),
+        Given::Sentence { .. } | Given::Load { .. } => Vec::new(),
     }
 }
 

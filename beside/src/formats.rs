@@ -47,6 +47,8 @@ pub enum Given {
     Read(Passed),
     Whole { script: Vec<u8>, file: usize },
     Sentence { script: Vec<u8>, list: u32, position: u64, slice: usize },
+    /// a tree file, and the words of the slice for its steps
+    Load { file: Vec<u8>, records: usize },
 }
 
 /// What an operation answers, and its output slices at exit.
@@ -54,7 +56,7 @@ pub enum Given {
 pub struct Exit {
     /// 0, or the refusal
     pub number: u8,
-    /// Tokenise: tokens, token errors, text bytes; the others: bytes of the file or sentence
+    /// Tokenise: tokens, token errors, text bytes; Load: steps; the others: bytes of the file or sentence
     pub counts: Vec<usize>,
     /// Tokenise: the token slice and the error slice
     pub words: Vec<Vec<u32>>,
@@ -62,6 +64,48 @@ pub struct Exit {
     pub bytes: Vec<u8>,
     /// Read: what Token text gives for each record of the token slice, and after the last
     pub texts: Vec<Vec<u8>>,
+    /// Load: the slice of the steps
+    pub runs: Runs,
+}
+
+/// A step of a tree file: tag, count of children, offset of the body in the file, length of the body.
+pub type Step = [u32; 4];
+
+/// A slice of words: each word and how many times it stands there. No word is the same as the one before it.
+#[derive(Clone, Default, Debug, PartialEq, Eq)]
+pub struct Runs(Vec<(u32, usize)>);
+
+impl Runs {
+    pub fn put(&mut self, word: u32, times: usize) {
+        match self.0.last_mut() {
+            _ if times == 0 => (),
+            Some((last, so_far)) if *last == word => *so_far += times,
+            _ => self.0.push((word, times)),
+        }
+    }
+
+    pub fn words(&self) -> impl Iterator<Item = u32> + '_ {
+        self.0.iter().flat_map(|(word, times)| std::iter::repeat(*word).take(*times))
+    }
+
+    /// The whole groups of four words at the start of the slice, so many or fewer.
+    pub fn steps(&self, count: usize) -> Vec<Step> {
+        let words: Vec<u32> = self.words().take(4 * count).collect();
+        words.chunks_exact(4).map(|step| step.try_into().unwrap()).collect()
+    }
+
+    /// Whether a slice holds just these words.
+    pub fn are(&self, mut slice: &[u32]) -> bool {
+        for (word, times) in &self.0 {
+            let Some((run, rest)) = slice.split_at_checked(*times) else { return false };
+            // a block at a time
+            if !run.chunks(512).all(|block| block.iter().fold(0, |other, next| other | (next ^ word)) == 0) {
+                return false;
+            }
+            slice = rest;
+        }
+        slice.is_empty()
+    }
 }
 
 /// What output slices hold before a call.
@@ -119,6 +163,9 @@ pub const FILE_SIZE: usize = 65_536;
 
 /// The least lengths of Tokenise's output slices.
 pub const TOKEN_SLICES: [usize; 3] = [16_384, 1_024, 16_384];
+
+/// The least length of Load's output slice, in words.
+pub const STEP_WORDS: usize = 87_380;
 
 /// The largest line and column, and the largest end of a text.
 pub const PLACE_LIMIT: u32 = 16_384;

@@ -2,22 +2,26 @@
 
 use crate::classes::{self, Class};
 use crate::random::Random;
-use crate::{altered, ask, corpus, made, sentence_cases, show, slices};
-use formats::{Exit, Given, Passed, Tokens, FILE_SIZE, TOKEN_SLICES};
+use crate::{altered, ask, corpus, made, sentence_cases, show, slices, stored_cases, stored_files};
+use formats::{Exit, Given, Passed, Step, Tokens, FILE_SIZE, STEP_WORDS, TOKEN_SLICES};
 use marked::operations;
 use std::io::Write;
 
 /// The lists and where they are stored.
-const STORED: [(&str, &str); 4] = [
+const STORED: [(&str, &str); 5] = [
     ("tokens", "crates/replay_tokens/stdin"),
     ("records", "crates/replay_read/stdin"),
     ("files", "crates/replay_files/stdin"),
     ("sentences", "crates/replay_sentences/stdin"),
+    ("stored", "crates/replay_stored/stdin"),
 ];
 
 /// How many bytes each word of a record has.
 const TOKEN_SIZES: [usize; 8] = [1, 2, 2, 2, 2, 1, 1, 1];
 const ERROR_SIZES: [usize; 4] = [1, 2, 2, 1];
+
+/// And each word of a step.
+const STEP_SIZES: [usize; 4] = [1, 2, 2, 2];
 
 /// A case: what an operation is passed, and how it should leave.
 pub type Case = (Given, Exit);
@@ -65,7 +69,23 @@ pub fn write(sort: &str, classes: &[Class], out: &mut dyn Write) -> Result<(), S
                 sentence_cases::of_script(&script, turn, &mut |given| each(from, given));
             });
         }
-        _ => return Err(format!("no list is of the sort {sort}; there are: tokens files records sentences")),
+        "stored" => {
+            for case in stored_cases::cases() {
+                let answer = operations::load(&case.file, case.records);
+                if !case.known.fits(&answer) {
+                    let (file, known) = (show::script(&case.file), show::known(&case.known));
+                    return Err(format!("a case of {}, {file}, has {known} and not {}", case.sort, show::loaded(&answer)));
+                }
+                each(case.sort, Given::Load { file: case.file, records: case.records });
+            }
+            for class in classes {
+                stored_files::files(class, &mut |file, known| {
+                    assert!(known.fits(&operations::load(file, STEP_WORDS)), "a file has not what is known of it");
+                    each(&class.word, Given::Load { file: file.to_vec(), records: STEP_WORDS });
+                });
+            }
+        }
+        _ => return Err(format!("no list is of the sort {sort}; there are: tokens files records sentences stored")),
     }
     written.print();
     Ok(())
@@ -144,7 +164,8 @@ fn text_lengths(texts: &[Vec<u8>]) -> Vec<u8> {
 
 fn bytes(given: &Given, exit: &Exit) -> Vec<u8> {
     let refusal = vec![exit.number];
-    let written = exit.bytes[..*exit.counts.last().unwrap()].to_vec();
+    // Load writes no bytes
+    let written = exit.bytes.iter().copied().take(*exit.counts.last().unwrap()).collect::<Vec<u8>>();
     match given {
         Given::Tokenise { script, slices } => [
             numbers(&[&[script.len()][..], slices].concat(), 3),
@@ -183,6 +204,14 @@ fn bytes(given: &Given, exit: &Exit) -> Vec<u8> {
             written,
         ]
         .concat(),
+        Given::Load { file, records: words } => [
+            numbers(&[file.len(), *words], 3),
+            refusal,
+            numbers(&exit.counts, 2),
+            file.clone(),
+            records(exit.runs.steps(exit.counts[0]).as_flattened(), exit.counts[0], &STEP_SIZES),
+        ]
+        .concat(),
     }
 }
 
@@ -195,6 +224,7 @@ pub fn read(sort: &str, list: &[u8]) -> Result<Vec<Case>, String> {
             "tokens" => list.tokens_case(),
             "records" => list.records_case(),
             "files" => list.files_case(),
+            "stored" => list.stored_case(),
             _ => list.sentences_case(),
         };
         cases.push(case.ok_or_else(|| format!("the list of {sort} ends inside case {}", cases.len()))?);
@@ -302,6 +332,16 @@ impl<'a> List<'a> {
         let script = self.take(length)?.to_vec();
         let exit = operations::sentence_exit(slice, &self.written(number, written)?);
         Some((Given::Sentence { script, list: list as u32, position: position as u64, slice }, exit))
+    }
+
+    fn stored_case(&mut self) -> Option<Case> {
+        let [length, records] = self.numbers([3; 2])?;
+        let number = self.number(1)? as u8;
+        let count = self.number(2)?;
+        let file = self.take(length)?.to_vec();
+        let steps: Vec<Step> = (0..count).map(|_| self.record(STEP_SIZES)).collect::<Option<_>>()?;
+        let exit = operations::load_exit(records, &if number == 0 { Ok(steps) } else { Err(number) });
+        Some((Given::Load { file, records }, exit))
     }
 
     /// A file or a sentence, or the refusal.

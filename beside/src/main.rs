@@ -9,12 +9,15 @@ mod corpus;
 mod coverage;
 mod damage;
 mod facts;
+mod file_damage;
 mod fixed;
 mod grammar;
 #[cfg(library)]
 mod linked;
 #[cfg(library)]
 mod linked_sentences;
+#[cfg(library)]
+mod linked_stored;
 mod lists;
 mod made;
 mod noticed;
@@ -23,7 +26,12 @@ mod sentence_cases;
 mod sentence_coverage;
 mod show;
 mod slices;
+mod stored_cases;
+mod stored_coverage;
+mod stored_files;
 mod texts;
+mod tree_files;
+mod written_again;
 // the steps are for `mark`
 #[allow(dead_code)]
 mod wrong_steps;
@@ -36,8 +44,10 @@ const USAGE: &str = "usage: beside coverage CLASS..
        beside program PROGRAM CLASS..
        beside lib CLASS..
        beside sentences CLASS..
-       beside list tokens|files|records|sentences CLASS..
-       beside case tokens|files|records|sentences NUMBER < LIST
+       beside stored CLASS..
+       beside judge CLASS..
+       beside list tokens|files|records|sentences|stored CLASS..
+       beside case tokens|files|records|sentences|stored NUMBER < LIST
        beside wrong PART..
        beside definitions COUNT LONGEST CLASS..
        beside dictionary
@@ -69,9 +79,12 @@ fn run() -> Result<bool, String> {
         ["program", program, ..] => Ok(compare::program(program, &classes::parse(&words[2..])?)),
         ["lib", ..] => Ok(compare::library(&classes::parse(&words[1..])?)),
         ["sentences", ..] => Ok(compare::sentences(&classes::parse(&words[1..])?)),
+        ["stored", ..] => Ok(compare::stored(&classes::parse_files(&words[1..])?)),
+        ["judge", ..] => Ok(compare::judge(&classes::parse_files(&words[1..])?)),
         ["list", sort, ..] => {
             let mut out = io::BufWriter::new(io::stdout().lock());
-            lists::write(sort, &classes::parse(&words[2..])?, &mut out)?;
+            let parse = if *sort == "stored" { classes::parse_files } else { classes::parse };
+            lists::write(sort, &parse(&words[2..])?, &mut out)?;
             out.flush().expect("the list can't be written");
             Ok(true)
         }
@@ -80,7 +93,7 @@ fn run() -> Result<bool, String> {
             print!("{}", damage::dictionary());
             Ok(true)
         }
-        ["case", sort @ ("tokens" | "files" | "records" | "sentences"), at] => {
+        ["case", sort @ ("tokens" | "files" | "records" | "sentences" | "stored"), at] => {
             lists::print_case(sort, number(at)?, &input())?;
             Ok(true)
         }

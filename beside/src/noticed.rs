@@ -29,8 +29,14 @@ pub fn run(parts: &[&str]) -> Result<bool, String> {
             part = reader.part;
             println!("{sorts}  {part}");
         }
-        let notice = |cases: &Vec<Case>| cases.iter().filter(|case| notices(case, Some(number))).count();
-        let counts: Vec<usize> = lists.iter().map(|(_, cases)| notice(cases)).collect();
+        let notice = |(sort, cases): &(&str, Vec<Case>)| {
+            // the judge reads stored files, and nothing else does
+            if (*sort == "stored") != reader.part.ends_with("of stored files") {
+                return 0;
+            }
+            cases.iter().filter(|case| notices(case, Some(number))).count()
+        };
+        let counts: Vec<usize> = lists.iter().map(notice).collect();
         let columns: String = counts.iter().map(|count| format!("{count:>10}")).collect();
         let all = counts.iter().sum();
         println!("{columns}  {}{}", reader.name, if all == 0 { ": NOT NOTICED" } else { "" });

@@ -1,9 +1,9 @@
 //! The operations of docs/FORMAT.md on whole slices: the tests before any work, then the Rust's steps.
 
-use crate::rules;
+use crate::{judge, rules};
 use formats::{
-    Answer, Exit, Given, Passed, Sentences, Token, Tokens, FILE_SIZE, FILLER, FILLER_WORD, FULL, REPORTED, SCRIPT_LIMIT,
-    TOKEN_ERRORS, TOKEN_SLICES,
+    Answer, Exit, Given, Passed, Runs, Sentences, Step, Token, Tokens, FILE_SIZE, FILLER, FILLER_WORD, FULL, REPORTED,
+    SCRIPT_LIMIT, STEP_WORDS, TOKEN_ERRORS, TOKEN_SLICES,
 };
 
 pub fn run(given: &Given) -> Exit {
@@ -15,6 +15,7 @@ pub fn run(given: &Given) -> Exit {
             let answer = sentence(&examined(script), *list, *position, *slice);
             sentence_exit(*slice, &answer)
         }
+        Given::Load { file, records } => load_exit(*records, &load(file, *records)),
     }
 }
 
@@ -63,6 +64,12 @@ fn sentence_at(sentences: &Sentences, list: u32, position: u64) -> &str {
         _ => return "",
     };
     entries.get(position as usize).map_or("", String::as_str)
+}
+
+/// The steps of a file; 3 where the slice is too short for those of some file.
+pub fn load(file: &[u8], records: usize) -> Result<Vec<Step>, u8> {
+    long_enough(&[records], &[STEP_WORDS])?;
+    judge::steps(file)
 }
 
 /// Token text: a part of the text slice.
@@ -114,6 +121,7 @@ pub fn tokens_exit(slices: [usize; 3], answer: &Result<Tokens, u8>) -> Exit {
         ],
         bytes: filled(records.text.clone(), slices[2], byte),
         texts: Vec::new(),
+        runs: Runs::default(),
     }
 }
 
@@ -143,7 +151,21 @@ fn file_exit(length: usize, answer: &Result<Vec<u8>, u8>, untouched: &[u8]) -> E
         words: Vec::new(),
         bytes: filled(file.to_vec(), length, byte),
         texts: Vec::new(),
+        runs: Runs::default(),
     }
+}
+
+/// Refusal 3 leaves the slice as it was, 14 and 15 leave zeros.
+pub fn load_exit(records: usize, answer: &Result<Vec<Step>, u8>) -> Exit {
+    let (number, steps) = match answer {
+        Ok(steps) => (0, steps.as_slice()),
+        Err(number) => (*number, &[][..]),
+    };
+    let mut runs = Runs::default();
+    steps.as_flattened().iter().for_each(|word| runs.put(*word, 1));
+    let word = if number == 3 { FILLER_WORD } else { 0 };
+    runs.put(word, records - 4 * steps.len());
+    Exit { number, counts: vec![steps.len()], words: Vec::new(), bytes: Vec::new(), texts: Vec::new(), runs }
 }
 
 /// A slice of some length that begins with what is written.

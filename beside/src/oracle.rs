@@ -6,6 +6,7 @@
 pub mod decode;
 pub mod encode;
 pub mod fallible;
+pub mod judge;
 pub mod marks;
 pub mod node;
 pub mod operations;

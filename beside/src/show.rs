@@ -1,6 +1,7 @@
 //! Scripts and answers in readable lines.
 
-use formats::{Exit, Given, Passed, Tokens, FILLER, KINDS};
+use crate::tree_files::Known;
+use formats::{Exit, Given, Passed, Step, Tokens, FILLER, FILLER_WORD, KINDS};
 
 /// A script in quotes; a long one is cut in its middle.
 pub fn script(bytes: &[u8]) -> String {
@@ -137,6 +138,11 @@ pub fn given(given: &Given) -> Vec<String> {
         Given::Sentence { script: bytes, list, position, slice } => {
             vec![script(bytes), format!("list {list:02X}, position {position}, a slice of {slice}")]
         }
+        Given::Load { file, records } => {
+            let mut lines = vec![format!("{} bytes, a slice of {records} words", file.len())];
+            lines.extend(fields(file));
+            lines
+        }
     }
 }
 
@@ -150,11 +156,48 @@ pub fn sentence(slice: &[u8], bytes: usize) -> Vec<String> {
     vec![format!("sentence {}", script(written)), rest]
 }
 
+/// What is known of a tree file.
+pub fn known(known: &Known) -> String {
+    match known {
+        Known::Nothing => "nothing".to_owned(),
+        Known::Number(number) => format!("number {number}"),
+        Known::Steps(steps) => loaded(&Ok(steps.clone())),
+    }
+}
+
+/// Load's answer in one line.
+pub fn loaded(answer: &Result<Vec<Step>, u8>) -> String {
+    match answer {
+        Ok(steps) => format!("{} steps, {}", steps.len(), steps.iter().map(|at| step(at)).collect::<Vec<_>>().join("; ")),
+        Err(number) => format!("refused {number}"),
+    }
+}
+
+fn step([tag, children, start, length]: &Step) -> String {
+    format!("{tag:02X} {} {children} children, body at {start}, {length} bytes", tag_name(*tag as u8))
+}
+
+/// A slice that begins with so many steps.
+pub fn steps(slice: &[u32], count: usize) -> Vec<String> {
+    let count = count.min(slice.len() / 4);
+    let (written, rest) = slice.split_at(4 * count);
+    let mut lines: Vec<String> = written.chunks_exact(4).map(|words| step(words.try_into().unwrap())).collect();
+    lines.push(match rest.iter().position(|word| *word != rest[0]) {
+        None if rest.first().is_none_or(|word| *word == 0) => format!("{} zeros", rest.len()),
+        None if rest[0] == FILLER_WORD => "the rest is untouched".to_owned(),
+        other => format!("the rest begins with {:X?}, other words from {other:?}", &rest[..rest.len().min(8)]),
+    });
+    lines
+}
+
 /// What an operation answers, a line for each record of its slices.
 pub fn exit(given: &Given, exit: &Exit) -> Vec<String> {
     let mut lines = vec![format!("number {}, counts {:?}", exit.number, exit.counts)];
     if exit.bytes.first() == Some(&FILLER) {
         lines.push("the slices are untouched".to_owned());
+    } else if let Given::Load { .. } = given {
+        let slice: Vec<u32> = exit.runs.words().collect();
+        lines.extend(steps(&slice, exit.counts[0]));
     } else if let Given::Sentence { .. } = given {
         lines.extend(sentence(&exit.bytes, exit.counts[0]));
     } else if let [tokens, errors] = &exit.words[..] {
