@@ -137,7 +137,9 @@ pub fn stored(classes: &[Class]) -> bool {
             files += 1;
             let answer = operations::load(file, STEP_WORDS);
             let faults = judge_faults(file, known, &answer);
-            tally.count(file, faults.is_empty(), || (vec!["no fault of the judge".to_owned()], faults));
+            if !faults.is_empty() {
+                tally.count(file, false, || (vec!["no fault of the judge".to_owned()], faults));
+            }
             let lengths = linked_stored::slice_lengths(files);
             lengths.into_iter().for_each(|words| load(&mut tally, file, &answer, words, &mut memory));
             let Ok(steps) = &answer else { return };

@@ -2,14 +2,14 @@
 
 use crate::random::Random;
 use crate::tree_files::{
-    bytes, bytes_of, known, place_bytes, plain, plain_error, random_skipped, records, record, two, Field, Known, COUNTED,
-    WITH_TEXT,
+    bytes, bytes_of, known, place_bytes, plain, plain_error, random_skipped, record, records, two, Field, Known,
+    COUNTED, WITH_TEXT,
 };
 
 /// Pieces that are no characters, alone or where they are put in.
 pub const NO_TEXT: [&[u8]; 14] = [
-    b"\x80", b"\xBF", b"\xC0\x80", b"\xC1\xBF", b"\xC3", b"\xE0\x9F\xBF", b"\xED\xA0\x80", b"\xE2\x82", b"\xF0\x8F\xBF\xBF",
-    b"\xF4\x90\x80\x80", b"\xF5\x80\x80\x80", b"\xFF", b"\xFE", b"\xF0\x9F\x98",
+    b"\x80", b"\xBF", b"\xC0\x80", b"\xC1\xBF", b"\xC3", b"\xE0\x9F\xBF", b"\xED\xA0\x80", b"\xE2\x82",
+    b"\xF0\x8F\xBF\xBF", b"\xF4\x90\x80\x80", b"\xF5\x80\x80\x80", b"\xFF", b"\xFE", b"\xF0\x9F\x98",
 ];
 
 /// An accepted file with one fault or a few; now and then what it must have.

@@ -18,7 +18,8 @@ pub struct Case {
 /// Adds the cases of a sort.
 type Sort = fn(&mut Made);
 
-const SORTS: [(&str, Sort); 17] = [
+const SORTS: [(&str, Sort); 18] = [
+    ("examples", examples),
     ("tags", tags_alone),
     ("children", children),
     ("missing children", missing),
@@ -101,6 +102,27 @@ fn example() -> Vec<Field> {
     ];
     fields.extend([0x62, 0x60, 0x61].map(plain_error));
     fields
+}
+
+/// Those of docs/FORMAT.md.
+fn examples(made: &mut Made) {
+    let mut fields = vec![record(0x10, 0, 0, b"T"), plain(0x33), record(0x53, 0, 0, b"x"), record(0x5F, 1, 0, b"")];
+    fields[0].body[3] = 8;
+    made.file(0, &fields);
+    fields.insert(0, other(0x70, b"\xFF"));
+    made.file(0, &fields);
+    for (number, file) in [
+        (14, &b"\x5F\x00\x02\x00\x00\x00"[..]),
+        (15, b"\x33\x00\x00\x5F\x00\x02\x00\x00\x00"),
+        (15, b"\x5F\x00\x02\x00\x00\x5F\x00\x02\x00\x00"),
+        (15, b"\x5F\x00\x02\x08\x00"),
+        (14, b"\x5F\x00\x02\x08\x01"),
+        (14, b"\x5F\x00\x02\x00\x00\x70\x00\x02\xFF"),
+        (15, b"\x7F\x00\x01\x09"),
+        (15, b""),
+    ] {
+        made.bytes(number, file);
+    }
 }
 
 /// Each tag with an empty body before an empty module.
@@ -236,7 +258,8 @@ fn places(made: &mut Made) {
         for (half, good) in HALVES {
             for from in [0, 2] {
                 let number = if good { 0 } else { 14 };
-                made.last(number, tag, 0, bytes_of(tag)[0], |field| field.body[from..from + 2].copy_from_slice(&two(half)));
+                let put = |field: &mut Field| field.body[from..from + 2].copy_from_slice(&two(half));
+                made.last(number, tag, 0, bytes_of(tag)[0], put);
             }
         }
         made.last(14, tag, 0, bytes_of(tag)[0], |field| field.body[..4].fill(0));
@@ -636,7 +659,8 @@ fn slices(made: &mut Made) {
         (15, vec![]),
     ];
     for (number, fields) in files {
-        for records in [0, 1, 4, 1_000, STEP_WORDS - 4, STEP_WORDS - 1, STEP_WORDS, STEP_WORDS + 1, STEP_WORDS + 4, WORDS_MOST] {
+        let lengths = [0, 1, 4, 1_000, STEP_WORDS - 4, STEP_WORDS - 1, STEP_WORDS, STEP_WORDS + 1, STEP_WORDS + 4, WORDS_MOST];
+        for records in lengths {
             let known = match number {
                 _ if records < STEP_WORDS => Known::Number(3),
                 0 => known(&fields),

@@ -14,8 +14,8 @@ use formats::FILE_SIZE;
 pub const NAMES: &str = "edges trees fields each-byte each-tag each-cut";
 
 pub const DEFAULT: [&str; 13] = [
-    "edges", "each-byte:12", "each-tag:12", "each-cut:200", "trees:20000", "fields:50000", "paper", "constructs", "boundary",
-    "tests", "valid:3000", "damaged:3000", "soup:3000",
+    "edges", "each-byte:12", "each-tag:12", "each-cut:200", "trees:20000", "fields:50000", "paper", "constructs",
+    "boundary", "tests", "valid:3000", "damaged:3000", "soup:3000",
 ];
 
 /// How many damaged files there are for an accepted one.
