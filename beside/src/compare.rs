@@ -140,7 +140,7 @@ pub fn stored(classes: &[Class]) -> bool {
             if !faults.is_empty() {
                 tally.count(file, false, || (vec!["no fault of the judge".to_owned()], faults));
             }
-            let lengths = linked_stored::slice_lengths(files);
+            let lengths = linked_stored::slice_lengths(file, files);
             lengths.into_iter().for_each(|words| load(&mut tally, file, &answer, words, &mut memory));
             let Ok(steps) = &answer else { return };
             accepted += 1;

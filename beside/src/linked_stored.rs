@@ -2,7 +2,7 @@
 
 use crate::linked::AFTER;
 use crate::show;
-use formats::{Exit, Step, FILLER_WORD, STEP_WORDS};
+use formats::{Exit, Step, FILE_SIZE, FILLER_WORD, STEP_WORDS};
 use marked::operations;
 
 extern "C" {
@@ -15,9 +15,10 @@ pub struct Result {
     pub count: usize,
 }
 
-/// The least slice for each file, a shorter and a longer one now and then.
-pub fn slice_lengths(turn: usize) -> Vec<usize> {
+/// The least slice for each file, a shorter and a longer one now and then; all of them for no bytes or too many.
+pub fn slice_lengths(file: &[u8], turn: usize) -> Vec<usize> {
     match turn % 32 {
+        _ if file.len() > FILE_SIZE || file.is_empty() => vec![STEP_WORDS, STEP_WORDS - 1, 0, 100_000],
         0 => vec![STEP_WORDS, STEP_WORDS - 1],
         8 => vec![STEP_WORDS, STEP_WORDS + 1 + turn % 5_000],
         15 if turn % 160 == 15 => vec![STEP_WORDS, 0],
