@@ -1,20 +1,19 @@
 -- A text whose characters have one byte each is UTF-8. Assumes nothing.
-use mathlib.Core.Path.{◌≡◌, refl, sym, ap, ◌∙◌}
+use mathlib.Core.Path.{◌≡◌, refl, sym, ap, ◌∙◌, subst}
 use mathlib.Core.Bool.{Bool, true, false}
 use mathlib.Core.Option.{Option, none, some}
 use mathlib.Core.List.{List, [], ◌∷◌}
-use Prim.Native.Nat.{ℕ, suc, ◌+◌, ◌≤◌, ◌<◌}
+use Prim.Native.Nat.{ℕ, zero, suc, ◌+◌, ◌≤◌, ◌<◌}
 use native.Mathlib.Omega.{arith}
-use borrow.Author.Tests.{le-leb, lt-ltb}
+use borrow.Author.Tests.{lt-ltb, ltb-true, ltb-false}
+use lib.Dec.{ltb}
 use lib.ListN.{length, drop, get_or, drop_of_length-le}
 use lib.Seq.{drop-cons}
 use Rattle.definition.specs.Choice.{first}
 use Rattle.definition.specs.Source.{Ch, At, start, past, char_at, lead, and_then, fresh, decode, is_some, utf8}
-
--- the first i bytes are such characters: whether the others are UTF-8 decides
-pub record Ascii (bs : List ℕ) (i : ℕ) : Type 0 where
-  pub place : At
-  pub same : utf8 bs ≡ is_some (decode fresh place (drop i bs))
+use Rattle.std.specs.Int.Bits.{bit_or}
+use Rattle.std.proofs.lemmas.Nat.{le_or_l, le_or_r}
+use Rattle.stored.specs.Parts.{Bounded, Ascii}
 
 pub ascii_start : (bs : List ℕ) → Ascii bs 0
 unfolding utf8
@@ -40,3 +39,26 @@ ascii_more {bs} {i} a l h =
 pub ascii_end : {bs : List ℕ} {i : ℕ} → Ascii bs i → length bs ≤ i → utf8 bs ≡ true
 unfolding decode
 ascii_end {bs} {i} a l = a.same ∙ ap (λ cs. is_some (decode fresh a.place cs)) (drop_of_length-le bs {i = i} l)
+
+-- eight more
+pub ascii_eight : {bs : List ℕ} {i n : ℕ} → Ascii bs i → Bounded bs i 8 n → n < 0x80 → i + 8 ≤ length bs → Ascii bs (i + 8)
+ascii_eight {bs} {i} {n} a b h l = go 8 a (omega arith)
+  where
+    go : (k : ℕ) → Ascii bs i → k ≤ 8 → Ascii bs (i + k)
+    go zero a m = subst (Ascii bs) (omega arith) a
+    go (suc k) a m =
+        subst (Ascii bs) (omega arith) (ascii_more (go k a (omega arith)) (omega arith) (omega (arith, b k (omega arith))))
+
+-- ---- the bits of bytes
+
+pub bounded_start : (bs : List ℕ) (at : ℕ) → Bounded bs at 0 0
+bounded_start bs at j h = absurd (omega arith)
+
+pub bounded_more : (bs : List ℕ) (at k n : ℕ) → Bounded bs at k n → Bounded bs at (k + 1) (bit_or n (get_or bs (at + k) 0))
+bounded_more bs at k n b j h = go (ltb j k) refl
+  where
+    go : (t : Bool) → ltb j k ≡ t → get_or bs (at + j) 0 ≤ bit_or n (get_or bs (at + k) 0)
+    go true e = omega (arith, b j (ltb-true j k e), le_or_l n (get_or bs (at + k) 0))
+    go false e =
+        let same : j ≡ k = omega (arith, ltb-false j k e, h) in
+        subst (λ i. get_or bs (at + i) 0 ≤ bit_or n (get_or bs (at + k) 0)) (sym same) (le_or_r n (get_or bs (at + k) 0))

@@ -1,12 +1,22 @@
--- What reading a part of a body ensures. Assumes nothing.
-use Rattle.std.specs.Prelude.{◌≡◌, List, [], ◌∷◌, ℕ, drop, Option, MatchOption}
+-- What tests and reads of a part of a body ensure. Assumes nothing.
+use Rattle.std.specs.Prelude.{◌≡◌, List, [], ◌∷◌, ℕ, ◌+◌, ◌<◌, ◌≤◌, drop, get_or, Option, MatchOption}
 use Rattle.std.proofs.Math.Option as Math
 use Rattle.std.proofs.Math.Option.{none, some}
+use Rattle.definition.specs.Source.{At, decode, fresh, is_some, utf8}
 use Rattle.definition.specs.Format as F
 use Rattle.definition.specs.Format.{Part}
 use Rattle.definition.specs.Stored as S
 use Rattle.stored.specs.declared.body.Numbers.{Numbers}
 use Rattle.stored.specs.declared.body.Body.{Body}
+
+-- no byte of the k from an offset on is above n
+abbrev pub Bounded : List ℕ → ℕ → ℕ → ℕ → Type 0
+Bounded bs at k n = (j : ℕ) → j < k → get_or bs (at + j) 0 ≤ n
+
+-- the first i bytes are characters of one byte: whether the others are UTF-8 decides
+pub record Ascii (bs : List ℕ) (i : ℕ) : Type 0 where
+  pub place : At
+  pub same : utf8 bs ≡ is_some (decode fresh place (drop i bs))
 
 abbrev pub as_numbers : Numbers → F.Numbers
 as_numbers n = record { byte = n.byte; count = n.count }

@@ -1,10 +1,11 @@
 // The body of a field, part by part (docs/FORMAT.md, Records by tag and Error fields).
 ghost use Rattle.std.specs.Prelude.{◌≡◌, [], ◌∷◌, ◌&&◌, ◌+◌, ◌<◌, ◌≤◌, eqb, length, drop, get_or};
+ghost use Rattle.definition.specs.Source.{utf8};
 ghost use Rattle.definition.specs.Classes.{between};
 ghost use Rattle.definition.specs.Format as F;
 ghost use Rattle.definition.specs.Stored as S;
 ghost use Rattle.stored.specs.Table.{row_of, parts_in};
-ghost use Rattle.stored.specs.Parts.{as_numbers, Past, Reads, ReadsAll, NumbersOf};
+ghost use Rattle.stored.specs.Parts.{Bounded, Ascii, as_numbers, Past, Reads, ReadsAll, NumbersOf};
 
 use definition::limit;
 use definition::tag::Tag;
@@ -84,14 +85,47 @@ fn is_eight(bytes: &[u8]) -> bool
     8 <= bytes.len()
 }
 
+// The bits of the eight bytes from an offset on: no byte of them is above it.
+fn eight_bytes(bytes: &[u8], at: usize) -> u8
+    requires { at + 8 ≤ length bytes.now }
+    ensures { Bounded bytes.now at 8 result }
+{
+    let mut all = 0;
+    let mut k = 0;
+    while k < 8 {
+        all |= bytes[at + k];
+        k += 1;
+    }
+    all
+}
+
+// How many of the first bytes are characters of one byte, eight at a time.
+fn skip_eights(bytes: &[u8]) -> usize
+    ensures { Ascii bytes.now result × (result ≤ length bytes.now) }
+{
+    let mut i = 0;
+    while i + 8 <= bytes.len() && eight_bytes(bytes, i) < 0x80 {
+        i += 8;
+    }
+    i
+}
+
+// Whether bytes are UTF-8, of which some are not characters of one byte.
+#[cold]
+fn other_text(bytes: &[u8]) -> bool
+    ensures { result ≡ utf8 bytes.now }
+{
+    valid(bytes)
+}
+
 // A text, to the body's end. Most have characters of one byte alone, which is soon seen.
 fn is_text(bytes: &[u8]) -> bool
     ensures { result ≡ S.fits F.text bytes.now }
 {
-    let mut i = 0;
+    let mut i = skip_eights(bytes);
     while i < bytes.len() {
         if 0x80 <= bytes[i] {
-            return valid(bytes);
+            return other_text(bytes);
         }
         i += 1;
     }

@@ -1,6 +1,6 @@
 use Prim.Native.Nat.{◌-◌, ◌≤◌}
 use lib.ListN.{length}
-use Rattle.stored.proofs.Texts.{Ascii}
+use Rattle.stored.specs.Parts.{Ascii}
 use Rattle.stored.proofs.body.is_text.Given as goal
 
 abbrev pub invariant-loop-i : goal.invariant-loop-i
