@@ -3,7 +3,7 @@ use mathlib.Core.Path.{◌≡◌, refl, sym, ap, ◌∙◌, subst}
 use mathlib.Core.Bool.{Bool, true, false}
 use mathlib.Core.Option.{Option, none, some}
 use mathlib.Core.List.{List, [], ◌∷◌}
-use Prim.Native.Nat.{ℕ, zero, suc, ◌+◌, ◌≤◌, ◌<◌}
+use Prim.Native.Nat.{ℕ, zero, suc, ◌+◌, ◌-◌, ◌≤◌, ◌<◌}
 use native.Mathlib.Omega.{arith}
 use borrow.Author.Tests.{lt-ltb, ltb-true, ltb-false}
 use lib.Dec.{ltb}
@@ -40,14 +40,16 @@ pub ascii_end : {bs : List ℕ} {i : ℕ} → Ascii bs i → length bs ≤ i →
 unfolding decode
 ascii_end {bs} {i} a l = a.same ∙ ap (λ cs. is_some (decode fresh a.place cs)) (drop_of_length-le bs {i = i} l)
 
--- eight more
-pub ascii_eight : {bs : List ℕ} {i n : ℕ} → Ascii bs i → Bounded bs i 8 n → n < 0x80 → i + 8 ≤ length bs → Ascii bs (i + 8)
-ascii_eight {bs} {i} {n} a b h l = go 8 a (omega arith)
-  where
-    go : (k : ℕ) → Ascii bs i → k ≤ 8 → Ascii bs (i + k)
-    go zero a m = subst (Ascii bs) (omega arith) a
-    go (suc k) a m =
-        subst (Ascii bs) (omega arith) (ascii_more (go k a (omega arith)) (omega arith) (omega (arith, b k (omega arith))))
+-- as many more as no byte is above n
+pub ascii_on : (bs : List ℕ) (i at k n m : ℕ) → Ascii bs i → Bounded bs at k n → n < 0x80 → at ≤ i → i + m ≤ at + k → i + m ≤ length bs
+    → Ascii bs (i + m)
+ascii_on bs i at k n zero a b h x y l = subst (Ascii bs) (omega arith) a
+ascii_on bs i at k n (suc m) a b h x y l =
+    let c : Ascii bs (i + m) = ascii_on bs i at k n m a b h x (omega arith) (omega arith) in
+    let same : at + (i + m - at) ≡ i + m = omega arith in
+    let low : get_or bs (i + m) 0 < 0x80 =
+    subst (λ j. get_or bs j 0 < 0x80) same (omega (arith, b (i + m - at) (omega arith))) in
+    subst (Ascii bs) (omega arith) (ascii_more c (omega arith) low)
 
 -- ---- the bits of bytes
 

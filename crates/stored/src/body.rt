@@ -1,11 +1,11 @@
 // The body of a field, part by part (docs/FORMAT.md, Records by tag and Error fields).
-ghost use Rattle.std.specs.Prelude.{◌≡◌, [], ◌∷◌, ◌&&◌, ◌+◌, ◌<◌, ◌≤◌, eqb, length, drop, get_or};
+ghost use Rattle.std.specs.Prelude.{◌≡◌, true, [], ◌∷◌, ◌&&◌, ◌+◌, ◌<◌, ◌≤◌, eqb, length, drop, get_or};
 ghost use Rattle.definition.specs.Source.{utf8};
 ghost use Rattle.definition.specs.Classes.{between};
 ghost use Rattle.definition.specs.Format as F;
 ghost use Rattle.definition.specs.Stored as S;
 ghost use Rattle.stored.specs.Table.{row_of, parts_in};
-ghost use Rattle.stored.specs.Parts.{Bounded, Ascii, as_numbers, Past, Reads, ReadsAll, NumbersOf};
+ghost use Rattle.stored.specs.Parts.{Bounded, as_numbers, Past, Reads, ReadsAll, NumbersOf};
 
 use definition::limit;
 use definition::tag::Tag;
@@ -99,15 +99,37 @@ fn eight_bytes(bytes: &[u8], at: usize) -> u8
     all
 }
 
-// How many of the first bytes are characters of one byte, eight at a time.
-fn skip_eights(bytes: &[u8]) -> usize
-    ensures { Ascii bytes.now result × (result ≤ length bytes.now) }
+// Whether all bytes are characters of one byte, eight at a time; the last eight may be partly those before them.
+fn one_byte_each_long(bytes: &[u8]) -> bool
+    requires { 8 ≤ length bytes.now }
+    ensures { result ≡ true → utf8 bytes.now ≡ true }
 {
+    let last = bytes.len() - 8;
     let mut i = 0;
-    while i + 8 <= bytes.len() && eight_bytes(bytes, i) < 0x80 {
+    while i < last {
+        if 0x80 <= eight_bytes(bytes, i) {
+            return false;
+        }
         i += 8;
     }
-    i
+    if 0x80 <= eight_bytes(bytes, last) {
+        return false;
+    }
+    true
+}
+
+// The same one at a time.
+fn one_byte_each(bytes: &[u8]) -> bool
+    ensures { result ≡ true → utf8 bytes.now ≡ true }
+{
+    let mut i = 0;
+    while i < bytes.len() {
+        if 0x80 <= bytes[i] {
+            return false;
+        }
+        i += 1;
+    }
+    true
 }
 
 // Whether bytes are UTF-8, of which some are not characters of one byte.
@@ -122,14 +144,12 @@ fn other_text(bytes: &[u8]) -> bool
 fn is_text(bytes: &[u8]) -> bool
     ensures { result ≡ S.fits F.text bytes.now }
 {
-    let mut i = skip_eights(bytes);
-    while i < bytes.len() {
-        if 0x80 <= bytes[i] {
-            return other_text(bytes);
-        }
-        i += 1;
-    }
-    true
+    let plain = if bytes.len() < 8 {
+        one_byte_each(bytes)
+    } else {
+        one_byte_each_long(bytes)
+    };
+    plain || other_text(bytes)
 }
 
 // ---- a body

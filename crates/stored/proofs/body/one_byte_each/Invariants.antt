@@ -1,10 +1,10 @@
-use Prim.Native.Nat.{◌-◌, ◌≤◌}
+use Prim.Native.Nat.{◌-◌}
 use lib.ListN.{length}
 use Rattle.stored.specs.Parts.{Ascii}
-use Rattle.stored.proofs.body.skip_eights.Given as goal
+use Rattle.stored.proofs.body.one_byte_each.Given as goal
 
 abbrev pub invariant-loop-i : goal.invariant-loop-i
-invariant-loop-i l = Ascii l.bytes l.i × (l.i ≤ length l.bytes)
+invariant-loop-i l = Ascii l.bytes l.i
 
 abbrev pub decreases-loop-i : goal.decreases-loop-i
 decreases-loop-i l = length l.bytes - l.i

@@ -1,0 +1,23 @@
+use Prim.Native.Nat.{◌+◌, ◌-◌, ◌≤◌}
+use native.Mathlib.Omega.{arith}
+use lib.ListN.{length}
+use Rattle.stored.proofs.Texts.{ascii_start, ascii_on, ascii_end}
+use Rattle.stored.proofs.body.one_byte_each_long.Goals as goal
+
+pub loop-i-init : goal.loop-i-init
+loop-i-init c = (ascii_start _, omega arith)
+
+pub loop-i-preserved : goal.loop-i-preserved
+loop-i-preserved c =
+    let i = c.loop-i.i in
+    let l : i + 8 ≤ length c.args.bytes.now = omega (arith, c.loop-i-test.true) in
+    (ascii_on _ i i 8 _ 8 c.loop-i.invariant.0 c.eight_bytes.ensures (omega (arith, c.if-eight_bytes-ge128.false)) (omega arith) (omega arith) l, l)
+
+pub returns : goal.returns
+returns c = λ t.
+    let n = length c.args.bytes.now in
+    let i = c.loop-i.i in
+    let h = c.loop-i-test.false in
+    let l = c.loop-i.invariant.1 in
+    ascii_end (ascii_on _ i (n - 8) 8 _ (n - i) c.loop-i.invariant.0 c.eight_bytes-2.ensures
+    (omega (arith, c.if-eight_bytes-ge128-2.false)) (omega (arith, h)) (omega (arith, l, c.requires)) (omega (arith, l))) (omega (arith, l))
