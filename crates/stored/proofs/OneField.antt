@@ -3,7 +3,7 @@ use mathlib.Core.Path.{◌≡◌, refl, sym, ap, ◌∙◌}
 use mathlib.Core.Bool.{Bool, true, false, not}
 use mathlib.Core.Option.{Option, none, some}
 use mathlib.Core.List.{List, [], ◌∷◌}
-use Prim.Native.Nat.{ℕ, suc, ◌+◌, ◌*◌, ◌-◌, ◌≤◌, ◌<◌}
+use Prim.Native.Nat.{ℕ, ◌+◌, ◌*◌, ◌-◌, ◌≤◌, ◌<◌}
 use native.Mathlib.Omega.{arith}
 use borrow.Author.Tests.{le-leb, lt-ltb, le-ltb, lt-leb}
 use lib.ListN.{length, take, drop, get_or, length-drop, length-take}
@@ -16,7 +16,7 @@ use Rattle.definition.specs.Stored as S
 use Rattle.definition.specs.Stored.{word, with_row, Field, end, bad, skipped, found, step}
 use Rattle.definition.specs.Numbers.{tag_number, is_tag}
 use Rattle.definition.specs.declared.tag.Tag.{Tag}
-use Rattle.definition.proofs.Tests.{never_both, clash, every, every_below}
+use Rattle.definition.proofs.Tests.{clash, every, every_below}
 use Rattle.definition.proofs.StoredFields.{listed}
 use Rattle.stored.specs.Table.{row_of, parts_in, sort_in, children_in}
 

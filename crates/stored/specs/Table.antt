@@ -1,5 +1,5 @@
 -- The code's kinds, sorts and fields as those of the table. Assumes nothing.
-use Rattle.std.specs.Prelude.{◌≡◌, List, [], ◌++◌, ℕ, ◌+◌, replicate}
+use Rattle.std.specs.Prelude.{◌≡◌, List, [], ℕ}
 use Rattle.std.proofs.Math.Option.{Option, none, some}
 use Rattle.definition.specs.declared.tag.Tag.{Tag}
 use Rattle.definition.specs.Numbers.{tag_number}
@@ -24,7 +24,7 @@ abbrev pub NodeKindNumber : NodeKind → ℕ → Type 0
 NodeKindNumber kind n = n ≡ kind_number kind
 
 abbrev pub as_sort : Sort → F.Sort
-as_sort (Sort.Node kind) = F.node (kind_number kind)
+as_sort (Sort.Node kind) = F.node kind
 as_sort Sort.Root = F.root
 as_sort (Sort.Error list) = F.error list
 

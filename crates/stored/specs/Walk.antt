@@ -1,7 +1,6 @@
 -- One field of a stored file, and where the walk over it stands. Assumes nothing.
-use Rattle.std.specs.Prelude.{◌≡◌, Bool, List, [], ◌++◌, ◌∷◌, ℕ, ◌+◌, ◌*◌, ◌≤◌, length, take, drop, Option, MatchOption, Result, MatchResult}
+use Rattle.std.specs.Prelude.{◌≡◌, List, [], ◌++◌, ◌∷◌, ℕ, ◌+◌, ◌*◌, ◌≤◌, length, take, drop, Option, MatchOption, Result, MatchResult}
 use Rattle.std.proofs.Math.Option as Math
-use Rattle.std.proofs.Math.Option.{none, some}
 use Rattle.definition.specs.declared.refusal.Refusal.{Refusal}
 use Rattle.definition.specs.Slices.{MutLent, old, new}
 use Rattle.definition.specs.Numbers.{refusal_number, number_in, count_in}

@@ -1,5 +1,5 @@
 // One field of a stored file.
-ghost use Rattle.std.specs.Prelude.{◌≡◌, ◌<◌, ◌≤◌, length, drop};
+ghost use Rattle.std.specs.Prelude.{◌<◌, ◌≤◌, length, drop};
 ghost use Rattle.definition.specs.Format.{rows, find};
 ghost use Rattle.stored.specs.Walk.{WithRow, Stepped};
 

@@ -1,6 +1,6 @@
 // What a field is to the walk over a file: whether it stands right, and how the walk goes on.
 ghost use Rattle.std.specs.Prelude.{◌≡◌, ◌≤◌, length};
-ghost use Rattle.definition.specs.Slices.{old, new};
+ghost use Rattle.definition.specs.Slices.{old};
 ghost use Rattle.stored.specs.Nodes.{Judges, Joins, Follows, top_of};
 
 use crate::field::Found;
@@ -40,7 +40,7 @@ fn join(r: Record, rest: usize, waiting: &mut [u8]) -> Option<Judged>
     match r.sort {
         Sort::Node(kind) => {
             let top = rest - 1;
-            waiting[top] = u8::from(kind);
+            waiting[top] = kind;
             Some(Judged {
                 phase: Phase::Waiting(top),
                 children,

@@ -87,7 +87,7 @@ fn function(waiting: &[u8], parameters: u16, bodies: u16) -> Option<usize>
 // order in which the lists follow the module.
 #[derive(Clone, Copy)]
 pub enum Sort {
-    Node(NodeKind),
+    Node(u8),
     Root,
     Error(u8),
 }
@@ -100,10 +100,10 @@ pub struct Record {
 }
 
 fn node(kind: NodeKind, children: usize) -> Option<Record>
-    ensures { result ≡ Some (record { sort = Sort.Node kind; children = children }) }
+    ensures { result ≡ Some (record { sort = Sort.Node (kind_number kind); children = children }) }
 {
     Some(Record {
-        sort: Sort::Node(kind),
+        sort: Sort::Node(u8::from(kind)),
         children,
     })
 }
