@@ -1,5 +1,5 @@
-// Reads a list of tree files with the steps that Load should give (beside/README.md has its format) from standard input,
-// and writes how many agree and how many differ, and the number of the first that differs.
+// Reads a list of tree files with the steps that Load should give (beside/README.md has its format) from standard
+// input, and writes how many agree and how many differ, and the number of the first that differs.
 #![tactic(auto)]
 
 use replay_cases::{FILLER_WORD, array, holds, number, part};

@@ -6,8 +6,8 @@ ghost use Rattle.stored.specs.Nodes.{Judges, Joins, Follows, top_of};
 use crate::field::Found;
 use crate::nodes::{Record, Sort, record_of};
 
-// Before the module, the nodes that wait for their parent, from an offset on; after it, the list of the last error, 0 if
-// there was none.
+// Before the module, the nodes that wait for their parent, from an offset on; after it, the list of the last error, 0
+// if there was none.
 #[derive(Clone, Copy)]
 pub enum Phase {
     Waiting(usize),
