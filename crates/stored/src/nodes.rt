@@ -83,8 +83,8 @@ fn function(waiting: &[u8], parameters: u16, bodies: u16) -> Option<usize>
     and_before(waiting, result, NodeKind::NamedType, parameters)
 }
 
-// What a record is to the tree: a node of a kind; the root, which is the module; or an error of a list, 1 to 3 in the
-// order in which the lists follow the module.
+// What a record is to the tree: a node, by the number of its kind; the root, which is the module; or an error of a
+// list, 1 to 3 in the order in which the lists follow the module.
 #[derive(Clone, Copy)]
 pub enum Sort {
     Node(u8),
