@@ -1,7 +1,10 @@
-//! Times the whole operation (`dn_read`) beside the Rust's `tokenize` and `parse_module`, in one process.
+//! Times the whole operation (`dn_read`) beside the Rust's `tokenize` and `parse_module`, and the loading of its
+//! tree file (`dn_load`) beside the operation, in one process.
 //!
 //! A call of `dn_read` clears its own token, error and text arrays (86,016 bytes) and what stands after the
 //! file in the slice (65,536 bytes in all). The Rust makes its tokens and its tree on the heap and drops them.
+//! A call of `dn_load` clears an array of its own (21,845 bytes) and what stands after the steps in the slice
+//! (349,520 bytes in all). The last line is the time of a fill of that whole slice.
 
 use plain::parser::Parser;
 use plain::source::SourceInputType;
@@ -11,7 +14,12 @@ use std::time::Instant;
 
 extern "C" {
     fn dn_read(script: *const u8, script_len: usize, file: *mut u8, file_len: usize, bytes: *mut usize) -> u32;
+    fn dn_load(file: *const u8, file_len: usize, records: *mut u32, records_len: usize, count: *mut usize) -> u32;
 }
+
+/// The lengths of the two slices: bytes of a file, words of its steps.
+const FILE: usize = 65536;
+const RECORDS: usize = 87380;
 
 const SAMPLES: usize = 101;
 /// A sample calls so often that it takes this long, in nanoseconds.
@@ -22,6 +30,13 @@ fn ours(script: &str, file: &mut [u8]) -> (u32, usize) {
     let mut bytes = 0;
     let number = unsafe { dn_read(script.as_ptr(), script.len(), file.as_mut_ptr(), file.len(), &mut bytes) };
     (number, bytes)
+}
+
+/// Loading a tree file: the number and the count of steps.
+fn load(file: &[u8], records: &mut [u32]) -> (u32, usize) {
+    let mut count = 0;
+    let number = unsafe { dn_load(file.as_ptr(), file.len(), records.as_mut_ptr(), records.len(), &mut count) };
+    (number, count)
 }
 
 /// The Rust's steps: how many token errors and how many errors it reports.
@@ -55,9 +70,12 @@ fn median(mut call: impl FnMut()) -> f64 {
 }
 
 fn compare(name: &str, script: &str) {
-    let mut file = vec![0; 65536];
+    let mut file = vec![0; FILE];
+    let mut records = vec![0; RECORDS];
     let (number, bytes) = ours(script, &mut file);
     assert_eq!((number, theirs(script)), (0, (0, 0)), "{name}: the script is good");
+    let (number, steps) = load(&file[..bytes], &mut records);
+    assert_eq!(number, 0, "{name}: its file is loaded");
     let tokens = tokenize(script, SourceInputType::buffer()).0.len();
     let mine = median(|| {
         black_box(ours(black_box(script), &mut file));
@@ -65,13 +83,25 @@ fn compare(name: &str, script: &str) {
     let rust = median(|| {
         black_box(theirs(black_box(script)));
     });
+    let loading = median(|| {
+        black_box(load(black_box(&file[..bytes]), &mut records));
+    });
     println!(
-        "{name:<24} {:>6} {tokens:>6} {bytes:>6} {:>9.1} {:>9.1} {:>6.2}",
+        "{name:<16} {:>6} {tokens:>6} {:>8.1} {:>8.1} {:>6.2} | {bytes:>6} {steps:>6} {:>8.1} {:>9.2}",
         script.len(),
         mine / 1e3,
         rust / 1e3,
-        mine / rust
+        mine / rust,
+        loading / 1e3,
+        loading / mine
     );
+}
+
+/// The time of clearing a whole slice for steps.
+fn clearing() {
+    let mut records = vec![0u32; RECORDS];
+    let time = median(|| black_box(&mut records[..]).fill(0));
+    println!("clearing {} bytes: {:.1} us", RECORDS * 4, time / 1e3);
 }
 
 /// A script by a pattern, of so many tokens: functions of five statements.
@@ -97,10 +127,14 @@ fn page(tokens: usize) -> String {
 }
 
 fn main() {
-    println!("{:<24} {:>6} {:>6} {:>6} {:>9} {:>9} {:>6}", "script", "bytes", "tokens", "file", "ours us", "Rust us", "ratio");
+    println!(
+        "{:<16} {:>6} {:>6} {:>8} {:>8} {:>6} | {:>6} {:>6} {:>8} {:>9}",
+        "script", "bytes", "tokens", "ours us", "Rust us", "ratio", "file", "steps", "load us", "load/ours"
+    );
     compare("page", &page(2000));
     compare("95 stars", &format!("var p: {}T;", "*".repeat(95)));
     for count in [125, 250, 500, 1000] {
         compare(&format!("{count} operators"), &format!("fn f(){{{}a;}}", "a+".repeat(count)));
     }
+    clearing();
 }

@@ -1,5 +1,5 @@
-/* Prints the most of a stack that a call of dn_read and of dn_sentence takes, for scripts that nest as deep as they
- * may. */
+/* Prints the most of a stack that a call of dn_read, of dn_sentence and of dn_load takes, for scripts that nest as
+ * deep as they may. */
 #include <pthread.h>
 #include <stdio.h>
 #include <string.h>
@@ -38,8 +38,10 @@ static const struct shape SHAPES[] = {
 
 static char script[DN_MAX_SCRIPT_BYTES + 1];
 static uint8_t file[DN_FILE_BUFFER_BYTES];
-static size_t length;
-static uint32_t number;
+static uint8_t sentence[DN_SENTENCE_BUFFER_BYTES];
+static uint32_t steps[DN_STEP_BUFFER_WORDS];
+static size_t length, bytes; /* of the script and of its file */
+static uint32_t number;      /* what the last call returned */
 
 static void put(const char *text, size_t count)
 {
@@ -53,7 +55,6 @@ static void put(const char *text, size_t count)
 
 static void *call_read(void *unused)
 {
-    size_t bytes;
     (void)unused;
     number = dn_read((const uint8_t *)script, length, file, sizeof file, &bytes);
     return NULL;
@@ -61,13 +62,23 @@ static void *call_read(void *unused)
 
 static void *call_sentence(void *unused)
 {
-    size_t bytes;
+    size_t count;
     (void)unused;
-    number = dn_sentence((const uint8_t *)script, length, DN_TAG_FULL_ERROR, 0, file, sizeof file, &bytes);
+    number = dn_sentence((const uint8_t *)script, length, DN_TAG_FULL_ERROR, 0, sentence, sizeof sentence, &count);
     return NULL;
 }
 
-/* Calls on a stack of its own, which held one value throughout, and counts what was changed; 0 where that failed. */
+/* The file is that of call_read. */
+static void *call_load(void *unused)
+{
+    size_t count;
+    (void)unused;
+    number = dn_load(file, bytes, steps, DN_STEP_BUFFER_WORDS, &count);
+    return NULL;
+}
+
+/* Calls on a stack of its own, which held one value throughout, and counts what was changed; 0 where that failed or
+ * the call refused. */
 static size_t stack_taken(void *(*call)(void *))
 {
     pthread_attr_t attributes;
@@ -79,7 +90,7 @@ static size_t stack_taken(void *(*call)(void *))
     memset(stack, UNTOUCHED, STACK);
     pthread_attr_init(&attributes);
     pthread_attr_setstack(&attributes, stack, STACK);
-    if (pthread_create(&thread, &attributes, call, NULL) != 0 || pthread_join(thread, NULL) != 0)
+    if (pthread_create(&thread, &attributes, call, NULL) != 0 || pthread_join(thread, NULL) != 0 || number != DN_OK)
         return 0;
     while (untouched < STACK && stack[untouched] == UNTOUCHED)
         untouched++;
@@ -89,7 +100,8 @@ static size_t stack_taken(void *(*call)(void *))
 
 int main(void)
 {
-    size_t i, read, sentence;
+    size_t i, read, said, loaded;
+    printf("%-16s %5s %8s %12s %8s\n", "bytes of stack", "times", "dn_read", "dn_sentence", "dn_load");
     for (i = 0; i < sizeof SHAPES / sizeof SHAPES[0]; i++) {
         const struct shape *s = &SHAPES[i];
         length = 0;
@@ -98,13 +110,12 @@ int main(void)
         put(s->middle, 1);
         put(s->closing, s->count);
         put(s->after, 1);
-        read = stack_taken(call_read);
-        sentence = stack_taken(call_sentence);
-        if (read == 0 || sentence == 0 || number != DN_OK) {
+        if ((read = stack_taken(call_read)) == 0 || (said = stack_taken(call_sentence)) == 0 ||
+            (loaded = stack_taken(call_load)) == 0) {
             printf("%s: not measured, number %u\n", s->name, (unsigned)number);
             return 1;
         }
-        printf("%-16s %5zu times %8zu and %8zu bytes of stack\n", s->name, s->count, read, sentence);
+        printf("%-16s %5zu %8zu %12zu %8zu\n", s->name, s->count, read, said, loaded);
     }
     return 0;
 }
