@@ -1,4 +1,4 @@
--- A text whose characters have one byte each is UTF-8. Assumes nothing.
+-- A text that is ASCII is UTF-8. Assumes nothing.
 use mathlib.Core.Path.{◌≡◌, refl, sym, ap, ◌∙◌, subst}
 use mathlib.Core.Bool.{Bool, true, false}
 use mathlib.Core.Option.{Option, none, some}

@@ -13,7 +13,7 @@ use Rattle.stored.specs.declared.body.Body.{Body}
 abbrev pub Bounded : List ℕ → ℕ → ℕ → ℕ → Type 0
 Bounded bs at k n = (j : ℕ) → j < k → get_or bs (at + j) 0 ≤ n
 
--- the first i bytes are characters of one byte: whether the others are UTF-8 decides
+-- the first i bytes are ASCII: whether the others are UTF-8 decides
 pub record Ascii (bs : List ℕ) (i : ℕ) : Type 0 where
   pub place : At
   pub same : utf8 bs ≡ is_some (decode fresh place (drop i bs))

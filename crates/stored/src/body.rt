@@ -99,8 +99,8 @@ fn eight_bytes(bytes: &[u8], at: usize) -> u8
     all
 }
 
-// Whether all bytes are characters of one byte, eight at a time; the last eight may be partly those before them.
-fn one_byte_each_long(bytes: &[u8]) -> bool
+// Whether all bytes are ASCII, eight at a time; the last eight may share bytes with those before.
+fn is_ascii_by_eights(bytes: &[u8]) -> bool
     requires { 8 ≤ length bytes.now }
     ensures { result ≡ true → utf8 bytes.now ≡ true }
 {
@@ -118,8 +118,8 @@ fn one_byte_each_long(bytes: &[u8]) -> bool
     true
 }
 
-// The same one at a time.
-fn one_byte_each(bytes: &[u8]) -> bool
+// The same, one at a time.
+fn is_ascii(bytes: &[u8]) -> bool
     ensures { result ≡ true → utf8 bytes.now ≡ true }
 {
     let mut i = 0;
@@ -132,7 +132,7 @@ fn one_byte_each(bytes: &[u8]) -> bool
     true
 }
 
-// Whether bytes are UTF-8, of which some are not characters of one byte.
+// Whether bytes that are not all ASCII are UTF-8.
 #[cold]
 fn other_text(bytes: &[u8]) -> bool
     ensures { result ≡ utf8 bytes.now }
@@ -140,16 +140,16 @@ fn other_text(bytes: &[u8]) -> bool
     valid(bytes)
 }
 
-// A text, to the body's end. Most have characters of one byte alone, which is soon seen.
+// A text, to the body's end. Most are ASCII, which is tested soonest.
 fn is_text(bytes: &[u8]) -> bool
     ensures { result ≡ S.fits F.text bytes.now }
 {
-    let plain = if bytes.len() < 8 {
-        one_byte_each(bytes)
+    let ascii = if bytes.len() < 8 {
+        is_ascii(bytes)
     } else {
-        one_byte_each_long(bytes)
+        is_ascii_by_eights(bytes)
     };
-    plain || other_text(bytes)
+    ascii || other_text(bytes)
 }
 
 // ---- a body
@@ -201,6 +201,7 @@ impl<'a> Body<'a> {
         }
     }
 
+    // A call for each of the many arms below would take longer than the test.
     #[inline(always)]
     fn place(self) -> Option<Body<'a>>
         ensures { Reads F.place self.entry result }

@@ -1,7 +1,7 @@
 use Prim.Native.Nat.{◌-◌}
 use lib.ListN.{length}
 use Rattle.stored.specs.Parts.{Ascii}
-use Rattle.stored.proofs.body.one_byte_each.Given as goal
+use Rattle.stored.proofs.body.is_ascii.Given as goal
 
 abbrev pub invariant-loop-i : goal.invariant-loop-i
 invariant-loop-i l = Ascii l.bytes l.i

@@ -1,6 +1,6 @@
 use native.Mathlib.Omega.{arith}
 use Rattle.stored.proofs.Texts.{ascii_start, ascii_more, ascii_end}
-use Rattle.stored.proofs.body.one_byte_each.Goals as goal
+use Rattle.stored.proofs.body.is_ascii.Goals as goal
 
 pub loop-i-init : goal.loop-i-init
 loop-i-init c = ascii_start _

@@ -2,7 +2,7 @@ use Prim.Native.Nat.{◌+◌, ◌-◌, ◌≤◌}
 use native.Mathlib.Omega.{arith}
 use lib.ListN.{length}
 use Rattle.stored.proofs.Texts.{ascii_start, ascii_on, ascii_end}
-use Rattle.stored.proofs.body.one_byte_each_long.Goals as goal
+use Rattle.stored.proofs.body.is_ascii_by_eights.Goals as goal
 
 pub loop-i-init : goal.loop-i-init
 loop-i-init c = (ascii_start _, omega arith)
