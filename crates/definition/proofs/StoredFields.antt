@@ -84,7 +84,8 @@ listed_in (v ∷ ws) a t w e =
         → ltb v.tag 0x70 ≡ true → (find t ws ≡ some w → Listed t w) → Listed t w
     go true i e l r =
         let z : v ≡ w = cc in
-        record { tag = eqb-true t v.tag i ∙ ap (λ (w : Row). w.tag) z; low = omega (arith, eqb-true t v.tag i, ltb-true v.tag 0x70 l) }
+        let same : t ≡ v.tag = eqb-true t v.tag i in
+        record { tag = same ∙ ap (λ (w : Row). w.tag) z; low = omega (arith, same, ltb-true v.tag 0x70 l) }
     go false i e l r = r e
 
 pub listed : (t : ℕ) (w : Row) → find t rows ≡ some w → Listed t w
@@ -100,7 +101,8 @@ pub step_found : (t : ℕ) (body rest : List ℕ) (w : Row) (n : Numbers) → le
 unfolding step
 step_found t body rest w n h f e =
     let l : leb (length body) (length (body ++ rest)) ≡ true = le-leb _ _ (omega (arith, length-append body rest)) in
-    rw (step, two_bytes (length body) h, l, lt-ltb t 0x70 (listed t w f).low, f, two_bytes (length body) h, take_at body rest (length body) refl, e)
+    let d : _ = two_bytes (length body) h in
+    rw (step, d, l, lt-ltb t 0x70 (listed t w f).low, f, d, take_at body rest (length body) refl, e)
 
 -- what a field is: by its length, its tag, its row and the numbers of its body
 pub data Stepped (b : ℕ) : List ℕ → Field → Type 0 where

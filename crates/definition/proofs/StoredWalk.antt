@@ -9,12 +9,13 @@ use lib.ListN.{length, drop}
 use lib.Seq.{drop-drop}
 use Rattle.definition.specs.Node.{field}
 use Rattle.definition.specs.Format.{Row, rows, find, Numbers, no_numbers}
-use Rattle.definition.specs.Stored.{numbers, Found, Field, end, bad, skipped, found, step, Phase, off, pop, judge, step_at, finish, Loaded, refused, ahead, walk}
+use Rattle.definition.specs.Stored.{numbers, Found, Field, end, bad, skipped, found, step, Phase, off, pop, judge, step_at, finish, Loaded, refused, ahead, walk, walk_from}
 use Rattle.definition.proofs.StoredFields.{listed, step_found, Stepped, is_bad, is_skipped, is_found, stepped}
 
 -- ---- over the bytes of a field
 
-pass : (xs : List ℕ) (n : ℕ) (q : Phase) (rest : List ℕ) → walk (length xs) n q (xs ++ rest) ≡ walk 0 (n + length xs) q rest
+pass : (xs : List ℕ) (n : ℕ) (q : Phase) (rest : List ℕ)
+    → walk (length xs) n q (xs ++ rest) ≡ walk 0 (n + length xs) q rest
 unfolding walk
 pass [] n q rest = ap (λ (m : ℕ). walk 0 m q rest) (omega arith)
 pass (x ∷ xs) n q rest = pass xs (suc n) q rest ∙ ap (λ (m : ℕ). walk 0 m q rest) (omega arith)
@@ -23,21 +24,19 @@ pass (x ∷ xs) n q rest = pass xs (suc n) q rest ∙ ap (λ (m : ℕ). walk 0 m
 pub walk_found : (t : ℕ) (body rest : List ℕ) (w : Row) (m : Numbers) (n : ℕ) (p q : Phase) → length body < 65536
     → find t rows ≡ some w → numbers w.body body no_numbers ≡ some m → judge w.sort (w.children m.byte m.count) p ≡ some q
     → walk 0 n p (field t body ++ rest)
-    ≡ ahead (record { tag = t; children = length (w.children m.byte m.count); offset = n + 3; size = length body } ∷ []) (walk 0 (n + length (field t body)) q rest)
+    ≡ ahead (record { tag = t; children = length (w.children m.byte m.count); offset = n + 3; size = length body } ∷ [])
+    (walk 0 (n + length (field t body)) q rest)
 unfolding walk
 walk_found t body rest w m n p q h f e j =
     let c : ℕ = length (w.children m.byte m.count) in
+    let onward : Loaded = walk (length body) (suc (suc (suc n))) q (body ++ rest) in
     let on : walk (length body) (suc (suc (suc n))) q (body ++ rest) ≡ walk 0 (n + length (field t body)) q rest =
     pass body (suc (suc (suc n))) q rest ∙ ap (λ (k : ℕ). walk 0 k q rest) (omega arith) in
     rw (walk, step_found t body rest w m h f e, j)
-    (ap (λ (k : ℕ). ahead (record { tag = k; children = c; offset = n + 3; size = length body } ∷ []) (walk (length body) (suc (suc (suc n))) q (body ++ rest))) (sym (listed t w f).tag)
+    (ap (λ (k : ℕ). ahead (record { tag = k; children = c; offset = n + 3; size = length body } ∷ []) onward) (sym (listed t w f).tag)
     ∙ ap (ahead (record { tag = t; children = c; offset = n + 3; size = length body } ∷ [])) on)
 
 -- ---- at an offset
-
--- the walk from an offset
-abbrev pub from : List ℕ → ℕ → Phase → Loaded
-from file n p = walk 0 n p (drop n file)
 
 passed : (k n : ℕ) (p : Phase) (bs : List ℕ) → k ≤ length bs → walk k n p bs ≡ walk 0 (n + k) p (drop k bs)
 unfolding walk
@@ -87,7 +86,7 @@ on b bs n p q f e j =
     rw (walk, e, j) (ap (ahead (step_at n f ∷ [])) (after_it b bs n f.size q h))
 
 module _ (file : List ℕ) (n : ℕ) (p : Phase) where
-  pub at_end : step (drop n file) ≡ end → from file n p ≡ finish p
+  pub at_end : step (drop n file) ≡ end → walk_from file n p ≡ finish p
   unfolding walk
   at_end e = go (drop n file) e
     where
@@ -95,7 +94,7 @@ module _ (file : List ℕ) (n : ℕ) (p : Phase) where
       go [] e = refl
       go (b ∷ bs) e = rw (walk, e)
 
-  pub at_bad : step (drop n file) ≡ bad → from file n p ≡ refused 14
+  pub at_bad : step (drop n file) ≡ bad → walk_from file n p ≡ refused 14
   unfolding walk step
   at_bad e = go (drop n file) e
     where
@@ -103,7 +102,7 @@ module _ (file : List ℕ) (n : ℕ) (p : Phase) where
       go [] e = let z : ◌≡◌ {A = ℕ} 0 1 = cc in absurd (omega arith)
       go (b ∷ bs) e = rw (walk, e)
 
-  pub at_skipped : (size : ℕ) → step (drop n file) ≡ skipped size → from file n p ≡ from file (n + (3 + size)) p
+  pub at_skipped : (size : ℕ) → step (drop n file) ≡ skipped size → walk_from file n p ≡ walk_from file (n + (3 + size)) p
   unfolding step
   at_skipped size e = go (drop n file) e ∙ ap (walk 0 (n + (3 + size)) p) (drop-drop (3 + size) n file)
     where
@@ -111,7 +110,7 @@ module _ (file : List ℕ) (n : ℕ) (p : Phase) where
       go [] e = let z : ◌≡◌ {A = ℕ} 0 1 = cc in absurd (omega arith)
       go (b ∷ bs) e = over b bs n size p e
 
-  pub at_wrong : (f : Found) → step (drop n file) ≡ found f → judge f.sort f.children p ≡ none → from file n p ≡ refused 15
+  pub at_wrong : (f : Found) → step (drop n file) ≡ found f → judge f.sort f.children p ≡ none → walk_from file n p ≡ refused 15
   unfolding walk step
   at_wrong f e j = go (drop n file) e
     where
@@ -120,7 +119,7 @@ module _ (file : List ℕ) (n : ℕ) (p : Phase) where
       go (b ∷ bs) e = rw (walk, e, j)
 
   pub at_found : (f : Found) (q : Phase) → step (drop n file) ≡ found f → judge f.sort f.children p ≡ some q
-      → from file n p ≡ ahead (step_at n f ∷ []) (from file (n + (3 + f.size)) q)
+      → walk_from file n p ≡ ahead (step_at n f ∷ []) (walk_from file (n + (3 + f.size)) q)
   unfolding step
   at_found f q e j =
       go (drop n file) e

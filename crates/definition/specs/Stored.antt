@@ -169,6 +169,10 @@ walk zero at p (b ∷ bs) =
       ]
     ]
 
+-- from an offset of the file on, where a field begins
+abbrev pub walk_from : List ℕ → ℕ → Phase → Loaded
+walk_from file at p = walk 0 at p (drop at file)
+
 unfoldable pub load : List ℕ → Loaded
 unfolding walk
 load file = elim (ltb 65536 (length file)) [ true ↦ refused 14 | false ↦ walk 0 0 (waiting []) file ]

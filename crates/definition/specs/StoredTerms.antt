@@ -19,7 +19,12 @@ child_count (some w) r = length (children_of w r)
 
 -- of a record whose field begins at n
 abbrev pub rec_step : ℕ → Rec → Step
-rec_step n r = record { tag = r.tag; children = child_count (find r.tag rows) r; offset = n + 3; size = length (at_place r.place ++ nums_bytes r.numbers ++ r.text) }
+rec_step n r = record {
+  tag = r.tag;
+  children = child_count (find r.tag rows) r;
+  offset = n + 3;
+  size = length (at_place r.place ++ nums_bytes r.numbers ++ r.text);
+}
 
 unfoldable pub rec_steps : ℕ → List Rec → List Step
 unfolding find rows nums_bytes rec_bytes
@@ -33,7 +38,11 @@ err_steps n tag (e ∷ es) = record { tag = tag; children = 0; offset = n + 3; s
 
 -- of the tree, the token errors, the reported errors and the full list, where the tree takes n bytes
 abbrev pub file_steps_at : ℕ → List Err → Items → List Err → List Step
-file_steps_at n es i full = rec_steps 0 (i.recs ++ (module_rec i.count ∷ [])) ++ err_steps n Tag.TokenError es ++ err_steps (n + 10 * length es) Tag.ReportedError i.errors ++ err_steps (n + 10 * length es + 10 * length i.errors) Tag.FullError full
+file_steps_at n es i full =
+    rec_steps 0 (i.recs ++ (module_rec i.count ∷ []))
+    ++ err_steps n Tag.TokenError es
+    ++ err_steps (n + 10 * length es) Tag.ReportedError i.errors
+    ++ err_steps (n + 10 * length es + 10 * length i.errors) Tag.FullError full
 
 unfoldable pub file_steps : List Err → Items → List Err → List Step
 unfolding rec_steps err_steps recs_bytes
@@ -95,7 +104,10 @@ tree_of st [] = none
 tree_of st (s ∷ ss) =
     elim (take_off s.children no_trees st) [
       | none ↦ none
-      | some x ↦ elim (eqb s.tag Tag.Module) [ true ↦ alone (node s x.taken) x.left | false ↦ tree_of (node s x.taken ∷ x.left) ss ]
+      | some x ↦ elim (eqb s.tag Tag.Module) [
+        | true ↦ alone (node s x.taken) x.left
+        | false ↦ tree_of (node s x.taken ∷ x.left) ss
+      ]
     ]
 
 -- the steps of a tree, children first

@@ -11,7 +11,7 @@ use Rattle.definition.specs.declared.refusal.Refusal.{Refusal}
 use Rattle.definition.specs.Numbers.{refusal_number}
 use Rattle.definition.specs.Operations.{filled}
 use Rattle.definition.specs.Stored as S
-use Rattle.definition.specs.Stored.{Field, end, bad, skipped, found, step, Step, step_at, judge, Loaded, steps, refused, ahead, load, steps_words, load_into}
+use Rattle.definition.specs.Stored.{Field, end, bad, skipped, found, step, Step, step_at, judge, Loaded, steps, refused, ahead, walk_from, load, steps_words, load_into}
 use Rattle.definition.proofs.StoredWalk.{at_end, at_bad, at_skipped, at_wrong, at_found, size_of, stands_within}
 use Rattle.stored.specs.declared.field.Found.{Found}
 use Rattle.stored.specs.declared.judge.Phase.{Phase}
@@ -19,7 +19,7 @@ use Rattle.stored.specs.declared.judge.Judged.{Judged}
 use Rattle.stored.specs.declared.Reached.{Reached}
 use Rattle.stored.specs.Table.{as_found}
 use Rattle.stored.specs.Nodes.{as_phase, top_of, Judgement}
-use Rattle.stored.specs.Walk.{Walked, WroteStep, Finished, Finishes, walked, from, answer}
+use Rattle.stored.specs.Walk.{Walked, WroteStep, Finished, Finishes, walked, answer}
 use Rattle.std.specs.Prelude.{Result, Ok, Err, MatchResult}
 use Rattle.std.specs.Result.{result_unwrap_or}
 use Rattle.slices.specs.Cleared.{Cleared}
@@ -61,8 +61,8 @@ walk_start file o =
     record { done = []; count = refl; written = refl; rest = ahead_none (walked file); few = omega arith; inside = omega arith }
 
 -- the offset after a field
-after : (file : List ℕ) (p : S.Phase) (at size : ℕ) (at' : ℕ) → at' ≡ at + 3 + size → from file (at + (3 + size)) p ≡ from file at' p
-after file p at size at' e = ap (λ n. from file n p) (omega (arith, e))
+after : (file : List ℕ) (p : S.Phase) (at size : ℕ) (at' : ℕ) → at' ≡ at + 3 + size → walk_from file (at + (3 + size)) p ≡ walk_from file at' p
+after file p at size at' e = ap (λ n. walk_from file n p) (omega (arith, e))
 
 -- the field ends within the file
 field_inside : (file : List ℕ) (at : ℕ) (f : Field) → at ≤ length file → step (drop at file) ≡ f → at + size_of f ≤ length file
@@ -97,7 +97,7 @@ module _ {file o : List ℕ} {p : S.Phase} {r : Reached} (w : Walked file p r o)
       }
 
   -- a refusal of the field here
-  refuse : (n : ℕ) → from file r.at p ≡ refused n → walked file ≡ refused n
+  refuse : (n : ℕ) → walk_from file r.at p ≡ refused n → walked file ≡ refused n
   refuse n e = w.rest ∙ ap (ahead w.done) e
 
   pub walk_bad : (n : ℕ) → (step (drop r.at file) ≡ bad) × (n ≡ 14) → walked file ≡ refused n

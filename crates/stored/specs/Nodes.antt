@@ -45,12 +45,12 @@ top_of (Phase.Waiting top) w = top
 top_of (Phase.Closed last) w = length w
 
 -- the phase after a record whose children were taken off, where the kinds st are left
-abbrev pub judged_first : F.Sort → List ℕ → Math.Option S.Phase
-judged_first (F.node k) st = S.then_put k (some st)
-judged_first F.root st = S.then_closed (some st)
-judged_first (F.error list) st = none
+abbrev pub taken_in : F.Sort → List ℕ → Math.Option S.Phase
+taken_in (F.node k) st = S.then_put k (some st)
+taken_in F.root st = S.then_closed (some st)
+taken_in (F.error list) st = none
 
--- the field f stands right in the phase p, with the nodes w, and then those are v
+-- the field f stands right in the phase p, where the nodes w wait, and then the phase is that of j, where the nodes v do
 pub record Judgement (f : Found) (p : Phase) (w : List ℕ) (j : Judged) (v : List ℕ) : Type 0 where
   pub phase : S.judge (as_found f).sort (as_found f).children (as_phase p w) ≡ some (as_phase j.phase v)
   pub children : j.children ≡ length (as_found f).children
@@ -60,20 +60,22 @@ pub record Judgement (f : Found) (p : Phase) (w : List ℕ) (j : Judged) (v : Li
 
 abbrev pub Judges : Found → Phase → MutLent → Option Judged → Type 0
 Judges f p waiting r =
-    MatchOption r (S.judge (as_found f).sort (as_found f).children (as_phase p (old waiting)) ≡ none) (λ j. Judgement f p (old waiting) j (new waiting))
+    MatchOption r (S.judge (as_found f).sort (as_found f).children (as_phase p (old waiting)) ≡ none)
+    (λ j. Judgement f p (old waiting) j (new waiting))
     × (length (new waiting) ≡ length (old waiting))
 
 -- the record x, after whose children the nodes from rest on wait, is taken in before the module
 abbrev pub Joins : Record → ℕ → MutLent → Option Judged → Type 0
 Joins x rest waiting r =
-    MatchOption r (judged_first (as_sort x.sort) (drop rest (old waiting)) ≡ none)
-    (λ j. (judged_first (as_sort x.sort) (drop rest (old waiting)) ≡ some (as_phase j.phase (new waiting)))
-    × (j.children ≡ x.children) × (rest ≤ top_of j.phase (new waiting) + 1) × (top_of j.phase (new waiting) ≤ length (new waiting)))
+    MatchOption r (taken_in (as_sort x.sort) (drop rest (old waiting)) ≡ none)
+    (λ j. (taken_in (as_sort x.sort) (drop rest (old waiting)) ≡ some (as_phase j.phase (new waiting)))
+    × (j.children ≡ x.children) × (rest ≤ top_of j.phase (new waiting) + 1)
+    × (top_of j.phase (new waiting) ≤ length (new waiting)))
     × (length (new waiting) ≡ length (old waiting))
 
 -- and after it, where the last error was one of the list m
 abbrev pub Follows : Record → ℕ → Option Judged → Type 0
 Follows x m r =
     MatchOption r ((ks : List ℕ) → S.judge (as_sort x.sort) ks (S.closed m) ≡ none)
-    (λ j. ((ks w : List ℕ) → S.judge (as_sort x.sort) ks (S.closed m) ≡ some (as_phase j.phase w)) × (j.children ≡ x.children)
-    × ((w : List ℕ) → top_of j.phase w ≡ length w))
+    (λ j. ((ks w : List ℕ) → S.judge (as_sort x.sort) ks (S.closed m) ≡ some (as_phase j.phase w))
+    × (j.children ≡ x.children) × ((w : List ℕ) → top_of j.phase w ≡ length w))

@@ -31,7 +31,8 @@ Past n m b b' = (b'.rest.now ≡ drop n b.rest.now) × (as_numbers b'.numbers �
 
 -- the part p is read, or what is left does not begin with it
 abbrev pub Reads : Part → Body → Option Body → Type 0
-Reads p b r = MatchOption r ((ps : List Part) → left (p ∷ ps) b ≡ none) (λ b'. (ps : List Part) → left (p ∷ ps) b ≡ left ps b')
+Reads p b r =
+    MatchOption r ((ps : List Part) → left (p ∷ ps) b ≡ none) (λ b'. (ps : List Part) → left (p ∷ ps) b ≡ left ps b')
 
 -- all of the parts ps are read
 abbrev pub ReadsAll : List Part → Body → Option Body → Type 0
@@ -39,4 +40,5 @@ ReadsAll ps b r = MatchOption r (left ps b ≡ none) (λ b'. left ps b ≡ left 
 
 -- the numbers of a whole body
 abbrev pub NumbersOf : List Part → List ℕ → Option Numbers → Type 0
-NumbersOf ps bs r = MatchOption r (S.numbers ps bs F.no_numbers ≡ none) (λ n. S.numbers ps bs F.no_numbers ≡ some (as_numbers n))
+NumbersOf ps bs r =
+    MatchOption r (S.numbers ps bs F.no_numbers ≡ none) (λ n. S.numbers ps bs F.no_numbers ≡ some (as_numbers n))

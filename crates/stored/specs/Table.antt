@@ -47,4 +47,9 @@ children_in (some w) b c = w.children b c
 
 -- a field with a tag, by the row
 abbrev pub as_found : Found → S.Found
-as_found f = record { tag = f.number; size = f.size; sort = sort_in (row_of f.tag); children = children_in (row_of f.tag) f.numbers.byte f.numbers.count }
+as_found f = record {
+  tag = f.number;
+  size = f.size;
+  sort = sort_in (row_of f.tag);
+  children = children_in (row_of f.tag) f.numbers.byte f.numbers.count;
+}

@@ -6,7 +6,7 @@ use Rattle.definition.specs.Slices.{MutLent, old, new}
 use Rattle.definition.specs.Numbers.{refusal_number, number_in, count_in}
 use Rattle.definition.specs.Format.{Row}
 use Rattle.definition.specs.Stored as S
-use Rattle.definition.specs.Stored.{Step, step_at, waiting, Loaded, Loading, ahead, steps_words}
+use Rattle.definition.specs.Stored.{Step, step_at, waiting, Loaded, Loading, ahead, walk_from, steps_words}
 use Rattle.stored.specs.declared.field.Field.{Field}
 use Rattle.stored.specs.declared.field.Found.{Found}
 use Rattle.stored.specs.declared.Reached.{Reached}
@@ -32,19 +32,16 @@ Stepped bs r = MatchResult r (λ f. S.step bs ≡ as_field f) (λ e. (S.step bs 
 
 -- ---- the walk
 
--- the walk over a whole file, and from an offset on
+-- the walk over a whole file
 abbrev pub walked : List ℕ → Loaded
 walked file = S.walk 0 0 (waiting []) file
-
-abbrev pub from : List ℕ → ℕ → S.Phase → Loaded
-from file at p = S.walk 0 at p (drop at file)
 
 -- the steps so far are written to the slice, and the walk goes on in the phase p
 pub record Walked (file : List ℕ) (p : S.Phase) (r : Reached) (o : List ℕ) : Type 0 where
   pub done : List Step
   pub count : r.count ≡ length done
   pub written : take (4 * r.count) o ≡ steps_words done
-  pub rest : walked file ≡ ahead done (from file r.at p)
+  pub rest : walked file ≡ ahead done (walk_from file r.at p)
   pub few : 3 * r.count ≤ r.at
   pub inside : r.at ≤ length file
 

@@ -1,10 +1,10 @@
 // Loading a stored tree (docs/FORMAT.md, Load): walks the fields of a tree file, judges each, and writes its step.
 #![tactic(auto)]
 
-pub mod body;
-pub mod field;
-pub mod judge;
-pub mod nodes;
+mod body;
+mod field;
+mod judge;
+mod nodes;
 
 ghost use Rattle.std.specs.Prelude.{◌≡◌, ◌+◌, ◌*◌, ◌≤◌, length};
 ghost use Rattle.definition.specs.Slices.{old, new};

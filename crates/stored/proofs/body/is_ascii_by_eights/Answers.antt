@@ -11,7 +11,8 @@ pub loop-i-preserved : goal.loop-i-preserved
 loop-i-preserved c =
     let i = c.loop-i.i in
     let l : i + 8 ≤ length c.args.bytes.now = omega (arith, c.loop-i-test.true) in
-    (ascii_on _ i i 8 _ 8 c.loop-i.invariant.0 c.eight_bytes.ensures (omega (arith, c.if-eight_bytes-ge128.false)) (omega arith) (omega arith) l, l)
+    (ascii_on _ i i 8 _ 8 c.loop-i.invariant.0 c.eight_bytes.ensures (omega (arith, c.if-eight_bytes-ge128.false)) (omega arith)
+    (omega arith) l, l)
 
 pub returns : goal.returns
 returns c = λ t.
