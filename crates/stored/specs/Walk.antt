@@ -1,5 +1,5 @@
 -- One field of a stored file, and where the walk over it stands. Assumes nothing.
-use Rattle.std.specs.Prelude.{◌≡◌, List, [], ◌++◌, ◌∷◌, ℕ, ◌+◌, ◌*◌, ◌≤◌, length, take, drop, Option, MatchOption, Result, MatchResult}
+use Rattle.std.specs.Prelude.{◌≡◌, List, [], ◌++◌, ◌∷◌, ℕ, ◌+◌, ◌*◌, ◌≤◌, length, take, Option, MatchOption, Result, MatchResult}
 use Rattle.std.proofs.Math.Option as Math
 use Rattle.definition.specs.declared.refusal.Refusal.{Refusal}
 use Rattle.definition.specs.Slices.{MutLent, old, new}

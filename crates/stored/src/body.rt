@@ -85,34 +85,34 @@ fn is_eight(bytes: &[u8]) -> bool
     8 <= bytes.len()
 }
 
-// The bits of the eight bytes from an offset on: no byte of them is above it.
-fn eight_bytes(bytes: &[u8], at: usize) -> u8
-    requires { at + 8 ≤ length bytes.now }
-    ensures { Bounded bytes.now at 8 result }
+// The bits of N bytes from an offset on: no byte of them is above it.
+fn bits<const N: usize>(bytes: &[u8], at: usize) -> u8
+    requires { at + N ≤ length bytes.now }
+    ensures { Bounded bytes.now at N result }
 {
     let mut all = 0;
     let mut k = 0;
-    while k < 8 {
+    while k < N {
         all |= bytes[at + k];
         k += 1;
     }
     all
 }
 
-// Whether all bytes are ASCII, eight at a time; the last eight may share bytes with those before.
-fn is_ascii_by_eights(bytes: &[u8]) -> bool
-    requires { 8 ≤ length bytes.now }
+// Whether all bytes are ASCII, N at a time; the last N may share bytes with those before.
+fn is_ascii_by<const N: usize>(bytes: &[u8]) -> bool
+    requires { (1 ≤ N) × (N ≤ length bytes.now) }
     ensures { result ≡ true → utf8 bytes.now ≡ true }
 {
-    let last = bytes.len() - 8;
+    let last = bytes.len() - N;
     let mut i = 0;
     while i < last {
-        if 0x80 <= eight_bytes(bytes, i) {
+        if 0x80 <= bits::<N>(bytes, i) {
             return false;
         }
-        i += 8;
+        i += N;
     }
-    if 0x80 <= eight_bytes(bytes, last) {
+    if 0x80 <= bits::<N>(bytes, last) {
         return false;
     }
     true
@@ -144,10 +144,12 @@ fn other_text(bytes: &[u8]) -> bool
 fn is_text(bytes: &[u8]) -> bool
     ensures { result ≡ S.fits F.text bytes.now }
 {
-    let ascii = if bytes.len() < 8 {
-        is_ascii(bytes)
+    let ascii = if 8 <= bytes.len() {
+        is_ascii_by::<8>(bytes)
+    } else if 4 <= bytes.len() {
+        is_ascii_by::<4>(bytes)
     } else {
-        is_ascii_by_eights(bytes)
+        is_ascii(bytes)
     };
     ascii || other_text(bytes)
 }

@@ -25,6 +25,8 @@ returns-in-Some c =
     (omega (arith, c.if-number-ge-SKIPPED.false)) _ (omega (arith, c.word-size.ensures)) _ c.in-Some.ensures
 
 pub returns-in-None : goal.returns-in-None
-returns-in-None c =
-    (rowed _ c.if-bytes-lt3.false (omega (arith, c.if-bytes-size.false, c.word-size.ensures))
-    (omega (arith, c.if-number-ge-SKIPPED.false)) _ (omega (arith, c.word-size.ensures)) _ c.in-None.ensures, refl)
+returns-in-None c = (
+  rowed _ c.if-bytes-lt3.false (omega (arith, c.if-bytes-size.false, c.word-size.ensures))
+      (omega (arith, c.if-number-ge-SKIPPED.false)) _ (omega (arith, c.word-size.ensures)) _ c.in-None.ensures,
+  refl,
+)
