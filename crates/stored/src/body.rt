@@ -1,5 +1,5 @@
 // The body of a field, part by part (docs/FORMAT.md, Records by tag and Error fields).
-ghost use Rattle.std.specs.Prelude.{◌≡◌, true, [], ◌∷◌, ◌&&◌, ◌+◌, ◌<◌, ◌≤◌, eqb, length, drop, get_or};
+ghost use Rattle.std.specs.Prelude.{◌≡◌, true, ◌&&◌, ◌+◌, ◌<◌, ◌≤◌, eqb, length, get_or};
 ghost use Rattle.definition.specs.Source.{utf8};
 ghost use Rattle.definition.specs.Classes.{between};
 ghost use Rattle.definition.specs.Format as F;
