@@ -35,17 +35,9 @@ use Rattle.definition.proofs.Fit.{recs_length_append}
 use Rattle.definition.proofs.Claim.{file_is}
 use Rattle.definition.proofs.ErrorsMade.{Somewhere, Fine, errors_fine}
 use Rattle.definition.proofs.StoredFields.{taken, two_bytes, placed, numbers_body}
-use Rattle.definition.proofs.StoredWalk.{walk_found}
+use Rattle.definition.proofs.StoredWalk.{ahead_none, ahead_both, walk_found}
 
 -- ---- steps ahead
-
-ahead_none : (l : Loaded) → l ≡ ahead [] l
-ahead_none (steps ss) = refl
-ahead_none (S.refused n) = refl
-
-ahead_both : (ss ts : List Step) (l : Loaded) → ahead ss (ahead ts l) ≡ ahead (ss ++ ts) l
-ahead_both ss ts (steps us) = ap steps (sym (append_assoc ss ts us))
-ahead_both ss ts (S.refused n) = refl
 
 rec_steps_append : (xs ys : List Rec) (n : ℕ)
     → rec_steps n (xs ++ ys) ≡ rec_steps n xs ++ rec_steps (n + length (recs_bytes xs)) ys

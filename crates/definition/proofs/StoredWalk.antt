@@ -2,15 +2,25 @@
 -- how children come off the kinds that wait. Assumes nothing.
 use mathlib.Core.Path.{◌≡◌, refl, sym, ap, ◌∙◌, subst}
 use mathlib.Core.Option.{Option, none, some}
-use mathlib.Core.List.{List, [], ◌∷◌, ◌++◌}
+use mathlib.Core.List.{List, [], ◌∷◌, ◌++◌, append_assoc}
 use Prim.Native.Nat.{ℕ, zero, suc, ◌+◌, ◌≤◌, ◌<◌}
 use native.Mathlib.Omega.{arith}
 use lib.ListN.{length, drop}
 use lib.Seq.{drop-drop}
 use Rattle.definition.specs.Node.{field}
 use Rattle.definition.specs.Format.{Row, rows, find, Numbers, no_numbers}
-use Rattle.definition.specs.Stored.{numbers, Found, Field, end, bad, skipped, found, step, Phase, off, pop, judge, step_at, finish, Loaded, refused, ahead, walk, walk_from}
+use Rattle.definition.specs.Stored.{numbers, Found, Field, end, bad, skipped, found, step, Phase, off, pop, judge, step_at, finish, Loaded, refused, ahead, walk, walk_from, Step, steps}
 use Rattle.definition.proofs.StoredFields.{listed, step_found, Stepped, is_bad, is_skipped, is_found, stepped}
+
+-- ---- steps ahead
+
+pub ahead_none : (l : Loaded) → l ≡ ahead [] l
+ahead_none (steps ss) = refl
+ahead_none (refused n) = refl
+
+pub ahead_both : (ss ts : List Step) (l : Loaded) → ahead ss (ahead ts l) ≡ ahead (ss ++ ts) l
+ahead_both ss ts (steps us) = ap steps (sym (append_assoc ss ts us))
+ahead_both ss ts (refused n) = refl
 
 -- ---- over the bytes of a field
 

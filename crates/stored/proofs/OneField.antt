@@ -59,10 +59,17 @@ module _ (tag : Tag) (n : ℕ) (body : List ℕ) (h : n < 0x70) (q : (tag_number
 
   pub good_body : (m : F.Numbers) → S.numbers (parts_in (row_of tag)) body no_numbers ≡ some m
       → with_row (length body) body (find n rows)
-      ≡ found (record { tag = n; size = length body; sort = sort_in (row_of tag); children = children_in (row_of tag) m.byte m.count })
+      ≡ found (record {
+        tag = n;
+        size = length body;
+        sort = sort_in (row_of tag);
+        children = children_in (row_of tag) m.byte m.count;
+      })
   good_body m e =
       let b : S.numbers w.body body no_numbers ≡ some m = rw (q.0, f) at e in
-      rw (q.0, f, b) (λ x. found (record { tag = sym ((listed n w f).tag) x; size = length body; sort = w.sort; children = w.children m.byte m.count }))
+      let same : w.tag ≡ n = sym (listed n w f).tag in
+      rw (q.0, f, b)
+      (λ x. found (record { tag = same x; size = length body; sort = w.sort; children = w.children m.byte m.count }))
 
 -- ---- three bytes, and a body
 
@@ -87,7 +94,8 @@ step_long (t ∷ k ∷ l ∷ bs) z h =
     let far : length bs < k * 256 + l = omega (arith, h) in
     rw (step, lt-leb (k * 256 + l) (length bs) far)
 
-pub step_skips : (bs : List ℕ) → 3 ≤ length bs → 3 + word bs 1 ≤ length bs → 0x70 ≤ get_or bs 0 0 → step bs ≡ skipped (word bs 1)
+pub step_skips : (bs : List ℕ) → 3 ≤ length bs → 3 + word bs 1 ≤ length bs → 0x70 ≤ get_or bs 0 0
+    → step bs ≡ skipped (word bs 1)
 unfolding step
 step_skips [] z h k = absurd (omega arith)
 step_skips (t ∷ []) z h k = absurd (omega arith)
@@ -102,8 +110,9 @@ step_row (t ∷ []) z h k = absurd (omega arith)
 step_row (t ∷ k ∷ []) z h i = absurd (omega arith)
 step_row (t ∷ k ∷ l ∷ bs) z h i = rw (step, le-leb (k * 256 + l) (length bs) (omega arith), lt-ltb t 0x70 i)
 
-pub rowed : (bs : List ℕ) → 3 ≤ length bs → 3 + word bs 1 ≤ length bs → get_or bs 0 0 < 0x70 → (size : ℕ) → size ≡ word bs 1
-    → (x : Field) → with_row (length (take size (drop 3 bs))) (take size (drop 3 bs)) (find (get_or bs 0 0) rows) ≡ x → step bs ≡ x
+pub rowed : (bs : List ℕ) → 3 ≤ length bs → 3 + word bs 1 ≤ length bs → get_or bs 0 0 < 0x70
+    → (size : ℕ) → size ≡ word bs 1 → (x : Field)
+    → with_row (length (take size (drop 3 bs))) (take size (drop 3 bs)) (find (get_or bs 0 0) rows) ≡ x → step bs ≡ x
 rowed bs z h i size s x e =
     let l : length (take size (drop 3 bs)) ≡ size = omega (arith, length-take size (drop 3 bs), length-drop 3 bs) in
     step_row bs z h i ∙ ap (λ (k : ℕ). with_row k (take k (drop 3 bs)) (find (get_or bs 0 0) rows)) (sym s)

@@ -76,7 +76,8 @@ module _ {ks w : List ℕ} {n : ℕ} (c : Came ks w n) (xs : List ℕ) where
   pub came_not : pop xs (drop n w) ≡ none → pop (xs ++ ks) w ≡ none
   came_not e = pop_append xs ks w ∙ ap (then_pop xs) c.off ∙ e
 
-  pub came_more : (m : ℕ) → m ≡ length xs → n + m ≤ length w → pop xs (drop n w) ≡ some (drop (n + m) w) → Came (xs ++ ks) w (n + m)
+  pub came_more : (m : ℕ) → m ≡ length xs → n + m ≤ length w → pop xs (drop n w) ≡ some (drop (n + m) w)
+      → Came (xs ++ ks) w (n + m)
   came_more m e h p = record {
     number = omega (arith, length-append xs ks, c.number, e);
     short = h;

@@ -23,7 +23,8 @@ kept : (c : Ch) (o : Option (List Ch)) → is_some (and_then c o) ≡ is_some o
 kept c none = refl
 kept c (some cs) = refl
 
-one_byte : (p : At) (b : ℕ) (bs : List ℕ) → b < 0x80 → is_some (decode fresh p (b ∷ bs)) ≡ is_some (decode fresh (past p b []) bs)
+one_byte : (p : At) (b : ℕ) (bs : List ℕ) → b < 0x80
+    → is_some (decode fresh p (b ∷ bs)) ≡ is_some (decode fresh (past p b []) bs)
 unfolding decode lead first
 one_byte p b bs h = rw (decode, lead, first, lt-ltb b 0x80 h) (kept (char_at p b []) (decode fresh (past p b []) bs))
 
@@ -41,8 +42,8 @@ unfolding decode
 ascii_end {bs} {i} a l = a.same ∙ ap (λ cs. is_some (decode fresh a.place cs)) (drop_of_length-le bs {i = i} l)
 
 -- as many more as no byte is above n
-pub ascii_on : (bs : List ℕ) (i at k n m : ℕ) → Ascii bs i → Bounded bs at k n → n < 0x80 → at ≤ i → i + m ≤ at + k → i + m ≤ length bs
-    → Ascii bs (i + m)
+pub ascii_on : (bs : List ℕ) (i at k n m : ℕ) → Ascii bs i → Bounded bs at k n → n < 0x80 → at ≤ i
+    → i + m ≤ at + k → i + m ≤ length bs → Ascii bs (i + m)
 ascii_on bs i at k n zero a b h x y l = subst (Ascii bs) (omega arith) a
 ascii_on bs i at k n (suc m) a b h x y l =
     let c : Ascii bs (i + m) = ascii_on bs i at k n m a b h x (omega arith) (omega arith) in
@@ -56,7 +57,8 @@ ascii_on bs i at k n (suc m) a b h x y l =
 pub bounded_start : (bs : List ℕ) (at : ℕ) → Bounded bs at 0 0
 bounded_start bs at j h = absurd (omega arith)
 
-pub bounded_more : (bs : List ℕ) (at k n : ℕ) → Bounded bs at k n → Bounded bs at (k + 1) (bit_or n (get_or bs (at + k) 0))
+pub bounded_more : (bs : List ℕ) (at k n : ℕ) → Bounded bs at k n
+    → Bounded bs at (k + 1) (bit_or n (get_or bs (at + k) 0))
 bounded_more bs at k n b j h = go (ltb j k) refl
   where
     go : (t : Bool) → ltb j k ≡ t → get_or bs (at + j) 0 ≤ bit_or n (get_or bs (at + k) 0)

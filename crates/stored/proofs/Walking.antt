@@ -1,7 +1,7 @@
 -- The walk over a stored file, field by field. Assumes nothing.
 use mathlib.Core.Path.{◌≡◌, refl, sym, ap, ◌∙◌, subst}
 use mathlib.Core.Option.{none, some}
-use mathlib.Core.List.{List, [], ◌∷◌, ◌++◌, append-nil, append_assoc}
+use mathlib.Core.List.{List, [], ◌∷◌, ◌++◌, append-nil}
 use Prim.Native.Nat.{ℕ, ◌+◌, ◌*◌, ◌-◌, ◌≤◌, ◌<◌}
 use native.Mathlib.Omega.{arith}
 use lib.ListN.{length, take, drop, replicate, length-append, length-drop, drop_of_length-le}
@@ -12,7 +12,7 @@ use Rattle.definition.specs.Numbers.{refusal_number}
 use Rattle.definition.specs.Operations.{filled}
 use Rattle.definition.specs.Stored as S
 use Rattle.definition.specs.Stored.{Field, end, bad, skipped, found, step, Step, step_at, judge, Loaded, steps, refused, ahead, walk_from, load, steps_words, load_into}
-use Rattle.definition.proofs.StoredWalk.{at_end, at_bad, at_skipped, at_wrong, at_found, size_of, stands_within}
+use Rattle.definition.proofs.StoredWalk.{ahead_none, ahead_both, at_end, at_bad, at_skipped, at_wrong, at_found, size_of, stands_within}
 use Rattle.stored.specs.declared.field.Found.{Found}
 use Rattle.stored.specs.declared.judge.Phase.{Phase}
 use Rattle.stored.specs.declared.judge.Judged.{Judged}
@@ -42,14 +42,6 @@ wrote {o} {o'} {m} r f n k w =
 
 -- ---- the walk goes on
 
-ahead_none : (l : Loaded) → l ≡ ahead [] l
-ahead_none (steps ss) = refl
-ahead_none (refused n) = refl
-
-ahead_both : (ss ts : List Step) (l : Loaded) → ahead ss (ahead ts l) ≡ ahead (ss ++ ts) l
-ahead_both ss ts (steps us) = ap steps (sym (append_assoc ss ts us))
-ahead_both ss ts (refused n) = refl
-
 words_append : (ss ts : List Step) → steps_words (ss ++ ts) ≡ steps_words ss ++ steps_words ts
 unfolding steps_words
 words_append [] ts = refl
@@ -61,16 +53,18 @@ walk_start file o =
     record { done = []; count = refl; written = refl; rest = ahead_none (walked file); few = omega arith; inside = omega arith }
 
 -- the offset after a field
-after : (file : List ℕ) (p : S.Phase) (at size : ℕ) (at' : ℕ) → at' ≡ at + 3 + size → walk_from file (at + (3 + size)) p ≡ walk_from file at' p
+after : (file : List ℕ) (p : S.Phase) (at size : ℕ) (at' : ℕ) → at' ≡ at + 3 + size
+    → walk_from file (at + (3 + size)) p ≡ walk_from file at' p
 after file p at size at' e = ap (λ n. walk_from file n p) (omega (arith, e))
 
 -- the field ends within the file
-field_inside : (file : List ℕ) (at : ℕ) (f : Field) → at ≤ length file → step (drop at file) ≡ f → at + size_of f ≤ length file
+field_inside : (file : List ℕ) (at : ℕ) (f : Field) → at ≤ length file → step (drop at file) ≡ f
+    → at + size_of f ≤ length file
 field_inside file at f h e = omega (arith, stands_within (drop at file) f e, length-drop at file)
 
 module _ {file o : List ℕ} {p : S.Phase} {r : Reached} (w : Walked file p r o) where
-  pub walk_skips : (size : ℕ) (r' : Reached) → step (drop r.at file) ≡ skipped size → (r'.at ≡ r.at + 3 + size) × (r'.count ≡ r.count)
-      → Walked file p r' o
+  pub walk_skips : (size : ℕ) (r' : Reached) → step (drop r.at file) ≡ skipped size
+      → (r'.at ≡ r.at + 3 + size) × (r'.count ≡ r.count) → Walked file p r' o
   walk_skips size r' e g = record {
     done = w.done;
     count = g.1 ∙ w.count;
@@ -113,8 +107,8 @@ pub walk_room : {file o : List ℕ} {p : S.Phase} {r : Reached} → Walked file 
 walk_room {file} {o} {p} {r} w h f e = omega (arith, field_inside file r.at f w.inside e)
 
 -- after a field there are fewer bytes left
-pub field_shorter : {file o : List ℕ} {p : S.Phase} {r : Reached} → Walked file p r o → (f : Field) → step (drop r.at file) ≡ f
-    → (at' : ℕ) → at' ≡ r.at + size_of f → 0 < size_of f → length file - at' < length file - r.at
+pub field_shorter : {file o : List ℕ} {p : S.Phase} {r : Reached} → Walked file p r o → (f : Field)
+    → step (drop r.at file) ≡ f → (at' : ℕ) → at' ≡ r.at + size_of f → 0 < size_of f → length file - at' < length file - r.at
 field_shorter {file} {o} {p} {r} w f e at' h z = omega (arith, field_inside file r.at f w.inside e, h, z)
 
 -- ---- the loop
@@ -174,7 +168,8 @@ module _ {file w o : List ℕ} {n : ℕ} {p : Phase} {r : Reached} (b : Walking 
       same (Phase.Waiting top) = refl
       same (Phase.Closed last) = refl
 
-  pub walking_ends : (a : Result ℕ Refusal) → Finishes p r.count a → step (drop r.at file) ≡ end → length file ≤ 65536 → 87380 ≤ n
+  pub walking_ends : (a : Result ℕ Refusal) → Finishes p r.count a → step (drop r.at file) ≡ end → length file ≤ 65536
+      → 87380 ≤ n
       → MatchResult a (λ m. Finished (walked file) m o) (λ e. walked file ≡ refused (refusal_number e))
   walking_ends (Ok m) g e h k = record {
     done = b.walk.done;
