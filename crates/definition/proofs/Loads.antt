@@ -19,8 +19,7 @@ use Rattle.definition.specs.Operations.{whole, file_bytes}
 use Rattle.definition.specs.Demand.{file_of}
 use Rattle.definition.specs.Format as F
 use Rattle.definition.specs.Format.{Part, Row, rows, find, Numbers, no_numbers, numbers_of, children_of, module_rec}
-use Rattle.definition.specs.Stored as S
-use Rattle.definition.specs.Stored.{is_place, numbers, Phase, waiting, closed, pop, judge, Step, Loaded, steps, ahead, walk, load, load_into}
+use Rattle.definition.specs.Stored.{is_place, numbers, Phase, waiting, closed, pop, judge, Step, steps, ahead, walk, load, load_into}
 use Rattle.definition.specs.StoredTerms.{child_count, rec_step, rec_steps, err_steps, file_steps}
 use Rattle.definition.proofs.Tests.{both_true, between_true, All, all_map}
 use Rattle.definition.proofs.Later.{After}

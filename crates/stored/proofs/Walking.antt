@@ -11,7 +11,7 @@ use Rattle.definition.specs.declared.refusal.Refusal.{Refusal}
 use Rattle.definition.specs.Numbers.{refusal_number}
 use Rattle.definition.specs.Operations.{filled}
 use Rattle.definition.specs.Stored as S
-use Rattle.definition.specs.Stored.{Field, end, bad, skipped, found, step, Step, step_at, judge, Loaded, steps, refused, ahead, walk_from, load, steps_words, load_into}
+use Rattle.definition.specs.Stored.{Field, end, bad, skipped, found, step, Step, step_at, judge, steps, refused, ahead, walk_from, load, steps_words, load_into}
 use Rattle.definition.proofs.StoredWalk.{ahead_none, ahead_both, at_end, at_bad, at_skipped, at_wrong, at_found, size_of, stands_within}
 use Rattle.stored.specs.declared.field.Found.{Found}
 use Rattle.stored.specs.declared.judge.Phase.{Phase}
