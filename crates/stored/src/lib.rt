@@ -2,6 +2,7 @@
 #![tactic(auto)]
 
 mod body;
+mod clear;
 mod field;
 mod judge;
 mod nodes;
@@ -12,11 +13,12 @@ ghost use Rattle.definition.specs.Stored as S;
 ghost use Rattle.stored.specs.Table.{as_found};
 ghost use Rattle.stored.specs.Walk.{WroteStep, Finishes, AllWalked, walked, answer};
 
+use clear::clear_from;
 use definition::limit;
 use definition::refusal::{Refusal, number_and_count};
 use field::{Field, Found, step};
 use judge::{Phase, judge};
-use slices::{fill_from, put};
+use slices::put;
 
 // Where a walk stands: the offset of the next field, and how many steps were written.
 #[derive(Clone, Copy)]
@@ -104,7 +106,7 @@ pub fn load(file: &[u8], records: &mut [u32]) -> Result<usize, Refusal>
         return Err(Refusal::SliceLength);
     }
     let loaded = steps(file, records);
-    fill_from(records, 4 * loaded.unwrap_or(0), 0);
+    clear_from(records, 4 * loaded.unwrap_or(0));
     loaded
 }
 

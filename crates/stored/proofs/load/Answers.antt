@@ -8,4 +8,4 @@ returns-then-records-lt-STEP_WORDS c = load_short _ _ c.if-records-lt-STEP_WORDS
 pub returns : goal.returns
 returns c =
     loaded c.args.file.now _ _ _ _ (omega (arith, c.if-records-lt-STEP_WORDS.false)) c.unwrap_or.ensures
-    c.steps-loaded.ensures.0 c.steps-loaded.ensures.1 c.fill_from.ensures
+    c.steps-loaded.ensures.0 c.steps-loaded.ensures.1 c.clear_from.ensures
