@@ -1,6 +1,6 @@
 // Clears the rest of the slice of records. Of a slice that is used again most words are zero already, and reading them
 // takes half the time of writing them.
-ghost use Rattle.std.specs.Prelude.{◌≡◌, ◌+◌, ◌≤◌, length};
+ghost use Rattle.std.specs.Prelude.{◌+◌, ◌≤◌, length};
 ghost use Rattle.definition.specs.Slices.{old, new};
 ghost use Rattle.slices.specs.Cleared.{Cleared};
 ghost use Rattle.stored.specs.Parts.{Bounded};
