@@ -4,7 +4,8 @@
 //! A call of `dn_read` clears its own token, error and text arrays (86,016 bytes) and what stands after the
 //! file in the slice (65,536 bytes in all). The Rust makes its tokens and its tree on the heap and drops them.
 //! A call of `dn_load` clears an array of its own (21,845 bytes) and what stands after the steps in the slice
-//! (349,520 bytes in all). The last line is the time of a fill of that whole slice.
+//! (349,520 bytes in all). `load us` is its time where the slice is used again, `first us` where it was full of other
+//! words. The last line is the time of a fill of that whole slice.
 
 use plain::parser::Parser;
 use plain::source::SourceInputType;
@@ -22,6 +23,8 @@ const FILE: usize = 65536;
 const RECORDS: usize = 87380;
 
 const SAMPLES: usize = 101;
+/// Calls on a slice that is filled before each.
+const FIRST: usize = 1001;
 /// A sample calls so often that it takes this long, in nanoseconds.
 const SAMPLE: f64 = 2e6;
 
@@ -69,6 +72,20 @@ fn median(mut call: impl FnMut()) -> f64 {
     times[SAMPLES / 2]
 }
 
+/// The median time of loading into a slice that is full of other words, in nanoseconds.
+fn median_first(file: &[u8], records: &mut [u32]) -> f64 {
+    let mut times: Vec<f64> = (0..FIRST)
+        .map(|_| {
+            records.fill(u32::MAX);
+            let start = Instant::now();
+            black_box(load(black_box(file), records));
+            start.elapsed().as_nanos() as f64
+        })
+        .collect();
+    times.sort_by(f64::total_cmp);
+    times[FIRST / 2]
+}
+
 fn compare(name: &str, script: &str) {
     let mut file = vec![0; FILE];
     let mut records = vec![0; RECORDS];
@@ -86,14 +103,16 @@ fn compare(name: &str, script: &str) {
     let loading = median(|| {
         black_box(load(black_box(&file[..bytes]), &mut records));
     });
+    let first = median_first(&file[..bytes], &mut records);
     println!(
-        "{name:<16} {:>6} {tokens:>6} {:>8.1} {:>8.1} {:>6.2} | {bytes:>6} {steps:>6} {:>8.1} {:>9.2}",
+        "{name:<16} {:>6} {tokens:>6} {:>8.1} {:>8.1} {:>6.2} | {bytes:>6} {steps:>6} {:>8.1} {:>9.2} {:>8.1}",
         script.len(),
         mine / 1e3,
         rust / 1e3,
         mine / rust,
         loading / 1e3,
-        loading / mine
+        loading / mine,
+        first / 1e3
     );
 }
 
@@ -128,8 +147,8 @@ fn page(tokens: usize) -> String {
 
 fn main() {
     println!(
-        "{:<16} {:>6} {:>6} {:>8} {:>8} {:>6} | {:>6} {:>6} {:>8} {:>9}",
-        "script", "bytes", "tokens", "ours us", "Rust us", "ratio", "file", "steps", "load us", "load/ours"
+        "{:<16} {:>6} {:>6} {:>8} {:>8} {:>6} | {:>6} {:>6} {:>8} {:>9} {:>8}",
+        "script", "bytes", "tokens", "ours us", "Rust us", "ratio", "file", "steps", "load us", "load/ours", "first us"
     );
     compare("page", &page(2000));
     compare("95 stars", &format!("var p: {}T;", "*".repeat(95)));

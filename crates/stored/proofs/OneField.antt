@@ -3,11 +3,10 @@ use mathlib.Core.Path.{◌≡◌, refl, sym, ap, ◌∙◌}
 use mathlib.Core.Bool.{Bool, true, false, not}
 use mathlib.Core.Option.{Option, none, some}
 use mathlib.Core.List.{List, [], ◌∷◌}
-use Prim.Native.Nat.{ℕ, ◌+◌, ◌*◌, ◌-◌, ◌≤◌, ◌<◌}
+use Prim.Native.Nat.{ℕ, ◌+◌, ◌*◌, ◌≤◌, ◌<◌}
 use native.Mathlib.Omega.{arith}
 use borrow.Author.Tests.{le-leb, lt-ltb, le-ltb, lt-leb}
 use lib.ListN.{length, take, drop, get_or, length-drop, length-take}
-use lib.Seq.{take-length}
 use Rattle.definition.specs.Choice.{pick}
 use Rattle.definition.specs.Source.{is_some}
 use Rattle.definition.specs.Format as F
@@ -18,7 +17,8 @@ use Rattle.definition.specs.Numbers.{tag_number, is_tag}
 use Rattle.definition.specs.declared.tag.Tag.{Tag}
 use Rattle.definition.proofs.Tests.{clash, every, every_below}
 use Rattle.definition.proofs.StoredFields.{listed}
-use Rattle.stored.specs.Table.{row_of, parts_in, sort_in, children_in}
+use Rattle.stored.specs.declared.nodes.Role.{Role}
+use Rattle.stored.specs.Table.{row_of, parts_in, sort_of, children_of, ByRow}
 
 -- ---- the row of a number
 
@@ -57,19 +57,16 @@ module _ (tag : Tag) (n : ℕ) (body : List ℕ) (h : n < 0x70) (q : (tag_number
   pub bad_body : S.numbers (parts_in (row_of tag)) body no_numbers ≡ none → with_row (length body) body (find n rows) ≡ bad
   bad_body e = rw (f, rw (q.0, f) at e)
 
-  pub good_body : (m : F.Numbers) → S.numbers (parts_in (row_of tag)) body no_numbers ≡ some m
+  pub good_body : (x : Role) → ByRow (row_of tag) (S.numbers (parts_in (row_of tag)) body no_numbers) x
       → with_row (length body) body (find n rows)
-      ≡ found (record {
-        tag = n;
-        size = length body;
-        sort = sort_in (row_of tag);
-        children = children_in (row_of tag) m.byte m.count;
-      })
-  good_body m e =
-      let b : S.numbers w.body body no_numbers ≡ some m = rw (q.0, f) at e in
+      ≡ found (record { tag = n; size = length body; sort = sort_of x; children = children_of x })
+  good_body x p =
+      let m : F.Numbers = p.numbers in
+      let b : S.numbers w.body body no_numbers ≡ some m = rw (q.0, f) at p.read in
       let same : w.tag ≡ n = sym (listed n w f).tag in
-      rw (q.0, f, b)
-      (λ x. found (record { tag = same x; size = length body; sort = w.sort; children = w.children m.byte m.count }))
+      let s : sort_of x ≡ w.sort = rw (q.0, f) at p.sort in
+      let k : children_of x ≡ w.children m.byte m.count = rw (q.0, f) at p.children in
+      rw (f, b) (λ i. found (record { tag = same i; size = length body; sort = sym s i; children = sym k i }))
 
 -- ---- three bytes, and a body
 
@@ -117,7 +114,3 @@ rowed bs z h i size s x e =
     let l : length (take size (drop 3 bs)) ≡ size = omega (arith, length-take size (drop 3 bs), length-drop 3 bs) in
     step_row bs z h i ∙ ap (λ (k : ℕ). with_row k (take k (drop 3 bs)) (find (get_or bs 0 0) rows)) (sym s)
     ∙ ap (λ (k : ℕ). with_row k (take size (drop 3 bs)) (find (get_or bs 0 0) rows)) (sym l) ∙ e
-
--- from an offset to the end
-pub rest_is : (at : ℕ) (file : List ℕ) → take (length file - at) (drop at file) ≡ drop at file
-rest_is at file = ap (λ (n : ℕ). take n (drop at file)) (sym (length-drop at file)) ∙ take-length (drop at file)

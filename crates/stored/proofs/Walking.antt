@@ -17,10 +17,10 @@ use Rattle.stored.specs.declared.field.Found.{Found}
 use Rattle.stored.specs.declared.judge.Phase.{Phase}
 use Rattle.stored.specs.declared.judge.Judged.{Judged}
 use Rattle.stored.specs.declared.Reached.{Reached}
-use Rattle.stored.specs.Table.{as_found}
-use Rattle.stored.specs.Nodes.{as_phase, top_of, Judgement}
+use Rattle.stored.specs.Table.{as_found, sort_of, children_of}
+use Rattle.stored.specs.Nodes.{as_phase, phase_of, Judgement}
 use Rattle.stored.specs.Walk.{Walked, WroteStep, Finished, Finishes, walked, answer}
-use Rattle.std.specs.Prelude.{Result, Ok, Err, MatchResult}
+use Rattle.std.specs.Prelude.{Option, Some, None, Result, Ok, Err, MatchResult}
 use Rattle.std.specs.Result.{result_unwrap_or}
 use Rattle.slices.specs.Cleared.{Cleared}
 use Rattle.slices.specs.Written.{Wrote}
@@ -75,7 +75,7 @@ module _ {file o : List ℕ} {p : S.Phase} {r : Reached} (w : Walked file p r o)
   }
 
   pub walk_finds : {o' : List ℕ} (f : Found) (q : S.Phase) (r' : Reached) → step (drop r.at file) ≡ found (as_found f)
-      → judge (as_found f).sort (as_found f).children p ≡ some q → WroteStep r f o r' o' → Walked file q r' o'
+      → judge (sort_of f.role) (children_of f.role) p ≡ some q → WroteStep r f o r' o' → Walked file q r' o'
   walk_finds {o'} f q r' e j x =
       let s : Step = step_at r.at (as_found f) in
       record {
@@ -98,7 +98,7 @@ module _ {file o : List ℕ} {p : S.Phase} {r : Reached} (w : Walked file p r o)
   walk_bad n e = refuse n (at_bad file r.at p e.0 ∙ ap refused (sym e.1))
 
   pub walk_wrong : (f : Found) → step (drop r.at file) ≡ found (as_found f)
-      → judge (as_found f).sort (as_found f).children p ≡ none → walked file ≡ refused 15
+      → judge (sort_of f.role) (children_of f.role) p ≡ none → walked file ≡ refused 15
   walk_wrong f e j = refuse 15 (at_wrong file r.at p (as_found f) e j)
 
 -- room for a field
@@ -117,12 +117,12 @@ field_shorter {file} {o} {p} {r} w f e at' h z = omega (arith, field_inside file
 pub record Walking (file : List ℕ) (n : ℕ) (p : Phase) (w : List ℕ) (r : Reached) (o : List ℕ) : Type 0 where
   pub walk : Walked file (as_phase p w) r o
   pub nodes : length w ≡ 21845
-  pub high : top_of p w ≤ length w
-  pub few : 21845 ≤ top_of p w + r.count
+  pub high : p.top ≤ length w
+  pub few : 21845 ≤ p.top + r.count
   pub words : length o ≡ n
 
 pub walking_start : (file o w : List ℕ) → length w ≡ 21845
-    → Walking file (length o) (Phase.Waiting 21845) w (record { at = 0; count = 0 }) o
+    → Walking file (length o) (record { top = 21845; last = None }) w (record { at = 0; count = 0 }) o
 walking_start file o w e =
     let none_wait : drop 21845 w ≡ [] = drop_of_length-le w {i = 21845} (omega (arith, e)) in
     record {
@@ -146,10 +146,10 @@ module _ {file w o : List ℕ} {n : ℕ} {p : Phase} {r : Reached} (b : Walking 
 
   module _ (f : Found) (e : step (drop r.at file) ≡ found (as_found f)) where
     -- there is room for one node more
-    pub walking_room : length file ≤ 65536 → 1 ≤ top_of p w
+    pub walking_room : length file ≤ 65536 → 1 ≤ p.top
     walking_room h = omega (arith, b.few, b.walk.few, walk_room b.walk h (found (as_found f)) e)
 
-    pub walking_finds : {v o' : List ℕ} (j : Judged) (r' : Reached) → Judgement f p w j v → length v ≡ length w
+    pub walking_finds : {v o' : List ℕ} (j : Judged) (r' : Reached) → Judgement f.role p w j v → length v ≡ length w
         → WroteStep r f o r' o' → Walking file n j.phase v r' o'
     walking_finds {v} j r' g l x = record {
       walk = walk_finds b.walk f (as_phase j.phase v) r' e g.phase x;
@@ -162,11 +162,11 @@ module _ {file w o : List ℕ} {n : ℕ} {p : Phase} {r : Reached} (b : Walking 
   -- the file ends
   at_finish : step (drop r.at file) ≡ end → walked file ≡ ahead b.walk.done (S.finish (as_phase p []))
   at_finish e =
-      b.walk.rest ∙ ap (ahead b.walk.done) (at_end file r.at (as_phase p w) e ∙ same p)
+      b.walk.rest ∙ ap (ahead b.walk.done) (at_end file r.at (as_phase p w) e ∙ same p.last (drop p.top w) (drop p.top []))
     where
-      same : (q : Phase) → S.finish (as_phase q w) ≡ S.finish (as_phase q [])
-      same (Phase.Waiting top) = refl
-      same (Phase.Closed last) = refl
+      same : (last : Option ℕ) (st us : List ℕ) → S.finish (phase_of last st) ≡ S.finish (phase_of last us)
+      same None st us = refl
+      same (Some last) st us = refl
 
   pub walking_ends : (a : Result ℕ Refusal) → Finishes p r.count a → step (drop r.at file) ≡ end → length file ≤ 65536
       → 87380 ≤ n

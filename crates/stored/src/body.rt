@@ -1,21 +1,21 @@
 // The body of a field, part by part (docs/FORMAT.md, Records by tag and Error fields).
-ghost use Rattle.std.specs.Prelude.{◌≡◌, true, ◌&&◌, ◌+◌, ◌<◌, ◌≤◌, eqb, length, get_or};
+ghost use Rattle.std.specs.Prelude.{◌≡◌, List, true, ◌&&◌, ◌+◌, ◌<◌, ◌≤◌, eqb, length};
 ghost use Rattle.definition.specs.Source.{utf8};
 ghost use Rattle.definition.specs.Classes.{between};
 ghost use Rattle.definition.specs.Format as F;
 ghost use Rattle.definition.specs.Stored as S;
-ghost use Rattle.stored.specs.Table.{row_of, parts_in};
-ghost use Rattle.stored.specs.Parts.{Bounded, as_numbers, Past, Reads, ReadsAll, NumbersOf};
+ghost use Rattle.stored.specs.declared.nodes.Role.{Role};
+ghost use Rattle.stored.specs.Parts.{Bounded, as_part, as_numbers, left, Reads, Ends};
 
+use crate::nodes::{Children, Role};
 use definition::limit;
-use definition::tag::Tag;
 use source::valid;
 
 // The last byte and the last count of a body, 0 where it has none.
 #[derive(Clone, Copy)]
 pub struct Numbers {
-    pub byte: u8,
-    pub count: u16,
+    pub byte: usize,
+    pub count: usize,
 }
 
 // The number in two bytes, at an offset.
@@ -39,7 +39,7 @@ fn stands(n: u16) -> bool
 fn is_place(bytes: &[u8]) -> bool
     ensures { result ≡ S.fits F.place bytes.now }
 {
-    4 <= bytes.len() && stands(word(bytes, 0)) && stands(word(bytes, 2))
+    4 <= bytes.len() && stands(word(bytes, 0)) & stands(word(bytes, 2))
 }
 
 // 0:0.
@@ -154,188 +154,174 @@ fn is_text(bytes: &[u8]) -> bool
     ascii || other_text(bytes)
 }
 
+// ---- a part
+
+// A part of a body, as the table of the definition names them.
+#[derive(Clone, Copy)]
+enum Part {
+    Place,
+    PlaceOrNowhere,
+    Byte(u8, u8),
+    Base,
+    Count,
+    Eight,
+    Text,
+}
+
+// Whether the bytes begin with the part.
+#[inline(always)]
+fn fits(part: Part, bytes: &[u8]) -> bool
+    ensures { result ≡ S.fits (as_part part) bytes.now }
+{
+    match part {
+        Part::Place => is_place(bytes),
+        Part::PlaceOrNowhere => is_place_or_nowhere(bytes),
+        Part::Byte(least, most) => is_byte(bytes, least, most),
+        Part::Base => is_base(bytes),
+        Part::Count => is_count(bytes),
+        Part::Eight => is_eight(bytes),
+        Part::Text => is_text(bytes),
+    }
+}
+
+// How many of the bytes it takes.
+fn width(part: Part, bytes: &[u8]) -> usize
+    ensures { result ≡ S.width (as_part part) bytes.now }
+{
+    match part {
+        Part::Place | Part::PlaceOrNowhere => 4,
+        Part::Byte(_, _) | Part::Base => 1,
+        Part::Count => 2,
+        Part::Eight => 8,
+        Part::Text => bytes.len(),
+    }
+}
+
+// The last byte and the last count, where `numbers` is what came before.
+fn noted(part: Part, bytes: &[u8], numbers: Numbers) -> Numbers
+    requires { S.width (as_part part) bytes.now ≤ length bytes.now }
+    ensures { as_numbers result ≡ S.noted (as_part part) bytes.now (as_numbers numbers) }
+{
+    match part {
+        Part::Byte(_, _) | Part::Base => Numbers {
+            byte: bytes[0] as usize,
+            count: numbers.count,
+        },
+        Part::Count => Numbers {
+            byte: numbers.byte,
+            count: word(bytes, 0) as usize,
+        },
+        Part::Place | Part::PlaceOrNowhere | Part::Eight | Part::Text => numbers,
+    }
+}
+
 // ---- a body
 
-// The bytes of a body that are left, and the numbers before them.
+// The bytes of a body that are left, the numbers before them, and whether all parts so far were there.
 #[derive(Clone, Copy)]
 pub struct Body<'a> {
     pub rest: &'a [u8],
     pub numbers: Numbers,
+    pub good: bool,
 }
 
 impl<'a> Body<'a> {
-    // After so many bytes.
-    fn after(self, bytes: usize) -> Body<'a>
-        requires { bytes ≤ length self.rest.now }
-        ensures { Past bytes (as_numbers self.entry.numbers) self.entry result }
-    {
-        Body {
-            rest: &self.rest[bytes..],
-            numbers: self.numbers,
-        }
-    }
-
-    // After a byte, which is the last one.
-    fn after_byte(self) -> Body<'a>
-        requires { 1 ≤ length self.rest.now }
-        ensures { Past 1 (record { byte = get_or self.entry.rest.now 0 0; count = self.entry.numbers.count }) self.entry result }
-    {
-        Body {
-            rest: &self.rest[1..],
-            numbers: Numbers {
-                byte: self.rest[0],
-                count: self.numbers.count,
-            },
-        }
-    }
-
-    // After a count, which is the last one.
-    fn after_count(self) -> Body<'a>
-        requires { 2 ≤ length self.rest.now }
-        ensures { Past 2 (record { byte = self.entry.numbers.byte; count = S.word self.entry.rest.now 0 }) self.entry result }
-    {
-        Body {
-            rest: &self.rest[2..],
-            numbers: Numbers {
-                byte: self.numbers.byte,
-                count: word(self.rest, 0),
-            },
-        }
-    }
-
-    // A call for each of the many arms below would take longer than the test.
+    // After a part. A call for each of the many arms below would take longer than the test.
     #[inline(always)]
-    fn place(self) -> Option<Body<'a>>
+    fn read(self, part: Part) -> Body<'a>
+        ensures { Reads (as_part part) self.entry result }
+    {
+        if !self.good {
+            return self;
+        }
+        if !fits(part, self.rest) {
+            return Body {
+                good: false,
+                ..self
+            };
+        }
+        Body {
+            rest: &self.rest[width(part, self.rest)..],
+            numbers: noted(part, self.rest, self.numbers),
+            good: true,
+        }
+    }
+
+    pub fn place(self) -> Body<'a>
         ensures { Reads F.place self.entry result }
     {
-        if !is_place(self.rest) {
-            return None;
-        }
-        Some(self.after(4))
+        self.read(Part::Place)
     }
 
-    fn place_or_nowhere(self) -> Option<Body<'a>>
+    pub fn place_or_nowhere(self) -> Body<'a>
         ensures { Reads F.place_or_nowhere self.entry result }
     {
-        if !is_place_or_nowhere(self.rest) {
-            return None;
-        }
-        Some(self.after(4))
+        self.read(Part::PlaceOrNowhere)
     }
 
-    fn byte(self, least: u8, most: u8) -> Option<Body<'a>>
+    pub fn byte(self, least: u8, most: u8) -> Body<'a>
         ensures { Reads (F.byte least most) self.entry result }
     {
-        if !is_byte(self.rest, least, most) {
-            return None;
-        }
-        Some(self.after_byte())
+        self.read(Part::Byte(least, most))
     }
 
-    fn base(self) -> Option<Body<'a>>
+    pub fn base(self) -> Body<'a>
         ensures { Reads F.base self.entry result }
     {
-        if !is_base(self.rest) {
-            return None;
-        }
-        Some(self.after_byte())
+        self.read(Part::Base)
     }
 
-    fn count(self) -> Option<Body<'a>>
+    pub fn count(self) -> Body<'a>
         ensures { Reads F.count self.entry result }
     {
-        if !is_count(self.rest) {
-            return None;
-        }
-        Some(self.after_count())
+        self.read(Part::Count)
     }
 
-    fn eight(self) -> Option<Body<'a>>
+    pub fn eight(self) -> Body<'a>
         ensures { Reads F.eight self.entry result }
     {
-        if !is_eight(self.rest) {
-            return None;
-        }
-        Some(self.after(8))
+        self.read(Part::Eight)
     }
 
-    #[inline(always)]
-    fn text(self) -> Option<Body<'a>>
+    pub fn text(self) -> Body<'a>
         ensures { Reads F.text self.entry result }
     {
-        if !is_text(self.rest) {
-            return None;
-        }
-        Some(self.after(self.rest.len()))
+        self.read(Part::Text)
     }
 
-    // The parts of a tag's body.
-    #[tactic(auto, unfolding(definition::specs::Format::find, definition::specs::Format::rows))]
-    fn parts(self, tag: Tag) -> Option<Body<'a>>
-        ensures { ReadsAll (parts_in (row_of tag)) self.entry result }
+    // The role, if the body ends here.
+    pub fn end(self, role: Role) -> Option<Role>
+        ensures { Ends role self.entry result }
     {
-        match tag {
-            Tag::NoValue | Tag::AssignedValue | Tag::CompoundValue => Some(self),
-            Tag::NamedType => self.text(),
-            Tag::Void
-            | Tag::Pointer
-            | Tag::Index
-            | Tag::Cast
-            | Tag::PointerTake
-            | Tag::PointerDereference
-            | Tag::BitwiseNot
-            | Tag::BooleanNot
-            | Tag::BooleanAnd
-            | Tag::Sizeof
-            | Tag::Expression
-            | Tag::Assignment
-            | Tag::CompoundAssignment
-            | Tag::Loop
-            | Tag::While
-            | Tag::Break => self.place(),
-            Tag::Name
-            | Tag::Identifier
-            | Tag::String
-            | Tag::FieldAccess
-            | Tag::CompoundField
-            | Tag::VariableDeclaration
-            | Tag::InlineAssembly
-            | Tag::Use
-            | Tag::TopLevelVariable
-            | Tag::TopLevelAssembly => self.place()?.text(),
-            Tag::Struct | Tag::Call | Tag::CompoundArray | Tag::CompoundStruct | Tag::Block => self
-                .place()?
-                .count(),
-            Tag::Array => self.place()?.eight(),
-            Tag::Integer => self.place()?.base()?.text(),
-            Tag::Boolean | Tag::Return => self.place()?.byte(0, 1),
-            Tag::ArithmeticBinOp => self.place()?.byte(0, 7),
-            Tag::ComparisonBinOp => self.place()?.byte(0, 4),
-            Tag::If => self.place()?.byte(2, 3),
-            Tag::FunctionDefinition => self.place()?.byte(0, 1)?.count()?.text(),
-            Tag::TypeAlias => self.place()?.byte(0, 3)?.text(),
-            Tag::Module => self.count(),
-            Tag::TokenError => self.byte(1, 4)?.place()?.byte(0, 0)?.byte(0, 0),
-            Tag::ReportedError | Tag::FullError => self
-                .byte(1, 19)?
-                .place_or_nowhere()?
-                .byte(0, 54)?
-                .byte(0, 54),
+        if !self.good {
+            return None;
         }
+        if 0 < self.rest.len() {
+            return None;
+        }
+        Some(role)
+    }
+
+    pub fn node(self, kind: u8, children: Children) -> Option<Role>
+        ensures { Ends (Role.Node kind children) self.entry result }
+    {
+        self.end(Role::Node(kind, children))
+    }
+
+    pub fn error(self, list: u8) -> Option<Role>
+        ensures { Ends (Role.Error list) self.entry result }
+    {
+        self.end(Role::Error(list))
     }
 }
 
-// The numbers of a body, if it has the parts of its tag and nothing after them.
-pub fn numbers_of(tag: Tag, body: &[u8]) -> Option<Numbers>
-    ensures { NumbersOf (parts_in (row_of tag)) body.now result }
+// A body of which nothing is read yet.
+pub fn start<'a>(body: &'a [u8]) -> Body<'a>
+    ensures { (ps : List F.Part) → left ps result ≡ S.numbers ps body.now F.no_numbers }
 {
-    let start = Body {
+    Body {
         rest: body,
         numbers: Numbers { byte: 0, count: 0 },
-    };
-    let end = start.parts(tag)?;
-    if 0 < end.rest.len() {
-        return None;
+        good: true,
     }
-    Some(end.numbers)
 }

@@ -3,17 +3,18 @@ ghost use Rattle.std.specs.Prelude.{◌<◌, ◌≤◌, length, drop};
 ghost use Rattle.definition.specs.Format.{rows, find};
 ghost use Rattle.stored.specs.Walk.{WithRow, Stepped};
 
-use crate::body::{Numbers, numbers_of, word};
+use crate::body::word;
+use crate::nodes::Role;
+use crate::rows::role_of;
 use definition::refusal::Refusal;
 use definition::tag::Tag;
 
-// A field with a tag: its number, the length of its body, and the numbers there.
+// A field with a tag: the tag's number, the length of the body, and the role.
 #[derive(Clone, Copy)]
 pub struct Found {
-    pub tag: Tag,
     pub number: u8,
     pub size: usize,
-    pub numbers: Numbers,
+    pub role: Role,
 }
 
 // A field, or the end of the file.
@@ -35,12 +36,11 @@ fn with_tag(number: u8, body: &[u8]) -> Option<Found>
     let Ok(tag) = Tag::try_from(number) else {
         return None;
     };
-    let numbers = numbers_of(tag, body)?;
+    let role = role_of(tag, body)?;
     Some(Found {
-        tag,
         number,
         size: body.len(),
-        numbers,
+        role,
     })
 }
 

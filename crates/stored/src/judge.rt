@@ -1,17 +1,17 @@
 // What a field is to the walk over a file: whether it stands right, and how the walk goes on.
-ghost use Rattle.std.specs.Prelude.{◌≡◌, ◌≤◌, length};
+ghost use Rattle.std.specs.Prelude.{List, ℕ, ◌≤◌, length};
 ghost use Rattle.definition.specs.Slices.{old};
-ghost use Rattle.stored.specs.Nodes.{Judges, Joins, Follows, top_of};
+ghost use Rattle.stored.specs.declared.nodes.Role.{Role};
+ghost use Rattle.stored.specs.Nodes.{Verdict, Judges, Stands};
 
-use crate::field::Found;
-use crate::nodes::{Record, Sort, record_of};
+use crate::nodes::{Children, Role, kind, last, take_off};
 
-// Before the module, the nodes that wait for their parent, from an offset on; after it, the list of the last error, 0
-// if there was none.
+// Where the tree stands: the nodes that wait for their parent are those from `top` on. After the module there are none,
+// and `last` is the list of the last error, 0 if there was none.
 #[derive(Clone, Copy)]
-pub enum Phase {
-    Waiting(usize),
-    Closed(u8),
+pub struct Phase {
+    pub top: usize,
+    pub last: Option<u8>,
 }
 
 // The phase after a field, and how many children it has.
@@ -21,71 +21,67 @@ pub struct Judged {
     pub children: usize,
 }
 
-// Where the nodes begin that wait; after the module none do.
-fn top(phase: Phase, waiting: &[u8]) -> usize
-    ensures { result ≡ top_of phase waiting.now }
+// A node, which must stand before the module.
+fn node(kind: u8, children: Children, phase: Phase, waiting: &mut [u8]) -> Option<Judged>
+    requires { Stands phase waiting.old }
+    ensures { Judges (Role.Node kind children) phase waiting result }
 {
-    match phase {
-        Phase::Waiting(top) => top,
-        Phase::Closed(_) => waiting.len(),
+    let children = take_off(children, &waiting[phase.top..])?;
+    if phase.last.is_some() {
+        return None;
     }
+    let top = phase.top + children - 1;
+    waiting[top] = kind;
+    Some(Judged {
+        phase: Phase { top, last: None },
+        children,
+    })
 }
 
-// A record before the module, where the nodes from `rest` on are not its children.
-fn join(r: Record, rest: usize, waiting: &mut [u8]) -> Option<Judged>
-    requires { (1 ≤ rest) × (rest ≤ length waiting.old) × (r.children ≤ rest) }
-    ensures { Joins r rest waiting result }
+// The module, which must leave no node.
+fn root(items: usize, phase: Phase, waiting: &[u8]) -> Option<Judged>
+    requires { Stands phase waiting.now }
+    ensures { Verdict (Role.Root items) phase waiting.now waiting.now result }
 {
-    let children = r.children;
-    match r.sort {
-        Sort::Node(kind) => {
-            let top = rest - 1;
-            waiting[top] = kind;
-            Some(Judged {
-                phase: Phase::Waiting(top),
-                children,
-            })
-        }
-        Sort::Root => {
-            if rest < waiting.len() {
-                return None;
-            }
-            Some(Judged {
-                phase: Phase::Closed(0),
-                children,
-            })
-        }
-        Sort::Error(_) => None,
+    let children = last(&waiting[phase.top..], kind::ITEM, items)?;
+    if phase.last.is_some() {
+        return None;
     }
+    let top = phase.top + children;
+    if top < waiting.len() {
+        return None;
+    }
+    Some(Judged {
+        phase: Phase { top, last: Some(0) },
+        children,
+    })
 }
 
-// A record after the module, where the last error was one of the list `last`.
-fn follow(r: Record, last: u8) -> Option<Judged>
-    ensures { Follows r last result }
+// An error, which must follow the module and the errors of lists before its own.
+fn error(list: u8, phase: Phase) -> Option<Judged>
+    ensures { (w : List ℕ) → phase.top ≤ length w → Verdict (Role.Error list) phase w w result }
 {
-    match r.sort {
-        Sort::Error(list) => {
-            if list < last {
-                return None;
-            }
-            Some(Judged {
-                phase: Phase::Closed(list),
-                children: r.children,
-            })
-        }
-        _ => None,
+    let last = phase.last?;
+    if list < last {
+        return None;
     }
+    Some(Judged {
+        phase: Phase {
+            top: phase.top,
+            last: Some(list),
+        },
+        children: 0,
+    })
 }
 
 // Judges a field. `waiting` has the nodes that wait, the last one first.
-pub fn judge(found: Found, phase: Phase, waiting: &mut [u8]) -> Option<Judged>
-    requires { (1 ≤ top_of phase waiting.old) × (top_of phase waiting.old ≤ length waiting.old) }
-    ensures { Judges found phase waiting result }
+pub fn judge(role: Role, phase: Phase, waiting: &mut [u8]) -> Option<Judged>
+    requires { Stands phase waiting.old }
+    ensures { Judges role phase waiting result }
 {
-    let top = top(phase, waiting);
-    let record = record_of(found.tag, found.numbers, &waiting[top..])?;
-    match phase {
-        Phase::Waiting(_) => join(record, top + record.children, waiting),
-        Phase::Closed(last) => follow(record, last),
+    match role {
+        Role::Node(kind, children) => node(kind, children, phase, waiting),
+        Role::Root(items) => root(items, phase, waiting),
+        Role::Error(list) => error(list, phase),
     }
 }

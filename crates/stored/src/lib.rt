@@ -6,6 +6,7 @@ mod clear;
 mod field;
 mod judge;
 mod nodes;
+mod rows;
 
 ghost use Rattle.std.specs.Prelude.{◌≡◌, ◌+◌, ◌*◌, ◌≤◌, length};
 ghost use Rattle.definition.specs.Slices.{old, new};
@@ -60,14 +61,17 @@ fn walk(file: &[u8], records: &mut [u32]) -> Result<usize, Refusal>
     ensures { AllWalked (walked file.now) result records }
 {
     let mut waiting = [0u8; limit::STEPS];
-    let mut phase = Phase::Waiting(limit::STEPS);
+    let mut phase = Phase {
+        top: limit::STEPS,
+        last: None,
+    };
     let mut reached = Reached { at: 0, count: 0 };
     loop {
         match step(file, reached.at)? {
             Field::End => return finish(phase, reached.count),
             Field::Skipped(size) => reached = skip(reached, size),
             Field::Found(found) => {
-                let Some(judged) = judge(found, phase, &mut waiting) else {
+                let Some(judged) = judge(found.role, phase, &mut waiting) else {
                     return Err(Refusal::BadTree);
                 };
                 phase = judged.phase;
@@ -81,9 +85,9 @@ fn walk(file: &[u8], records: &mut [u32]) -> Result<usize, Refusal>
 fn finish(phase: Phase, count: usize) -> Result<usize, Refusal>
     ensures { Finishes phase count result }
 {
-    match phase {
-        Phase::Waiting(_) => Err(Refusal::BadTree),
-        Phase::Closed(_) => Ok(count),
+    match phase.last {
+        None => Err(Refusal::BadTree),
+        Some(_) => Ok(count),
     }
 }
 

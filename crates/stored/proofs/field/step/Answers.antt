@@ -1,7 +1,7 @@
 use mathlib.Core.Path.{subst}
 use Rattle.stored.specs.Walk.{Stepped}
-use Rattle.stored.proofs.OneField.{rest_is}
+use Rattle.std.proofs.lemmas.List.{take_rest}
 use Rattle.stored.proofs.field.step.Goals as goal
 
 pub returns : goal.returns
-returns c = subst (λ bs. Stepped bs c.first.result) (rest_is c.args.at c.args.file.now) c.first.ensures
+returns c = subst (λ bs. Stepped bs c.first.result) (take_rest c.args.file.now c.args.at) c.first.ensures

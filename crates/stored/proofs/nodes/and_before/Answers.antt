@@ -1,7 +1,6 @@
-use mathlib.Core.Path.{◌≡◌, sym, ◌∙◌, subst}
+use mathlib.Core.Path.{◌≡◌, sym, subst}
 use native.Mathlib.Omega.{arith}
 use lib.ListN.{length-replicate}
-use Rattle.stored.specs.Table.{kind_number}
 use Rattle.stored.proofs.Taking.{Standing, stand_start, stand_more, stand_stop, stand_short, came_not, came_more}
 use Rattle.stored.proofs.nodes.and_before.Goals as goal
 
@@ -9,17 +8,17 @@ pub returns-then-waiting-from : goal.returns-then-waiting-from
 returns-then-waiting-from c = λ ks w. came_not w _ (stand_short _ _ _ _ c.if-waiting-from.true)
 
 pub loop-i-init : goal.loop-i-init
-loop-i-init c = (stand_start c.args.waiting.now c.args.from (kind_number c.args.kind), omega arith)
+loop-i-init c = (stand_start c.args.waiting.now c.args.from c.args.kind, omega arith)
 
 pub returns-then-waiting-from-2 : goal.returns-then-waiting-from-2
 returns-then-waiting-from-2 c = λ ks w.
     came_not w _ (stand_stop _ _ _ _ _ c.loop-i.invariant.0 (omega (arith, c.if-waiting-from.false, c.loop-i-test.true))
-    (λ e. c.if-waiting-from-2.true (e ∙ sym c.from-kind.ensures)) c.loop-i-test.true)
+    (λ e. c.if-waiting-from-2.true e) c.loop-i-test.true)
 
 pub loop-i-preserved : goal.loop-i-preserved
 loop-i-preserved c = (
   stand_more _ _ _ _ c.loop-i.invariant.0 (omega (arith, c.if-waiting-from.false, c.loop-i-test.true))
-      (c.if-waiting-from-2.false ∙ c.from-kind.ensures),
+      c.if-waiting-from-2.false,
   omega (arith, c.loop-i-test.true),
 )
 
