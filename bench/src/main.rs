@@ -150,7 +150,9 @@ fn main() {
         "{:<16} {:>6} {:>6} {:>8} {:>8} {:>6} | {:>6} {:>6} {:>8} {:>9} {:>8}",
         "script", "bytes", "tokens", "ours us", "Rust us", "ratio", "file", "steps", "load us", "load/ours", "first us"
     );
-    compare("page", &page(2000));
+    for (name, tokens) in [("page", 2000), ("half a page", 1000), ("quarter page", 500)] {
+        compare(name, &page(tokens));
+    }
     compare("95 stars", &format!("var p: {}T;", "*".repeat(95)));
     for count in [125, 250, 500, 1000] {
         compare(&format!("{count} operators"), &format!("fn f(){{{}a;}}", "a+".repeat(count)));

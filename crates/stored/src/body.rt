@@ -35,7 +35,7 @@ fn stands(n: u16) -> bool
 
 // ---- what a part may hold
 
-// A place.
+// A place. One test for both numbers takes less time than two.
 fn is_place(bytes: &[u8]) -> bool
     ensures { result ≡ S.fits F.place bytes.now }
 {
@@ -156,7 +156,8 @@ fn is_text(bytes: &[u8]) -> bool
 
 // ---- a part
 
-// A part of a body, as the table of the definition names them.
+// A part of a body: a place; a place or 0:0; a byte within two bounds; the base of an Integer; a count, in two bytes; a
+// number in eight bytes; a text, up to the body's end.
 #[derive(Clone, Copy)]
 enum Part {
     Place,
@@ -226,7 +227,7 @@ pub struct Body<'a> {
 }
 
 impl<'a> Body<'a> {
-    // After a part. A call for each of the many arms below would take longer than the test.
+    // After a part. A call in each arm of the table would take longer than the test.
     #[inline(always)]
     fn read(self, part: Part) -> Body<'a>
         ensures { Reads (as_part part) self.entry result }
