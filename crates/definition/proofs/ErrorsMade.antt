@@ -10,7 +10,9 @@ use Rattle.definition.specs.Source.{Place}
 use Rattle.definition.specs.Node.{byte}
 use Rattle.definition.specs.Fallible.{Err, Fallible, Ans, ok, fatal}
 use Rattle.definition.specs.Token.{Tok, next_token}
-use Rattle.definition.specs.Act.{Node, Items, Goal, Statement, Expression, Unary, Type', Loop, Module, Body, ListOf, Operators, Casts, Suffixes, Modifiers, Listed, Parameters, Arguments, StructFields, ArrayValues, StructValues, Level, BitOr, BitXor, BitAnd, Shift, AddSub, Mul, Words, Left, Act, done, peek, consume, make, when◌then◌else◌, call, loop, panic, next, St, gives, advance, push, ◌>>=◌, ◌>>?◌, or_return}
+use Rattle.definition.specs.Act.{Node, Items, Goal, Statement, Expression, Unary, Type', Loop, Module, Body, ListOf, Operators, Casts, Suffixes, Modifiers}
+use Rattle.definition.specs.Act.{Listed, Parameters, Arguments, StructFields, ArrayValues, StructValues, Level, BitOr, BitXor, BitAnd, Shift, AddSub, Mul, Words, Left}
+use Rattle.definition.specs.Act.{Act, done, peek, consume, make, when◌then◌else◌, call, loop, panic, next, St, gives, advance, push, ◌>>=◌, ◌>>?◌, or_return}
 use Rattle.definition.specs.Parser as P
 use Rattle.definition.proofs.Tests.{All, all_append}
 use Rattle.definition.proofs.Later.{Later, After}

@@ -162,7 +162,8 @@ module _ {file w o : List ℕ} {n : ℕ} {p : Phase} {r : Reached} (b : Walking 
   -- the file ends
   at_finish : step (drop r.at file) ≡ end → walked file ≡ ahead b.walk.done (S.finish (as_phase p []))
   at_finish e =
-      b.walk.rest ∙ ap (ahead b.walk.done) (at_end file r.at (as_phase p w) e ∙ same p.last (drop p.top w) (drop p.top []))
+      b.walk.rest
+      ∙ ap (ahead b.walk.done) (at_end file r.at (as_phase p w) e ∙ same p.last (drop p.top w) (drop p.top []))
     where
       same : (last : Option ℕ) (st us : List ℕ) → S.finish (phase_of last st) ≡ S.finish (phase_of last us)
       same None st us = refl

@@ -27,7 +27,7 @@ phase_of (Some last) st = S.closed last
 abbrev pub as_phase : Phase → List ℕ → S.Phase
 as_phase p w = phase_of p.last (drop p.top w)
 
--- there is room for one node more
+-- the nodes that wait are within the slice, and there is room for one more
 abbrev pub Stands : Phase → List ℕ → Type 0
 Stands p w = (1 ≤ p.top) × (p.top ≤ length w)
 
@@ -44,6 +44,7 @@ abbrev pub Verdict : Role → Phase → List ℕ → List ℕ → Option Judged 
 Verdict x p w v r =
     MatchOption r (S.judge (sort_of x) (children_of x) (as_phase p w) ≡ none) (λ j. Judgement x p w j v)
 
+-- the same, where the nodes that wait are lent
 abbrev pub Judges : Role → Phase → MutLent → Option Judged → Type 0
 Judges x p waiting r =
     Verdict x p (old waiting) (new waiting) r × (length (new waiting) ≡ length (old waiting))

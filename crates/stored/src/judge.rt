@@ -39,7 +39,7 @@ fn node(kind: u8, children: Children, phase: Phase, waiting: &mut [u8]) -> Optio
 }
 
 // The module, which must leave no node.
-fn root(items: usize, phase: Phase, waiting: &[u8]) -> Option<Judged>
+fn close(items: usize, phase: Phase, waiting: &[u8]) -> Option<Judged>
     requires { Stands phase waiting.now }
     ensures { Verdict (Role.Root items) phase waiting.now waiting.now result }
 {
@@ -81,7 +81,7 @@ pub fn judge(role: Role, phase: Phase, waiting: &mut [u8]) -> Option<Judged>
 {
     match role {
         Role::Node(kind, children) => node(kind, children, phase, waiting),
-        Role::Root(items) => root(items, phase, waiting),
+        Role::Root(items) => close(items, phase, waiting),
         Role::Error(list) => error(list, phase),
     }
 }

@@ -472,7 +472,9 @@ access-returns-in_err-abandon-in-LBracket t c =
     (c.loop-tokens.invariant.1.rest (suffix_index c.loop-tokens.invariant.0 refl c.peek-t.ensures (same_number c.in-LBracket.is) c.expression-index.ensures c.abandon.ensures
     (omega (arith, c.abandon.auto, c.expression-index.auto)) (omega (arith, c.expression-index.auto)) (expected_stop (index_asks c.loop-tokens.invariant.0 refl c.peek-t.ensures c.expression-index.ensures c.abandon.ensures (omega (arith, c.abandon.auto, c.expression-index.auto)) (omega (arith, c.expression-index.auto))) (is_stop c.in_err-abandon-in-LBracket.was)) F
     (goes_stops (turn_on c.loop-tokens.invariant.0 (index_moved c.loop-tokens.invariant.0 refl c.peek-t.ensures (same_number c.in-LBracket.is) c.expression-index.ensures c.abandon.ensures
-    (omega (arith, c.abandon.auto, c.expression-index.auto)) (omega (arith, c.expression-index.auto)) (expected_stop (index_asks c.loop-tokens.invariant.0 refl c.peek-t.ensures c.expression-index.ensures c.abandon.ensures (omega (arith, c.abandon.auto, c.expression-index.auto)) (omega (arith, c.expression-index.auto))) (is_stop c.in_err-abandon-in-LBracket.was)) F) (omega (arith, c.expression-index.auto)) (omega (arith, c.abandon.auto, c.expression-index.auto)) (omega (arith, c.expression-index.auto))) (is_stop c.in_err-abandon-in-LBracket.was)))))
+    (omega (arith, c.abandon.auto, c.expression-index.auto)) (omega (arith, c.expression-index.auto))
+    (expected_stop (index_asks c.loop-tokens.invariant.0 refl c.peek-t.ensures c.expression-index.ensures c.abandon.ensures (omega (arith, c.abandon.auto, c.expression-index.auto)) (omega (arith, c.expression-index.auto)))
+    (is_stop c.in_err-abandon-in-LBracket.was)) F) (omega (arith, c.expression-index.auto)) (omega (arith, c.abandon.auto, c.expression-index.auto)) (omega (arith, c.expression-index.auto))) (is_stop c.in_err-abandon-in-LBracket.was)))))
 
 pub access-returns-in_err-expect_after-in-LBracket : goal.access-returns-in_err-expect_after-in-LBracket
 unfolding P.parse_field_access_or_index

@@ -13,7 +13,7 @@ loop-i-init c = (stand_start c.args.waiting.now c.args.from c.args.kind, omega a
 pub returns-then-waiting-from-2 : goal.returns-then-waiting-from-2
 returns-then-waiting-from-2 c = λ ks w.
     came_not w _ (stand_stop _ _ _ _ _ c.loop-i.invariant.0 (omega (arith, c.if-waiting-from.false, c.loop-i-test.true))
-    (λ e. c.if-waiting-from-2.true e) c.loop-i-test.true)
+    c.if-waiting-from-2.true c.loop-i-test.true)
 
 pub loop-i-preserved : goal.loop-i-preserved
 loop-i-preserved c = (
