@@ -5,7 +5,10 @@
 //! file in the slice (65,536 bytes in all). The Rust makes its tokens and its tree on the heap and drops them.
 //! A call of `dn_load` clears an array of its own (21,845 bytes) and what stands after the steps in the slice
 //! (349,520 bytes in all). `load us` is its time where the slice is used again, `first us` where it was full of other
-//! words. The last line is the time of a fill of that whole slice.
+//! words. The line after the table is the time of a fill of that whole slice.
+//!
+//! The last lines are the time of tokenizing the page, beside the Rust's `tokenize`. Where the program is linked with
+//! another version of the library (`cfg(before)`), they have its times too, taken in turn with ours.
 
 use plain::parser::Parser;
 use plain::source::SourceInputType;
@@ -13,8 +16,12 @@ use plain::tokenizer::tokenize;
 use std::hint::black_box;
 use std::time::Instant;
 
+type Read = unsafe extern "C" fn(*const u8, usize, *mut u8, usize, *mut usize) -> u32;
+
 extern "C" {
     fn dn_read(script: *const u8, script_len: usize, file: *mut u8, file_len: usize, bytes: *mut usize) -> u32;
+    #[cfg(before)]
+    fn before_dn_read(script: *const u8, script_len: usize, file: *mut u8, file_len: usize, bytes: *mut usize) -> u32;
     fn dn_load(file: *const u8, file_len: usize, records: *mut u32, records_len: usize, count: *mut usize) -> u32;
 }
 
@@ -28,11 +35,22 @@ const FIRST: usize = 1001;
 /// A sample calls so often that it takes this long, in nanoseconds.
 const SAMPLE: f64 = 2e6;
 
+/// The versions of the library, ours first.
+const VERSIONS: &[(&str, Read)] = &[
+    ("ours", dn_read),
+    #[cfg(before)]
+    ("before", before_dn_read),
+];
+
 /// The whole operation: the number and the count of bytes.
-fn ours(script: &str, file: &mut [u8]) -> (u32, usize) {
+fn read(with: Read, script: &str, file: &mut [u8]) -> (u32, usize) {
     let mut bytes = 0;
-    let number = unsafe { dn_read(script.as_ptr(), script.len(), file.as_mut_ptr(), file.len(), &mut bytes) };
+    let number = unsafe { with(script.as_ptr(), script.len(), file.as_mut_ptr(), file.len(), &mut bytes) };
     (number, bytes)
+}
+
+fn ours(script: &str, file: &mut [u8]) -> (u32, usize) {
+    read(dn_read, script, file)
 }
 
 /// Loading a tree file: the number and the count of steps.
@@ -51,25 +69,38 @@ fn theirs(script: &str) -> (usize, usize) {
     counts
 }
 
-/// The median time of a call, in nanoseconds.
-fn median(mut call: impl FnMut()) -> f64 {
-    let start = Instant::now();
-    for _ in 0..20 {
-        call();
+/// The median time of each of these calls, in nanoseconds. Their samples are taken in turn.
+fn medians(calls: &mut [Box<dyn FnMut() + '_>]) -> Vec<f64> {
+    let mut counts = Vec::new();
+    for call in calls.iter_mut() {
+        let start = Instant::now();
+        for _ in 0..20 {
+            call();
+        }
+        let once = start.elapsed().as_nanos() as f64 / 20.0;
+        counts.push((SAMPLE / once).ceil() as usize);
     }
-    let once = start.elapsed().as_nanos() as f64 / 20.0;
-    let calls = (SAMPLE / once).ceil() as usize;
-    let mut times: Vec<f64> = (0..SAMPLES)
-        .map(|_| {
+    let mut times = vec![Vec::new(); calls.len()];
+    for _ in 0..SAMPLES {
+        for ((call, count), times) in calls.iter_mut().zip(&counts).zip(&mut times) {
             let start = Instant::now();
-            for _ in 0..calls {
+            for _ in 0..*count {
                 call();
             }
-            start.elapsed().as_nanos() as f64 / calls as f64
+            times.push(start.elapsed().as_nanos() as f64 / *count as f64);
+        }
+    }
+    times
+        .into_iter()
+        .map(|mut times| {
+            times.sort_by(f64::total_cmp);
+            times[SAMPLES / 2]
         })
-        .collect();
-    times.sort_by(f64::total_cmp);
-    times[SAMPLES / 2]
+        .collect()
+}
+
+fn median<'a>(call: impl FnMut() + 'a) -> f64 {
+    medians(&mut [Box::new(call)])[0]
 }
 
 /// The median time of loading into a slice that is full of other words, in nanoseconds.
@@ -123,6 +154,33 @@ fn clearing() {
     println!("clearing {} bytes: {:.1} us", RECORDS * 4, time / 1e3);
 }
 
+/// A character that is refused wherever a token could start.
+const REFUSED: &str = "\u{20ac}";
+
+/// The time of tokenizing a script: that of the operation on the script with a character after it that is refused, less
+/// that on the character alone. Both clear all slices, and neither parses anything.
+fn tokenizing(name: &str, script: &str) {
+    let refused = script.to_owned() + REFUSED;
+    let mut files = vec![vec![0; FILE]; VERSIONS.len() * 2];
+    let mut calls: Vec<Box<dyn FnMut()>> = vec![Box::new(|| {
+        black_box(tokenize(black_box(script), SourceInputType::buffer()));
+    })];
+    for (index, file) in files.iter_mut().enumerate() {
+        let with = VERSIONS[index / 2].1;
+        let script = [&refused, REFUSED][index % 2];
+        assert_eq!(read(with, script, file), (4, 0), "{name}: the character is refused");
+        calls.push(Box::new(move || {
+            black_box(read(with, black_box(script), file));
+        }));
+    }
+    let times = medians(&mut calls);
+    print!("tokenizing {name}: Rust {:.1} us", times[0] / 1e3);
+    for ((version, _), times) in VERSIONS.iter().zip(times[1..].chunks(2)) {
+        print!(", {version} {:.1} us", (times[0] - times[1]) / 1e3);
+    }
+    println!();
+}
+
 /// A script by a pattern, of so many tokens: functions of five statements.
 fn page(tokens: usize) -> String {
     let mut script = String::new();
@@ -157,5 +215,7 @@ fn main() {
     for count in [125, 250, 500, 1000] {
         compare(&format!("{count} operators"), &format!("fn f(){{{}a;}}", "a+".repeat(count)));
     }
-    clearing();
+    clearing();    for _ in 0..3 {
+        tokenizing("the page", &page(2000));
+    }
 }
