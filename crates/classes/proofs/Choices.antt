@@ -3,8 +3,8 @@ use mathlib.Core.Path.{◌≡◌, refl, sym, ap, ◌∙◌}
 use mathlib.Core.Bool.{Bool, true, false, ◌&&◌}
 use Prim.Native.Nat.{ℕ, ◌<◌, ◌≤◌}
 use native.Mathlib.Omega.{arith}
-use borrow.Author.Tests.{leb-true, eqb-true, le-leb, le-ltb, lt-leb, ne_eqb}
-use lib.Dec.{eqb, leb, ltb}
+use borrow.Author.Tests.{eqb-true, le-ltb, lt-leb, ne_eqb}
+use lib.Dec.{eqb, ltb}
 use Rattle.definition.specs.Ascii.{char}
 use Rattle.definition.specs.Choice.{pick}
 use Rattle.definition.specs.Classes.{between, is_foreign, is_white, is_letter, is_digit}
@@ -59,23 +59,13 @@ pub no_symbol : (c d : ℕ) {u v w x : Bool} {p y : Option Kind} {r : Z.Class} �
 no_symbol c d a b e f h n o g i j k l m =
     rw (class_is, sym h ∙ n, sym e ∙ f, sym o ∙ g, no_spelling (Z.pair c d) i j, no_spelling (Z.symbol c) k l, sym a ∙ b) m
 
-pub digit_alone : (c : ℕ) → 49 ≤ c → c ≤ 57 → Z.Digit ≡ alone c
-digit_alone c h k =
-    simp (
-      ne_eqb c 34 (λ e. omega arith),
-      ne_eqb c 45 (λ e. omega arith),
-      ne_eqb c 48 (λ e. omega arith),
-      le-leb 48 c (omega arith),
-      le-leb c 57 k,
-    )
+-- a character that is none of `"`, `-` and `0`: v is whether it is a digit, as the code computed it
+module _ (c : ℕ) {v : Bool} (h : v ≡ is_digit c) (q : c ≡ 34 → ⊥) (d : c ≡ 45 → ⊥) (z : c ≡ 48 → ⊥) where
+  pub digit_alone : v ≡ true → Z.Digit ≡ alone c
+  digit_alone e = rw (ne_eqb c 34 q, ne_eqb c 45 d, ne_eqb c 48 z, sym h ∙ e)
 
-pub other_alone : (c : ℕ) → (c ≡ 34 → ⊥) → (c ≡ 45 → ⊥) → (48 ≤ c → c ≤ 57 → ⊥) → Z.Unknown ≡ alone c
-other_alone c q d n = rw (ne_eqb c 34 q, ne_eqb c 45 d, ne_eqb c 48 (λ e. n (omega arith) (omega arith)), apart (leb 48 c) (leb c 57) refl refl)
-  where
-    apart : (t u : Bool) → leb 48 c ≡ t → leb c 57 ≡ u → is_digit c ≡ false
-    apart true true e f = absurd (n (leb-true _ _ e) (leb-true _ _ f))
-    apart true false e f = rw (e, f)
-    apart false u e f = rw e
+  pub other_alone : v ≡ false → Z.Unknown ≡ alone c
+  other_alone e = rw (ne_eqb c 34 q, ne_eqb c 45 d, ne_eqb c 48 z, sym h ∙ e)
 
 -- a letter fails all tests before that for letters
 module _ (c : ℕ) (h : is_letter c ≡ true) where

@@ -1,3 +1,4 @@
+pub mod Bits
 mod Choices
 pub mod Table
 pub mod Found

@@ -1,2 +1,3 @@
 pub mod Begins
+pub mod Bits
 pub mod Found

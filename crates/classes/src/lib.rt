@@ -9,7 +9,7 @@ ghost use Rattle.definition.specs.Ascii.{char};
 ghost use Rattle.definition.specs.Tokenizer as Z;
 ghost use Rattle.classes.specs.Begins.{class_of, Carries};
 
-use character::{Class, is_foreign, is_letter, is_white};
+use character::{Class, is_digit, is_foreign, is_letter, is_white};
 use spelling::{pair, symbol};
 
 // Whether a comment begins with `c`, where `d` follows.
@@ -46,7 +46,7 @@ pub fn class(c: u8, d: Option<u8>) -> Class
         b'"' => Class::Quote,
         b'-' => Class::Dash,
         b'0' => Class::Zero,
-        b'1'..=b'9' => Class::Digit,
+        _ if is_digit(c) => Class::Digit,
         _ => Class::Unknown,
     }
 }

@@ -32,15 +32,12 @@ returns-in-45-clause-class c = let e : Z.Dash ≡ alone c.args.c = sym (ap alone
 pub returns-in-48-clause-class : goal.returns-in-48-clause-class
 returns-in-48-clause-class c = let e : Z.Zero ≡ alone c.args.c = sym (ap alone c.in-48.is) in search no_symbol
 
-pub returns-in-49-to-57-clause-class : goal.returns-in-49-to-57-clause-class
-returns-in-49-to-57-clause-class c = let e = digit_alone c.args.c (omega arith) (omega arith) in search no_symbol
-
 pub returns-in_default-c-clause-class : goal.returns-in_default-c-clause-class
 returns-in_default-c-clause-class c =
-    let e = other_alone c.args.c (λ e. omega arith) (λ e. omega arith) (λ a b. omega arith) in
+    let e = digit_alone c.args.c c.is_digit.ensures (λ e. omega arith) (λ e. omega arith) (λ e. omega arith) c.if-is_digit.true in
     search no_symbol
 
-pub returns-in_default-c-2-clause-class : goal.returns-in_default-c-2-clause-class
-returns-in_default-c-2-clause-class c =
-    let e = other_alone c.args.c (λ e. omega arith) (λ e. omega arith) (λ a b. omega arith) in
+pub returns-in_default-2-clause-class : goal.returns-in_default-2-clause-class
+returns-in_default-2-clause-class c =
+    let e = other_alone c.args.c c.is_digit.ensures (λ e. omega arith) (λ e. omega arith) (λ e. omega arith) c.if-is_digit.false in
     search no_symbol
