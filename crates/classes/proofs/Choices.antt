@@ -12,7 +12,7 @@ use Rattle.std.specs.Prelude.{Option, None, option_map}
 use Rattle.definition.specs.Tokenizer as Z
 use Rattle.definition.specs.Numbers.{kind_number}
 use Rattle.definition.specs.declared.kind.Kind.{Kind}
-use Rattle.definition.proofs.Tests.{clash, and_false, either_true, between_bounds}
+use Rattle.definition.proofs.Tests.{clash, and_false, either_true, picked, between_bounds}
 use Rattle.definition.proofs.Formed.{letter_bounds}
 use Rattle.classes.specs.Found.{nonzero}
 use Rattle.classes.proofs.Found.{no_kind}
@@ -78,8 +78,26 @@ module _ (c : ℕ) (h : is_letter c ≡ true) where
       let b : (48 ≤ c) × (c < 128) = letter_bounds c h in
       simp (le-ltb 127 c (omega arith), lt-leb c 13 (omega arith), and_false, other, h)
 
+pub foreign_begins : (c d : ℕ) → is_foreign c ≡ true → Z.Foreign ≡ Z.class c d
+foreign_begins c d h = rw (class_is, h)
+
 pub white_begins : (c d : ℕ) → is_white c ≡ true → Z.White ≡ Z.class c d
 white_begins c d h =
     let l : c ≤ 127 = either_true (between 9 13 c) (eqb c 32) (λ e. omega (arith, between_bounds 9 13 c e))
     (λ e. omega (arith, eqb-true c 32 e)) h in
     rw (class_is, le-ltb 127 c l, h)
+
+-- a class that is neither of the first two
+abbrev pub Neither : Z.Class → Type 0
+Neither Z.Foreign = ⊥
+Neither Z.White = ⊥
+Neither x = Unit {0}
+
+neither_pick : (b : Bool) (x y : Z.Class) → Neither x → Neither y → Neither (pick b x y)
+neither_pick true x y p q = p
+neither_pick false x y p q = q
+
+pub neither_class : (c d : ℕ) → is_foreign c ≡ false → is_white c ≡ false → Neither (Z.class c d)
+neither_class c d f w =
+    rw class_is (picked Neither (is_foreign c) _ _ (λ e. clash (sym e ∙ f)) (picked Neither (is_white c) _ _ (λ e. clash (sym e ∙ w))
+    (search neither_pick depth 30)))

@@ -1,4 +1,4 @@
 pub mod Bits
-mod Choices
+pub mod Choices
 pub mod Table
 pub mod Found

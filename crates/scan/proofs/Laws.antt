@@ -1,12 +1,12 @@
 -- The laws of the scanning functions: one for each way through their loops. Assumes nothing.
 use mathlib.Core.Path.{◌≡◌, refl, sym, ap, ◌∙◌}
-use mathlib.Core.Bool.{Bool, true, false, not}
+use mathlib.Core.Bool.{Bool, true, false}
 use mathlib.Core.List.{List, [], ◌∷◌, ◌++◌, append_assoc, append-nil}
 use Prim.Native.Nat.{ℕ, zero, suc, ◌+◌, ◌-◌, ◌<◌, ◌≤◌}
 use native.Mathlib.Numerals.{add-one}
 use native.Mathlib.Omega.{arith}
 use borrow.Author.Tests.{eq-eqb, ne_eqb, lt-ltb, ltb-true, ltb-false}
-use lib.Dec.{eqb, ltb}
+use lib.Dec.{ltb}
 use lib.ListN.{length, get_or, take, drop, length-append, length-take}
 use lib.Seq.{drop-cons, length-take-le}
 use Rattle.std.specs.Prelude.{Option, Some, None, Ok, Err}
@@ -14,7 +14,7 @@ use Rattle.std.proofs.lemmas.List.{get_or_past}
 use Rattle.definition.specs.Choice.{first}
 use Rattle.definition.specs.Source.{Ch, lead}
 use Rattle.definition.specs.Classes.{is_digit_of}
-use Rattle.definition.specs.Tokenizer.{Span, ahead, comment, digits, assembly}
+use Rattle.definition.specs.Tokenizer.{Span, ahead, digits, assembly}
 use Rattle.definition.specs.Tokenizer as Z
 use Rattle.classes.specs.Found.{nonzero}
 use Rattle.classes.proofs.Found.{no_byte}
@@ -87,32 +87,25 @@ module _ {holds : ℕ → Bool} {s : List ℕ} {c₀ c : Cursor} (q : Passing ho
   pub passing_stop : Stands s c → c.at < length s → holds (get_or s c.at 0) ≡ false → Passed s c₀ (left_while holds (rest s c₀)) c
   passing_stop z h e = passing_done z (rw (rest_head z h) (while_stop holds _ _ e))
 
--- a comment: the characters that are no newline, and one more
-abbrev pub in_line : ℕ → Bool
-in_line b = not (eqb b 10)
-
-abbrev past_one : Span → List Ch
-past_one y = Z.drop_one y.rest
-
-pub comment_left : (cs : List Ch) → Z.drop_one (left_while in_line cs) ≡ comment cs
-unfolding comment
-comment_left [] = ap past_one (while_none in_line)
-comment_left (c ∷ cs) = go (comment_left cs) (eqb c.byte 10) refl
+-- where a scan stopped before the end, the test fails
+left_stops : (holds : ℕ → Bool) (cs : List Ch) {d : Ch} {ds : List Ch} → left_while holds cs ≡ d ∷ ds → holds d.byte ≡ false
+unfolding span_while
+left_stops holds [] e = cc
+left_stops holds (c ∷ cs) {d} {ds} e = go (holds c.byte) refl (left_stops holds cs)
   where
-    go : Z.drop_one (left_while in_line cs) ≡ comment cs → (t : Bool) → eqb c.byte 10 ≡ t
-        → Z.drop_one (left_while in_line (c ∷ cs)) ≡ comment (c ∷ cs)
-    go ih true e = ap past_one (while_stop in_line c cs (ap not e)) ∙ rw (e, comment)
-    go ih false e = ap past_one (while_go in_line c cs (ap not e)) ∙ ih ∙ rw (e, comment)
+    left : Span → List Ch
+    left y = y.rest
 
-pub comment_passed : {s : List ℕ} {c d e : Cursor} → Passed s c (left_while in_line (rest s c)) d → Passed s d (Z.drop_one (rest s d)) e
-    → Passed s c (comment (rest s c)) e
-comment_passed p q =
-    record {
-      stands = q.stands;
-      is = q.is ∙ ap Z.drop_one p.is ∙ comment_left _;
-      forward = omega (arith, p.forward, q.forward);
-      shorter = omega (arith, p.shorter, q.shorter);
-    }
+    go : (t : Bool) → holds c.byte ≡ t → (left_while holds cs ≡ d ∷ ds → holds d.byte ≡ false) → holds d.byte ≡ false
+    go true f more = more (sym (ap left (while_go holds c cs f)) ∙ e)
+    go false f more =
+        let g : c ∷ cs ≡ d ∷ ds = sym (ap left (while_stop holds c cs f)) ∙ e in
+        let h : c ≡ d = cc in
+        ap (λ (x : Ch). holds x.byte) (sym h) ∙ f
+
+pub stopped : {s : List ℕ} {c r : Cursor} (holds : ℕ → Bool) (cs : List Ch) → Passed s c (left_while holds cs) r
+    → r.at < length s → holds (get_or s r.at 0) ≡ false
+stopped holds cs p h = left_stops holds cs (sym p.is ∙ rest_head p.stands h)
 
 -- ---- scans that write; F is the definition's scan
 
@@ -127,7 +120,7 @@ pub record Spanning (F : List Ch → Span) (s : List ℕ) (c₀ : Cursor) (x₀ 
   pub began : n₀ ≤ c₀.at
 
 pub asks_along : {s : List ℕ} {c d : Cursor} {x x' : List ℕ} {n m : ℕ} → Asks s c x n → c.at < length s
-    → (48 ≤ get_or s c.at 0) × (get_or s c.at 0 < 128) → d ≡ along_line c → Wrote x n (get_or s c.at 0 ∷ []) x' m → Asks s d x' m
+    → (48 ≤ get_or s c.at 0) × (get_or s c.at 0 < 128) → d ≡ along_line c 1 → Wrote x n (get_or s c.at 0 ∷ []) x' m → Asks s d x' m
 asks_along a h i e w =
     record {
       stands = (along_law a.stands h (omega arith) (λ z. omega arith) e).stands;
@@ -163,7 +156,7 @@ module _ {F : List Ch → Span} {s : List ℕ} {c₀ : Cursor} {x₀ : List ℕ}
 
   -- one more character of one byte
   pub spanning_along : {d : Cursor} {x' : List ℕ} {m : ℕ} → c.at < length s → (48 ≤ get_or s c.at 0) × (get_or s c.at 0 < 128)
-      → d ≡ along_line c → ((cs : List Ch) → F (char s c ∷ cs) ≡ ahead (get_or s c.at 0 ∷ []) (F cs))
+      → d ≡ along_line c 1 → ((cs : List Ch) → F (char s c ∷ cs) ≡ ahead (get_or s c.at 0 ∷ []) (F cs))
       → Wrote x n (get_or s c.at 0 ∷ []) x' m → Spanning F s c₀ x₀ n₀ d x' m
   spanning_along h i e f w =
       spanning_more (along_law q.asks.stands h (omega arith) (λ z. omega arith) e) (f _) w

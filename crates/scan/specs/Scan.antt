@@ -1,5 +1,5 @@
 -- What the scanning functions ensure, in the terms of the definition. Assumes nothing.
-use Rattle.std.specs.Prelude.{◌≡◌, Bool, true, false, MatchResult, ◌<◌, List, [], ◌∷◌, ℕ, ◌≤◌, length}
+use Rattle.std.specs.Prelude.{◌≡◌, Bool, true, false, MatchResult, ◌<◌, List, [], ◌∷◌, ℕ, ◌≤◌, length, get_or}
 use Rattle.definition.specs.Source.{Ch}
 use Rattle.definition.specs.Classes.{is_word, is_white}
 use Rattle.definition.specs.Tokenizer.{Span, ahead}
@@ -20,6 +20,13 @@ pub record Passed (s : List ℕ) (c : Cursor) (cs : List Ch) (r : Cursor) : Type
   pub is : rest s r ≡ cs
   pub forward : c.at ≤ r.at
   pub shorter : length (rest s r) ≤ length (rest s c)
+
+-- `r` is the offset of the first newline from `at` on, or of the end
+pub record LineEnd (s : List ℕ) (at r : ℕ) : Type 0 where
+  pub from : at ≤ r
+  pub inside : r ≤ length s
+  pub before : (i : ℕ) → at ≤ i → i < r → get_or s i 0 ≡ 10 → ⊥
+  pub there : (r ≡ length s → ⊥) → get_or s r 0 ≡ 10
 
 -- a scan that writes requires: no more bytes were written than read
 pub record Asks (s : List ℕ) (c : Cursor) (x : List ℕ) (n : ℕ) : Type 0 where

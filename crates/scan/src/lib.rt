@@ -4,7 +4,7 @@
 ghost use Rattle.std.specs.Prelude.{ℕ, Bool, false, true, ◌≡◌, ◌+◌, ◌<◌, ◌≤◌, length, unwrap_or};
 ghost use Rattle.definition.specs.Tokenizer as Z;
 ghost use Rattle.source.specs.Place.{Stands, Stepped, rest};
-ghost use Rattle.scan.specs.Scan.{Tells, span_while, left_while, letters, blanks};
+ghost use Rattle.scan.specs.Scan.{LineEnd, Tells, span_while, letters, blanks};
 ghost use Rattle.scan.specs.Contract.{Passes, Asks, Passed, CharPut, Spanned, QuotedAs};
 
 use classes::character::{is_digit_of, is_white, is_word};
@@ -36,35 +36,46 @@ pub fn skip(s: &[u8], c: Cursor) -> Cursor
 
 // ---- scans that write nothing
 
-// Skips the characters for whose first bytes a test holds. This loop, and those of `scan_while`, `assembly` and `quoted`,
-// go by a cursor, which steps over characters and keeps their places: an iterator over bytes does not, and one over
-// characters decodes each of them.
-fn skip_while<F: Fn(u8) -> bool>(s: &[u8], from: Cursor, test: F) -> Cursor
-    requires asks { Passes s from }
-    requires callable { F.IsAlwaysCallable test }
-    ensures { (holds : ℕ → Bool) → Tells (F.post test) holds → Passed (left_while holds) s from result }
+// The offset of the first newline from `at` on, or of the end. Not inlined: the registers of the caller are all taken.
+#[inline(never)]
+fn line_end(s: &[u8], mut at: usize) -> usize
+    requires { at ≤ length s.now }
+    ensures { LineEnd s.now at result }
 {
-    let mut c = from;
-    while c.at < s.len() && test(s[c.at]) {
-        c = step(s, c);
+    while at != s.len() && s[at] != b'\n' {
+        at += 1;
     }
-    c
+    at
 }
 
-// Skips a comment with the newline that ends it, or to the end.
+// Skips a comment with the newline that ends it, or to the end. It goes by bytes: none within a character is a newline, and
+// no column is counted in the line that ends.
 pub fn comment(s: &[u8], from: Cursor) -> Cursor
     requires { Passes s from }
     ensures { Passed Z.comment s from result }
 {
-    skip(s, skip_while(s, from, |b| b != b'\n'))
+    let at = line_end(s, from.at);
+    if at == s.len() {
+        return Cursor { at, ..from };
+    }
+    Cursor {
+        at: at + 1,
+        line: from.line + 1,
+        column: 1,
+    }
 }
 
-// Skips white space.
+// Skips white space. This loop, and those of `assembly` and `quoted`, go by a cursor, which steps over characters and keeps
+// their places: an iterator over bytes does not, and one over characters decodes each of them.
 pub fn white(s: &[u8], from: Cursor) -> Cursor
     requires { Passes s from }
     ensures { Passed blanks s from result }
 {
-    skip_while(s, from, is_white)
+    let mut c = from;
+    while c.at < s.len() && is_white(s[c.at]) {
+        c = step(s, c);
+    }
+    c
 }
 
 // ---- scans that write
@@ -90,13 +101,19 @@ fn scan_while<F: Fn(u8) -> bool>(
     requires plain { (b : ℕ) → b < 256 → F.post test b true → (48 ≤ b) × (b < 128) }
     ensures { (holds : ℕ → Bool) → Tells (F.post test) holds → Spanned (span_while holds) s from text start result }
 {
-    let mut c = from;
-    let mut n = start;
-    while c.at < s.len() && test(s[c.at]) {
-        n = put(text, n, s[c.at]);
-        c = along(c);
+    let mut count = 0;
+    while from.at + count != s.len() {
+        let b = s[from.at + count];
+        if !test(b) {
+            break;
+        }
+        put(text, start + count, b);
+        count += 1;
     }
-    Scan { cursor: c, n }
+    Scan {
+        cursor: along(from, count),
+        n: start + count,
+    }
 }
 
 // Scans the digits of a base, which is a number as in `is_digit_of`.

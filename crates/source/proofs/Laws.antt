@@ -18,16 +18,16 @@ use Rattle.definition.proofs.Characters.{decode_coded}
 use Rattle.source.specs.declared.Cursor.{Cursor}
 use Rattle.source.specs.Place.{more, placed, at_of, or_none, rest, Stands, Stepped, char, along_line, origin}
 
-abbrev Small : Lead → Type 0
+abbrev pub Small : Lead → Type 0
 Small single = Unit {0}
-Small (with_more n lo hi) = (1 ≤ n) × (n ≤ 3)
+Small (with_more n lo hi) = (1 ≤ n) × (n ≤ 3) × (128 ≤ lo)
 Small wrong = Unit {0}
 
 pick_small : (t : Bool) (x y : Lead) → Small x → Small y → Small (pick t x y)
 pick_small true x y p q = p
 pick_small false x y p q = q
 
-lead_small : (b : ℕ) → Small (lead b)
+pub lead_small : (b : ℕ) → Small (lead b)
 unfolding lead first
 lead_small b =
     pick_small (ltb b 128) _ _ tt
@@ -35,12 +35,12 @@ lead_small b =
     (pick_small (eqb b 237) _ _ (omega arith) (pick_small (ltb b 240) _ _ (omega arith) (pick_small (eqb b 240) _ _ (omega arith) (pick_small (ltb b 244) _ _ (omega arith)
     (pick_small (eqb b 244) _ _ (omega arith) tt))))))))
 
-abbrev after_lead : At → ℕ → List ℕ → Lead → Option (List Ch)
+abbrev pub after_lead : At → ℕ → List ℕ → Lead → Option (List Ch)
 after_lead p b bs x =
     elim x
     [ single ↦ and_then (char_at p b []) (decode fresh (past p b []) bs) | with_more n lo hi ↦ decode (within b [] n lo hi) p bs | wrong ↦ none ]
 
-abbrev after_more : ℕ → List ℕ → ℕ → At → ℕ → List ℕ → Bool → Bool → Option (List Ch)
+abbrev pub after_more : ℕ → List ℕ → ℕ → At → ℕ → List ℕ → Bool → Bool → Option (List Ch)
 after_more l m n p b bs t u =
     elim t [
       | true ↦ elim u [
@@ -58,14 +58,14 @@ pub record Ended (bs : List ℕ) (n : ℕ) (ch : Ch) (p : At) (cs : List Ch) : T
   pub next_token : cs ≡ ch ∷ or_none (decode fresh p (drop n bs))
   pub tail : decode fresh p (drop n bs) ≡ some (or_none (decode fresh p (drop n bs)))
 
-none_some : {A : Type 0} {x : Option (List Ch)} {cs : List Ch} → x ≡ none → x ≡ some cs → A
+pub none_some : {A : Type 0} {x : Option (List Ch)} {cs : List Ch} → x ≡ none → x ≡ some cs → A
 none_some e f = absurd (let z : ◌≡◌ {A = ℕ} 0 1 = cc in omega arith)
 
-and_then_head : (c : Ch) (o : Option (List Ch)) (cs : List Ch) → and_then c o ≡ some cs → cs ≡ c ∷ or_none o
+pub and_then_head : (c : Ch) (o : Option (List Ch)) (cs : List Ch) → and_then c o ≡ some cs → cs ≡ c ∷ or_none o
 and_then_head c none cs e = none_some {x = none} refl e
 and_then_head c (some xs) cs e = cc
 
-and_then_tail : (c : Ch) (o : Option (List Ch)) (cs : List Ch) → and_then c o ≡ some cs → o ≡ some (or_none o)
+pub and_then_tail : (c : Ch) (o : Option (List Ch)) (cs : List Ch) → and_then c o ≡ some cs → o ≡ some (or_none o)
 and_then_tail c none cs e = none_some {x = none} refl e
 and_then_tail c (some xs) cs e = refl
 
@@ -156,11 +156,17 @@ module _ {s : List ℕ} {c : Cursor} (z : Stands s c) (h : c.at < length s) wher
 
 -- the step over a character of one byte that is not a newline
 pub along_law : {s : List ℕ} {c r : Cursor} → Stands s c → c.at < length s → get_or s c.at 0 < 128
-    → (get_or s c.at 0 ≡ 10 → ⊥) → r ≡ along_line c → Stepped s c r
+    → (get_or s c.at 0 ≡ 10 → ⊥) → r ≡ along_line c 1 → Stepped s c r
 unfolding lead first
 along_law {s} {c} {r} z h l n e =
     let w : more (lead (get_or s c.at 0)) ≡ 0 = rw (lt-ltb (get_or s c.at 0) 128 l) in
     rw e (step_law z h (omega (arith, w)) (rw (ne_eqb (get_or s c.at 0) 10 n, add-one)) (omega arith) (omega arith))
+
+pub along_next : (c : Cursor) (n : ℕ) → along_line c (n + 1) ≡ along_line (along_line c n) 1
+along_next c n =
+    let a : c.at + (n + 1) ≡ c.at + n + 1 = omega arith in
+    let k : c.column + (n + 1) ≡ c.column + n + 1 = omega arith in
+    λ i. record { at = a i; line = c.line; column = k i }
 
 -- the start of a UTF-8 script is a valid cursor
 pub at_start : (s : List ℕ) {v : Bool} → v ≡ utf8 s → v ≡ true → Stands s origin

@@ -49,9 +49,16 @@ pub record Stepped (s : List ℕ) (c r : Cursor) : Type 0 where
   pub stands : Stands s r
   pub wide : r.at ≡ more (lead (get_or s c.at 0)) + 1 + c.at
 
--- the cursor after a character of one byte that is not a newline
-abbrev pub along_line : Cursor → Cursor
-along_line c = record { at = c.at + 1; line = c.line; column = c.column + 1 }
+-- at the cursor is a character of one byte, and no newline
+pub record Plain (s : List ℕ) (c : Cursor) : Type 0 where
+  pub stands : Stands s c
+  pub inside : c.at < length s
+  pub ascii : get_or s c.at 0 < 128
+  pub on_line : get_or s c.at 0 ≡ 10 → ⊥
+
+-- the cursor after n characters of one byte that are no newlines
+abbrev pub along_line : Cursor → ℕ → Cursor
+along_line c n = record { at = c.at + n; line = c.line; column = c.column + n }
 
 -- the cursor at the start of a script
 abbrev pub origin : Cursor

@@ -3,7 +3,7 @@
 
 ghost use Rattle.std.specs.Prelude.{◌≡◌, ◌+◌, ◌<◌, ◌≤◌, length};
 ghost use Rattle.definition.specs.Source.{lead, utf8};
-ghost use Rattle.source.specs.Place.{more, Stands, Stepped, along_line, PlaceOf, Admits};
+ghost use Rattle.source.specs.Place.{more, Stands, Stepped, Plain, along_line, PlaceOf, Admits};
 
 use definition::limit;
 use definition::place::Place;
@@ -37,6 +37,9 @@ pub fn admitted(script: &[u8]) -> Result<(), Refusal>
 pub fn width(b: u8) -> u32
     ensures { result ≡ more (lead b) + 1 }
 {
+    if b.is_ascii() {
+        return 1;
+    }
     match b {
         0xC2..=0xDF => 2,
         0xE0..=0xEF => 3,
@@ -97,12 +100,23 @@ pub fn step(s: &[u8], c: Cursor) -> Cursor
     }
 }
 
-// Steps over a character of one byte that is not a newline.
-pub fn along(mut c: Cursor) -> Cursor
-    requires { (c.at ≤ 16384) × (c.column ≤ 16385) }
-    ensures { result ≡ along_line c }
+// The cursor after `count` characters of one byte that are no newlines.
+pub fn along(c: Cursor, count: usize) -> Cursor
+    requires { (c.at + count ≤ 16384) × (c.column + count ≤ 16385) }
+    ensures { result ≡ along_line c count }
 {
-    c.at += 1;
-    c.column += 1;
-    c
+    Cursor {
+        at: c.at + count,
+        line: c.line,
+        column: c.column + count as u32,
+    }
+}
+
+// Steps over a character of one byte that is no newline.
+pub fn step_along(s: &[u8], c: Cursor) -> Cursor
+    requires { Plain s.now c × (length s.now ≤ 16384) }
+    ensures { Stepped s.now c result }
+{
+    prove!(s[c.at].is_ascii() & (s[c.at] != b'\n'));
+    along(c, 1)
 }

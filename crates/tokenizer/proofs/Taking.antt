@@ -3,9 +3,10 @@ use mathlib.Core.Path.{◌≡◌, refl, sym, ap, ◌∙◌, subst}
 use Rattle.std.specs.Prelude as P
 use Rattle.std.specs.Prelude.{Result}
 use Rattle.definition.specs.declared.refusal.Refusal.{Refusal}
-use mathlib.Core.Bool.{false}
+use mathlib.Core.Bool.{true, false}
+use mathlib.Core.Logic.{◌⊎◌, inl, inr}
 use mathlib.Core.List.{List, [], ◌∷◌}
-use Prim.Native.Nat.{ℕ, ◌≤◌}
+use Prim.Native.Nat.{ℕ, ◌<◌, ◌≤◌}
 use native.Mathlib.Omega.{arith}
 use lib.ListN.{length, get_or}
 use Rattle.definition.specs.Source.{Ch, code}
@@ -16,8 +17,10 @@ use Rattle.definition.proofs.Tests.{All}
 use Rattle.definition.proofs.Codes.{Coded}
 use Rattle.definition.proofs.Formed.{coded_class}
 use Rattle.source.specs.declared.Cursor.{Cursor}
-use Rattle.source.specs.Place.{Stepped, rest, char, placed}
-use Rattle.source.proofs.Laws.{stands_coded}
+use Rattle.definition.specs.Classes.{is_foreign, is_white}
+use Rattle.source.specs.Place.{Stands, Stepped, rest, char, placed}
+use Rattle.source.proofs.Laws.{rest_head, stands_coded}
+use Rattle.classes.proofs.Choices.{Neither, neither_class, foreign_begins}
 use Rattle.classes.specs.declared.character.Class.{Class}
 use Rattle.classes.specs.Begins.{class_of}
 use Rattle.scan.specs.Scan.{Passed}
@@ -28,7 +31,7 @@ use Rattle.turns.specs.Turn.{at_cursor, Ready, bounded, Turned}
 use Rattle.tokenizer.specs.Run.{Taken, turn_of}
 use Rattle.turns.proofs.Turned.{passed_none, on_text, end_nothing, end_errors, end_plain}
 
-abbrev of_class : Ch → List Ch → Z.Class → Turn
+abbrev pub of_class : Ch → List Ch → Z.Class → Turn
 of_class c cs x =
     elim x as (λ _. Turn) [
       | Foreign ↦ refused 4
@@ -44,9 +47,27 @@ of_class c cs x =
       | Unknown ↦ goes cs (Z.token_error 4 c.place ∷ []) []
     ]
 
-turn_class : (c : Ch) (cs : List Ch) → Z.turn c cs ≡ of_class c cs (Z.class (code c) (Z.look cs))
+pub turn_class : (c : Ch) (cs : List Ch) → Z.turn c cs ≡ of_class c cs (Z.class (code c) (Z.look cs))
 unfolding Z.turn
 turn_class c cs = refl
+
+-- a foreign character is refused
+pub taken_foreign : {most : ℕ} {s T E X : List ℕ} {st : State} {T' E' X' : List ℕ} → Stands s st.cursor → st.cursor.at < length s
+    → is_foreign (get_or s st.cursor.at 0) ≡ true
+    → Taken most (turn_of (rest s st.cursor)) s st T E X (P.Err Refusal.ForeignCharacter) T' E' X'
+taken_foreign {most} {s} {st = st} z i h =
+    let head = rest_head z i in
+    let coded : Coded (char s st.cursor) = (subst (All Coded) head (stands_coded z)).0 in
+    let e : turn_of (rest s st.cursor) ≡ refused 4 =
+    ap turn_of head ∙ turn_class (char s st.cursor) _
+    ∙ ap (of_class (char s st.cursor) _) (coded_class coded _ ∙ sym (foreign_begins _ _ h)) in
+    record { is = record { is = ap (bounded most st.errors st.tokens) e; refusal = omega arith } }
+
+-- any other that is no white space is not of the first two classes
+pub never : {A : Type 0} (b d : ℕ) {k : Class} → is_foreign b ≡ false → is_white b ≡ false → class_of k ≡ Z.class b d
+    → (k ≡ Class.Foreign) ⊎ (k ≡ Class.White) → A
+never b d f w e (inl x) = absurd (subst Neither (sym e ∙ ap class_of x) (neither_class b d f w))
+never b d f w e (inr x) = absurd (subst Neither (sym e ∙ ap class_of x) (neither_class b d f w))
 
 -- the character is consumed, the byte after it is d, and their class is x
 module _ {s : List ℕ} (st : State) {c : Cursor} {d : ℕ} {k : Class} (x : Class) (told : k ≡ x)

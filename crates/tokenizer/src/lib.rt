@@ -6,21 +6,21 @@ ghost use Rattle.definition.specs.Operations as O;
 ghost use Rattle.tokenizer.specs.Run.{answer};
 ghost use Rattle.tokenizer.specs.Contract.{TurnAsks, Taken, RunAsks, Ran};
 
-use classes::character::Class;
+use classes::character::{Class, is_foreign};
 use classes::class;
 use definition::limit;
 use definition::refusal::Refusal;
 use definition::token_error::TokenError;
-use scan::{Scan, comment, look, skip};
+use scan::{Scan, comment, look, skip, white};
 use slices::fill_from;
-use source::{Cursor, admitted, step};
+use source::{Cursor, admitted, step_along};
 use token_records::State;
 use turns::{Turn, dash_turn, integer_turn, plain, string_turn, with_error, word_turn, zero_turn};
 
 // ---- the loop
 
-// One turn of the loop, at a character: dispatches on its class. What it asks is no invariant for the reasons that are
-// beside `turns::Turn`.
+// One turn of the loop, at a character that is no white space: dispatches on its class. So no newline is there, and a
+// character that is not foreign has one byte. What it asks is no invariant for the reasons that are beside `turns::Turn`.
 fn turn(
     most: usize,
     s: &[u8],
@@ -34,12 +34,14 @@ fn turn(
 {
     let from = st.cursor;
     let b = s[from.at];
-    let c = step(s, from);
+    if is_foreign(b) {
+        return Err(Refusal::ForeignCharacter);
+    }
+    let c = step_along(s, from);
     let next = look(s, c);
     let turn = Turn { s, most, st, c };
     match class(b, next) {
-        Class::Foreign => Err(Refusal::ForeignCharacter),
-        Class::White => Ok(State { cursor: c, ..st }),
+        Class::Foreign | Class::White => unreachable!(),
         Class::Comment => Ok(State {
             cursor: comment(s, skip(s, c)),
             ..st
@@ -67,9 +69,9 @@ fn turn(
     }
 }
 
-// The tokenizer's loop: turns until the end or a refusal. Does not clear the slices after the records. Each turn moves
-// the cursor over as many characters as it reads, so no iterator gives its steps. The reason for `most`: docs/DECISIONS.md
-// (The limit of tokens is an argument).
+// The tokenizer's loop: white space and a turn, until the end or a refusal. Does not clear the slices after the records.
+// Each turn moves the cursor over as many characters as it reads, so no iterator gives its steps. The reason for `most`:
+// docs/DECISIONS.md (The limit of tokens is an argument).
 pub fn run(
     most: usize,
     s: &[u8],
@@ -86,10 +88,13 @@ pub fn run(
         errors: 0,
         text: 0,
     };
-    while st.cursor.at < s.len() {
+    loop {
+        st.cursor = white(s, st.cursor);
+        if s.len() <= st.cursor.at {
+            return Ok(st);
+        }
         st = turn(most, s, st, tokens, errors, text)?;
     }
-    Ok(st)
 }
 
 // ---- the operation

@@ -1,9 +1,8 @@
-use borrow.Author.Rules.{rules}
-use Rattle.scan.proofs.Laws.{in_line, comment_passed}
+use Rattle.scan.proofs.Newline.{comment_past, comment_out}
 use Rattle.scan.proofs.comment.Goals as goal
 
-pub skip-requires : goal.skip-requires
-skip-requires c = let p = c.skip_while.ensures in_line (λ b r h e. search rules) in record { stands = p.stands; small = c.requires.small }
+pub returns-then-at-s : goal.returns-then-at-s
+returns-then-at-s c = comment_out c.requires.stands c.line_end-at.ensures c.if-at-s.true
 
 pub returns : goal.returns
-returns c = comment_passed (c.skip_while.ensures in_line (λ b r h e. search rules)) c.skip.ensures
+returns c = comment_past c.requires.stands c.line_end-at.ensures c.if-at-s.false
