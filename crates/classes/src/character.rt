@@ -51,6 +51,7 @@ const L: u8 = LETTER;
 
 const U: u8 = UNDERSCORE;
 
+// The entry of each character below 128, 32 in a row.
 const CLASSES: [u8; 128] = [
     O, O, O, O, O, O, O, O, O, W, W, W, W, W, O, O, O, O, O, O, O, O, O, O, O, O, O, O, O, O, O, O,
     W, O, O, O, O, O, O, O, O, O, O, O, O, O, O, O, B, B, D, D, D, D, D, D, D, D, O, O, O, O, O, O,

@@ -177,7 +177,7 @@ module _ {s : List ℕ} {c : Cursor} (z : Stands s c) {r : ℕ} (e : LineEnd s c
   before_end (suc k) at f h =
       let m : ℕ = c.at + k in
       let g : at ≡ m + 1 = omega (arith, f) in
-      rw g (one_more (e.before m (omega arith) (omega (arith, g, h)))
+      rw g (one_more (e.earlier m (omega arith) (omega (arith, g, h)))
       (rw (at_byte m (omega (arith, g, h, e.inside))) at (before_end k m refl (omega (arith, g, h)))))
 
   at_the_end : Inside (drop r s) r c.line (rest s c)

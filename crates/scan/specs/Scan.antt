@@ -25,7 +25,7 @@ pub record Passed (s : List ℕ) (c : Cursor) (cs : List Ch) (r : Cursor) : Type
 pub record LineEnd (s : List ℕ) (at r : ℕ) : Type 0 where
   pub from : at ≤ r
   pub inside : r ≤ length s
-  pub before : (i : ℕ) → at ≤ i → i < r → get_or s i 0 ≡ 10 → ⊥
+  pub earlier : (i : ℕ) → at ≤ i → i < r → get_or s i 0 ≡ 10 → ⊥
   pub there : (r ≡ length s → ⊥) → get_or s r 0 ≡ 10
 
 -- a scan that writes requires: no more bytes were written than read

@@ -50,11 +50,11 @@ pub record Stepped (s : List ℕ) (c r : Cursor) : Type 0 where
   pub wide : r.at ≡ more (lead (get_or s c.at 0)) + 1 + c.at
 
 -- at the cursor is a character of one byte, and no newline
-pub record Plain (s : List ℕ) (c : Cursor) : Type 0 where
+pub record InLine (s : List ℕ) (c : Cursor) : Type 0 where
   pub stands : Stands s c
   pub inside : c.at < length s
   pub ascii : get_or s c.at 0 < 128
-  pub on_line : get_or s c.at 0 ≡ 10 → ⊥
+  pub no_newline : get_or s c.at 0 ≡ 10 → ⊥
 
 -- the cursor after n characters of one byte that are no newlines
 abbrev pub along_line : Cursor → ℕ → Cursor

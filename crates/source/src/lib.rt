@@ -3,7 +3,7 @@
 
 ghost use Rattle.std.specs.Prelude.{◌≡◌, ◌+◌, ◌<◌, ◌≤◌, length};
 ghost use Rattle.definition.specs.Source.{lead, utf8};
-ghost use Rattle.source.specs.Place.{more, Stands, Stepped, Plain, along_line, PlaceOf, Admits};
+ghost use Rattle.source.specs.Place.{more, Stands, Stepped, InLine, along_line, PlaceOf, Admits};
 
 use definition::limit;
 use definition::place::Place;
@@ -114,7 +114,7 @@ pub fn along(c: Cursor, count: usize) -> Cursor
 
 // Steps over a character of one byte that is no newline.
 pub fn step_along(s: &[u8], c: Cursor) -> Cursor
-    requires { Plain s.now c × (length s.now ≤ 16384) }
+    requires { InLine s.now c × (length s.now ≤ 16384) }
     ensures { Stepped s.now c result }
 {
     prove!(s[c.at].is_ascii() & (s[c.at] != b'\n'));

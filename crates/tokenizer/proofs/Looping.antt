@@ -19,7 +19,6 @@ use Rattle.definition.specs.Tokenizer.{Turn, Span, goes, refused}
 use Rattle.definition.specs.Tokenizer as Z
 use Rattle.definition.proofs.Tests.{All}
 use Rattle.definition.proofs.Codes.{Coded}
-use Rattle.definition.proofs.Formed.{coded_class}
 use Rattle.classes.proofs.Choices.{white_begins}
 use Rattle.source.specs.Place.{Stands, rest, char, origin}
 use Rattle.source.specs.declared.Cursor.{Cursor}
@@ -30,7 +29,7 @@ use Rattle.token_records.specs.declared.State.{State}
 use Rattle.turns.specs.Turn.{Ready, Stopped, at_cursor, bounded}
 use Rattle.turns.proofs.Turned.{errors_words_append}
 use Rattle.tokenizer.specs.Run.{Onward, turn_of, Holds, Ran}
-use Rattle.tokenizer.proofs.Taking.{of_class, turn_class}
+use Rattle.tokenizer.proofs.Taking.{turn_begins}
 
 -- ---- the records of two lists, one after the other
 
@@ -96,8 +95,7 @@ module _ (most : ℕ) (ts : List Tok) (es : List Err) (h : length es ≤ 255) (l
   white_turn : (n : ℕ) (c : Ch) (cs : List Ch) → Coded c → is_white c.byte ≡ true
       → Z.tokenize_from most (suc n) (c ∷ cs) ts es ≡ Z.tokenize_from most n cs ts es
   white_turn n c cs q e =
-      let t : Z.turn c cs ≡ goes cs [] [] =
-      turn_class c cs ∙ ap (of_class c cs) (coded_class q (Z.look cs) ∙ sym (white_begins c.byte (Z.look cs) e)) in
+      let t : Z.turn c cs ≡ goes cs [] [] = turn_begins c cs q (white_begins c.byte (Z.look cs) e) in
       from_cons most n ts es c cs
       ∙ ap (next most n ts es) (within_bounds most (length es) (length ts) t (omega (arith, h)) (omega (arith, l)))
       ∙ rw (append-nil ts, append-nil es)

@@ -47,9 +47,16 @@ of_class c cs x =
       | Unknown ↦ goes cs (Z.token_error 4 c.place ∷ []) []
     ]
 
-pub turn_class : (c : Ch) (cs : List Ch) → Z.turn c cs ≡ of_class c cs (Z.class (code c) (Z.look cs))
+turn_class : (c : Ch) (cs : List Ch) → Z.turn c cs ≡ of_class c cs (Z.class (code c) (Z.look cs))
 unfolding Z.turn
 turn_class c cs = refl
+
+-- the turn at a character whose first byte begins the class x
+pub turn_begins : (c : Ch) (cs : List Ch) {x : Z.Class} → Coded c → x ≡ Z.class c.byte (Z.look cs) → Z.turn c cs ≡ of_class c cs x
+turn_begins c cs q e = turn_class c cs ∙ ap (of_class c cs) (coded_class q (Z.look cs) ∙ sym e)
+
+coded_here : {s : List ℕ} {c : Cursor} {cs : List Ch} → Stands s c → rest s c ≡ char s c ∷ cs → Coded (char s c)
+coded_here z e = (subst (All Coded) e (stands_coded z)).0
 
 -- a foreign character is refused
 pub taken_foreign : {most : ℕ} {s T E X : List ℕ} {st : State} {T' E' X' : List ℕ} → Stands s st.cursor → st.cursor.at < length s
@@ -57,13 +64,11 @@ pub taken_foreign : {most : ℕ} {s T E X : List ℕ} {st : State} {T' E' X' : L
     → Taken most (turn_of (rest s st.cursor)) s st T E X (P.Err Refusal.ForeignCharacter) T' E' X'
 taken_foreign {most} {s} {st = st} z i h =
     let head = rest_head z i in
-    let coded : Coded (char s st.cursor) = (subst (All Coded) head (stands_coded z)).0 in
     let e : turn_of (rest s st.cursor) ≡ refused 4 =
-    ap turn_of head ∙ turn_class (char s st.cursor) _
-    ∙ ap (of_class (char s st.cursor) _) (coded_class coded _ ∙ sym (foreign_begins _ _ h)) in
+    ap turn_of head ∙ turn_begins (char s st.cursor) _ (coded_here z head) (foreign_begins _ _ h) in
     record { is = record { is = ap (bounded most st.errors st.tokens) e; refusal = omega arith } }
 
--- any other that is no white space is not of the first two classes
+-- the arm for foreign characters and white space is not reached
 pub never : {A : Type 0} (b d : ℕ) {k : Class} → is_foreign b ≡ false → is_white b ≡ false → class_of k ≡ Z.class b d
     → (k ≡ Class.Foreign) ⊎ (k ≡ Class.White) → A
 never b d f w e (inl x) = absurd (subst Neither (sym e ∙ ap class_of x) (neither_class b d f w))
@@ -77,14 +82,11 @@ module _ {s : List ℕ} (st : State) {c : Cursor} {d : ℕ} {k : Class} (x : Cla
   abbrev begun : Turn
   begun = of_class (char s st.cursor) (rest s c) (class_of x)
 
-  here_coded : Coded (char s st.cursor)
-  here_coded = (subst (All Coded) z.chars (stands_coded a.asks.stands)).0
-
   of_turn : turn_of (rest s st.cursor) ≡ begun
   of_turn =
-      ap turn_of z.chars ∙ turn_class (char s st.cursor) (rest s c)
-      ∙ ap (of_class (char s st.cursor) (rest s c))
-      (coded_class here_coded (Z.look (rest s c)) ∙ ap (Z.class (get_or s st.cursor.at 0)) (sym h) ∙ sym e ∙ ap class_of told)
+      ap turn_of z.chars
+      ∙ turn_begins (char s st.cursor) (rest s c) (coded_here a.asks.stands z.chars)
+      (sym (ap class_of told) ∙ e ∙ ap (Z.class (get_or s st.cursor.at 0)) h)
 
   -- a turn of the class is the turn at the cursor
   pub taken : {E : List ℕ} {r : Result State Refusal} {T' E' X' : List ℕ} → Turned most begun s st c T E X r T' E' X'
