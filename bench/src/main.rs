@@ -215,7 +215,8 @@ fn main() {
     for count in [125, 250, 500, 1000] {
         compare(&format!("{count} operators"), &format!("fn f(){{{}a;}}", "a+".repeat(count)));
     }
-    clearing();    for _ in 0..3 {
+    clearing();
+    for _ in 0..3 {
         tokenizing("the page", &page(2000));
     }
 }
