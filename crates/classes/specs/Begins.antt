@@ -5,7 +5,6 @@ use Rattle.definition.specs.Numbers.{kind_number}
 use Rattle.classes.specs.declared.character.Class.{Class}
 
 abbrev pub class_of : Class → Z.Class
-class_of Class.Foreign = Z.Foreign
 class_of Class.White = Z.White
 class_of Class.Comment = Z.Comment
 class_of (Class.Pair kind) = Z.Pair

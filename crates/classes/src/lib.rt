@@ -9,7 +9,7 @@ ghost use Rattle.definition.specs.Ascii.{char};
 ghost use Rattle.definition.specs.Tokenizer as Z;
 ghost use Rattle.classes.specs.Begins.{class_of, Carries};
 
-use character::{Class, is_digit, is_foreign, is_letter, is_white};
+use character::{Class, is_digit, is_letter, is_white};
 use spelling::{pair, symbol};
 
 // Whether a comment begins with `c`, where `d` follows.
@@ -29,9 +29,6 @@ pub fn class(c: u8, d: Option<u8>) -> Class
     }
     if is_white(c) {
         return Class::White;
-    }
-    if is_foreign(c) {
-        return Class::Foreign;
     }
     if opens_comment(c, d) {
         return Class::Comment;

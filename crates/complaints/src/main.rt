@@ -94,7 +94,7 @@ fn meaning(refusal: Refusal) -> &'static str {
         Refusal::ScriptLength => "the script has more than 16,384 bytes",
         Refusal::NotUtf8 => "the script is not UTF-8",
         Refusal::ForeignCharacter => {
-            "a character above 127, and not in a string, a comment or assembly or after a minus"
+            "a character above 255, and not in a string, a comment or assembly or after a minus"
         }
         Refusal::MinusAtEnd => "the script ends with a dash that is a minus",
         Refusal::Tokens => "more than 2,048 tokens",

@@ -1,16 +1,18 @@
 -- The number of a character that the decoder gives: below 128 it is the first byte, it is above 127 just where that is,
--- and it gives the bytes back. Assumes nothing.
-use mathlib.Core.Path.{◌≡◌, refl, sym, ap, ◌∙◌}
+-- above 255 just where that is above 0xC3, and it gives the bytes back. Assumes nothing.
+use mathlib.Core.Path.{◌≡◌, refl, ap, subst}
 use mathlib.Core.Bool.{Bool, true, false}
 use mathlib.Core.List.{List, [], ◌∷◌, ◌++◌}
-use Prim.Native.Nat.{ℕ, zero, suc, pred, ◌+◌, ◌-◌, ◌/◌, ◌≤◌, ◌<◌}
+use Prim.Native.Nat.{ℕ, zero, suc, pred, ◌+◌, ◌-◌, ◌/◌, ◌%◌, ◌≤◌, ◌<◌}
 use native.Mathlib.Omega.{arith}
 use borrow.Author.Tests.{lt-ltb, le-ltb, ltb-true, ltb-false, eqb-true, eqb-false, leb-true, leb-false}
 use lib.Dec.{eqb, ltb, leb}
+use lib.ListN.{get_or}
 use Rattle.definition.specs.Choice.{pick, first}
-use Rattle.definition.specs.Classes.{is_foreign}
+use Rattle.definition.specs.Classes.{is_foreign, is_digit}
 use Rattle.definition.specs.Source.{Ch, Lead, single, with_more, wrong, lead, six_more, code_of}
 use Rattle.definition.specs.Understood.{last_six, encode}
+use Rattle.definition.proofs.Tests.{between_bounds, picked, each}
 
 -- of a first byte and those after it
 pub record CodedAs (b : ℕ) (m : List ℕ) : Type 0 where
@@ -33,20 +35,71 @@ coded_below {b} {m} q h = go (ltb b 128) refl
     go true e = ltb-true b 128 e
     go false e = absurd (omega (arith, h, q.high (ltb-false b 128 e)))
 
--- what is the same of all that is foreign is the same of the number and of the first byte
-pub coded_same : {A : Type 0} {b : ℕ} {m : List ℕ} → CodedAs b m → (f : ℕ → A) (a : A)
-    → ((n : ℕ) → is_foreign n ≡ true → f n ≡ a) → f (code_of b m) ≡ f b
-coded_same {A} {b} {m} q f a h = go (ltb b 128) refl
-  where
-    go : (t : Bool) → ltb b 128 ≡ t → f (code_of b m) ≡ f b
-    go true e = ap f (q.low (ltb-true b 128 e))
-    go false e =
-        let l : 128 ≤ b = ltb-false b 128 e in
-        h (code_of b m) (lt-ltb 127 (code_of b m) (omega (arith, q.high l))) ∙ sym (h b (lt-ltb 127 b (omega (arith, l))))
+-- a first byte below 128 is the only one
+pub coded_alone : {b : ℕ} {m : List ℕ} → CodedAs b m → b < 128 → m ≡ []
+coded_alone {b} {m} q l =
+    let e : encode b ≡ b ∷ m = rw (q.low l) at q.bytes in
+    let f : b ∷ [] ≡ b ∷ m = rw (lt-ltb b 0x80 l) at e in
+    cc
 
--- the first byte tells what is foreign
-pub coded_foreign : {b : ℕ} {m : List ℕ} → CodedAs b m → is_foreign (code_of b m) ≡ is_foreign b
-coded_foreign q = coded_same q is_foreign true (λ n e. e)
+-- of a number above 127 the first byte is at least 0xC2; of one above 255 it is above 0xC3
+pub coded_first : {b : ℕ} {m : List ℕ} → CodedAs b m → 128 ≤ b → 0xC2 ≤ b
+coded_first {b} {m} q h = omega (arith, first (code_of b m) (q.high h), ap (λ (x : List ℕ). get_or x 0 0) q.bytes)
+  where
+    by : (t : Bool) (x y : List ℕ) → 0xC2 ≤ get_or x 0 0 → 0xC2 ≤ get_or y 0 0 → 0xC2 ≤ get_or (pick t x y) 0 0
+    by t x y p q = picked (λ (z : List ℕ). 0xC2 ≤ get_or z 0 0) t x y (λ _. p) q
+
+    first : (n : ℕ) → 128 ≤ n → 0xC2 ≤ get_or (encode n) 0 0
+    first n l =
+        rw (le-ltb n 0x80 l)
+        (by (ltb n 0x800) _ _ (omega arith) (by (ltb n 0x10000) _ _ (omega arith) (omega arith)))
+
+pub coded_foreign : {b : ℕ} {m : List ℕ} → CodedAs b m → 0xC3 < b → is_foreign (code_of b m) ≡ true
+coded_foreign {b} {m} q h = go (ltb (code_of b m) 256) refl
+  where
+    go : (t : Bool) → ltb (code_of b m) 256 ≡ t → is_foreign (code_of b m) ≡ true
+    go true e =
+        let l : 128 ≤ code_of b m = q.high (omega (arith, h)) in
+        let k : code_of b m < 256 = ltb-true _ 256 e in
+        let z : 0xC0 + code_of b m / 64 ≡ b =
+        cc (rw (le-ltb (code_of b m) 0x80 l, lt-ltb (code_of b m) 0x800 (omega (arith, k))) at q.bytes) in
+        absurd (omega (arith, k, z, h))
+    go false e = lt-ltb 255 (code_of b m) (omega (arith, ltb-false _ 256 e))
+
+-- of two bytes the second is 0x80 to 0xBF
+pub coded_second : {b x : ℕ} → CodedAs b (x ∷ []) → 0xC2 ≤ b → b ≤ 0xC3 → x < 256 → (0x80 ≤ x) × (x ≤ 0xBF)
+coded_second {b} {x} q h k l =
+    let n = six_more (b - 0xC0) x in
+    let e : last_six n ≡ x = cc (rw (le-ltb n 0x80 (omega (arith, h)), lt-ltb n 0x800 (omega (arith, k, l))) at q.bytes) in
+    omega (arith, e)
+
+-- above 127 all bytes are
+pub coded_high : {b : ℕ} {m : List ℕ} → CodedAs b m → 128 ≤ code_of b m → each (ltb 127) (b ∷ m) ≡ true
+coded_high {b} {m} q h = subst (λ (x : List ℕ). each (ltb 127) x ≡ true) q.bytes (high (code_of b m) h)
+  where
+    by : (t : Bool) (x y : List ℕ) → each (ltb 127) x ≡ true → each (ltb 127) y ≡ true → each (ltb 127) (pick t x y) ≡ true
+    by t x y p q = picked (λ (z : List ℕ). each (ltb 127) z ≡ true) t x y (λ _. p) q
+
+    above : (n x : ℕ) → 128 ≤ x → ltb 127 (x + n) ≡ true
+    above n x l = lt-ltb 127 (x + n) (omega arith)
+
+    high : (n : ℕ) → 128 ≤ n → each (ltb 127) (encode n) ≡ true
+    high n l =
+        rw (le-ltb n 0x80 l)
+        (by (ltb n 0x800) _ _ (rw (above (n / 64) 0xC0 (omega arith), above (n % 64) 0x80 (omega arith)))
+        (by (ltb n 0x10000) _ _
+        (rw (above (n / 4096) 0xE0 (omega arith), above ((n / 64) % 64) 0x80 (omega arith), above (n % 64) 0x80 (omega arith)))
+        (rw (
+          above (n / 262144) 0xF0 (omega arith),
+          above ((n / 4096) % 64) 0x80 (omega arith),
+          above ((n / 64) % 64) 0x80 (omega arith),
+          above (n % 64) 0x80 (omega arith),
+        ))))
+
+-- a digit is its byte
+pub coded_digit : {b : ℕ} {m : List ℕ} → CodedAs b m → is_digit (code_of b m) ≡ true → code_of b m ≡ b
+coded_digit {b} {m} q e =
+    q.low (coded_below q (omega (arith, (between_bounds 48 57 (code_of b m) e).1)))
 
 -- ---- of two, three and four bytes
 

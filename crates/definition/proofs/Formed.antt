@@ -12,13 +12,12 @@ use Rattle.definition.specs.Choice.{pick}
 use Rattle.definition.specs.Classes as C
 use Rattle.definition.specs.Classes.{between}
 use Rattle.definition.specs.Kind as K
-use Rattle.definition.specs.Source.{Place, Ch, code_of, utf8}
+use Rattle.definition.specs.Source.{Place, Ch, utf8}
 use Rattle.definition.specs.Token.{Tok, tok}
 use Rattle.definition.specs.Records.{has_text, base_fits, all_digits, integer_text}
 use Rattle.definition.specs.Tokenizer as Z
 use Rattle.definition.specs.Tokenizer.{Class, Foreign, White, Comment, Pair, Symbol, Quote, Word, Dash, Zero, Digit, Unknown, digits, Span}
 use Rattle.definition.proofs.Tests.{clash, both_true, parts_true, and_false, either_true, between_bounds, chosen, picked}
-use Rattle.definition.proofs.Codes.{CodedAs, coded_same}
 use Rattle.definition.proofs.Characters.{Utf8, utf8_none, utf8_byte, utf8_true}
 
 -- a kind without text has an empty text
@@ -116,11 +115,6 @@ classed c d =
       ltb-true,
     ) depth 30
 
--- the number of a character begins what its first byte does
-pub coded_class : {b : ℕ} {m : List ℕ} → CodedAs b m → (d : ℕ) → Z.class (code_of b m) d ≡ Z.class b d
-unfolding Z.class
-coded_class q d = coded_same q (λ n. Z.class n d) Foreign (λ n e. rw (Z.class, e))
-
 -- ---- texts
 
 -- an identifier, a string or inline assembly
@@ -135,16 +129,6 @@ text_formed k p text h e l m u =
       utf8 = utf8_true text u;
       integer = rw e;
     }
-
--- the characters of a word are from `0` to 127
-pub letter_bounds : (c : ℕ) → C.is_letter c ≡ true → (48 ≤ c) × (c < 128)
-letter_bounds c =
-    either_true (between 65 90 c || between 97 122 c) (eqb c 95)
-    (either_true (between 65 90 c) (between 97 122 c) (λ u. omega (arith, between_bounds 65 90 c u))
-    (λ l. omega (arith, between_bounds 97 122 c l))) (λ u. omega (arith, eqb-true c 95 u))
-
-pub word_bounds : (c : ℕ) → C.is_word c ≡ true → (48 ≤ c) × (c < 128)
-word_bounds c = either_true (C.is_letter c) (C.is_digit c) (letter_bounds c) (λ d. omega (arith, between_bounds 48 57 c d))
 
 -- the digits of any base are from `0` to 127
 pub digit_bounds : (base d : ℕ) → C.is_digit_of base d ≡ true → (48 ≤ d) × (d < 128)

@@ -6,7 +6,7 @@ use mathlib.Core.Option.{Option, none, some}
 use mathlib.Core.List.{List, [], ◌∷◌, ◌++◌}
 use Prim.Native.Nat.{ℕ, zero, suc, ◌+◌, ◌*◌, ◌-◌, ◌/◌, ◌^◌, ◌≤◌, ◌<◌}
 use native.Mathlib.Omega.{arith}
-use borrow.Author.Tests.{ltb-true, ltb-false, leb-true, eqb-true}
+use borrow.Author.Tests.{ltb-true, ltb-false, lt-ltb, le-ltb, leb-true, eqb-true}
 use lib.Dec.{eqb, ltb, leb}
 use lib.ListN.{length, length-append, drop, get_or, get_elem?}
 use Rattle.definition.specs.Ascii.{ascii}
@@ -29,7 +29,8 @@ use Rattle.definition.specs.Understood.{encode, message}
 use Rattle.definition.proofs.Tests.{clash, both_true, left_true, right_true, parts_true, either_true, chosen, picked, All, all_in, ◌∈◌, here, there, in_drop, each, each_getD, is_in, is_in_each, every, every_below}
 use Rattle.definition.proofs.Codes.{Coded}
 use Rattle.definition.proofs.Characters.{spelling, beyond, Spelt, spelt, encode_all, encoded, decode_coded}
-use Rattle.definition.proofs.Formed.{word_bounds, digit_bounds}
+use Rattle.definition.proofs.Formed.{digit_bounds}
+use Rattle.definition.proofs.Scans.{lettered}
 use Rattle.definition.proofs.Shown.{Distinct}
 use Rattle.definition.proofs.Tokens.{Good, width, width_one, widths}
 use Rattle.definition.proofs.Examined.{FoundIn, examined, found_made}
@@ -62,17 +63,26 @@ escaped_short n k h =
     short : (b : Bool) (xs ys : List ℕ) → length xs ≤ 5 + k → length ys ≤ 5 + k → length (pick b xs ys) ≤ 5 + k
     short b xs ys p q = picked (λ (zs : List ℕ). length zs ≤ 5 + k) b xs ys (λ _. p) q
 
--- at most six times as long as its bytes
-escaped_six : (n : ℕ) → n < 0x110000 → length (escaped n) ≤ 6 * length (encode n)
-escaped_six n h =
-    by (ltb n 0x80) _ _ (λ e. omega (arith, escaped_short n 1 (omega (arith, ltb-true n 0x80 e))))
+-- above 127 at most four times as long as its bytes, else at most six times
+escaped_four : (n : ℕ) → 128 ≤ n → n < 0x110000 → length (escaped n) ≤ 4 * length (encode n)
+escaped_four n l h =
+    rw (le-ltb n 0x80 l)
     (by (ltb n 0x800) _ _ (λ e. omega (arith, escaped_short n 2 (omega (arith, ltb-true n 0x800 e))))
     (by (ltb n 0x10000) _ _ (λ e. omega (arith, escaped_short n 3 (omega (arith, ltb-true n 0x10000 e))))
     (omega (arith, escaped_short n 5 (omega arith)))))
   where
-    by : (b : Bool) (xs ys : List ℕ) → (b ≡ true → length (escaped n) ≤ 6 * length xs)
-        → length (escaped n) ≤ 6 * length ys → length (escaped n) ≤ 6 * length (pick b xs ys)
-    by b xs ys p q = picked (λ (zs : List ℕ). length (escaped n) ≤ 6 * length zs) b xs ys p q
+    by : (b : Bool) (xs ys : List ℕ) → (b ≡ true → length (escaped n) ≤ 4 * length xs)
+        → length (escaped n) ≤ 4 * length ys → length (escaped n) ≤ 4 * length (pick b xs ys)
+    by b xs ys p q = picked (λ (zs : List ℕ). length (escaped n) ≤ 4 * length zs) b xs ys p q
+
+escaped_six : (n : ℕ) → n < 0x110000 → length (escaped n) ≤ 6 * length (encode n)
+escaped_six n h = go (ltb n 0x80) refl
+  where
+    go : (t : Bool) → ltb n 0x80 ≡ t → length (escaped n) ≤ 6 * length (encode n)
+    go true e =
+        let l : n < 0x80 = ltb-true n 0x80 e in
+        rw (lt-ltb n 0x80 l) (omega (arith, escaped_short n 1 (omega (arith, l))))
+    go false e = omega (arith, escaped_four n (ltb-false n 0x80 e) h)
 
 all_six : (cs : List Ch) → All Coded cs → length (escaped_all cs) ≤ 6 * length (encode_all cs)
 unfolding escaped_all
@@ -96,41 +106,48 @@ quotes_short x = go (characters x) refl
           ap length (encoded x cs e),
         )
 
--- ---- text without escapes
+-- ---- text in which no character below 128 is escaped
 
--- a character below 128 that stands for itself
 abbrev unescaped : ℕ → Bool
-unescaped b = ltb b 128 && leb (length (escaped b)) 1
+unescaped b = ltb 127 b || leb (length (escaped b)) 1
+
+char_unescaped : (c : Ch) → Coded c → unescaped c.byte ≡ true → length (escaped (code c)) ≤ 4 * length (spelling c)
+char_unescaped c q e = go (ltb c.byte 128) refl
+  where
+    go : (t : Bool) → ltb c.byte 128 ≡ t → length (escaped (code c)) ≤ 4 * length (spelling c)
+    go true f =
+        let l : c.byte < 128 = ltb-true c.byte 128 f in
+        let o : leb (length (escaped c.byte)) 1 ≡ true = rw (le-ltb 127 c.byte (omega arith)) at e in
+        omega (arith, ap (λ (n : ℕ). length (escaped n)) (q.low l), leb-true (length (escaped c.byte)) 1 o)
+    go false f = omega (arith, escaped_four (code c) (q.high (ltb-false c.byte 128 f)) q.small, ap length q.bytes)
 
 each_after : (f : ℕ → Bool) (xs ys : List ℕ) → each f (xs ++ ys) ≡ true → each f ys ≡ true
 each_after f [] ys e = e
 each_after f (x ∷ xs) ys e = each_after f xs ys (right_true (f x) (each f (xs ++ ys)) e)
 
 spelt_unescaped : (cs : List Ch) (p : At) (x : List ℕ) → Spelt p x cs → each unescaped x ≡ true
-    → length (escaped_all cs) ≤ length x
+    → length (escaped_all cs) ≤ 4 * length x
 unfolding escaped_all
 spelt_unescaped [] p x s e = omega arith
 spelt_unescaped (c ∷ cs) p x s e =
     let f : each unescaped (spelling c ++ s.0) ≡ true = subst (λ (y : List ℕ). each unescaped y ≡ true) s.2 e in
     let r = spelt_unescaped cs (beyond p c) s.0 s.4 (each_after unescaped (spelling c) s.0 f) in
     let h = left_true (unescaped c.byte) (each unescaped (c.more ++ s.0)) f in
-    parts_true (ltb c.byte 128) (leb (length (escaped c.byte)) 1) h
-    λ l o. omega (
+    omega (
       arith,
       length-append (escaped (code c)) (escaped_all cs),
-      ap (λ (n : ℕ). length (escaped n)) (s.3.1.low (ltb-true c.byte 128 l)),
-      leb-true (length (escaped c.byte)) 1 o,
+      char_unescaped c s.3.1 h,
       ap length s.2,
       length-append (spelling c) s.0,
       r,
     )
 
-quotes_unescaped : (x : List ℕ) → each unescaped x ≡ true → length (in_quotes x) ≤ length x + 2
+quotes_unescaped : (x : List ℕ) → each unescaped x ≡ true → length (in_quotes x) ≤ 4 * length x + 2
 unfolding in_quotes characters
 quotes_unescaped x u = go (characters x) refl
   where
     go : (o : Option (List Ch)) → characters x ≡ o
-        → length {A = ℕ} (elim o as (λ _. List ℕ) [ none ↦ [] | some cs ↦ ascii "\"" ++ escaped_all cs ++ ascii "\"" ]) ≤ length x + 2
+        → length {A = ℕ} (elim o as (λ _. List ℕ) [ none ↦ [] | some cs ↦ ascii "\"" ++ escaped_all cs ++ ascii "\"" ]) ≤ 4 * length x + 2
     go none e = omega arith
     go (some cs) e =
         omega (arith, length-append (escaped_all cs) (34 ∷ []), spelt_unescaped cs start x (spelt x cs e) u)
@@ -141,12 +158,19 @@ class_unescaped : (f : ℕ → Bool) → every (λ b. not (f b) || unescaped b) 
     → unescaped b ≡ true
 class_unescaped f t b l e = rw e at (every_below (λ b. not (f b) || unescaped b) 128 b t l)
 
-word_unescaped : (x : List ℕ) → each C.is_word x ≡ true → each unescaped x ≡ true
+lettered_unescaped : (b : ℕ) → lettered b ≡ true → unescaped b ≡ true
 unfolding escaped
+lettered_unescaped b e = go (ltb 127 b) refl
+  where
+    go : (t : Bool) → ltb 127 b ≡ t → unescaped b ≡ true
+    go true f = rw f
+    go false f = class_unescaped C.is_word refl b (omega (arith, ltb-false 127 b f)) (rw f at e)
+
+word_unescaped : (x : List ℕ) → each lettered x ≡ true → each unescaped x ≡ true
 word_unescaped [] e = refl
 word_unescaped (b ∷ x) e =
-    parts_true (C.is_word b) (each C.is_word x) e
-    λ p q. both_true {a = unescaped b} (class_unescaped C.is_word refl b (word_bounds b p).1 p) (word_unescaped x q)
+    parts_true (lettered b) (each lettered x) e
+    λ p q. both_true {a = unescaped b} (lettered_unescaped b p) (word_unescaped x q)
 
 digit_unescaped : (base d : ℕ) → C.is_digit_of base d ≡ true → unescaped d ≡ true
 unfolding escaped
@@ -237,7 +261,7 @@ record Spelled (n k : ℕ) (x : List ℕ) (b : ℕ) : Type 0 where
 short_spelled : (n k : ℕ) (x : List ℕ) (b : ℕ) → length (spelled k x b) + 2 ≤ 6 * n → Spelled n k x b
 short_spelled n k x b h = record { any = omega (arith, h); other = λ _. h }
 
-token_spelled : (t : Tok) → Good t → (n : ℕ) → 4 ≤ n → width t ≤ n → Spelled n t.kind t.text t.base
+token_spelled : (t : Tok) → Good t → (n : ℕ) → 9 ≤ n → width t ≤ n → Spelled n t.kind t.text t.base
 unfolding base_part
 token_spelled t g n l w =
     go (t is K.String) refl (t is K.InlineAssemblyFragment) refl (t is K.Identifier) refl (t is K.Integer) refl w
@@ -277,7 +301,7 @@ token_spelled t g n l w =
           w,
           l,
           name_lengths.identifier,
-          spelled_length K.Identifier x b (length x + 2)
+          spelled_length K.Identifier x b (4 * length x + 2)
               (quotes_unescaped x (word_unescaped x (rw e at g.lettered))),
         )))
     go false _ false _ false _ true e w =
@@ -289,7 +313,7 @@ token_spelled t g n l w =
           l,
           name_lengths.integer,
           base_short b (rw e at g.formed.base),
-          spelled_length K.Integer x b (length x + 2)
+          spelled_length K.Integer x b (4 * length x + 2)
               (quotes_unescaped x (integer_unescaped b x (rw e at g.formed.integer))),
         )))
     go false s false a false i false m w =

@@ -1,22 +1,22 @@
 -- The characters of a script in the order of their places, and what each part of the tokenizer leaves of them.
 -- Assumes nothing.
 use mathlib.Core.Path.{◌≡◌, refl, sym, ap, subst}
-use mathlib.Core.Bool.{Bool, true, false}
+use mathlib.Core.Bool.{Bool, true, false, ◌||◌}
 use mathlib.Core.Option.{some}
 use mathlib.Core.List.{List, [], ◌∷◌, ◌++◌}
 use Prim.Native.Nat.{ℕ, suc, ◌+◌, ◌*◌, ◌≤◌, ◌<◌}
 use native.Mathlib.Omega.{arith}
-use borrow.Author.Tests.{ltb-false, eqb-true}
-use lib.Dec.{eqb, lit<}
+use borrow.Author.Tests.{ltb-true, ltb-false, lt-ltb, le-ltb, eqb-true}
+use lib.Dec.{eqb, ltb, lit<}
 use lib.ListN.{length, length-append}
 use Rattle.definition.specs.Choice.{pick}
 use Rattle.definition.specs.Classes as C
 use Rattle.definition.specs.Source.{Place, At, Ch, code, after, start, characters}
 use Rattle.definition.specs.Tokenizer as Z
 use Rattle.definition.specs.Tokenizer.{Span, Quoted, Run, ends, foreign, comment, digits, assembly, quoted, word, white, look, drop_one}
-use Rattle.definition.proofs.Tests.{clash, both_true, chosen, picked, counted, ◌∈◌, there, each}
+use Rattle.definition.proofs.Tests.{clash, both_true, parts_true, chosen, picked, counted, ◌∈◌, there, each}
 use Rattle.definition.proofs.Characters.{spelling, beyond, Sound, Spelt, spelt, Utf8, utf8_none, utf8_char, utf8_byte}
-use Rattle.definition.proofs.Codes.{Coded, coded_below}
+use Rattle.definition.proofs.Codes.{Coded, coded_high}
 
 -- ---- a script's characters
 
@@ -237,9 +237,9 @@ abbrev pub RunOf : List Ch → Run → Type 0
 RunOf cs (ends s) = SpanOf cs s
 RunOf cs foreign = Unit {0}
 
-run_byte : (c : Ch) (cs : List Ch) (r : Run) → (Coded c → c.byte < 128) → RunOf cs r → RunOf (c ∷ cs) (Z.run_ahead (c.byte ∷ []) r)
-run_byte c cs (ends s) l p = spans_byte c.byte c cs s.text s.rest l p
-run_byte c cs foreign l p = tt
+run_char : (c : Ch) (cs : List Ch) (r : Run) → RunOf cs r → RunOf (c ∷ cs) (Z.run_ahead (spelling c) r)
+run_char c cs (ends s) p = spans_char c cs s.text s.rest p
+run_char c cs foreign p = tt
 
 run_skip : (c : Ch) (cs : List Ch) (r : Run) → RunOf cs r → RunOf (c ∷ cs) r
 run_skip c cs (ends s) p = spans_skip c cs s.text s.rest p
@@ -250,13 +250,35 @@ unfolding word
 word_spans [] = spans_none [] [] (ran_none [])
 word_spans (c ∷ cs) =
     chosen (RunOf (c ∷ cs)) (C.is_foreign (code c)) _ _ (λ _. tt)
-    (λ l. chosen (RunOf (c ∷ cs)) (C.is_word (code c)) _ _
-    (λ _. run_byte c cs (word cs) (λ q. coded_below q (omega (arith, ltb-false 127 (code c) l))) (word_spans cs))
+    (λ _. chosen (RunOf (c ∷ cs)) (C.is_word (code c)) _ _ (λ _. run_char c cs (word cs) (word_spans cs))
     (λ _. spans_none (c ∷ cs) (c ∷ cs) (ran_none (c ∷ cs))))
+
+-- a byte of a word: of a character above 127, or itself one of a word
+abbrev pub lettered : ℕ → Bool
+lettered b = ltb 127 b || C.is_word b
+
+lettered_all : (x : List ℕ) → each (ltb 127) x ≡ true → each lettered x ≡ true
+lettered_all [] e = refl
+lettered_all (b ∷ x) e = parts_true (ltb 127 b) (each (ltb 127) x) e λ p q. rw (p, lettered_all x q)
+
+pub lettered_append : (x y : List ℕ) → each lettered x ≡ true → each lettered y ≡ true → each lettered (x ++ y) ≡ true
+lettered_append [] y p q = q
+lettered_append (b ∷ x) y p q =
+    parts_true (lettered b) (each lettered x) p λ h k. both_true h (lettered_append x y k q)
+
+pub char_lettered : (c : Ch) → Coded c → C.is_word (code c) ≡ true → each lettered (spelling c) ≡ true
+char_lettered c q e = go (ltb (code c) 128) refl
+  where
+    go : (t : Bool) → ltb (code c) 128 ≡ t → each lettered (spelling c) ≡ true
+    go true f =
+        let l : code c < 128 = ltb-true (code c) 128 f in
+        let b : code c ∷ [] ≡ spelling c = rw (lt-ltb (code c) 128 l) at q.bytes in
+        subst (λ (x : List ℕ). each lettered x ≡ true) b (rw (le-ltb 127 (code c) (omega arith), e))
+    go false f = lettered_all (spelling c) (coded_high q (ltb-false (code c) 128 f))
 
 -- the text of a word
 abbrev pub WordOf : Run → Type 0
-WordOf (ends s) = each C.is_word s.text ≡ true
+WordOf (ends s) = each lettered s.text ≡ true
 WordOf foreign = Unit {0}
 
 pub word_letters : (k : ℕ) (cs : List Ch) → Chars k cs → WordOf (word cs)
@@ -264,16 +286,11 @@ unfolding word
 word_letters k [] h = refl
 word_letters k (c ∷ cs) h =
     chosen WordOf (C.is_foreign (code c)) _ _ (λ _. tt)
-    (λ l. chosen WordOf (C.is_word (code c)) _ _
-    (λ e. more (word cs) (letter l e) (word_letters (key c.place) cs h.3)) (λ _. refl))
+    (λ _. chosen WordOf (C.is_word (code c)) _ _
+    (λ e. more (word cs) (char_lettered c h.2.1 e) (word_letters (key c.place) cs h.3)) (λ _. refl))
   where
-    letter : C.is_foreign (code c) ≡ false → C.is_word (code c) ≡ true → C.is_word c.byte ≡ true
-    letter l e =
-        subst (λ (n : ℕ). C.is_word n ≡ true)
-        (h.2.1.low (coded_below h.2.1 (omega (arith, ltb-false 127 (code c) l)))) e
-
-    more : (r : Run) → C.is_word c.byte ≡ true → WordOf r → WordOf (Z.run_ahead (c.byte ∷ []) r)
-    more (ends s) e p = both_true e p
+    more : (r : Run) → each lettered (spelling c) ≡ true → WordOf r → WordOf (Z.run_ahead (spelling c) r)
+    more (ends s) e p = lettered_append (spelling c) s.text e p
     more foreign e p = tt
 
 pub white_spans : (cs : List Ch) → RunOf cs (white cs)

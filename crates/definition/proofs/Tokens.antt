@@ -22,11 +22,11 @@ use Rattle.definition.specs.Tokenizer.{Turn, goes, refused, Span, Quoted, Run, e
 use Rattle.definition.specs.Sentence.{character_at}
 use Rattle.definition.proofs.Shown.{Apart, Distinct, same_self}
 use Rattle.definition.proofs.Tests.{clash, both_true, right_true, chosen, picked, counted, All, all_append, all_replicate, all_map, ◌∈◌, here, there, each}
-use Rattle.definition.proofs.Characters.{spelling, utf8_byte}
-use Rattle.definition.proofs.Codes.{Coded}
+use Rattle.definition.proofs.Characters.{spelling, Sound, utf8_char}
+use Rattle.definition.proofs.Codes.{coded_digit}
 pub use Rattle.definition.proofs.Scans.{Placed}
-use Rattle.definition.proofs.Scans.{key, Placed, Chars, bytes, Script, script, Ran, ran_none, ran_one, ran_drop, ran_more, ran_less, ran_trans, ran_look, comment_ran, SpanOf, digits_ran, digits_some, assembly_spans, QuotedOf, quoted_spans, ClosedOf, quoted_closed, RunOf, word_spans, WordOf, word_letters, white_spans}
-use Rattle.definition.proofs.Formed.{Formed, Plain, plain_bounds, plain_formed, pair_plain, symbol_plain, keyword_plain, Classed, is_foreign, is_white, is_comment, is_pair, is_symbol, is_quote, is_word, is_dash, is_zero, is_digit, is_unknown, classed, coded_class, text_formed, letter_bounds, Numeral, dash_numeral, numeral, or_zero_numeral, integer_formed, digits_all, digit_first}
+use Rattle.definition.proofs.Scans.{key, Placed, Chars, bytes, Script, script, Ran, ran_none, ran_one, ran_drop, ran_more, ran_less, ran_trans, ran_look, comment_ran, SpanOf, digits_ran, digits_some, assembly_spans, QuotedOf, quoted_spans, ClosedOf, quoted_closed, RunOf, word_spans, lettered, lettered_append, char_lettered, WordOf, word_letters, white_spans}
+use Rattle.definition.proofs.Formed.{Formed, Plain, plain_bounds, plain_formed, pair_plain, symbol_plain, keyword_plain, Classed, is_foreign, is_white, is_comment, is_pair, is_symbol, is_quote, is_word, is_dash, is_zero, is_digit, is_unknown, classed, text_formed, Numeral, dash_numeral, numeral, or_zero_numeral, integer_formed, digits_all, digit_first}
 
 -- ---- one turn: at most one token, and errors, placed at its first character
 
@@ -48,7 +48,7 @@ width_one t =
 
 -- the text of an identifier is a word
 abbrev pub Lettered : Tok → Type 0
-Lettered t = pick (t is K.Identifier) (each C.is_word t.text) true ≡ true
+Lettered t = pick (t is K.Identifier) (each lettered t.text) true ≡ true
 
 -- a token at the place p; n bytes were left before it, at most r are left after it
 record New (p : Place) (r n : ℕ) (t : Tok) : Type 0 where
@@ -94,9 +94,9 @@ TurnOf c cs (goes rest es ts) = Turned c cs rest es ts
 TurnOf c cs (refused n) = T (C.between 4 7 n)
 
 module _ (c : Ch) (cs : List Ch) where
-  -- a turn that makes a token, of at most one byte more than were scanned; a turn that makes none
+  -- a turn that makes a token, of at most the first character and what was scanned; a turn that makes none
   gives_token : (rest : List Ch) (n : ℕ) (es : List Err) (t : Tok) → Ran cs rest n → t.place ≡ c.place
-      → width t ≤ 1 + n → Formed t → Lettered t → All (ErrorAt c.place) es → Turned c cs rest es (t ∷ [])
+      → width t ≤ 1 + length c.more + n → Formed t → Lettered t → All (ErrorAt c.place) es → Turned c cs rest es (t ∷ [])
   gives_token rest n es t r e l f w a =
       record {
         ran = ran_less r;
@@ -131,14 +131,14 @@ module _ (c : Ch) (cs : List Ch) where
           all_replicate (ErrorAt c.place) q.unknown (Z.token_error 1 c.place)
           (error_at 1 c.place (omega arith) (omega arith))
 
-  -- after `asm` and white space
-  assembly_turned : (k : ℕ) → Chars k cs → (before : List Ch) → Ran cs before 2 → (r : Run) → RunOf before r
-      → TurnOf c cs (Z.assembly_turn c.place r)
+  -- after `asm` and white space: `a`, and n bytes more
+  assembly_turned : (k : ℕ) → Chars k cs → (before : List Ch) (n : ℕ) → Ran cs before n → 2 ≤ length c.more + n
+      → (r : Run) → RunOf before r → TurnOf c cs (Z.assembly_turn c.place r)
   unfolding Z.assembly_turn
-  assembly_turned k h before o foreign p = tt
-  assembly_turned k h before o (ends s) p =
+  assembly_turned k h before n o l foreign p = tt
+  assembly_turned k h before n o l (ends s) p =
       chosen (TurnOf c cs) (eqb (look s.rest) 123) _ _
-      (λ e. gives_token a.rest (3 + length a.text) [] _ (opened e) refl (omega arith)
+      (λ e. gives_token a.rest (1 + n + length a.text) [] _ (opened e) refl (omega (arith, l))
       (text_formed K.InlineAssemblyFragment c.place a.text refl refl (omega arith) (omega arith)
       (b.utf8 k (ran_on.keeps k h))) refl tt)
       (λ _. gives_none (drop_one s.rest) 0 _ ran_on (error_at 3 c.place (omega arith) (omega arith), tt))
@@ -152,27 +152,30 @@ module _ (c : Ch) (cs : List Ch) where
       ran_on : Ran cs (drop_one s.rest) 0
       ran_on = ran_trans o (ran_trans p.ran (ran_drop s.rest))
 
-      opened : eqb (look s.rest) 123 ≡ true → Ran cs a.rest (3 + length a.text)
+      opened : eqb (look s.rest) 123 ≡ true → Ran cs a.rest (1 + n + length a.text)
       opened e =
-          let l = ran_look s.rest 123 (omega arith) e in
-          ran_more (ran_trans ran_on b.ran) (omega (arith, p.ran.size, o.size, l.size, b.ran.size))
+          let i = ran_look s.rest 123 (omega arith) e in
+          ran_more (ran_trans ran_on b.ran) (omega (arith, p.ran.size, o.size, i.size, b.ran.size))
 
-  word_turned : (k : ℕ) → Chars k cs → C.is_letter c.byte ≡ true → (r : Run) → RunOf cs r → WordOf r
-      → TurnOf c cs (Z.word_turn c.place (Z.run_ahead (c.byte ∷ []) r))
+  word_turned : (k : ℕ) → Chars k cs → Sound c → C.is_letter (code c) ≡ true → (r : Run) → RunOf cs r → WordOf r
+      → TurnOf c cs (Z.word_turn c.place (Z.run_ahead (spelling c) r))
   unfolding Z.word_turn
-  word_turned k h l foreign p q = tt
-  word_turned k h l (ends s) p q =
-      chosen (TurnOf c cs) (Z.same (c.byte ∷ s.text) (ascii "asm")) _ _
-      (λ e. assembly_turned k h s.rest
-      (ran_more p.ran (omega (arith, p.ran.size, same_length (c.byte ∷ s.text) (ascii "asm") e)))
-      (white s.rest) (white_spans s.rest))
-      (λ _. counted (TurnOf c cs) (Z.keyword (c.byte ∷ s.text)) _ _
-      (gives_token s.rest (length s.text) [] _ p.ran refl (omega arith)
-      (text_formed K.Identifier c.place (c.byte ∷ s.text) refl refl (omega arith) (omega arith)
-      (utf8_byte c.byte s.text (letter_bounds c.byte l).1 (p.utf8 k h)))
-      (both_true {a = C.is_word c.byte} (rw l) q) tt)
-      (λ j e. plain_turned s.rest (length s.text) (suc j) p.ran
-      (subst Plain e (keyword_plain (c.byte ∷ s.text))) (omega arith)))
+  word_turned k h w l foreign p q = tt
+  word_turned k h w l (ends s) p q =
+      chosen (TurnOf c cs) (Z.same x (ascii "asm")) _ _
+      (λ e. assembly_turned k h s.rest (length s.text) p.ran
+      (omega (arith, size, same_length x (ascii "asm") e)) (white s.rest) (white_spans s.rest))
+      (λ _. counted (TurnOf c cs) (Z.keyword x) _ _
+      (gives_token s.rest (length s.text) [] _ p.ran refl (omega (arith, size))
+      (text_formed K.Identifier c.place x refl refl (omega arith) (omega arith) (utf8_char c s.text w.0 (p.utf8 k h)))
+      (lettered_append (spelling c) s.text (char_lettered c w.1 (rw l)) q) tt)
+      (λ j e. plain_turned s.rest (length s.text) (suc j) p.ran (subst Plain e (keyword_plain x)) (omega arith)))
+    where
+      x : List ℕ
+      x = spelling c ++ s.text
+
+      size : length x ≡ 1 + length c.more + length s.text
+      size = omega (arith, length-append (spelling c) s.text)
 
   integer_turned : (base : ℕ) (text : List ℕ) (rest : List Ch) (n : ℕ) → base_fits 2 base ≡ true → Ran cs rest n
       → length text ≤ 1 + n → Numeral base text → TurnOf c cs (Z.token_text rest K.Integer c.place text base)
@@ -207,19 +210,18 @@ dash_turned c (d ∷ cs) =
     (dash_numeral (digits 10 (d ∷ cs)).text (digits_all 10 (d ∷ cs)) (digits_some d cs e)))
     (λ _. plain_turned c (d ∷ cs) cs 0 K.Minus (ran_one d cs) (record { plain = refl }) (omega arith)))
 
-turned : (c : Ch) (cs : List Ch) (k : ℕ) → Coded c → Chars k cs → TurnOf c cs (turn c cs)
+turned : (c : Ch) (cs : List Ch) (k : ℕ) → Sound c → Chars k cs → TurnOf c cs (turn c cs)
 unfolding turn
-turned c cs k q h =
-    go (Z.class (code c) (look cs)) (subst (Classed c.byte (look cs)) (sym (coded_class q (look cs))) (classed c.byte (look cs)))
+turned c cs k w h = go (Z.class (code c) (look cs)) (classed (code c) (look cs))
   where
-    go : (x : Class) → Classed c.byte (look cs) x → TurnOf c cs (elim x as (λ _. Turn) [
+    go : (x : Class) → Classed (code c) (look cs) x → TurnOf c cs (elim x as (λ _. Turn) [
       | Foreign ↦ refused 4
       | White ↦ Z.nothing cs
       | Comment ↦ Z.nothing (comment (drop_one cs))
-      | Pair ↦ Z.token (drop_one cs) (Z.pair c.byte (look cs)) c.place
-      | Symbol ↦ Z.token cs (Z.symbol c.byte) c.place
+      | Pair ↦ Z.token (drop_one cs) (Z.pair (code c) (look cs)) c.place
+      | Symbol ↦ Z.token cs (Z.symbol (code c)) c.place
       | Quote ↦ Z.string_turn c.place (quoted false cs)
-      | Word ↦ Z.word_turn c.place (Z.run_ahead (c.byte ∷ []) (word cs))
+      | Word ↦ Z.word_turn c.place (Z.run_ahead (spelling c) (word cs))
       | Dash ↦ Z.dash_turn c.place cs
       | Zero ↦ Z.zero_turn c.place cs
       | Digit ↦ Z.integer c.place 10 (c.byte ∷ []) (digits 10 cs)
@@ -229,18 +231,18 @@ turned c cs k q h =
     go x is_white = gives_none c cs cs 0 [] (ran_none cs) tt
     go x is_comment = gives_none c cs (comment (drop_one cs)) 0 [] (ran_trans (ran_drop cs) (comment_ran (drop_one cs))) tt
     go x (is_pair l) =
-        plain_turned c cs (drop_one cs) 0 (Z.pair c.byte (look cs)) (ran_drop cs)
-        (pair_plain c.byte (look cs)) l
+        plain_turned c cs (drop_one cs) 0 (Z.pair (code c) (look cs)) (ran_drop cs)
+        (pair_plain (code c) (look cs)) l
     go x (is_symbol l) =
-        plain_turned c cs cs 0 (Z.symbol c.byte) (ran_none cs) (symbol_plain c.byte) l
+        plain_turned c cs cs 0 (Z.symbol (code c)) (ran_none cs) (symbol_plain (code c)) l
     go x is_quote = string_turned c cs k h (quoted false cs) (quoted_spans false cs) (quoted_closed false cs)
-    go x (is_word l) = word_turned c cs k h l (word cs) (word_spans cs) (word_letters k cs h)
+    go x (is_word l) = word_turned c cs k h w l (word cs) (word_spans cs) (word_letters k cs h)
     go x is_dash = dash_turned c cs
     go x is_zero = zero_turned c cs
     go x (is_digit e) =
         integer_turned c cs 10 (c.byte ∷ (digits 10 cs).text) (digits 10 cs).rest (length (digits 10 cs).text)
         refl (digits_ran 10 cs) (omega arith) (numeral 10 (c.byte ∷ (digits 10 cs).text)
-        (digit_first c.byte (digits 10 cs).text e (digits_all 10 cs)) (omega arith))
+        (digit_first c.byte (digits 10 cs).text (rw (coded_digit w.1 e) at e) (digits_all 10 cs)) (omega arith))
     go x is_unknown = gives_none c cs cs 0 _ (ran_none cs) (error_at 4 c.place (omega arith) (omega arith), tt)
 
 -- ---- all the tokens
@@ -428,7 +430,7 @@ tokens_from (suc n) [] ts es k f c b h m w = record {
   errors = w;
 }
 tokens_from (suc n) (x ∷ cs) ts es k f c b h m w =
-    stepped TokensOf (λ j p. p) n x cs ts es (turn x cs) (turned x cs (key x.place) c.2.1 c.3)
+    stepped TokensOf (λ j p. p) n x cs ts es (turn x cs) (turned x cs (key x.place) c.2 c.3)
     (λ cs' ts' es' t z y. tokens_from n cs' (ts ++ ts') (es ++ es') (key x.place)
     (omega (arith, t.ran.fewer)) (t.ran.keeps (key x.place) c.3) (fits cs' ts' es' t)
     (more cs' ts' es' t) (rw length-append z) (rw length-append y))
@@ -489,7 +491,7 @@ module _ (us : List Ch) where
   stand_from zero cs ts es k c i a = tt
   stand_from (suc n) [] ts es k c i a = a
   stand_from (suc n) (x ∷ cs) ts es k c i a =
-      stepped Stand (λ j p. tt) n x cs ts es (turn x cs) (turned x cs (key x.place) c.2.1 c.3)
+      stepped Stand (λ j p. tt) n x cs ts es (turn x cs) (turned x cs (key x.place) c.2 c.3)
       (λ cs' ts' es' t _ _. stand_from n cs' (ts ++ ts') (es ++ es') (key x.place)
       (t.ran.keeps (key x.place) c.3)
       (λ d m. i d (there (t.ran.within d m))) (more es' t.errors))

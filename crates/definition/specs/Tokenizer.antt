@@ -187,7 +187,7 @@ word [] = ends (record { text = []; rest = [] })
 word (c ∷ cs) =
     elim (is_foreign (code c)) [
       | true ↦ foreign
-      | false ↦ elim (is_word (code c)) [ true ↦ run_ahead (c.byte ∷ []) (word cs) | false ↦ ends (record { text = []; rest = c ∷ cs }) ]
+      | false ↦ elim (is_word (code c)) [ true ↦ run_ahead (c.byte ∷ c.more) (word cs) | false ↦ ends (record { text = []; rest = c ∷ cs }) ]
     ]
 
 -- white space after `asm`
@@ -240,10 +240,10 @@ turn c cs =
       | Foreign ↦ refused 4
       | White ↦ nothing cs
       | Comment ↦ nothing (comment (drop_one cs))
-      | Pair ↦ token (drop_one cs) (pair c.byte (look cs)) c.place
-      | Symbol ↦ token cs (symbol c.byte) c.place
+      | Pair ↦ token (drop_one cs) (pair (code c) (look cs)) c.place
+      | Symbol ↦ token cs (symbol (code c)) c.place
       | Quote ↦ string_turn c.place (quoted false cs)
-      | Word ↦ word_turn c.place (run_ahead (c.byte ∷ []) (word cs))
+      | Word ↦ word_turn c.place (run_ahead (c.byte ∷ c.more) (word cs))
       | Dash ↦ dash_turn c.place cs
       | Zero ↦ zero_turn c.place cs
       | Digit ↦ integer c.place 10 (c.byte ∷ []) (digits 10 cs)

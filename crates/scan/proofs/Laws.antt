@@ -1,11 +1,11 @@
 -- The laws of the scanning functions: one for each way through their loops. Assumes nothing.
 use mathlib.Core.Path.{◌≡◌, refl, sym, ap, ◌∙◌}
-use mathlib.Core.Bool.{Bool, true, false}
+use mathlib.Core.Bool.{Bool, true, false, not}
 use mathlib.Core.List.{List, [], ◌∷◌, ◌++◌, append_assoc, append-nil}
 use Prim.Native.Nat.{ℕ, zero, suc, ◌+◌, ◌-◌, ◌<◌, ◌≤◌}
 use native.Mathlib.Numerals.{add-one}
 use native.Mathlib.Omega.{arith}
-use borrow.Author.Tests.{eq-eqb, ne_eqb, lt-ltb, ltb-true, ltb-false}
+use borrow.Author.Tests.{eq-eqb, ne_eqb, lt-ltb, le-ltb, ltb-true, ltb-false}
 use lib.Dec.{ltb}
 use lib.ListN.{length, get_or, take, drop, length-append, length-take}
 use lib.Seq.{drop-cons, length-take-le}
@@ -23,7 +23,7 @@ use Rattle.slices.proofs.Writing.{wrote_none}
 use Rattle.source.specs.declared.Cursor.{Cursor}
 use Rattle.source.specs.Place.{Stands, Stepped, rest, char, more, along_line}
 use Rattle.source.proofs.Laws.{rest_head, rest_end, along_law}
-use Rattle.scan.specs.Scan.{Passes, Passed, Asks, Spanned, span_while, left_while, span_of, QuotedAs}
+use Rattle.scan.specs.Scan.{Passes, Passed, Asks, Spanned, span_while, span_of, QuotedAs}
 
 -- ---- looking and skipping
 
@@ -33,6 +33,13 @@ looked {s} {c} z = go (ltb c.at (length s)) refl
     go : (t : Bool) → ltb c.at (length s) ≡ t → get_or s c.at 0 ≡ Z.look (rest s c)
     go true e = ap Z.look (sym (rest_head z (ltb-true _ _ e)))
     go false e = get_or_past s c.at 0 (ltb-false _ _ e) ∙ ap Z.look (sym (rest_end s c (ltb-false _ _ e)))
+
+pub wide_byte : (b : ℕ) → not (ltb b 128) ≡ ltb 127 b
+wide_byte b = go (ltb b 128) refl
+  where
+    go : (t : Bool) → ltb b 128 ≡ t → not t ≡ ltb 127 b
+    go true e = sym (le-ltb 127 b (omega (arith, ltb-true b 128 e)))
+    go false e = sym (lt-ltb 127 b (omega (arith, ltb-false b 128 e)))
 
 pub skip_end : {s : List ℕ} {c : Cursor} → Passes s c → length s ≤ c.at → Passed s c (Z.drop_one (rest s c)) c
 skip_end {s} {c} p h =
@@ -60,52 +67,22 @@ pub while_stop : (holds : ℕ → Bool) (c : Ch) (cs : List Ch) → holds c.byte
 unfolding span_while
 while_stop holds c cs h = rw (h, span_while)
 
--- ---- scans that write nothing
-
--- the invariant: from the cursor c the same is left as from the start
-pub record Passing (holds : ℕ → Bool) (s : List ℕ) (c₀ c : Cursor) : Type 0 where
-  pub same : left_while holds (rest s c) ≡ left_while holds (rest s c₀)
-  pub forward : c₀.at ≤ c.at
-  pub shorter : length (rest s c) ≤ length (rest s c₀)
-
-module _ {holds : ℕ → Bool} {s : List ℕ} {c₀ c : Cursor} (q : Passing holds s c₀ c) where
-  pub passing_more : {d : Cursor} → Stepped s c d → holds (get_or s c.at 0) ≡ true → Passing holds s c₀ d
-  passing_more st e =
-      record {
-        same = sym (ap (λ (y : Span). y.rest) (ap (span_while holds) st.chars ∙ while_go holds _ _ e)) ∙ q.same;
-        forward = omega (arith, q.forward, st.wide);
-        shorter = omega (arith, ap length st.chars, q.shorter);
-      }
-
-  -- the scan ends at the end, or before a character
-  passing_done : Stands s c → span_while holds (rest s c) ≡ empty (rest s c) → Passed s c₀ (left_while holds (rest s c₀)) c
-  passing_done z e = record { stands = z; is = sym (ap (λ (y : Span). y.rest) e) ∙ q.same; forward = q.forward; shorter = q.shorter }
-
-  pub passing_out : Stands s c → length s ≤ c.at → Passed s c₀ (left_while holds (rest s c₀)) c
-  passing_out z h = passing_done z (rw (rest_end s c h) (while_none holds))
-
-  pub passing_stop : Stands s c → c.at < length s → holds (get_or s c.at 0) ≡ false → Passed s c₀ (left_while holds (rest s c₀)) c
-  passing_stop z h e = passing_done z (rw (rest_head z h) (while_stop holds _ _ e))
-
 -- where a scan stopped before the end, the test fails
-left_stops : (holds : ℕ → Bool) (cs : List Ch) {d : Ch} {ds : List Ch} → left_while holds cs ≡ d ∷ ds → holds d.byte ≡ false
+pub while_stops : (holds : ℕ → Bool) (cs : List Ch) {d : Ch} {ds : List Ch} → (span_while holds cs).rest ≡ d ∷ ds
+    → holds d.byte ≡ false
 unfolding span_while
-left_stops holds [] e = cc
-left_stops holds (c ∷ cs) {d} {ds} e = go (holds c.byte) refl (left_stops holds cs)
+while_stops holds [] e = cc
+while_stops holds (c ∷ cs) {d} {ds} e = go (holds c.byte) refl (while_stops holds cs)
   where
     left : Span → List Ch
     left y = y.rest
 
-    go : (t : Bool) → holds c.byte ≡ t → (left_while holds cs ≡ d ∷ ds → holds d.byte ≡ false) → holds d.byte ≡ false
+    go : (t : Bool) → holds c.byte ≡ t → ((span_while holds cs).rest ≡ d ∷ ds → holds d.byte ≡ false) → holds d.byte ≡ false
     go true f more = more (sym (ap left (while_go holds c cs f)) ∙ e)
     go false f more =
         let g : c ∷ cs ≡ d ∷ ds = sym (ap left (while_stop holds c cs f)) ∙ e in
         let h : c ≡ d = cc in
         ap (λ (x : Ch). holds x.byte) (sym h) ∙ f
-
-pub stopped : {s : List ℕ} {c r : Cursor} (holds : ℕ → Bool) (cs : List Ch) → Passed s c (left_while holds cs) r
-    → r.at < length s → holds (get_or s r.at 0) ≡ false
-stopped holds cs p h = left_stops holds cs (sym p.is ∙ rest_head p.stands h)
 
 -- ---- scans that write; F is the definition's scan
 

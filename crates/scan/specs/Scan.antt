@@ -1,9 +1,11 @@
 -- What the scanning functions ensure, in the terms of the definition. Assumes nothing.
-use Rattle.std.specs.Prelude.{◌≡◌, Bool, true, false, MatchResult, ◌<◌, List, [], ◌∷◌, ℕ, ◌≤◌, length, get_or}
-use Rattle.definition.specs.Source.{Ch}
-use Rattle.definition.specs.Classes.{is_word, is_white}
-use Rattle.definition.specs.Tokenizer.{Span, ahead}
+use Rattle.std.specs.Prelude.{◌≡◌, Bool, true, false, Result, MatchResult, ◌<◌, List, [], ◌∷◌, ℕ, ◌≤◌, length, get_or}
+use Rattle.definition.specs.Source.{Ch, code}
+use Rattle.definition.specs.Classes.{is_foreign, is_white, is_word}
+use Rattle.definition.specs.Tokenizer.{Span, ahead, Run, ends, foreign, run_ahead}
+use Rattle.definition.specs.declared.refusal.Refusal.{Refusal}
 use Rattle.definition.specs.Tokenizer as Z
+use Rattle.classes.specs.Bits.{one_byte}
 use Rattle.slices.specs.Written.{Wrote}
 use Rattle.source.specs.Place.{Stands, rest}
 use Rattle.source.specs.declared.Cursor.{Cursor}
@@ -49,16 +51,54 @@ unfoldable pub span_while : (ℕ → Bool) → List Ch → Span
 span_while holds [] = record { text = []; rest = [] }
 span_while holds (c ∷ cs) = elim (holds c.byte) [ true ↦ ahead (c.byte ∷ []) (span_while holds cs) | false ↦ record { text = []; rest = c ∷ cs } ]
 
--- the letters and digits of a word, up to another character, also one above 127
-abbrev pub letters : List Ch → Span
-letters cs = span_while is_word cs
+-- the characters of a word that have one byte, up to another character
+abbrev pub word_bytes : List Ch → Span
+word_bytes cs = span_while (one_byte is_word) cs
 
--- the characters that are left after those for which a test holds
-abbrev pub left_while : (ℕ → Bool) → List Ch → List Ch
-left_while holds cs = (span_while holds cs).rest
+-- some white space, and the characters left after it
+pub data Blanks : List Ch → List Ch → Type 0 where
+  none : {cs : List Ch} → Blanks cs cs
+  one : {c : Ch} {cs ds : List Ch} → is_white (code c) ≡ true → Blanks cs ds → Blanks (c ∷ cs) ds
 
-abbrev pub blanks : List Ch → List Ch
-blanks cs = left_while is_white cs
+-- between two cursors is white space
+pub record Skipped (s : List ℕ) (c r : Cursor) : Type 0 where
+  pub blanks : Blanks (rest s c) (rest s r)
+  pub passed : Passed s c (rest s r) r
+
+-- all that has one byte: no newline is left
+pub record Skips (s : List ℕ) (c r : Cursor) : Type 0 where
+  pub skipped : Skipped s c r
+  pub no_newline : get_or s r.at 0 ≡ 10 → ⊥
+
+-- ---- scans that the definition refuses at a foreign character; the run is the definition's
+
+-- the run of a scan that stops before these characters
+unfoldable pub stop_at : List Ch → Run
+stop_at [] = ends (record { text = []; rest = [] })
+stop_at (c ∷ cs) = elim (is_foreign (code c)) [ true ↦ foreign | false ↦ ends (record { text = []; rest = c ∷ cs }) ]
+
+-- white space up to the cursor r
+pub record SkippedAs (s : List ℕ) (c : Cursor) (run : Run) (r : Cursor) : Type 0 where
+  pub is : run ≡ stop_at (rest s r)
+  pub passed : Passed s c (rest s r) r
+
+-- what was written up to there
+pub record Stopped (s : List ℕ) (c : Cursor) (x : List ℕ) (n : ℕ) (run : Run) (x' : List ℕ) (r : Scan) : Type 0 where
+  pub text : List ℕ
+  pub is : run ≡ run_ahead text (stop_at (rest s r.cursor))
+  pub spanned : Spanned s c x n (record { text = text; rest = rest s r.cursor }) x' r
+
+-- the whole of it was written, and no foreign character is there
+pub record Ended (s : List ℕ) (c : Cursor) (x : List ℕ) (n : ℕ) (run : Run) (x' : List ℕ) (r : Scan) : Type 0 where
+  pub text : List ℕ
+  pub is : run ≡ ends (record { text = text; rest = rest s r.cursor })
+  pub spanned : Spanned s c x n (record { text = text; rest = rest s r.cursor }) x' r
+
+-- no foreign character is there, or one that is refused
+abbrev pub Known : {A : Type 0} → List Ch → Result A Refusal → Type 0
+Known cs r =
+    MatchResult r (λ u. stop_at cs ≡ ends (record { text = []; rest = cs }))
+    (λ x. (stop_at cs ≡ foreign) × (x ≡ Refusal.ForeignCharacter))
 
 -- what was scanned of a string
 abbrev pub span_of : Z.Quoted → Span

@@ -1,16 +1,18 @@
 // Scans white space, comments, words, digits, assembly and strings from a cursor on. Some scans write the text.
 #![tactic(auto)]
 
-ghost use Rattle.std.specs.Prelude.{ℕ, Bool, false, true, ◌≡◌, ◌+◌, ◌<◌, ◌≤◌, length, unwrap_or};
+ghost use Rattle.std.specs.Prelude.{ℕ, Bool, false, true, ◌≡◌, ◌+◌, ◌<◌, ◌≤◌, ltb, length, get_or, unwrap_or};
 ghost use Rattle.definition.specs.Tokenizer as Z;
+ghost use Rattle.slices.specs.Written.{Wrote};
 ghost use Rattle.source.specs.Place.{Stands, Stepped, rest};
-ghost use Rattle.scan.specs.Scan.{LineEnd, Tells, span_while, letters, blanks};
-ghost use Rattle.scan.specs.Contract.{Passes, Asks, Passed, CharPut, Spanned, QuotedAs};
+ghost use Rattle.scan.specs.Scan.{LineEnd, Tells, span_while, word_bytes};
+ghost use Rattle.scan.specs.Contract.{Passes, Asks, Passed, Skips, SkippedAs, Known, CharPut, Spanned, Stopped, QuotedAs};
 
-use classes::character::{is_digit_of, is_white, is_word};
+use classes::character::{is_blank, is_digit_of, is_white, is_word, is_word_byte};
 use classes::spelling::escape;
+use definition::refusal::Refusal;
 use slices::{put, put_all};
-use source::{Cursor, along, step};
+use source::{Cursor, along, code, step, step_byte};
 
 // `Stands` and `Passes` say that a cursor is a place of this script, `Asks` also that the text has room. No type has them
 // for an invariant: of a script and a cursor in one struct each result would have to say that it has the same script
@@ -24,6 +26,13 @@ pub fn look(s: &[u8], c: Cursor) -> Option<u8>
     ensures { unwrap_or result 0 ≡ Z.look (rest s.now c) }
 {
     s.get(c.at).copied()
+}
+
+// Whether a character of more than one byte begins at an offset.
+pub fn is_wide(s: &[u8], at: usize) -> bool
+    ensures { result ≡ ltb 127 (get_or s.now at 0) }
+{
+    at < s.len() && !s[at].is_ascii()
 }
 
 // Steps over the character at `c`, if there is one.
@@ -65,17 +74,41 @@ pub fn comment(s: &[u8], from: Cursor) -> Cursor
     }
 }
 
-// Skips white space. This loop, and those of `assembly` and `quoted`, go by a cursor, which steps over characters and keeps
-// their places: an iterator over bytes does not, and one over characters decodes each of them.
-pub fn white(s: &[u8], from: Cursor) -> Cursor
+// Skips white space of one byte, as most is. This loop, and those of `assembly` and `quoted`, go by a cursor, which steps
+// over characters and keeps their places: an iterator over bytes does not, and one over characters decodes each of them.
+pub fn blanks(s: &[u8], from: Cursor) -> Cursor
     requires { Passes s from }
-    ensures { Passed blanks s from result }
+    ensures { Skips s from result }
 {
     let mut c = from;
-    while c.at < s.len() && is_white(s[c.at]) {
+    while c.at < s.len() && is_blank(s[c.at]) {
+        c = step_byte(s, c);
+    }
+    c
+}
+
+// Skips white space, up to another character.
+pub fn white(s: &[u8], from: Cursor) -> Cursor
+    requires { Passes s from }
+    ensures { SkippedAs Z.white s from result }
+{
+    let mut c = from;
+    while c.at < s.len() && code(s, c).is_ok_and(is_white) {
         c = step(s, c);
     }
     c
+}
+
+// Refuses a character above 255 where `white` or `wide_word` stopped. They return no `Result` themselves: a cursor in one
+// is packed and unpacked.
+pub fn known(s: &[u8], c: Cursor) -> Result<(), Refusal>
+    requires { Passes s c }
+    ensures { Known s c result }
+{
+    if c.at < s.len() {
+        code(s, c)?;
+    }
+    Ok(())
 }
 
 // ---- scans that write
@@ -124,16 +157,18 @@ pub fn digits(s: &[u8], from: Cursor, base: u32, text: &mut [u8], start: usize) 
     scan_while(s, from, |b| is_digit_of(base, b), text, start)
 }
 
-// Scans the letters and digits of a word.
-pub fn word(s: &[u8], from: Cursor, text: &mut [u8], start: usize) -> Scan
-    requires { Asks s from text start }
-    ensures { Spanned letters s from text start result }
+// Writes the bytes of a character of more than one. Cold and not inlined, since most have one.
+#[cold]
+#[inline(never)]
+fn put_wide(text: &mut [u8], n: usize, bytes: &[u8]) -> usize
+    requires { n + length bytes.now ≤ length text.old }
+    ensures { Wrote text.old n bytes.now text.new result }
 {
-    scan_while(s, from, is_word, text, start)
+    put_all(text, n, bytes)
 }
 
 // Writes the character between two cursors, and returns the offset after it. Most have one byte.
-fn put_char(s: &[u8], c: Cursor, next: Cursor, text: &mut [u8], n: usize) -> usize
+pub fn put_char(s: &[u8], c: Cursor, next: Cursor, text: &mut [u8], n: usize) -> usize
     requires { Asks s c text n × (c.at < length s.now) × Stepped s.now c next }
     ensures { CharPut s c text n result }
 {
@@ -141,8 +176,32 @@ fn put_char(s: &[u8], c: Cursor, next: Cursor, text: &mut [u8], n: usize) -> usi
     if b.is_ascii() {
         put(text, n, b)
     } else {
-        put_all(text, n, &s[c.at..next.at])
+        put_wide(text, n, &s[c.at..next.at])
     }
+}
+
+// Scans the characters of a word that have one byte.
+pub fn word_bytes(s: &[u8], from: Cursor, text: &mut [u8], start: usize) -> Scan
+    requires { Asks s from text start }
+    ensures { Spanned word_bytes s from text start result }
+{
+    scan_while(s, from, is_word_byte, text, start)
+}
+
+// Scans the characters of a word, up to another one. Cold, since few words have a character of more than one byte.
+#[cold]
+pub fn wide_word(s: &[u8], from: Cursor, text: &mut [u8], start: usize) -> Scan
+    requires { Asks s from text start }
+    ensures { Stopped Z.word s from text start result }
+{
+    let mut c = from;
+    let mut n = start;
+    while c.at < s.len() && code(s, c).is_ok_and(is_word) {
+        let next = step(s, c);
+        n = put_char(s, c, next, text, n);
+        c = next;
+    }
+    Scan { cursor: c, n }
 }
 
 // Scans inline assembly up to `}`, which is consumed, or the end.

@@ -1,22 +1,24 @@
 -- One step of a cursor, in terms of the decoder. Assumes nothing.
-use mathlib.Core.Path.{◌≡◌, refl, sym, ap, ◌∙◌}
+use mathlib.Core.Path.{◌≡◌, refl, sym, ap, ◌∙◌, subst}
 use mathlib.Core.Bool.{Bool, true, false, ◌&&◌}
 use mathlib.Core.List.{List, [], ◌∷◌, ◌++◌, append_assoc}
 use mathlib.Core.Option.{Option, none, some}
-use Prim.Native.Nat.{ℕ, zero, suc, pred, ◌+◌, ◌<◌, ◌≤◌}
+use Prim.Native.Nat.{ℕ, zero, suc, pred, ◌+◌, ◌-◌, ◌<◌, ◌≤◌}
 use native.Mathlib.Numerals.{add-one}
 use native.Mathlib.Omega.{arith}
-use borrow.Author.Tests.{leb-true, leb-false, lt-ltb, ne_eqb}
+use borrow.Author.Tests.{leb-true, leb-false, lt-ltb, le-ltb, ne_eqb}
 use lib.Dec.{eqb, ltb, leb}
 use lib.ListN.{length, get_or, take, drop, length-drop, drop_of_length-le}
 use lib.Seq.{drop-cons, drop-drop, length-take-le}
-use Rattle.definition.specs.Source.{At, Ch, Lead, single, with_more, wrong, lead, after, char_at, past, fresh, within, and_then, decode, characters, is_some, utf8}
+use Rattle.definition.specs.Source.{At, Ch, Lead, single, with_more, wrong, lead, after, char_at, past, fresh, within, and_then, decode, characters, six_more, code, is_some, utf8}
 use Rattle.definition.specs.Choice.{pick, first}
 use Rattle.definition.proofs.Tests.{All}
-use Rattle.definition.proofs.Codes.{Coded}
+use Rattle.definition.proofs.Codes.{Coded, coded_first, coded_foreign, coded_second}
+use Rattle.definition.specs.declared.refusal.Refusal.{Refusal}
+use Rattle.std.specs.Prelude.{Ok, Err}
 use Rattle.definition.proofs.Characters.{decode_coded}
 use Rattle.source.specs.declared.Cursor.{Cursor}
-use Rattle.source.specs.Place.{more, placed, at_of, or_none, rest, Stands, Stepped, char, along_line, origin}
+use Rattle.source.specs.Place.{more, placed, at_of, or_none, rest, Stands, Stepped, CodeAt, char, along_line, origin}
 
 abbrev pub Small : Lead → Type 0
 Small single = Unit {0}
@@ -154,13 +156,19 @@ module _ {s : List ℕ} {c : Cursor} (z : Stands s c) (h : c.at < length s) wher
         wide = omega arith;
       }
 
+-- a character of one byte
+pub ascii_lead : (b : ℕ) → b < 128 → more (lead b) ≡ 0
+unfolding lead first
+ascii_lead b l = rw (lt-ltb b 128 l)
+
+pub ascii_code : (s : List ℕ) (c : Cursor) → get_or s c.at 0 < 128 → code (char s c) ≡ get_or s c.at 0
+ascii_code s c l = rw (ascii_lead _ l) refl
+
 -- the step over a character of one byte that is not a newline
 pub along_law : {s : List ℕ} {c r : Cursor} → Stands s c → c.at < length s → get_or s c.at 0 < 128
     → (get_or s c.at 0 ≡ 10 → ⊥) → r ≡ along_line c 1 → Stepped s c r
-unfolding lead first
 along_law {s} {c} {r} z h l n e =
-    let w : more (lead (get_or s c.at 0)) ≡ 0 = rw (lt-ltb (get_or s c.at 0) 128 l) in
-    rw e (step_law z h (omega (arith, w)) (rw (ne_eqb (get_or s c.at 0) 10 n, add-one)) (omega arith) (omega arith))
+    rw e (step_law z h (omega (arith, ascii_lead _ l)) (rw (ne_eqb (get_or s c.at 0) 10 n, add-one)) (omega arith) (omega arith))
 
 pub along_next : (c : Cursor) (n : ℕ) → along_line c (n + 1) ≡ along_line (along_line c n) 1
 along_next c n =
@@ -188,6 +196,42 @@ no_characters s e n = go (characters s) (sym e ∙ n)
 -- each character from there on is coded
 pub stands_coded : {s : List ℕ} {c : Cursor} → Stands s c → All Coded (rest s c)
 stands_coded {s} {c} z = decode_coded (at_of c) (drop c.at s) (rest s c) z.is
+
+-- ---- the number of the character at a cursor
+
+module _ {s : List ℕ} {c : Cursor} (z : Stands s c) (h : c.at < length s) where
+  pub coded_here : Coded (char s c)
+  coded_here = (subst (All Coded) (rest_head z h) (stands_coded z)).0
+
+  pub code_ascii : get_or s c.at 0 < 128 → CodeAt s c (Ok (get_or s c.at 0))
+  code_ascii l = (sym (ascii_code s c l), rw (ascii_code s c l, le-ltb 255 (get_or s c.at 0) (omega (arith, l))) refl)
+
+  pub code_foreign : 0xC3 < get_or s c.at 0 → CodeAt s c (Err Refusal.ForeignCharacter)
+  code_foreign l = (refl, coded_foreign coded_here l)
+
+  -- a character of two bytes
+  module _ (a : 128 ≤ get_or s c.at 0) (u : get_or s c.at 0 ≤ 0xC3) where
+    pub first_low : 0xC2 ≤ get_or s c.at 0
+    first_low = coded_first coded_here a
+
+    two_lead : more (lead (get_or s c.at 0)) ≡ 1
+    unfolding lead first
+    two_lead =
+        rw (le-ltb (get_or s c.at 0) 0x80 a, le-ltb (get_or s c.at 0) 0xC2 first_low, lt-ltb (get_or s c.at 0) 0xE0 (omega (arith, u)))
+
+    pub second_inside : c.at + 1 < length s
+    second_inside = omega (arith, step_inside z h, two_lead)
+
+    second : (char s c).more ≡ get_or s (c.at + 1) 0 ∷ []
+    second = rw (two_lead, drop-cons s (c.at + 1) 0 second_inside) refl
+
+    pub second_bounds : get_or s (c.at + 1) 0 < 256 → (0x80 ≤ get_or s (c.at + 1) 0) × (get_or s (c.at + 1) 0 ≤ 0xBF)
+    second_bounds k = coded_second (rw second at coded_here) first_low u k
+
+    pub code_two : get_or s (c.at + 1) 0 < 256 → CodeAt s c (Ok (six_more (get_or s c.at 0 - 0xC0) (get_or s (c.at + 1) 0)))
+    code_two k =
+        let b = second_bounds k in
+        rw second (refl, le-ltb 255 (six_more (get_or s c.at 0 - 0xC0) (get_or s (c.at + 1) 0)) (omega (arith, b, u)))
 
 -- no characters are left at the end
 pub rest_end : (s : List ℕ) (c : Cursor) → length s ≤ c.at → rest s c ≡ []

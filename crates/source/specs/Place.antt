@@ -1,7 +1,8 @@
 -- The characters from a cursor on. Assumes nothing.
-use Rattle.std.specs.Prelude.{◌≡◌, Result, MatchResult, List, [], ◌∷◌, ℕ, ◌+◌, ◌<◌, ◌≤◌, length, get_or, take, drop}
+use Rattle.std.specs.Prelude.{◌≡◌, true, false, Result, MatchResult, List, [], ◌∷◌, ℕ, ◌+◌, ◌<◌, ◌≤◌, length, get_or, take, drop}
 use Rattle.std.proofs.Math.Option.{Option, none, some}
-use Rattle.definition.specs.Source.{Place, At, Ch, Lead, single, with_more, wrong, lead, decode, fresh, characters}
+use Rattle.definition.specs.Source.{Place, At, Ch, Lead, single, with_more, wrong, lead, decode, fresh, characters, code}
+use Rattle.definition.specs.Classes.{is_foreign}
 use Rattle.definition.specs.declared.place.Place as D
 use Rattle.definition.specs.declared.refusal.Refusal.{Refusal}
 use Rattle.source.specs.declared.Cursor.{Cursor}
@@ -49,12 +50,17 @@ pub record Stepped (s : List ℕ) (c r : Cursor) : Type 0 where
   pub stands : Stands s r
   pub wide : r.at ≡ more (lead (get_or s c.at 0)) + 1 + c.at
 
--- at the cursor is a character of one byte, and no newline
+-- at the cursor is a character, and no newline
 pub record InLine (s : List ℕ) (c : Cursor) : Type 0 where
   pub stands : Stands s c
   pub inside : c.at < length s
-  pub ascii : get_or s c.at 0 < 128
   pub no_newline : get_or s c.at 0 ≡ 10 → ⊥
+
+-- the number of the character at the cursor, or the refusal of a foreign one
+abbrev pub CodeAt : List ℕ → Cursor → Result ℕ Refusal → Type 0
+CodeAt s c r =
+    MatchResult r (λ n. (n ≡ code (char s c)) × (is_foreign (code (char s c)) ≡ false))
+    (λ x. (x ≡ Refusal.ForeignCharacter) × (is_foreign (code (char s c)) ≡ true))
 
 -- the cursor after n characters of one byte that are no newlines
 abbrev pub along_line : Cursor → ℕ → Cursor

@@ -1,9 +1,9 @@
 // Tests a script's length and UTF-8 (RFC 3629), and moves a cursor over its characters.
 #![tactic(auto)]
 
-ghost use Rattle.std.specs.Prelude.{◌≡◌, ◌+◌, ◌<◌, ◌≤◌, length};
+ghost use Rattle.std.specs.Prelude.{◌≡◌, ◌+◌, ◌<◌, ◌≤◌, length, get_or};
 ghost use Rattle.definition.specs.Source.{lead, utf8};
-ghost use Rattle.source.specs.Place.{more, Stands, Stepped, InLine, along_line, PlaceOf, Admits};
+ghost use Rattle.source.specs.Place.{more, Stands, Stepped, InLine, CodeAt, along_line, PlaceOf, Admits};
 
 use definition::limit;
 use definition::place::Place;
@@ -78,28 +78,6 @@ impl From<Cursor> for Place {
     }
 }
 
-// Steps over the character at `c`. A newline belongs to the line it ends.
-pub fn step(s: &[u8], c: Cursor) -> Cursor
-    requires { Stands s.now c × (c.at < length s.now) × (length s.now ≤ 16384) }
-    ensures { Stepped s.now c result }
-{
-    let b = s[c.at];
-    let w = width(b);
-    let at = c.at + w as usize;
-    if b == b'\n' {
-        return Cursor {
-            at,
-            line: c.line + 1,
-            column: 1,
-        };
-    }
-    Cursor {
-        at,
-        line: c.line,
-        column: c.column + 1,
-    }
-}
-
 // The cursor after `count` characters of one byte that are no newlines.
 pub fn along(c: Cursor, count: usize) -> Cursor
     requires { (c.at + count ≤ 16384) × (c.column + count ≤ 16385) }
@@ -112,11 +90,67 @@ pub fn along(c: Cursor, count: usize) -> Cursor
     }
 }
 
-// Steps over a character of one byte that is no newline.
+// Steps over a character that is no newline.
 pub fn step_along(s: &[u8], c: Cursor) -> Cursor
     requires { InLine s.now c × (length s.now ≤ 16384) }
     ensures { Stepped s.now c result }
 {
-    prove!(s[c.at].is_ascii() & (s[c.at] != b'\n'));
+    Cursor {
+        at: c.at + width(s[c.at]) as usize,
+        line: c.line,
+        column: c.column + 1,
+    }
+}
+
+// Steps over a character of one byte. A newline belongs to the line it ends.
+pub fn step_byte(s: &[u8], c: Cursor) -> Cursor
+    requires { Stands s.now c × (c.at < length s.now) × (get_or s.now c.at 0 < 128) × (length s.now ≤ 16384) }
+    ensures { Stepped s.now c result }
+{
+    if s[c.at] == b'\n' {
+        return Cursor {
+            at: c.at + 1,
+            line: c.line + 1,
+            column: 1,
+        };
+    }
     along(c, 1)
+}
+
+// Steps over the character at `c`.
+pub fn step(s: &[u8], c: Cursor) -> Cursor
+    requires { Stands s.now c × (c.at < length s.now) × (length s.now ≤ 16384) }
+    ensures { Stepped s.now c result }
+{
+    if s[c.at].is_ascii() {
+        step_byte(s, c)
+    } else {
+        step_along(s, c)
+    }
+}
+
+// ---- numbers
+
+// The number of a character of more than one byte. One above 255 is refused, others have two bytes. Cold and not inlined,
+// since most characters have one.
+#[cold]
+#[inline(never)]
+fn wide_code(s: &[u8], c: Cursor) -> Result<u8, Refusal>
+    requires { Stands s.now c × (c.at < length s.now) × (128 ≤ get_or s.now c.at 0) × (length s.now ≤ 16384) }
+    ensures { CodeAt s.now c result }
+{
+    let b = s[c.at];
+    if 0xC3 < b {
+        return Err(Refusal::ForeignCharacter);
+    }
+    Ok((b - 0xC0) * 64 + (s[c.at + 1] - 0x80))
+}
+
+// The number of the character at `c`, by which its classes are asked. One above 255 is refused.
+pub fn code(s: &[u8], c: Cursor) -> Result<u8, Refusal>
+    requires { Stands s.now c × (c.at < length s.now) × (length s.now ≤ 16384) }
+    ensures { CodeAt s.now c result }
+{
+    let b = s[c.at];
+    if b.is_ascii() { Ok(b) } else { wide_code(s, c) }
 }

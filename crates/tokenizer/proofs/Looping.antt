@@ -6,25 +6,23 @@ use mathlib.Core.Bool.{Bool, true, false}
 use mathlib.Core.List.{List, [], ◌∷◌, ◌++◌, append_assoc, append-nil}
 use Prim.Native.Nat.{ℕ, zero, suc, ◌+◌, ◌*◌, ◌<◌, ◌≤◌}
 use native.Mathlib.Omega.{arith}
-use borrow.Author.Tests.{le-leb}
+use borrow.Author.Tests.{ltb-false, le-leb}
 use lib.Dec.{leb}
 use lib.ListN.{length, length-append}
-use Rattle.definition.specs.Source.{Ch}
+use Rattle.definition.specs.Source.{Ch, code}
 use Rattle.definition.specs.Fallible.{Err}
 use Rattle.definition.specs.Token.{Tok}
 use Rattle.definition.specs.Choice.{pick}
 use Rattle.definition.specs.Records.{token_words, tokens_words, tokens_text, errors_words}
 use Rattle.definition.specs.Classes.{is_white}
-use Rattle.definition.specs.Tokenizer.{Turn, Span, goes, refused}
+use Rattle.definition.specs.Tokenizer.{Turn, goes, refused}
 use Rattle.definition.specs.Tokenizer as Z
-use Rattle.definition.proofs.Tests.{All}
-use Rattle.definition.proofs.Codes.{Coded}
 use Rattle.classes.proofs.Choices.{white_begins}
 use Rattle.source.specs.Place.{Stands, rest, char, origin}
 use Rattle.source.specs.declared.Cursor.{Cursor}
-use Rattle.source.proofs.Laws.{rest_head, rest_end, stands_coded}
-use Rattle.scan.specs.Scan.{Passed, span_while, blanks}
-use Rattle.scan.proofs.Laws.{while_go, while_stop}
+use Rattle.source.proofs.Laws.{rest_head, rest_end}
+use Rattle.scan.specs.Scan.{Blanks, none, one, Skipped}
+use Rattle.scan.proofs.Runs.{known_white}
 use Rattle.token_records.specs.declared.State.{State}
 use Rattle.turns.specs.Turn.{Ready, Stopped, at_cursor, bounded}
 use Rattle.turns.proofs.Turned.{errors_words_append}
@@ -89,30 +87,21 @@ within_bounds most e k {fs = fs} {us = us} q h l =
 
 -- the definition takes a turn for each character of white space
 module _ (most : ℕ) (ts : List Tok) (es : List Err) (h : length es ≤ 255) (l : length ts ≤ most) where
-  abbrev After : ℕ → List Ch → Type 0
-  After n cs = (m : ℕ) × (length (blanks cs) ≤ m) × (Z.tokenize_from most (suc m) (blanks cs) ts es ≡ Z.tokenize_from most (suc n) cs ts es)
-
-  white_turn : (n : ℕ) (c : Ch) (cs : List Ch) → Coded c → is_white c.byte ≡ true
+  white_turn : (n : ℕ) (c : Ch) (cs : List Ch) → is_white (code c) ≡ true
       → Z.tokenize_from most (suc n) (c ∷ cs) ts es ≡ Z.tokenize_from most n cs ts es
-  white_turn n c cs q e =
-      let t : Z.turn c cs ≡ goes cs [] [] = turn_begins c cs q (white_begins c.byte (Z.look cs) e) in
+  white_turn n c cs w =
+      let i : code c < 256 = omega (arith, ltb-false 255 (code c) (known_white (code c) w)) in
+      let t : Z.turn c cs ≡ goes cs [] [] = turn_begins c cs (white_begins (code c) (Z.look cs) i w) in
       from_cons most n ts es c cs
       ∙ ap (next most n ts es) (within_bounds most (length es) (length ts) t (omega (arith, h)) (omega (arith, l)))
       ∙ rw (append-nil ts, append-nil es)
 
-  after_blanks : (n : ℕ) (cs : List Ch) → All Coded cs → length cs ≤ n → After n cs
-  unfolding span_while
-  after_blanks n [] q k = (n, k, refl)
-  after_blanks zero (c ∷ cs) q k = absurd (omega (arith, k))
-  after_blanks (suc n) (c ∷ cs) q k = go (is_white c.byte) refl (after_blanks n cs q.1 (omega (arith, k)))
-    where
-      go : (t : Bool) → is_white c.byte ≡ t → After n cs → After (suc n) (c ∷ cs)
-      go true e a =
-          let left : blanks (c ∷ cs) ≡ blanks cs = ap (λ (y : Span). y.rest) (while_go is_white c cs e) in
-          (a.0, omega (arith, a.1, ap length left), rw left (a.2 ∙ sym (white_turn (suc n) c cs q.0 e)))
-      go false e a =
-          let left : blanks (c ∷ cs) ≡ c ∷ cs = ap (λ (y : Span). y.rest) (while_stop is_white c cs e) in
-          (suc n, omega (arith, k, ap length left), rw left refl)
+  after_blanks : (n : ℕ) {cs ds : List Ch} → Blanks cs ds → length cs ≤ n
+      → (m : ℕ) × (length ds ≤ m) × (Z.tokenize_from most (suc m) ds ts es ≡ Z.tokenize_from most (suc n) cs ts es)
+  after_blanks n none k = (n, k, refl)
+  after_blanks zero (one w b) k = absurd (omega (arith, k))
+  after_blanks (suc n) (one {c} {cs} w b) k =
+      let a = after_blanks n b (omega (arith, k)) in (a.0, a.1, a.2 ∙ sym (white_turn (suc n) c cs w))
 
 -- ---- the code's loop
 
@@ -169,14 +158,14 @@ module _ {most : ℕ} {s T₀ E₀ X₀ T E X : List ℕ} {f : State} (q : Loopi
         };
       }
 
-  -- the cursor goes on to the first character that is no white space
-  pub loop_blanks : {c : Cursor} → Passed s f.cursor (blanks (rest s f.cursor)) c
-      → Looping most s T₀ E₀ X₀ T E X (at_cursor f c)
-  loop_blanks {c} p =
+  -- the cursor goes on after white space
+  pub loop_blanks : {c : Cursor} → Skipped s f.cursor c → Looping most s T₀ E₀ X₀ T E X (at_cursor f c)
+  loop_blanks {c} z =
       let h = q.holds in
       let few = q.ready.few in
+      let p = z.passed in
       let a = after_blanks most q.ts q.es (omega (arith, h.errors, few.errors)) (omega (arith, h.tokens, few.tokens))
-      q.n (rest s f.cursor) (stands_coded q.ready.asks.stands) q.enough in
+      q.n z.blanks q.enough in
       record {
         ready =
             record {
@@ -197,8 +186,8 @@ module _ {most : ℕ} {s T₀ E₀ X₀ T E X : List ℕ} {f : State} (q : Loopi
         es = q.es;
         holds = record { toks = h.toks; errs = h.errs; text = h.text; tokens = h.tokens; errors = h.errors; bytes = h.bytes };
         n = a.0;
-        enough = omega (arith, a.1, ap length p.is);
-        is = ap (λ (cs : List Ch). Z.tokenize_from most (suc a.0) cs q.ts q.es) p.is ∙ a.2 ∙ q.is;
+        enough = a.1;
+        is = a.2 ∙ q.is;
       }
 
   module _ (h : f.cursor.at < length s) where

@@ -1,6 +1,5 @@
 -- The records of Run, stated over the parameters of the functions. Assumes nothing.
-use Rattle.std.specs.Prelude.{◌≡◌, false, Result, ℕ, ◌*◌, ◌<◌, ◌≤◌, length, get_or}
-use Rattle.definition.specs.Classes.{is_white}
+use Rattle.std.specs.Prelude.{◌≡◌, Result, ℕ, ◌*◌, ◌<◌, ◌≤◌, length, get_or}
 use Rattle.definition.specs.Slices.{Slice, MutSlice, Lent, MutLent, at_entry, old, new}
 use Rattle.definition.specs.declared.refusal.Refusal.{Refusal}
 use Rattle.source.specs.Place.{Stands, rest, origin}
@@ -8,11 +7,11 @@ use Rattle.token_records.specs.declared.State.{State}
 use Rattle.turns.specs.Turn.{Ready}
 use Rattle.tokenizer.specs.Run as R
 
--- what a turn requires: at the cursor is a character, and no white space
+-- what a turn requires: at the cursor is a character, and no newline
 abbrev pub TurnAsks : ℕ → Slice → State → MutSlice → MutSlice → MutSlice → Type 0
 TurnAsks most s st tokens errors text =
     Ready most s.now tokens.now text.now st st.cursor × (st.cursor.at < length s.now)
-    × (is_white (get_or s.now st.cursor.at 0) ≡ false) × (1024 ≤ length errors.now)
+    × (get_or s.now st.cursor.at 0 ≡ 10 → ⊥) × (1024 ≤ length errors.now)
 
 abbrev pub Taken : ℕ → Lent → State → MutLent → MutLent → MutLent → Result State Refusal → Type 0
 Taken most s st tokens errors text r =

@@ -6,21 +6,21 @@ ghost use Rattle.definition.specs.Operations as O;
 ghost use Rattle.tokenizer.specs.Run.{answer};
 ghost use Rattle.tokenizer.specs.Contract.{TurnAsks, Taken, RunAsks, Ran};
 
-use classes::character::{Class, is_foreign};
+use classes::character::Class;
 use classes::class;
 use definition::limit;
 use definition::refusal::Refusal;
 use definition::token_error::TokenError;
-use scan::{Scan, comment, look, skip, white};
+use scan::{Scan, blanks, comment, look, skip};
 use slices::fill_from;
-use source::{Cursor, admitted, step_along};
+use source::{Cursor, admitted, code, step_along};
 use token_records::State;
 use turns::{Turn, dash_turn, integer_turn, plain, string_turn, with_error, word_turn, zero_turn};
 
 // ---- the loop
 
-// One turn of the loop, at a character that is no white space: dispatches on its class. So no newline is there, and a
-// character that is not foreign has one byte. What it asks is no invariant for the reasons that are beside `turns::Turn`.
+// One turn of the loop, at a character that is no newline: dispatches on its class. What it asks is no invariant for the
+// reasons that are beside `turns::Turn`.
 fn turn(
     most: usize,
     s: &[u8],
@@ -32,16 +32,12 @@ fn turn(
     requires { TurnAsks most s st tokens errors text }
     ensures { Taken most s st tokens errors text result }
 {
-    let from = st.cursor;
-    let b = s[from.at];
-    if is_foreign(b) {
-        return Err(Refusal::ForeignCharacter);
-    }
-    let c = step_along(s, from);
+    let n = code(s, st.cursor)?;
+    let c = step_along(s, st.cursor);
     let next = look(s, c);
     let turn = Turn { s, most, st, c };
-    match class(b, next) {
-        Class::Foreign | Class::White => unreachable!(),
+    match class(n, next) {
+        Class::White => Ok(State { cursor: c, ..st }),
         Class::Comment => Ok(State {
             cursor: comment(s, skip(s, c)),
             ..st
@@ -55,10 +51,10 @@ fn turn(
         }
         Class::Symbol(kind) => plain(turn, kind, tokens),
         Class::Quote => string_turn(turn, tokens, errors, text),
-        Class::Word => word_turn(turn, b, tokens, errors, text),
+        Class::Word => word_turn(turn, tokens, errors, text),
         Class::Dash => dash_turn(turn, tokens, text),
         Class::Zero => zero_turn(turn, tokens, text),
-        Class::Digit => integer_turn(turn, Some(b), 10, tokens, text),
+        Class::Digit => integer_turn(turn, Some(n), 10, tokens, text),
         Class::Unknown => {
             let end = Scan {
                 cursor: c,
@@ -69,7 +65,7 @@ fn turn(
     }
 }
 
-// The tokenizer's loop: white space and a turn, until the end or a refusal. Does not clear the slices after the records.
+// The tokenizer's loop: blanks and a turn, until the end or a refusal. Does not clear the slices after the records.
 // Each turn moves the cursor over as many characters as it reads, so no iterator gives its steps. The reason for `most`:
 // docs/DECISIONS.md (The limit of tokens is an argument).
 pub fn run(
@@ -89,7 +85,7 @@ pub fn run(
         text: 0,
     };
     loop {
-        st.cursor = white(s, st.cursor);
+        st.cursor = blanks(s, st.cursor);
         if s.len() <= st.cursor.at {
             return Ok(st);
         }

@@ -1,12 +1,13 @@
 -- What a turn requires and ensures: the records of Turn, stated over its parameters, with slices as they are now, or
 -- at entry and at exit. First the turn of the definition, then the parameters in order. Assumes nothing.
-use Rattle.std.specs.Prelude.{List, ℕ, ◌-◌, Result}
+use Rattle.std.specs.Prelude.{List, ◌∷◌, ℕ, ◌-◌, ◌<◌, length, Result}
 use Rattle.definition.specs.Slices.{MutSlice, MutLent, old, new}
 use Rattle.definition.specs.Source.{Place, Ch}
 use Rattle.definition.specs.Tokenizer as Z
 use Rattle.definition.specs.declared.refusal.Refusal.{Refusal}
 use Rattle.scan.specs.declared.Scan.{Scan}
-use Rattle.source.specs.Place.{placed, rest}
+use Rattle.scan.specs.Scan.{Asks}
+use Rattle.source.specs.Place.{Stepped, placed, rest, char}
 use Rattle.token_records.specs.declared.State.{State}
 use Rattle.token_records.specs.Contract.{TokenPushed}
 use Rattle.turns.specs.Turn as T
@@ -14,6 +15,14 @@ use Rattle.turns.specs.declared.Turn.{Turn}
 
 abbrev pub Ready : Turn → MutSlice → MutSlice → Type 0
 Ready t tokens text = T.Ready t.most t.s.now tokens.now text.now t.st t.c
+
+-- the first character of the turn has been consumed, and there is room for its bytes
+abbrev pub Begun : Turn → MutSlice → Type 0
+Begun t text = Asks t.s.now t.st.cursor text.now t.st.text × (t.st.cursor.at < length t.s.now) × Stepped t.s.now t.st.cursor t.c
+
+-- its bytes
+abbrev pub first : Turn → List ℕ
+first t = let c = char t.s.now t.st.cursor in c.byte ∷ c.more
 
 -- a token without text is pushed, at the end of the turn
 abbrev pub Plain : ℕ → Turn → MutLent → Result State Refusal → Type 0

@@ -8,15 +8,18 @@ ghost use Rattle.definition.specs.Numbers.{kind_number, token_error_number};
 ghost use Rattle.source.specs.Place.{placed};
 ghost use Rattle.token_records.specs.Contract.{ErrorsPushed};
 ghost use Rattle.turns.specs.Turn.{at_text, Few};
-ghost use Rattle.turns.specs.Contract.{Ready, Plain, WithText, Turned, TurnedClean};
+ghost use Rattle.turns.specs.Contract.{Ready, Begun, first, Plain, WithText, Turned, TurnedClean};
 
-use classes::character::{is_digit, is_foreign};
+use classes::character::is_digit;
 use classes::spelling::keyword;
 use definition::kind::Kind;
 use definition::place::Place;
 use definition::refusal::Refusal;
 use definition::token_error::TokenError;
-use scan::{Scan, assembly, digits, look, quoted, skip, white, word};
+use scan::{
+    Scan, assembly, digits, is_wide, known, look, put_char, quoted, skip, white, wide_word,
+    word_bytes,
+};
 use slices::put;
 use source::{Cursor, step};
 use token_records::{State, Token, push_errors, push_token};
@@ -170,21 +173,17 @@ fn asm_turn(
 {
     let Turn { s, st, c, .. } = turn;
     let w = white(s, c);
+    known(s, w)?;
     let d = skip(s, w);
-    match look(s, w) {
-        Some(b'{') => {
-            let end = assembly(s, d, text, st.text);
-            with_text(turn, end, Kind::InlineAssemblyFragment, 0, tokens)
-        }
-        Some(b) if is_foreign(b) => Err(Refusal::ForeignCharacter),
-        _ => {
-            let end = Scan {
-                cursor: d,
-                n: st.text,
-            };
-            with_error(st, end, TokenError::NoAssembly, errors)
-        }
-    }
+    let Some(b'{') = look(s, w) else {
+        let end = Scan {
+            cursor: d,
+            n: st.text,
+        };
+        return with_error(st, end, TokenError::NoAssembly, errors);
+    };
+    let end = assembly(s, d, text, st.text);
+    with_text(turn, end, Kind::InlineAssemblyFragment, 0, tokens)
 }
 
 const ASSEMBLY: &[u8] = b"asm";
@@ -192,20 +191,20 @@ const ASSEMBLY: &[u8] = b"asm";
 // A word after its first letter: inline assembly, a keyword or an identifier.
 pub fn word_turn(
     turn: Turn,
-    first: u8,
     tokens: &mut [u32],
     errors: &mut [u32],
     text: &mut [u8],
 ) -> Result<State, Refusal>
-    requires { Ready turn tokens text × (turn.st.text < turn.c.at) × (1024 ≤ length errors.old) }
-    ensures { Turned (λ p cs. Z.word_turn p (Z.run_ahead (first ∷ []) (Z.word cs)))
+    requires { Ready turn tokens text × Begun turn text × (1024 ≤ length errors.old) }
+    ensures { Turned (λ p cs. Z.word_turn p (Z.run_ahead (first turn.entry) (Z.word cs)))
         turn.entry tokens errors text result }
 {
     let Turn { s, st, c, .. } = turn;
-    let n = put(text, st.text, first);
-    let end = word(s, c, text, n);
-    if look(s, end.cursor).is_some_and(is_foreign) {
-        return Err(Refusal::ForeignCharacter);
+    let n = put_char(s, st.cursor, c, text, st.text);
+    let mut end = word_bytes(s, c, text, n);
+    if is_wide(s, end.cursor.at) {
+        end = wide_word(s, end.cursor, text, end.n);
+        known(s, end.cursor)?;
     }
     let spelled = &text[st.text..end.n];
     let after = Turn {

@@ -1,17 +1,24 @@
 use mathlib.Core.Path.{sym, ◌∙◌}
-use Rattle.scan.proofs.Laws.{passing_more, passing_out, passing_stop}
+use Rattle.scan.proofs.Runs.{white_told, skipped_none, skipped_more, skipped_end, skipped_stop}
 use Rattle.scan.proofs.white.Goals as goal
 
-pub loop-c-preserved : goal.loop-c-preserved
-loop-c-preserved c = (
-  record { stands = c.step-c.ensures.stands; small = c.loop-c.invariant.0.small },
-  passing_more c.loop-c.invariant.1 c.step-c.ensures (sym c.is_white.ensures ∙ c.if-is_white.true),
-)
+pub loop-c-init : goal.loop-c-init
+loop-c-init c = skipped_none c.requires.stands
 
-pub returns-else-is_white : goal.returns-else-is_white
-returns-else-is_white c =
-    passing_stop c.loop-c.invariant.1 c.loop-c.invariant.0.stands c.loop-c-test.true
-    (sym c.is_white.ensures ∙ c.if-is_white.false)
+pub code-requires : goal.code-requires
+code-requires c = (c.loop-c.invariant.passed.stands, c.loop-c-test.true, c.requires.small)
+
+pub step-c-requires : goal.step-c-requires
+step-c-requires c = (c.loop-c.invariant.passed.stands, c.loop-c-test.true, c.requires.small)
+
+pub loop-c-preserved : goal.loop-c-preserved
+loop-c-preserved c =
+    skipped_more c.loop-c.invariant (sym (white_told c.args.s.now c.loop-c.c _ c.code.ensures c.is_ok_and.ensures) ∙ c.if-is_ok_and.true) c.step-c.ensures
+
+pub returns-else-is_ok_and : goal.returns-else-is_ok_and
+returns-else-is_ok_and c =
+    let w = white_told c.args.s.now c.loop-c.c _ c.code.ensures c.is_ok_and.ensures in
+    skipped_stop c.loop-c.invariant c.loop-c-test.true (sym w ∙ c.if-is_ok_and.false)
 
 pub returns-after-loop-c : goal.returns-after-loop-c
-returns-after-loop-c c = passing_out c.loop-c.invariant.1 c.loop-c.invariant.0.stands c.loop-c-test.false
+returns-after-loop-c c = skipped_end c.loop-c.invariant c.loop-c-test.false
