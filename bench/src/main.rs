@@ -7,8 +7,9 @@
 //! (349,520 bytes in all). `load us` is its time where the slice is used again, `first us` where it was full of other
 //! words. The line after the table is the time of a fill of that whole slice.
 //!
-//! The last lines are the time of tokenizing the page, beside the Rust's `tokenize`. Where the program is linked with
-//! another version of the library (`cfg(before)`), they have its times too, taken in turn with ours.
+//! The last lines are the time of tokenizing the page and the page of French names, beside the Rust's `tokenize`. Where
+//! the program is linked with another version of the library (`cfg(before)`), they have its times too, taken in turn
+//! with ours; a version that refuses the page is left out.
 
 use plain::parser::Parser;
 use plain::source::SourceInputType;
@@ -161,12 +162,14 @@ const REFUSED: &str = "\u{20ac}";
 /// that on the character alone. Both clear all slices, and neither parses anything.
 fn tokenizing(name: &str, script: &str) {
     let refused = script.to_owned() + REFUSED;
-    let mut files = vec![vec![0; FILE]; VERSIONS.len() * 2];
+    let reads = |version: &&(&str, Read)| read(version.1, script, &mut vec![0; FILE]).0 == 0;
+    let versions: Vec<_> = VERSIONS.iter().filter(reads).collect();
+    let mut files = vec![vec![0; FILE]; versions.len() * 2];
     let mut calls: Vec<Box<dyn FnMut()>> = vec![Box::new(|| {
         black_box(tokenize(black_box(script), SourceInputType::buffer()));
     })];
     for (index, file) in files.iter_mut().enumerate() {
-        let with = VERSIONS[index / 2].1;
+        let with = versions[index / 2].1;
         let script = [&refused, REFUSED][index % 2];
         assert_eq!(read(with, script, file), (4, 0), "{name}: the character is refused");
         calls.push(Box::new(move || {
@@ -175,32 +178,42 @@ fn tokenizing(name: &str, script: &str) {
     }
     let times = medians(&mut calls);
     print!("tokenizing {name}: Rust {:.1} us", times[0] / 1e3);
-    for ((version, _), times) in VERSIONS.iter().zip(times[1..].chunks(2)) {
+    for ((version, _), times) in versions.into_iter().zip(times[1..].chunks(2)) {
         print!(", {version} {:.1} us", (times[0] - times[1]) / 1e3);
     }
     println!();
 }
 
-/// A script by a pattern, of so many tokens: functions of five statements.
-fn page(tokens: usize) -> String {
-    let mut script = String::new();
-    let mut count = 0;
-    let mut number = 0;
-    while count + 60 <= tokens {
-        script += &format!(
-            "// places the caption below the plate {number}, between the rules, as wide as the margins of the page leave room for\n\
-             fn place_caption_{number}(width_of_plate: Width, left_margin: Width) -> Width {{\n\
-             \x20   var caption_width: Width = width_of_plate - left_margin; // what is left of it\n\
-             \x20   while caption_width > {number} && !(measured_again == false) {{\n\
-             \x20       caption_width = caption_width - measures[{number}].width_between_rules;\n\
-             \x20   }}\n\
-             \x20   return centre(caption_width, left_margin + gutter_of_the_page * 12);\n\
-             }}\n\n"
-        );
-        count += 60;
-        number += 1;
-    }
-    script
+/// Functions of sixty tokens by a pattern, as many as so many tokens allow.
+fn page(tokens: usize, function: fn(usize) -> String) -> String {
+    (0..tokens / 60).map(function).collect()
+}
+
+fn english(number: usize) -> String {
+    format!(
+        "// places the caption below the plate {number}, between the rules, as wide as the margins of the page leave room for\n\
+         fn place_caption_{number}(width_of_plate: Width, left_margin: Width) -> Width {{\n\
+         \x20   var caption_width: Width = width_of_plate - left_margin; // what is left of it\n\
+         \x20   while caption_width > {number} && !(measured_again == false) {{\n\
+         \x20       caption_width = caption_width - measures[{number}].width_between_rules;\n\
+         \x20   }}\n\
+         \x20   return centre(caption_width, left_margin + gutter_of_the_page * 12);\n\
+         }}\n\n"
+    )
+}
+
+/// The same with French names: of each some letters have two bytes.
+fn french(number: usize) -> String {
+    format!(
+        "// place la légende sous la planche {number}, entre les filets, aussi large que le papier l'a prévu\n\
+         fn légende_{number}(côté_gravé: Pièce, marge_reliée: Pièce) -> Pièce {{\n\
+         \x20   var légende_à_côté: Pièce = côté_gravé - marge_reliée; // où elle finit\n\
+         \x20   while légende_à_côté > {number} && !(déjà_mesurée == false) {{\n\
+         \x20       légende_à_côté = légende_à_côté - siècles[{number}].où_il_était;\n\
+         \x20   }}\n\
+         \x20   return centrée(légende_à_côté, marge_reliée + gouttière * 12);\n\
+         }}\n\n"
+    )
 }
 
 fn main() {
@@ -209,14 +222,16 @@ fn main() {
         "script", "bytes", "tokens", "ours us", "Rust us", "ratio", "file", "steps", "load us", "load/ours", "first us"
     );
     for (name, tokens) in [("page", 2000), ("half a page", 1000), ("quarter page", 500)] {
-        compare(name, &page(tokens));
+        compare(name, &page(tokens, english));
     }
+    compare("French page", &page(2000, french));
     compare("95 stars", &format!("var p: {}T;", "*".repeat(95)));
     for count in [125, 250, 500, 1000] {
         compare(&format!("{count} operators"), &format!("fn f(){{{}a;}}", "a+".repeat(count)));
     }
     clearing();
     for _ in 0..3 {
-        tokenizing("the page", &page(2000));
+        tokenizing("the page", &page(2000, english));
+        tokenizing("the French page", &page(2000, french));
     }
 }

@@ -1,14 +1,16 @@
 //! The named classes of scripts: NAME, NAME:COUNT or NAME:COUNT:SEED.
 
 use crate::random::Random;
-use crate::{corpus, damage, fixed, grammar, stored_files, texts};
+use crate::{corpus, damage, fixed, grammar, latin, stored_files, texts};
 
 const NAMES: &str = "valid damaged soup bytes utf8 boundary limit-length limit-places limit-tokens limit-errors \
-                     limit-entries limit-nesting limit-sizes limit-counts paper constructs tests sequences short texts";
+                     limit-entries limit-nesting limit-sizes limit-counts paper constructs tests sequences short pieces \
+                     latin texts";
 
 /// What `coverage` runs, and any command that is given no class.
-pub const DEFAULT: [&str; 9] = [
-    "paper", "constructs", "boundary", "utf8", "sequences:2", "valid:5000", "damaged:20000", "soup:20000", "bytes:5000",
+pub const DEFAULT: [&str; 11] = [
+    "paper", "constructs", "boundary", "utf8", "latin", "sequences:2", "pieces:3", "valid:5000", "damaged:20000",
+    "soup:20000", "bytes:5000",
 ];
 
 pub struct Class {
@@ -43,6 +45,7 @@ fn class(word: &str, names: &str) -> Result<Class, String> {
     }
     let standard = match name.as_str() {
         "sequences" | "short" => 2,
+        "pieces" => 3,
         "utf8" => 128,
         _ => 1000,
     };
@@ -71,6 +74,8 @@ pub fn scripts(class: &Class, each: &mut dyn FnMut(&[u8])) {
         "utf8" => return damage::utf8(class.count, each),
         "sequences" => return damage::sequences(class.count, each),
         "short" => return damage::short(class.count, each),
+        "pieces" => return damage::pieces(class.count, each),
+        "latin" => return latin::scripts(class.count, each),
         "valid" => valid,
         "damaged" => damage::damaged,
         "soup" => damage::soup,

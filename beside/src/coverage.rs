@@ -75,6 +75,8 @@ const REFUSAL: &str = "refusals of the whole operation (3 and 8 are of slices)";
 pub const NUMBER: &str = "numbers";
 const SLICE: &str = "output slices";
 const TOKEN_ERROR: &str = "token errors (62)";
+const BEGINS: &str = "letters above 127 that begin a word";
+const CONTINUES: &str = "characters above 127 in a word";
 const REPORTED: &str = "reported errors (60)";
 const FULL: &str = "full list (61)";
 const EXPECTED: &str = "expected kinds";
@@ -143,12 +145,22 @@ fn found_in_case(case: &Case) -> Vec<(&'static str, u32)> {
     }
     match given {
         Given::Tokenise { .. } => {
-            found.extend(exit.words[0].chunks(8).take(exit.counts[0]).map(|token| (KIND, token[0])));
+            let tokens = exit.words[0].chunks(8).take(exit.counts[0]);
+            found.extend(tokens.clone().map(|token| (KIND, token[0])));
+            tokens.filter(|token| token[0] == 1).for_each(|token| in_word(token, &exit.bytes, &mut found));
             found.extend(exit.words[1].chunks(4).take(exit.counts[1]).map(|error| (TOKEN_ERROR, error[0])));
         }
         _ => in_file(&exit.bytes[..exit.counts[0]], &mut found),
     }
     found
+}
+
+/// The characters above 127 of a word.
+fn in_word(token: &[u32], text: &[u8], found: &mut Vec<(&'static str, u32)>) {
+    let word = std::str::from_utf8(&text[token[3] as usize..][..token[4] as usize]).unwrap();
+    for (at, character) in word.char_indices().filter(|(_, character)| !character.is_ascii()) {
+        found.push((if at == 0 { BEGINS } else { CONTINUES }, character as u32));
+    }
 }
 
 fn print_list(sort: &str, met: &Met) -> bool {
@@ -169,6 +181,8 @@ fn print_list(sort: &str, met: &Met) -> bool {
     .to_vec();
     if tokenise {
         complete.push(met.print(KIND, &numbers(1, 54), kind));
+        complete.push(met.print(BEGINS, &letters(), code));
+        complete.push(met.print(CONTINUES, &in_words(), code));
     } else {
         complete.push(print_files(met));
     }
@@ -204,6 +218,25 @@ fn print_files(met: &Met) -> bool {
         met.print(GOT, &numbers(0, 54), kind),
     ];
     complete.iter().all(|one| *one)
+}
+
+/// The letters from 128 to 255.
+fn letters() -> Vec<u32> {
+    [170, 181, 186].into_iter().chain((192..=255).filter(|code| ![215, 247].contains(code))).collect()
+}
+
+/// What a word may have of 128 to 255.
+pub fn in_words() -> Vec<u32> {
+    [&[178, 179, 185, 188, 189, 190], &letters()[..]].concat()
+}
+
+/// Where a token could start, the others of 128 to 255 that are no white space are unknown.
+pub fn unknown() -> Vec<u32> {
+    (128..=255).filter(|code| ![133, 160].contains(code) && !letters().contains(code)).collect()
+}
+
+pub fn code(code: u32) -> String {
+    format!("{code:02X} {:?}", char::from_u32(code).unwrap())
 }
 
 pub fn numbers(from: u32, to: u32) -> Vec<u32> {

@@ -12,9 +12,11 @@ pub const LEXEMES: [&str; 54] = [
 ];
 
 /// Lexemes that the tokenizer complains of, refuses or reads in a special way.
-const ODD: [&str; 26] = [
+const ODD: [&str; 44] = [
     "$", "?", "@", "'", "\\", "`", "%", "\u{0}", "\u{7F}", "\"", "\"\\q\"", "\"\\\\\"", "\"a\\", "asm",
     "asm x", "asm é", "é", "aé", "1é", "-é", "- ", "-x", "--", "// c\n", "//", "0b2",
+    "€", "a€", "1€", "asm €", "-€", "«", "§", "×", "a÷b", "\u{80}", "\u{100}", "²", "²x", "1²", "fné", "éas",
+    "asm\u{A0}x", "\u{85}",
 ];
 
 /// All of them, as a dictionary of libFuzzer.
@@ -68,9 +70,9 @@ fn damage_lexemes(random: &mut Random, lexemes: &mut Vec<String>) {
 }
 
 fn damage_characters(random: &mut Random, script: &mut Vec<char>) {
-    const NEW: [char; 24] = [
+    const NEW: [char; 32] = [
         ' ', '\n', '"', '\\', '-', '0', '9', 'x', 'b', '$', '{', '}', '(', ')', ';', '.', '*', '/', '<',
-        '=', 'é', '\u{85}', '\u{2028}', '\u{1F600}',
+        '=', 'é', 'ß', 'ÿ', 'ª', '²', '×', '«', '\u{80}', '\u{85}', '\u{A0}', '\u{2028}', '\u{1F600}',
     ];
     if script.is_empty() {
         return;
@@ -98,7 +100,7 @@ pub fn soup(random: &mut Random) -> Vec<u8> {
     ];
     let separators: &[&str] = match random.below(3) {
         0 => &[" "],
-        1 => &["", " ", " ", "\n", "\t"],
+        1 => &["", " ", " ", "\n", "\t", "\u{A0}"],
         _ => &["", "", "", " "],
     };
     let longest = if random.chance(10) { 150 } else { 25 };
@@ -142,8 +144,12 @@ fn ascii_or_character(random: &mut Random, script: &mut Vec<u8>) {
     }
 }
 
-/// A character above 127 or a sequence near one.
+/// A character above 127, mostly one of two bytes, or a sequence near one.
 fn piece(random: &mut Random) -> Vec<u8> {
+    if random.chance(50) {
+        let character = char::from_u32(0x80 + random.below(0xA0) as u32).unwrap();
+        return character.to_string().into_bytes();
+    }
     if random.chance(50) {
         let character = char::from_u32(random.below(0x11_0000) as u32).unwrap_or('\u{80}');
         return character.to_string().into_bytes();
@@ -207,6 +213,28 @@ fn all_of_length(count: usize, each: &mut dyn FnMut(&str)) {
             number /= LEXEMES.len();
         }
         each(&words.join(" "));
+    }
+}
+
+/// A character of each class and some that no class parts; the characters of two bytes at bounds of their classes, and
+/// bytes that are none of them by themselves.
+const PIECES: [&[u8]; 38] = [
+    b"a", b"_", b"0", b"1", b"x", b"b", b"-", b">", b"<", b"=", b"/", b"\"", b"\\", b".", b"*", b"{", b"}", b";", b"$",
+    b" ", b"\n", b"asm", b"fn", b"\xC2\x80", b"\xC2\x85", b"\xC2\xA0", b"\xC2\xAA", b"\xC2\xB2", b"\xC2\xBF",
+    b"\xC3\x80", b"\xC3\x97", b"\xC3\xBF", b"\xC4\x80", b"\xC2", b"\xC3", b"\xC4", b"\x80", b"\xBF",
+];
+
+/// All scripts of up to so many pieces.
+pub fn pieces(length: usize, each: &mut dyn FnMut(&[u8])) {
+    for count in 0..=length {
+        for mut number in 0..PIECES.len().pow(count as u32) {
+            let mut script = Vec::new();
+            for _ in 0..count {
+                script.extend(PIECES[number % PIECES.len()]);
+                number /= PIECES.len();
+            }
+            each(&script);
+        }
     }
 }
 

@@ -78,6 +78,19 @@ pub const PAPER: &[&str] = &[
     "\u{85}",
     "\u{A0}a",
     "\u{100}",
+    "€",
+    "1€",
+    "-€ a",
+    "asm €",
+    "\"€\" // €",
+    "var légende: Maß;",
+    "fn été(où: ÿ) { return x² * µ; }",
+    "²x",
+    "x×y",
+    "asm\u{A0}\u{85}{ é }",
+    "asmé {}",
+    "1é 0xé 0bé",
+    "é\n  é é;",
 ];
 
 /// Each construct of the parser, whole and with parts that are wrong or missing.
@@ -100,6 +113,70 @@ pub const CONSTRUCTS: &[&str] = &[
     "\u{7F}",
     "a\u{7F}b",
     "\"\u{80}\" \u{FF}",
+    "\u{100}a",
+    "a\u{100}",
+    "asm \u{100}",
+    "asm\u{100}{}",
+    "1\u{100}",
+    "-\u{100}",
+    "a -\u{100}\u{100}",
+    // words and white space above 127
+    "var légende:*Maß=où+x²*µ;",
+    "fn é(ª:ÿ,º:[2]Ø)->struct{ß:Þ}{return î;}",
+    "var é:struct{à:T,ç:*U}<-#{ü=1,ö=ï};",
+    "var é:T=a.ñ.*[ö](ø,õ)as Å;",
+    "distinct type Ä=Ö;internal type É=È;use \"é\";extern fn ÀÖØöøÿ();",
+    "fn f(){é=è;ê<-#[ë];loop î;while û ù();if ý á();else ã();}",
+    "var\u{A0}x\u{85}:\u{A0}\u{A0}T\u{A0};",
+    "asm\u{A0}x",
+    "asm\u{A0}",
+    "asm\u{85}\n\u{A0} {",
+    "asm×{}",
+    "asm²{}",
+    "asm ²{}",
+    "asm é{}",
+    "asm{}é;",
+    "fné f(){}",
+    "fn²",
+    "éfn",
+    "Fné VAR",
+    "fn f(){if a b;élse c;}",
+    "var é²:T;var ²é:T;",
+    "1²",
+    "-²",
+    "-1²",
+    "0x²",
+    "0bß",
+    "var x:[²]T;",
+    "é-1",
+    "é -é é",
+    "é--é",
+    "-\u{A0}é",
+    "-×é",
+    "a -²b",
+    "0xaéF 0b1é1",
+    "// a\u{85}é\n«»",
+    "->é",
+    "é->",
+    "x·y«z»",
+    "×÷",
+    "\"é\"é\"²\"",
+    "\"\\é\"é",
+    "\"é",
+    "//é\u{85}é\né",
+    "/é/×",
+    "é\n\u{A0}é\u{85}é ×\r§",
+    "ééé $ é × é",
+    "a.é.²",
+    "a.×",
+    "(é<é)",
+    "é:é,é;é=é",
+    "ªªª",
+    "_é é_ _²",
+    "é1 1é é0x1",
+    "é€",
+    "é\u{301}",
+    "×€",
     // items
     "extern fn f();",
     "extern fn f(){}",
@@ -309,6 +386,8 @@ fn script_length(each: &mut dyn FnMut(&[u8])) {
     // both too long and not UTF-8
     each(&[b"\xC3", times(" ", 16_384).as_bytes()].concat());
     each(&[b"var x:T;//\xFF", times(" ", 16_384).as_bytes()].concat());
+    each(times("é", 8_192).as_bytes());
+    each(format!("{}€", times(" ", 16_381)).as_bytes());
     for length in [16_384, 16_385] {
         each(format!("var x:T;//{}", times("c", length - 10)).as_bytes());
         each(format!("use \"{}\";", times("s", length - 7)).as_bytes());
@@ -323,6 +402,7 @@ fn places(each: &mut dyn FnMut(&[u8])) {
     each(format!("{}a", times("\n", 16_383)).as_bytes());
     each(format!("{}a", times(" ", 16_383)).as_bytes());
     each(format!("//{}\n-\na \"{}\" $", times("é", 300), times("é", 300)).as_bytes());
+    each(format!("{} a {} × b", times("é", 300), times("\u{A0}", 300)).as_bytes());
     for count in [254, 255, 256, 257] {
         each(format!("{}{}a", times("\n", count), times(" ", count)).as_bytes());
         each(format!("use \"{}\";", times("s", count)).as_bytes());
@@ -349,6 +429,7 @@ fn token_count(each: &mut dyn FnMut(&[u8])) {
     for last in [
         "-", "aé", "asm é", "1é", "+é", "\"é\"", "- ", "->", "", " ", "é", "$", "asm", "\"", "\"\\q\"", "\"a",
         "//", "//é", "/", "a", "1", "\"\"", "asm{", "-1", "<<", ".*", "-é", "fn", "asm x", "0x",
+        "€", "a€", "é€", "1€", "+€", "asm €", "asm\u{A0}{", "-€", "\u{A0}", "\u{A0}é", "×", "×é", "×€", "é×",
     ] {
         each(format!("{full}{last}").as_bytes());
     }
@@ -360,16 +441,18 @@ fn token_errors(each: &mut dyn FnMut(&[u8])) {
         each(format!("use \"{}\";", times("\\q", count)).as_bytes());
         each(format!("use \"{}", times("\\q", count - 1)).as_bytes());
         each(format!("{}var x:T;", times("asm x ", count)).as_bytes());
+        each(format!("{}var x:T;", times("×", count)).as_bytes());
     }
     let full = times("$", 255);
     for last in [
         "é", "asm é", "-", "asm", "$", "\"\\é\"", "\"", "\"\\", "\"\\n\"", "asm x", "asm{", "a", "aé", "\"\\q", "-é",
+        "€", "a€", "×", "²", "é×", "asm €", "asm×", "\u{85}×", "\u{80}", "\u{FF}",
     ] {
         each(format!("{full}{last}").as_bytes());
     }
     // both limits at once
     let tokens = format!("asm{{}}{}", times(";", 2_047));
-    for last in ["\"\\q\"", "$", ";", "-", "é", "\"\\q", "\""] {
+    for last in ["\"\\q\"", "$", ";", "-", "é", "\"\\q", "\"", "×", "€", "é€"] {
         each(format!("{full}{tokens}{last}").as_bytes());
     }
 }

@@ -1,8 +1,13 @@
 //! The entry of libFuzzer: each input is a script, given to the library and to the Rust.
 
+// parts of these files are for other commands
+#![allow(dead_code)]
+
 mod ask;
 mod linked;
+mod random;
 mod show;
+mod tree_files;
 
 use formats::FILE_SIZE;
 use std::sync::Once;

@@ -2,9 +2,9 @@
 
 use crate::random::Random;
 
-pub const NAMES: [&str; 20] = [
+pub const NAMES: [&str; 28] = [
     "a", "b", "c", "x", "y", "T", "u16", "_", "_x", "A9", "width", "centre", "f1", "fns", "asm_",
-    "asmx", "var1", "types", "use_", "Z_z0",
+    "asmx", "var1", "types", "use_", "Z_z0", "légende", "Maß", "où", "ÿ", "µ", "ª", "x²", "asmé",
 ];
 
 pub const NUMBERS: [&str; 20] = [
@@ -20,7 +20,9 @@ pub const STRINGS: [&str; 10] = [
     "\"\u{1F600}\"", "\"fn\"",
 ];
 
-const ASSEMBLIES: [&str; 6] = ["asm{}", "asm { mov a, b }", "asm\n{x\ny}", "asm{é}", "asm\t{\"}", "asm{{}"];
+const ASSEMBLIES: [&str; 8] = [
+    "asm{}", "asm { mov a, b }", "asm\n{x\ny}", "asm{é}", "asm\t{\"}", "asm{{}", "asm\u{A0}{x}", "asm \u{85}{ × }",
+];
 
 /// The levels of binary operators with the loosest first; a Minus swallows the space.
 const LEVELS: [&[&str]; 6] = [&["|"], &["^"], &["&"], &["<<", ">>"], &["+", "- "], &["*"]];
@@ -350,8 +352,8 @@ fn may_touch(before: &str, after: &str) -> bool {
     let first = after.chars().next().unwrap_or(' ');
     "(){}[];,:~!|^+#\" ".contains(last)
         || "(){}[];,:\"|^+ ".contains(first)
-        || (before == "." && first.is_ascii_alphabetic())
-        || (first == '.' && last.is_ascii_alphanumeric())
+        || (before == "." && first.is_alphabetic())
+        || (first == '.' && last.is_alphanumeric())
 }
 
 /// The lexemes as a script, with spaces, newlines and comments between them.
@@ -372,7 +374,9 @@ fn gap(random: &mut Random, before: &str, after: &str) -> &'static str {
         1 => "\t \r\n",
         2 => " // a note, é\n",
         3 => "\u{B}\u{C}",
-        4..=12 => " ",
+        4 => "\u{A0}",
+        5 => "\u{85}\u{A0}",
+        6..=12 => " ",
         _ if may_touch(before, after) => "",
         _ => " ",
     }

@@ -2,6 +2,7 @@
 
 mod altered;
 mod ask;
+mod characters;
 mod claims;
 mod classes;
 mod compare;
@@ -12,6 +13,7 @@ mod facts;
 mod file_damage;
 mod fixed;
 mod grammar;
+mod latin;
 #[cfg(library)]
 mod linked;
 #[cfg(library)]
@@ -41,6 +43,7 @@ use std::io::{self, Read, Write};
 const USAGE: &str = "usage: beside coverage CLASS..
        beside coverage lists
        beside claims CLASS..
+       beside characters
        beside program PROGRAM CLASS..
        beside lib CLASS..
        beside sentences CLASS..
@@ -76,6 +79,7 @@ fn run() -> Result<bool, String> {
         ["coverage", "lists"] => coverage::lists(),
         ["coverage", ..] => Ok(coverage::run(&classes::parse(&words[1..])?)),
         ["claims", ..] => Ok(claims::run(&classes::parse(&words[1..])?)),
+        ["characters"] => Ok(characters::run()),
         ["program", program, ..] => Ok(compare::program(program, &classes::parse(&words[2..])?)),
         ["lib", ..] => Ok(compare::library(&classes::parse(&words[1..])?)),
         ["sentences", ..] => Ok(compare::sentences(&classes::parse(&words[1..])?)),

@@ -84,7 +84,7 @@ pub trait Met {
 
 impl Met for char {
     fn met(&self) -> char {
-        if *self as u32 > 127 {
+        if *self as u32 > 255 {
             refuse(4);
         }
         *self

@@ -69,10 +69,11 @@ impl Cases<'_> {
 /// The cases that are written out here.
 pub fn made(each: &mut dyn FnMut(&str, Given)) {
     type Part = fn(&mut Cases);
-    let parts: [(&'static str, Part); 9] = [
+    let parts: [(&'static str, Part); 10] = [
         ("kinds", kinds),
         ("ends", ends),
         ("characters", characters),
+        ("names", names),
         ("texts", quoted),
         ("token errors", token_errors),
         ("positions", positions),
@@ -114,7 +115,7 @@ fn openings() -> impl Iterator<Item = &'static str> {
 
 /// Each kind after each opening, and some with other texts.
 fn kinds(cases: &mut Cases) {
-    const TEXTS: [&str; 9] = ["_a9", "007", "0x", "0xAb", "0b10", "-12", "\"\"", "asm{ a }", "asm {"];
+    const TEXTS: [&str; 10] = ["_a9", "007", "0x", "0xAb", "0b10", "-12", "\"\"", "asm{ a }", "asm {", "légende"];
     for opening in openings() {
         for lexeme in damage::LEXEMES.iter().chain(&TEXTS) {
             // a Minus swallows the blank; `type` and `use` need a token after them
@@ -157,6 +158,21 @@ fn characters(cases: &mut Cases) {
     }
 }
 
+/// Each letter above 127 at the start of a name, and each character above 127 that a name may have in it.
+fn names(cases: &mut Cases) {
+    for character in ('\u{80}'..='\u{FF}').filter(|c| c.is_alphanumeric()) {
+        if character.is_alphabetic() {
+            cases.first(&character.to_string());
+        }
+        cases.first(&format!("x{character}0 a"));
+    }
+    for name in ["légende", "Maß", "é\u{A0}é", "ÿÿ×", "×é", "_ª", "x²y³", "fné", "asmé{", "é\né"] {
+        for opening in ["", "extern ", "var x:[", "type T ", "fn f(a:T ", "var x:T<-#", "é ", "\"é\"-×"] {
+            cases.first(&format!("{opening}{name} "));
+        }
+    }
+}
+
 /// Texts that a sentence could confuse with another.
 fn quoted(cases: &mut Cases) {
     let texts = [
@@ -194,13 +210,17 @@ fn token_errors(cases: &mut Cases) {
     for script in scripts {
         cases.all(script);
     }
-    for character in (0..=127_u8).filter(|byte| !(*byte as char).is_whitespace()) {
-        let script = [&[character], &b" a"[..]].concat();
-        if !ask::answer(&script).sentences.token_errors.is_empty() {
-            cases.exact(&script, TOKEN_ERRORS, 0, 0);
-            cases.exact(&script, TOKEN_ERRORS, 0, -1);
-            cases.exact(&script, TOKEN_ERRORS, 0, 3);
+    for character in ('\0'..='\u{FF}').filter(|character| !character.is_whitespace()) {
+        let script = format!("{character} a");
+        let script = script.as_bytes();
+        if !ask::answer(script).sentences.token_errors.is_empty() {
+            cases.exact(script, TOKEN_ERRORS, 0, 0);
+            cases.exact(script, TOKEN_ERRORS, 0, -1);
+            cases.exact(script, TOKEN_ERRORS, 0, 3);
         }
+    }
+    for script in ["é×é²³ «a»", "asm × a", "asm é ×", "\"é\\é×\" ÷", "-××", "1² 0x×", "\"×"] {
+        cases.all(script);
     }
 }
 
@@ -256,7 +276,7 @@ fn slices(cases: &mut Cases) {
 /// Each refusal, before the list, the position and the slice are looked at.
 fn refusals(cases: &mut Cases) {
     let mut scripts: Vec<Vec<u8>> =
-        ["é", "a é", "$é", "-", "a -", "", "$", "// a", "type", "use", "var x:T=a.", "+ type", "$ + use"]
+        ["€", "a €", "$€", "-", "a -", "", "$", "// a", "type", "use", "var x:T=a.", "+ type", "$ + use"]
             .map(|script| script.as_bytes().to_vec())
             .to_vec();
     scripts.push(b"\xC3".to_vec());
@@ -300,6 +320,8 @@ fn limits(cases: &mut Cases) {
     cases.first(&format!("//{}\nasm{{a}}\"a\"", "é".repeat(300)));
     cases.exact(format!("{}a", " ".repeat(SCRIPT_LIMIT - 1)).as_bytes(), FULL, 0, 0);
     cases.exact("a".repeat(SCRIPT_LIMIT).as_bytes(), REPORTED, 0, 0);
+    cases.exact("é".repeat(SCRIPT_LIMIT / 2).as_bytes(), FULL, 0, 0);
+    cases.exact(format!("{} ×", "é".repeat(300)).as_bytes(), TOKEN_ERRORS, 0, 0);
     cases.first(&format!("\"{}\"", "\u{FFFF}".repeat(500)));
     cases.first(&format!("\"{}\"", "\u{10FFFF}".repeat(500)));
     cases.first(&format!("var x:asm{{{}}}", "\\".repeat(1_000)));

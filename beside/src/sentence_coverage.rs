@@ -1,7 +1,7 @@
 //! Which errors, kinds, characters and slices the list of sentences meets.
 
 use crate::ask;
-use crate::coverage::{kind, numbers, plain, Met, EXPECTED_KINDS, NUMBER};
+use crate::coverage::{self, code, kind, numbers, plain, Met, EXPECTED_KINDS, NUMBER};
 use crate::lists::Case;
 use crate::sentence_cases::{entries, LISTS};
 use formats::{Given, FULL, REPORTED, TOKEN_ERRORS};
@@ -14,6 +14,7 @@ const EXPECTED_AT_END: &str = "expected kinds in sentences at the end";
 const GOT: &str = "numbers and kinds met in them";
 const CHARACTER: &str = "characters to 127 in quoted text";
 const ABOVE: &str = "bytes of characters above 127 in quoted text";
+const NAME: &str = "characters above 127 in names";
 const DIGIT: &str = "hexadecimal digits of escapes";
 const UNKNOWN: &str = "unknown characters";
 const SLICE: &str = "slices";
@@ -85,8 +86,12 @@ fn in_sentence(list: u32, number: u8, sentence: &str, found: &mut Vec<(&'static 
         found.push((UNKNOWN, sentence.chars().last().unwrap() as u32));
     }
     let quoted = sentence.split_once("(\"").and_then(|(_, rest)| rest.rsplit_once('"'));
+    let a_name = sentence.contains("Identifier(");
     for character in quoted.map_or(Vec::new(), |(text, _)| read(text, found)) {
         let code = character as u32;
+        if a_name && code > 127 {
+            found.push((NAME, code));
+        }
         found.push(if code < 128 { (CHARACTER, code) } else { (ABOVE, character.len_utf8() as u32) });
     }
 }
@@ -116,8 +121,8 @@ fn read(text: &str, found: &mut Vec<(&'static str, u32)>) -> Vec<char> {
 
 /// Prints what is met; whether nothing is missing.
 pub fn print(met: &Met) -> bool {
-    let code = |code: u32| format!("{code:02X} {:?}", char::from_u32(code).unwrap());
-    let unknown: Vec<u32> = (0..=8).chain(14..=31).chain("$%'?@\\`\u{7F}".chars().map(|c| c as u32)).collect();
+    let ascii = (0..=8).chain(14..=31).chain("$%'?@\\`\u{7F}".chars().map(|c| c as u32));
+    let unknown: Vec<u32> = ascii.chain(coverage::unknown()).collect();
     let digits: Vec<u32> = "0123456789abcdef".chars().map(|c| c as u32).collect();
     let complete = [
         met.print(NUMBER, &[0, 1, 2, 4, 5, 6, 7, 9, 10, 11, 12, 13], plain),
@@ -130,6 +135,7 @@ pub fn print(met: &Met) -> bool {
         met.print(GOT, &kinds_met(), |code| format!("{}: {}", code / 100, kind(code % 100))),
         met.print(CHARACTER, &numbers(0, 127), code),
         met.print(ABOVE, &numbers(2, 4), plain),
+        met.print(NAME, &coverage::in_words(), code),
         met.print(DIGIT, &digits, code),
         met.print(UNKNOWN, &unknown, code),
     ];

@@ -9,7 +9,8 @@ const FILE_MOST: usize = 70_000;
 /// Scripts that are accepted, with and without errors, and one for each refusal but 3 and 8.
 fn scripts() -> Vec<Vec<u8>> {
     let mut scripts: Vec<Vec<u8>> = [
-        "var x:T;", "fn f(){c(w -1);}", "fn f", "use \"a\\q\" $", "asm{text}type T=*a;", "$\"", "", "é", "-", "type",
+        "var x:T;", "fn f(){c(w -1);}", "fn f", "use \"a\\q\" $", "asm{text}type T=*a;", "$\"", "", "€", "-", "type",
+        "×var é:x²;",
     ]
     .map(|script| script.as_bytes().to_vec())
     .to_vec();

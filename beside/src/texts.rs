@@ -23,13 +23,24 @@ pub fn script(random: &mut Random) -> Vec<u8> {
 }
 
 fn token(random: &mut Random) -> String {
-    match random.below(10) {
+    match random.below(12) {
         0 => random.pick(&grammar::NAMES).to_owned(),
+        10 => word(random),
+        11 => char::from_u32(0x80 + random.below(0x80) as u32).unwrap().to_string(),
         1 | 2 => random.pick(&grammar::NUMBERS).to_owned(),
         3..=5 => format!("\"{}\"", text(random, '"')),
         6..=8 => format!("asm{{{}}}", text(random, '}')),
         _ => random.pick(&damage::LEXEMES).to_owned(),
     }
+}
+
+/// A letter above 127, and up to eight characters of the same bytes that a word may have.
+fn word(random: &mut Random) -> String {
+    let others: Vec<char> = ('\u{80}'..='\u{FF}').filter(|c| c.is_alphanumeric()).collect();
+    let count = random.below(9);
+    let mut word = "é".to_owned();
+    word.extend((0..count).map(|_| others[random.below(others.len())]));
+    word
 }
 
 /// Some characters, none of them the one that ends the text.
