@@ -66,9 +66,9 @@ extern "C" {
  * is 0 it rises for both. PATCH rises where neither did.
  */
 #define DN_VERSION_MAJOR 0
-#define DN_VERSION_MINOR 3
+#define DN_VERSION_MINOR 4
 #define DN_VERSION_PATCH 0
-#define DN_VERSION_STRING "0.3.0"
+#define DN_VERSION_STRING "0.4.0"
 
 /* ---- limits ---- */
 
@@ -108,7 +108,7 @@ enum dn_number {
                                      buffer for steps has fewer than DN_STEP_BUFFER_WORDS words */
 
     /* refused by the tokenizer, which stops at the first: the file buffer is all zeros */
-    DN_REFUSED_FOREIGN_CHARACTER = 4,     /* a character above 127, and not in a string, a comment or
+    DN_REFUSED_FOREIGN_CHARACTER = 4,     /* a character above 255, and not in a string, a comment or
                                              assembly or after a minus */
     DN_REFUSED_MINUS_AT_END = 5,          /* the script ends with a dash that is a minus */
     DN_REFUSED_TOO_MANY_TOKENS = 6,       /* more than DN_MAX_TOKENS */
@@ -187,7 +187,7 @@ uint32_t dn_read(const uint8_t *script, size_t script_len,
  *
  * Text. A sentence is ASCII and one line: in quoted text controls, quotes, backslashes and all characters
  * above 127 are escaped (docs/FORMAT.md, Sentences). Only the character that DN_TOKEN_ERROR_UNKNOWN_CHARACTER
- * names stands as it is; it may be a control character, zero too.
+ * names stands as it is, in one byte or two; it may be a control character, zero too.
  *
  * Threads. As with dn_read: each with a sentence buffer and *bytes of its own.
  *
@@ -286,7 +286,7 @@ enum dn_step {
  * A body is a place (line and column, 2 bytes each), then numbers, then text to the body's end.
  * Lines and columns count from 1, columns in characters. Tags marked "no place" have no
  * place. Below, u8, u16 and u64 are numbers of 1, 2 and 8 bytes; the children follow the colon. Text
- * is UTF-8 and is not terminated by a zero.
+ * is UTF-8 and is not terminated by a zero; a name, too, may have letters of two bytes, up to the character 255.
  *
  * In DN_TAG_NAMED_TYPE, DN_TAG_VARIABLE_DECLARATION and DN_TAG_TOP_LEVEL_VARIABLE the name is "<?>" if
  * another token was in place of the identifier; there is a DN_PARSE_ERROR_IDENTIFIER then.
