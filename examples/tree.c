@@ -107,7 +107,7 @@ static const char *const REFUSALS[] = {
     "the script is too long",
     "the script is not UTF-8",
     "the file buffer is too short",
-    "a character above 127, not in a string, a comment or assembly or after a minus",
+    "a character above 255, not in a string, a comment or assembly or after a minus",
     "a minus ends the script",
     "too many tokens",
     "too many token errors",
