@@ -88,7 +88,7 @@ fn write_list(rt: &impl Print, script: &[u8], file: &[u8], list: Tag) -> io::Res
     Ok(())
 }
 
-// What a refusal means. The file slice is long enough, and no other is left than those of the parser's errors.
+// What a refusal means. The file slice is long enough, and no other is left than that of the full list.
 fn meaning(refusal: Refusal) -> &'static str {
     match refusal {
         Refusal::ScriptLength => "the script has more than 16,384 bytes",
@@ -102,7 +102,7 @@ fn meaning(refusal: Refusal) -> &'static str {
         Refusal::NoTokens => "the script has no token",
         Refusal::Nesting => "nested too deep: more than 96 counted calls are open",
         Refusal::EndAfterWord => "the script ends right after `type`, `use` or the dot of `.name`",
-        _ => "more than 255 errors of the parser",
+        _ => "more than 255 losses and errors of the parser",
     }
 }
 

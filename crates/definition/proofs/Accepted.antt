@@ -16,9 +16,10 @@ use Rattle.definition.specs.Tokenizer as Z
 use Rattle.definition.specs.Tokenizer.{tokenize}
 use Rattle.definition.specs.Act as A
 use Rattle.definition.specs.Act.{Items, St, Res}
-use Rattle.definition.specs.Parser.{parse_module}
+use Rattle.definition.specs.Losses.{parse_tokens}
 use Rattle.definition.specs.Operations.{Outcome, file, refused, filled, file_bytes, read_tokens, read_tokenised, Written, kept, written, whole}
-use Rattle.definition.proofs.Total.{Moves, module_moves}
+use Rattle.definition.proofs.Total.{Moves}
+use Rattle.definition.proofs.Losses.{tokens_move}
 use Rattle.definition.proofs.Tokens.{Made, TokensOf, script_tokens}
 
 -- the characters, tokens, errors and items of an accepted script, read on a file slice o
@@ -31,7 +32,7 @@ pub record Accepted (s o : List ℕ) : Type 0 where
   pub made : Made toks errors
   pub items : Items
   pub last : St
-  pub parsed : parse_module toks ≡ A.gives items last
+  pub parsed : parse_tokens toks ≡ A.gives items last
   pub bytes : (whole s o).bytes ≡ length (file_bytes errors items last.full)
   pub file : (whole s o).file ≡ filled (length o) (file_bytes errors items last.full)
 
@@ -41,7 +42,7 @@ module _ (s o : List ℕ) where
   Is w = whole s o ≡ w
 
   parsed : (cs : List Ch) → characters s ≡ some cs → (ts : List Tok) (es : List Err) → tokenize cs ≡ Z.tokens ts es
-      → Made ts es → (r : Res Items) → parse_module ts ≡ r → Moves r
+      → Made ts es → (r : Res Items) → parse_tokens ts ≡ r → Moves r
       → (w : Outcome)
       → w
       ≡ elim r as (λ _. Outcome) [ A.gives i st ↦ file (file_bytes es i st.full) | A.refused n ↦ refused n ]
@@ -70,7 +71,7 @@ module _ (s o : List ℕ) where
   unfolding read_tokens
   tokenised cs c (Z.tokens [] es) t m h z = absurd (omega (arith, ap (λ (x : Written). x.number) h))
   tokenised cs c (Z.tokens (x ∷ ts) es) t m h z =
-      parsed cs c (x ∷ ts) es t m (parse_module (x ∷ ts)) refl (module_moves (x ∷ ts)) (read_tokens (x ∷ ts) es)
+      parsed cs c (x ∷ ts) es t m (parse_tokens (x ∷ ts)) refl (tokens_move (x ∷ ts)) (read_tokens (x ∷ ts) es)
       refl h z
   tokenised cs c (Z.Tokens.refused n) t m h z =
       absurd (subst (λ (k : ℕ). T (between 4 7 k)) (sym (ap (λ (x : Written). x.number) h) ∙ z) m)

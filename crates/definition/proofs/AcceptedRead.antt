@@ -16,9 +16,10 @@ use Rattle.definition.specs.Token.{Tok}
 use Rattle.definition.specs.Records.{TokenWords, words_at, place_of, text_end, token_of, tokens_of}
 use Rattle.definition.specs.Act as A
 use Rattle.definition.specs.Act.{Items, St, Res}
-use Rattle.definition.specs.Parser.{parse_module}
+use Rattle.definition.specs.Losses.{parse_tokens}
 use Rattle.definition.specs.Operations.{Outcome, file, refused, filled, file_bytes, read_tokens, Written, kept, written, Validated, validate, read_validated, read}
-use Rattle.definition.proofs.Total.{Moves, module_moves}
+use Rattle.definition.proofs.Total.{Moves}
+use Rattle.definition.proofs.Losses.{tokens_move}
 use Rattle.definition.proofs.Tokens.{Kinds, texts}
 use Rattle.definition.proofs.Validated.{Fits, fits, Lies, lies, First, first, errors_many, Split, split}
 use Rattle.definition.proofs.Room.{Light, light_reading, file_room}
@@ -86,7 +87,7 @@ pub record AcceptedRead (T : List ℕ) (n : ℕ) (E : List ℕ) (m : ℕ) (X o :
   pub sized : Sized n toks errors
   pub items : Items
   pub last : St
-  pub parsed : parse_module toks ≡ A.gives items last
+  pub parsed : parse_tokens toks ≡ A.gives items last
   pub bytes : (read T n E m X o).bytes ≡ length (file_bytes errors items last.full)
   pub file : (read T n E m X o).file ≡ filled (length o) (file_bytes errors items last.full)
 
@@ -100,7 +101,7 @@ module _ (T : List ℕ) (n : ℕ) (E : List ℕ) (m : ℕ) (X o : List ℕ) (z :
   other w h k = absurd (k (sym (ap (λ (x : Written). x.number) h) ∙ z))
 
   parsed : (ts : List Tok) (es : List Err) → validate T n E m X ≡ some (record { tokens = ts; errors = es })
-      → (r : Res Items) → parse_module ts ≡ r → Moves r
+      → (r : Res Items) → parse_tokens ts ≡ r → Moves r
       → Is (written o (elim r as (λ _. Outcome) [
         | A.gives i st ↦ file (file_bytes es i st.full)
         | A.refused k ↦ refused k
@@ -123,7 +124,7 @@ module _ (T : List ℕ) (n : ℕ) (E : List ℕ) (m : ℕ) (X o : List ℕ) (z :
       → Is (read_validated o ts es) → AcceptedRead T n E m X o
   unfolding read_tokens
   good [] es d h = other _ h (λ e. omega arith)
-  good (t ∷ ts) es d h = parsed (t ∷ ts) es d (parse_module (t ∷ ts)) refl (module_moves (t ∷ ts)) h
+  good (t ∷ ts) es d h = parsed (t ∷ ts) es d (parse_tokens (t ∷ ts)) refl (tokens_move (t ∷ ts)) h
 
   tested : (r : Option Validated) → validate T n E m X ≡ r
       → Is (elim r as (λ _. Written) [ none ↦ kept 8 o | some h ↦ read_validated o h.tokens h.errors ])

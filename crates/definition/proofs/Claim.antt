@@ -14,7 +14,8 @@ use Rattle.definition.specs.Fallible.{Err}
 use Rattle.definition.specs.Kind as K
 use Rattle.definition.specs.Token.{Tok, number}
 use Rattle.definition.specs.Act.{Role, plain, group, final, size, Consumed}
-use Rattle.definition.specs.Parser.{parse_module}
+use Rattle.definition.specs.Losses.{losses, parse_tokens}
+use Rattle.definition.specs.Pieces.{LostNothing}
 use Rattle.definition.specs.Records.{has_text}
 use Rattle.definition.specs.Operations.{file_bytes, whole}
 use Rattle.definition.specs.Demand.{tree, full_entries, file_of, tokens_of_script, read_by, reading, is_modifier, is_struck, strike, is_size, value, Same, Agree, none_left, one_more, OneReading}
@@ -24,6 +25,8 @@ use Rattle.definition.proofs.Strip.{Norm, symbol, named, integer, sized, is_name
 use Rattle.definition.proofs.Unique.{unique}
 use Rattle.definition.proofs.LeavesStatements.{module_leaves}
 use Rattle.definition.proofs.Fit.{Fit, leaves_fit}
+use Rattle.definition.proofs.ErrorsMade.{Kept, errors_fine}
+use Rattle.definition.proofs.Pieces.{shared}
 use Rattle.definition.proofs.Inject.{same_tree, Both}
 use Rattle.definition.proofs.Formed.{Formed}
 use Rattle.definition.proofs.Tokens.{Good}
@@ -176,7 +179,7 @@ module _ (s o : List ℕ) (a : Accepted s o) where
 
   reading_is : reading s ≡ a.last.read
   unfolding reading
-  reading_is = ap read_by (ap parse_module tokens_are ∙ a.parsed)
+  reading_is = ap read_by (ap parse_tokens tokens_are ∙ a.parsed)
 
   reading_own : map (λ c. c.tok) (reading s) ≡ tokens_of_script s
   reading_own = ap toks reading_is ∙ all_read a.toks a.made.kinds a.items a.last a.parsed ∙ sym tokens_are
@@ -190,6 +193,22 @@ module _ (s o : List ℕ) (a : Accepted s o) where
       none_of : (es : List Err) → length es ≡ 0 → es ≡ []
       none_of [] h = refl
       none_of (e ∷ es) h = absurd (omega arith)
+
+  lost_nothing : full_entries (file_of s o) ≡ 0 → LostNothing s
+  lost_nothing h =
+      let k : Kept (losses a.toks) a.last.full = errors_fine a.toks (a.made.good, a.made.tokens) a.items a.last a.parsed in
+      record {
+        chars = a.chars;
+        toks = a.toks;
+        errors = a.errors;
+        decoded = a.decoded;
+        tokenised = a.tokenised;
+        shared = shared s a.chars a.toks a.errors a.decoded a.tokenised (first_none (losses a.toks) k.made (sym k.full ∙ clean h));
+      }
+    where
+      first_none : (xs ys : List Err) → xs ++ ys ≡ [] → xs ≡ []
+      first_none [] ys e = refl
+      first_none (x ∷ xs) ys e = absurd (let z = ap length e in omega arith)
 
   tree_is : tree (file_of s o) ≡ recs_bytes a.items.recs ++ field 0x5F (u16 a.items.count)
   tree_is = ap tree file_is ∙ tree_of_file a.errors a.items a.last.full (omega (arith, (light a).0))
@@ -224,3 +243,7 @@ one_tree s t o p x y h k e =
           (sym (strip_told (reading s)) ∙ ap strip (reading_is s o a) ∙ u ∙ sym (ap strip (reading_is t p b))
           ∙ strip_told (reading t));
     }
+
+-- Of a script that is accepted without an entry of the full list nothing is lost.
+pub clean_lost_nothing : (s o : List ℕ) → (whole s o).number ≡ 0 → full_entries (file_of s o) ≡ 0 → LostNothing s
+clean_lost_nothing s o z h = lost_nothing s o (accepted s o z) h

@@ -135,9 +135,9 @@ module _ (G : Goal → St → Ans Node → St → Type 0) (L : (l : Loop) → St
         (λ l t. loops_later (λ h u. parse n h u) (λ h u. parse_later n h u) (suc (suc (length t.tokens))) l t)
         (G g s) (rule g) s i (rules g s i)
 
-    pub clean_module : (ts : List Tok) → I ts
-        → After (Kept (begin ts) (L (Module (no_items [])) (begin ts))) (parse_module ts)
+    pub clean_module : (full : List Err) (ts : List Tok) → I ts
+        → After (Kept (begin full ts) (L (Module (no_items [])) (begin full ts))) (parse_module full ts)
     unfolding parse_module
-    clean_module ts i =
+    clean_module full ts i =
         clean_loops (λ g s. parse 96 g s) (λ g s j. clean_parse 96 g s j) (λ g s. parse_later 96 g s)
-        (suc (suc (length ts))) (Module (no_items [])) (begin ts) i
+        (suc (suc (length ts))) (Module (no_items [])) (begin full ts) i

@@ -25,7 +25,8 @@ use Rattle.definition.specs.Tokenizer as Z
 use Rattle.definition.specs.Tokenizer.{tokenize}
 use Rattle.definition.specs.Act as A
 use Rattle.definition.specs.Act.{Items, Res}
-use Rattle.definition.specs.Parser.{error, parse_module}
+use Rattle.definition.specs.Losses.{parse_tokens}
+use Rattle.definition.specs.Parser.{error}
 use Rattle.definition.specs.Operations.{Outcome, file, file_bytes, read_tokens, read_tokenised, Written, kept, written, whole}
 use Rattle.definition.specs.Sentence.{Meaning, Part, expected, got, parser_messages, token_sentence, parser_sentence, sentence_of, token_at, character_at, character_of, token_meaning, token_got, parser_meaning}
 use Rattle.definition.specs.Sentence.{Found, Examined, found, refused, parsed, examine, entries, meaning, sentence_at, said, sentence}
@@ -34,7 +35,8 @@ use Rattle.definition.proofs.Tests.{clash, never_both, both_true, parts_true, be
 use Rattle.definition.proofs.Characters.{spelling}
 use Rattle.definition.proofs.Shown.{Apart, Distinct, same_self}
 use Rattle.definition.proofs.Tokens.{Good, Fault, TokensOf, script_tokens, AtCharacter, Stand, errors_stand, character_there}
-use Rattle.definition.proofs.Total.{Moves, module_moves}
+use Rattle.definition.proofs.Total.{Moves}
+use Rattle.definition.proofs.Losses.{tokens_move}
 use Rattle.definition.proofs.Reported.{same_error, times, same_error_equal, same_error_self, reported_is_made}
 use Rattle.definition.proofs.Examined.{FoundIn, examined, found_made}
 use Rattle.definition.proofs.Recover as R
@@ -364,7 +366,7 @@ parsed_agrees : (o : List ℕ) (cs : List Ch) (t : Z.Tokens) → TokensOf t
     → Agrees o (written o (read_tokenised t)) (parsed cs t)
 unfolding parsed read_tokens
 parsed_agrees o cs (Z.tokens [] es) m = (refl, λ z. omega arith)
-parsed_agrees o cs (Z.tokens (t ∷ ts) es) m = go (parse_module (t ∷ ts)) (module_moves (t ∷ ts))
+parsed_agrees o cs (Z.tokens (t ∷ ts) es) m = go (parse_tokens (t ∷ ts)) (tokens_move (t ∷ ts))
   where
     go : (r : Res Items) → Moves r → Agrees o
         (written o (elim r as (λ _. Outcome) [

@@ -15,9 +15,11 @@ use Rattle.definition.specs.Token.{Tok, next_token, tail}
 use Rattle.definition.specs.Act.{Node, Items, Goal, Statement, Expression, Unary, Type', Loop, Module, Body, ListOf, Operators, Casts, Suffixes, Modifiers, Listed, Parameters, Arguments, StructFields, ArrayValues, StructValues, Level, Left, Words, Act, St, gives, push, next, done, ◌>>=◌, ◌>>?◌}
 use Rattle.definition.specs.Parser as P
 use Rattle.definition.specs.Parser.{rule, turn, statement_rule, expression_rule, unary_rule, type_rule, list_turn, body_turn, module_turn, operators_turn, casts_turn, suffixes_turn, modifiers_turn, Typed, parse_module}
+use Rattle.definition.specs.Losses.{losses, parse_tokens}
 use Rattle.definition.proofs.Tests.{clash, is_kind, not_end}
 use Rattle.definition.proofs.Later.{Later, next_state, later_left, After, weaken}
 use Rattle.definition.proofs.Ind.{EachAns, mapping_positive, comparisons_positive, wp, wp_mono, follow, try, via, wp_find, wp_bitwise_or, wp_cascade, module_ind}
+use Rattle.definition.proofs.Losses.{tokens_after}
 
 -- 1 if a token is left, else 0
 pub one : List Tok → ℕ
@@ -590,14 +592,14 @@ pay_bound (t ∷ ts) = omega arith
 abbrev Few : List Tok → Items → St → Type 0
 Few ts i s = (length i.recs ≤ 1 + length ts) × (i.count ≤ length ts)
 
-module_count : (ts : List Tok) → After (Few ts) (parse_module ts)
-module_count ts =
-    weaken (parse_module ts) (λ i s p. omega (arith, pay_bound ts))
-    (module_ind G L R M (λ s. paid s.tokens) (λ e s. tt) rules turns ts)
+module_count : (full : List Err) (ts : List Tok) → After (Few ts) (parse_module full ts)
+module_count full ts =
+    weaken (parse_module full ts) (λ i s p. omega (arith, pay_bound ts))
+    (module_ind G L R M (λ s. paid s.tokens) (λ e s. tt) rules turns full ts)
 
-module _ (ts : List Tok) (i : Items) (s : St) (g : parse_module ts ≡ gives i s) where
+module _ (ts : List Tok) (i : Items) (s : St) (g : parse_tokens ts ≡ gives i s) where
   few : Few ts i s
-  few = subst (After (Few ts)) g (module_count ts)
+  few = subst (After (Few ts)) g (tokens_after (Few ts) ts (λ _. module_count (losses ts) ts))
 
   -- with the record of the module, at most two records more than tokens
   pub few_records : suc (length i.recs) ≤ 2 + length ts

@@ -1,23 +1,29 @@
--- Every error that a reading makes fits its field: its number is 1 to 19, its kinds are 0 to 54, and its place is one
--- of the script, or 0:0. Assumes nothing.
-use mathlib.Core.Path.{◌≡◌, subst}
-use mathlib.Core.List.{List, [], ◌∷◌}
+-- Every error of the full list fits its field: its number is at most 21, that of an error of the parser at most 19, its
+-- kinds are 0 to 54, and its place is one of the script, or 0:0. Assumes nothing.
+use mathlib.Core.Path.{◌≡◌, refl, sym, ap, ◌∙◌, subst}
+use mathlib.Core.Bool.{Bool, true, false}
+use mathlib.Core.List.{List, [], ◌∷◌, ◌++◌, append-nil, append_assoc}
 use Prim.Native.Nat.{ℕ, ◌*◌, ◌≤◌}
 use native.Mathlib.Omega.{arith}
 use Rattle.definition.specs.Tag as T
 use Rattle.definition.specs.Kind as K
+use Rattle.definition.specs.Choice.{pick}
 use Rattle.definition.specs.Source.{Place}
 use Rattle.definition.specs.Node.{byte}
 use Rattle.definition.specs.Fallible.{Err, Fallible, Ans, ok, fatal}
-use Rattle.definition.specs.Token.{Tok, next_token}
+use Rattle.definition.specs.Token.{Tok, ◌is◌, next_token}
 use Rattle.definition.specs.Act.{Node, Items, Goal, Statement, Expression, Unary, Type', Loop, Module, Body, ListOf, Operators, Casts, Suffixes, Modifiers}
 use Rattle.definition.specs.Act.{Listed, Parameters, Arguments, StructFields, ArrayValues, StructValues, Level, BitOr, BitXor, BitAnd, Shift, AddSub, Mul, Words, Left}
 use Rattle.definition.specs.Act.{Act, done, peek, consume, make, when◌then◌else◌, call, loop, panic, next, St, gives, advance, push, ◌>>=◌, ◌>>?◌, or_return}
 use Rattle.definition.specs.Parser as P
-use Rattle.definition.proofs.Tests.{All, all_append}
+use Rattle.definition.specs.ParseError as E
+use Rattle.definition.specs.Losses.{loss, losses, parse_tokens}
+use Rattle.definition.proofs.Tests.{All, all_append, all_map, all_in}
 use Rattle.definition.proofs.Later.{Later, After}
 use Rattle.definition.proofs.Ind.{wp, EachAns, Each, each, to_each}
+use Rattle.definition.proofs.Losses.{losses_all, tokens_after}
 use Rattle.definition.proofs.Throughout.{module_known}
+use Rattle.definition.proofs.Tokens.{Good}
 use Rattle.definition.proofs.LeavesAnswers.{Known, known_tail, known_later}
 
 -- a place of the script, or 0:0
@@ -27,13 +33,17 @@ pub record Somewhere (p : Place) : Type 0 where
   pub line_too : p.line ≤ 16384 * p.column
   pub column_too : p.column ≤ 16384 * p.line
 
--- an error that its record can hold
-pub record Fine (e : Err) : Type 0 where
+-- an error that its record can hold, with a number up to `top`
+pub record FineTo (top : ℕ) (e : Err) : Type 0 where
   pub low : 1 ≤ e.number
-  pub high : e.number ≤ 19
+  pub high : e.number ≤ top
   pub place : Somewhere e.place
   pub expected : e.expected ≤ 54
   pub got : e.got ≤ 54
+
+-- one that the parser makes
+abbrev pub Fine : Err → Type 0
+Fine e = FineTo 19 e
 
 -- of a token, or the end
 record Fair (t : Tok) : Type 0 where
@@ -371,15 +381,31 @@ turns (Modifiers w) = modifiers_turn w
 
 -- ---- the full list
 
--- if the errors made before are fine, so are those made after
-abbrev Kept : St → St → Type 0
-Kept s s' = All Fine s.full → All Fine s'.full
+-- what was made between two full lists is fine
+pub record Kept (es fs : List Err) : Type 0 where
+  pub made : List Err
+  pub full : fs ≡ es ++ made
+  pub fine : All Fine made
+
+kept_none : (es : List Err) → Kept es es
+kept_none es = record { made = []; full = sym (append-nil es); fine = tt }
+
+kept_on : {es fs gs : List Err} → Kept es fs → Kept fs gs → Kept es gs
+kept_on {es} k l =
+    record {
+      made = k.made ++ l.made;
+      full = l.full ∙ ap (λ (xs : List Err). xs ++ l.made) k.full ∙ append_assoc es k.made l.made;
+      fine = all_append Fine k.made l.made k.fine l.fine;
+    }
+
+kept_pushed : (es : List Err) (e : Err) → Fine e → Kept es (es ++ (e ∷ []))
+kept_pushed es e f = record { made = e ∷ []; full = refl; fine = (f, tt) }
 
 abbrev G : Goal → St → Ans Node → St → Type 0
-G g s a s' = Kept s s'
+G g s a s' = Kept s.full s'.full
 
 abbrev L : (l : Loop) → St → Left l → St → Type 0
-L l s a s' = Kept s s'
+L l s a s' = Kept s.full s'.full
 
 abbrev R : St → Type 0
 R s = Known s.tokens
@@ -391,28 +417,50 @@ fair : (ts : List Tok) → Known ts → Fair (next_token ts)
 fair [] h = omega arith
 fair (t ∷ ts) h = omega (arith, h.0.0.formed.high, h.0.0.placed)
 
-full : {A : Type 0} (m : Act A) (s₀ s : St) → Makes m → Known s.tokens → Kept s₀ s
-    → wp G L R M m (λ a s'. Kept s₀ s') s
+full : {A : Type 0} (m : Act A) (s₀ s : St) → Makes m → Known s.tokens → Kept s₀.full s.full
+    → wp G L R M m (λ a s'. Kept s₀.full s'.full) s
 full (done a) s₀ s p i h = h
 full (peek k) s₀ s p i h =
     full (k (next_token s.tokens)) s₀ s (p (next_token s.tokens) (fair s.tokens i)) i h
 full (consume r k) s₀ s p i h =
     λ _. full (k (next_token s.tokens)) s₀ (advance r s) (p (next_token s.tokens) (fair s.tokens i))
     (known_tail s.tokens i) h
-full (make e m) s₀ s p i h = λ _. full m s₀ (push e s) p.1 i (λ f. all_append Fine s.full (e ∷ []) (h f) (p.0, tt))
+full (make e m) s₀ s p i h = λ _. full m s₀ (push e s) p.1 i (kept_on h (kept_pushed s.full e p.0))
 full (when◌then◌else◌ b m n) s₀ s p i h = (λ _. full m s₀ s p.0 i h, λ _. full n s₀ s p.1 i h)
 full (call g k) s₀ s p i h = (
-  λ x s' l q. full (k (ok x)) s₀ s' (p.0 x) (known_later s s' l i) (λ f. q (h f)),
-  λ es s' l q. full (k (fatal es)) s₀ s' (p.1 es) (known_later s s' l i) (λ f. q (h f)),
+  λ x s' l q. full (k (ok x)) s₀ s' (p.0 x) (known_later s s' l i) (kept_on h q),
+  λ es s' l q. full (k (fatal es)) s₀ s' (p.1 es) (known_later s s' l i) (kept_on h q),
 )
 full (loop g k) s₀ s p i h =
-    to_each g (λ a. (s' : St) → Later s s' → L g s a s' → wp G L R M (k a) (λ a s'. Kept s₀ s') s')
-    (λ a s' l q. full (k a) s₀ s' (each g (λ a. Makes (k a)) p a) (known_later s s' l i) (λ f. q (h f)))
+    to_each g (λ a. (s' : St) → Later s s' → L g s a s' → wp G L R M (k a) (λ a s'. Kept s₀.full s'.full) s')
+    (λ a s' l q. full (k a) s₀ s' (each g (λ a. Makes (k a)) p a) (known_later s s' l i) (kept_on h q))
 full panic s₀ s p i h = tt
 
--- the errors that a reading made are fine
-pub errors_fine : (ts : List Tok) → Known ts → (i : Items) (s : St) → P.parse_module ts ≡ gives i s → All Fine s.full
-errors_fine ts d i s e =
-    subst (After (λ i s'. All Fine [] → All Fine s'.full)) e
-    (module_known G L Known known_tail known_later (λ g s j. full (P.rule g) s s (rules g) j (λ f. f))
-    (λ l s j. full (P.turn l) s s (turns l) j (λ f. f)) ts d) tt
+-- the full list of a reading has its losses, then fine errors
+pub errors_fine : (ts : List Tok) → Known ts → (i : Items) (s : St) → parse_tokens ts ≡ gives i s → Kept (losses ts) s.full
+errors_fine ts d i s e = subst (After Q) e (tokens_after Q ts (λ _. fine))
+  where
+    Q : Items → St → Type 0
+    Q i s' = Kept (losses ts) s'.full
+
+    fine : After Q (P.parse_module (losses ts) ts)
+    fine =
+        module_known G L Known known_tail known_later (λ g s j. full (P.rule g) s s (rules g) j (kept_none s.full))
+        (λ l s j. full (P.turn l) s s (turns l) j (kept_none s.full)) (losses ts) ts d
+
+loss_fine : (t : Tok) → Good t → FineTo 21 (loss t)
+loss_fine t g = go (t is K.Minus)
+  where
+    go : (b : Bool) → FineTo 21 (P.error (pick b E.CharacterLost E.AssemblyNotClosed) t.place 0 0)
+    go true = omega (arith, g.placed)
+    go false = omega (arith, g.placed)
+
+-- all of it fits its row
+pub full_fine : (ts : List Tok) → Known ts → (i : Items) (s : St) → parse_tokens ts ≡ gives i s → All (FineTo 21) s.full
+full_fine ts d i s e =
+    let k : Kept (losses ts) s.full = errors_fine ts d i s e in
+    let l : All (FineTo 21) (losses ts) = losses_all (FineTo 21) ts (λ t m. loss_fine t (all_in Good t ts d.0 m)) in
+    subst (All (FineTo 21)) (sym k.full) (all_append (FineTo 21) (losses ts) k.made l (all_map Fine (FineTo 21) wider k.made k.fine))
+  where
+    wider : (e : Err) → Fine e → FineTo 21 e
+    wider e f = record { low = f.low; high = omega (arith, f.high); place = f.place; expected = f.expected; got = f.got }

@@ -12,7 +12,7 @@ use Rattle.definition.specs.Tokenizer as Z
 use Rattle.definition.specs.Tokenizer.{tokenize}
 use Rattle.definition.specs.Act as A
 use Rattle.definition.specs.Act.{Items, St, Res}
-use Rattle.definition.specs.Parser.{parse_module}
+use Rattle.definition.specs.Losses.{parse_tokens}
 use Rattle.definition.specs.Sentence.{Found, Examined, found, refused, parsed, examine}
 use Rattle.definition.proofs.Tests.{chosen}
 use Rattle.definition.proofs.Tokens.{Made, TokensOf, script_tokens}
@@ -23,7 +23,7 @@ pub record FoundIn (s : List ℕ) (f : Found) : Type 0 where
   pub tokens : tokenize f.chars ≡ Z.tokens f.toks f.token_errors
   pub items : Items
   pub state : St
-  pub reading : parse_module f.toks ≡ A.gives items state
+  pub reading : parse_tokens f.toks ≡ A.gives items state
   pub reported : items.errors ≡ f.reported
   pub full : state.full ≡ f.full
 
@@ -35,9 +35,9 @@ parsed_found : (s : List ℕ) (cs : List Ch) (t : Z.Tokens) → length s ≤ 163
     → FoundOf s (parsed cs t)
 unfolding parsed
 parsed_found s cs (Z.tokens [] es) h c e = tt
-parsed_found s cs (Z.tokens (t ∷ ts) es) h c e = go (parse_module (t ∷ ts)) refl
+parsed_found s cs (Z.tokens (t ∷ ts) es) h c e = go (parse_tokens (t ∷ ts)) refl
   where
-    go : (r : Res Items) → parse_module (t ∷ ts) ≡ r → FoundOf s (elim r as (λ _. Examined) [
+    go : (r : Res Items) → parse_tokens (t ∷ ts) ≡ r → FoundOf s (elim r as (λ _. Examined) [
       | A.gives i st ↦ found (record { chars = cs; toks = t ∷ ts; token_errors = es; reported = i.errors; full = st.full })
       | A.refused n ↦ refused n
     ])

@@ -7,7 +7,7 @@ use Prim.Native.Nat.{ℕ, zero, suc, ◌+◌, ◌≤◌}
 use native.Mathlib.Omega.{arith}
 use lib.Dec.{ltb}
 use lib.ListN.{length}
-use Rattle.definition.specs.Fallible.{Ans}
+use Rattle.definition.specs.Fallible.{Err, Ans}
 use Rattle.definition.specs.Token.{Tok, next_token}
 use Rattle.definition.specs.Act.{Node, Goal, Loop, Left, Act, done, peek, consume, make, when◌then◌else◌, call, loop, panic, St, begin, Res, gives, refused, after, advance, push, run, ◌>>=◌}
 use Rattle.definition.specs.Go.{go, turns}
@@ -115,12 +115,12 @@ unfolding go turns
 go_bind n m f s = run_bind (λ h t. parse n h t) (λ l t. turns n l t) m f s
 
 -- the whole parser is the loop of a module
-pub go_module_within : (n : ℕ) (ts : List Tok)
-    → go n (loop (Loop.Module (no_items [])) done) (begin ts) ≡ parse_module_within n ts
+pub go_module_within : (n : ℕ) (full : List Err) (ts : List Tok)
+    → go n (loop (Loop.Module (no_items [])) done) (begin full ts) ≡ parse_module_within n full ts
 unfolding go turns run parse_module_within
-go_module_within n ts = nothing _
+go_module_within n full ts = nothing _
 
-pub go_module : (ts : List Tok)
-    → go 96 (loop (Loop.Module (no_items [])) done) (begin ts) ≡ parse_module ts
+pub go_module : (full : List Err) (ts : List Tok)
+    → go 96 (loop (Loop.Module (no_items [])) done) (begin full ts) ≡ parse_module full ts
 unfolding parse_module
-go_module ts = go_module_within 96 ts
+go_module full ts = go_module_within 96 full ts

@@ -1,6 +1,6 @@
 -- The kind, base and text of a token that the tokenizer makes: the rules for its record that concern neither another
 -- record nor its place. Assumes nothing.
-use mathlib.Core.Path.{◌≡◌, refl, sym, ◌∙◌}
+use mathlib.Core.Path.{◌≡◌, refl, sym, ap₂, ◌∙◌}
 use mathlib.Core.Bool.{Bool, true, false, ◌&&◌, ◌||◌}
 use mathlib.Core.List.{List, [], ◌∷◌}
 use Prim.Native.Nat.{ℕ, ◌≤◌, ◌<◌}
@@ -13,8 +13,8 @@ use Rattle.definition.specs.Classes as C
 use Rattle.definition.specs.Classes.{between}
 use Rattle.definition.specs.Kind as K
 use Rattle.definition.specs.Source.{Place, Ch, utf8}
-use Rattle.definition.specs.Token.{Tok, tok}
-use Rattle.definition.specs.Records.{has_text, base_fits, all_digits, integer_text}
+use Rattle.definition.specs.Token.{Tok, tok, tok_losing}
+use Rattle.definition.specs.Records.{has_text, can_lose, base_fits, all_digits, integer_text}
 use Rattle.definition.specs.Tokenizer as Z
 use Rattle.definition.specs.Tokenizer.{Class, Foreign, White, Comment, Pair, Symbol, Quote, Word, Dash, Zero, Digit, Unknown, digits, Span}
 use Rattle.definition.proofs.Tests.{clash, both_true, parts_true, and_false, either_true, between_bounds, chosen, picked}
@@ -30,10 +30,20 @@ pub record Formed (t : Tok) : Type 0 where
   pub high : t.kind ≤ 54
   pub base : base_fits t.kind t.base ≡ true
   pub textless : Textless t
+  pub losing : can_lose t.kind ≡ false → t.lost ≡ false
   pub utf8 : utf8 t.text ≡ true
   pub integer : pick (eqb t.kind K.Integer) (integer_text t.base t.text) true ≡ true
 
 -- ---- keywords and symbols
+
+-- bytes that are the same are equal
+pub same_is : (xs ys : List ℕ) → Z.same xs ys ≡ true → xs ≡ ys
+unfolding Z.same
+same_is [] [] e = refl
+same_is [] (y ∷ ys) e = clash (sym e)
+same_is (x ∷ xs) [] e = clash (sym e)
+same_is (x ∷ xs) (y ∷ ys) e =
+    parts_true (eqb x y) (Z.same xs ys) e λ p q. ap₂ ◌∷◌ (eqb-true x y p) (same_is xs ys q)
 
 -- 0, or the kind of a keyword or symbol: 4 to 53
 pub record Plain (k : ℕ) : Type 0 where
@@ -73,11 +83,11 @@ plain_textless k p =
     p.plain
 
 -- a token of a keyword or symbol is well formed
-pub plain_formed : (k : ℕ) (p : Place) → Plain k → 0 < k → Formed (tok k p [] 0)
-plain_formed k p f h =
+pub plain_formed : (k : ℕ) (p : Place) (l : Bool) → Plain k → 0 < k → (can_lose k ≡ false → l ≡ false) → Formed (tok_losing k p [] l)
+plain_formed k p l f h q =
     let b : (4 ≤ k) × (k ≤ 53) = plain_bounds k f h in
     let e : eqb k 2 ≡ false = ne_eqb k 2 (λ z. omega arith) in
-    record { low = omega arith; high = omega arith; base = rw e; textless = λ _. refl; utf8 = utf8_true [] utf8_none; integer = rw e }
+    record { low = omega arith; high = omega arith; base = rw e; textless = λ _. refl; losing = q; utf8 = utf8_true [] utf8_none; integer = rw e }
 
 -- what the class of a character says of it and the next one
 pub data Classed (c d : ℕ) : Class → Type 0 where
@@ -118,14 +128,15 @@ classed c d =
 -- ---- texts
 
 -- an identifier, a string or inline assembly
-pub text_formed : (k : ℕ) (p : Place) (text : List ℕ) → has_text k ≡ true → eqb k 2 ≡ false → 1 ≤ k → k ≤ 54 → Utf8 text
-    → Formed (tok k p text 0)
-text_formed k p text h e l m u =
+pub text_formed : (k : ℕ) (p : Place) (text : List ℕ) (l : Bool) → has_text k ≡ true → eqb k 2 ≡ false → 1 ≤ k → k ≤ 54
+    → (can_lose k ≡ false → l ≡ false) → Utf8 text → Formed (tok_losing k p text l)
+text_formed k p text l h e a b q u =
     record {
-      low = l;
-      high = m;
+      low = a;
+      high = b;
       base = rw e;
       textless = λ f. clash (sym h ∙ f);
+      losing = q;
       utf8 = utf8_true text u;
       integer = rw e;
     }
@@ -194,6 +205,7 @@ integer_formed base p ds b n =
       high = omega arith;
       base = b;
       textless = λ f. clash f;
+      losing = λ _. refl;
       utf8 = utf8_true ds n.utf8;
       integer = n.tested;
     }

@@ -291,9 +291,9 @@ module _ (G : Goal → St → Ans Node → St → Type 0) (L : (l : Loop) → St
           (λ l t. loops_ind (λ h u. parse n h u) (λ h u. parse_ind n h u) (suc (suc (length t.tokens))) l t)
           (G g s) (rule g) s s (later_refl s) (rules g s)
 
-      pub module_ind : (ts : List Tok)
-          → After (λ i s'. Later (begin ts) s' × L (Module (no_items [])) (begin ts) i s') (parse_module ts)
+      pub module_ind : (full : List Err) (ts : List Tok)
+          → After (λ i s'. Later (begin full ts) s' × L (Module (no_items [])) (begin full ts) i s') (parse_module full ts)
       unfolding parse_module
-      module_ind ts =
+      module_ind full ts =
           loops_ind (λ g s. parse 96 g s) (λ g s. parse_ind 96 g s) (suc (suc (length ts)))
-          (Module (no_items [])) (begin ts)
+          (Module (no_items [])) (begin full ts)

@@ -14,6 +14,7 @@ use Rattle.definition.specs.Fallible.{Fallible, Ans, ok, fatal}
 use Rattle.definition.specs.Token.{Tok, next_token, tail, ◌is◌}
 use Rattle.definition.specs.Act.{Node, Items, Goal, Statement, Expression, Unary, Type', Loop, Module, Body, ListOf, Operators, Casts, Suffixes, Modifiers, Parameters, ArrayValues, StructValues, Words, plain, Act, St, begin, gives, advance, ◌>>=◌}
 use Rattle.definition.specs.Parser as P
+use Rattle.definition.specs.Losses.{losses, parse_tokens}
 use Rattle.definition.specs.Format as F
 use Rattle.definition.specs.Format.{rows, find, module_rec}
 use Rattle.definition.proofs.Later.{Later, later_left, After}
@@ -21,6 +22,7 @@ use Rattle.definition.proofs.Ind.{wp_mono, follow}
 use Rattle.definition.proofs.Grows.{there, tail_le}
 use Rattle.definition.proofs.Tokens.{Placed, Good}
 use Rattle.definition.proofs.Throughout.{module_known}
+use Rattle.definition.proofs.Losses.{tokens_after}
 use Rattle.definition.proofs.Leaves.{Leaves, Rooted, none_left, also, made, leaf, one_more, all_three, nothing, with_text, with_byte, with_count, bare, at}
 use Rattle.definition.proofs.LeavesAnswers.{Known, known_tail, known_later, good, good_of, Item, Whole, Listing, If, G, L, R, M, awp, reads, expects, identifier, calls, uses}
 use Rattle.definition.proofs.LeavesExpressions.{suffixes_leaves, Opened, list_leaves, Typed, typed_identifier_leaves, list_turn_leaves, unary_leaves, casts_leaves, operators_leaves, expression_leaves, type_leaves}
@@ -431,13 +433,15 @@ turns (Suffixes e) s d = suffixes_leaves e s d
 turns (Modifiers w) s d = modifiers_leaves w s
 
 -- the records of a whole reading leave the items that the record of the module counts
-pub module_leaves : (ts : List Tok) → Known ts → (i : Items) (s : St) → P.parse_module ts ≡ gives i s
+pub module_leaves : (ts : List Tok) → Known ts → (i : Items) (s : St) → parse_tokens ts ≡ gives i s
     → Rooted i.recs (module_rec i.count) × (i.count ≤ 2048)
 unfolding find rows
 module_leaves ts d i s e =
-    let q : Listing F.item (P.no_items []) (begin ts) i s =
-    subst (After (λ i s'. Listing F.item (P.no_items []) (begin ts) i s')) e
-    (module_known G L Known known_tail known_later rules turns ts d) in
+    let start : St = begin (losses ts) ts in
+    let q : Listing F.item (P.no_items []) start i s =
+    subst (After (Listing F.item (P.no_items []) start)) e
+    (tokens_after (Listing F.item (P.no_items []) start) ts
+    (λ _. module_known G L Known known_tail known_later rules turns (losses ts) ts d)) in
     let n : i.count ≤ 2048 = omega (arith, q.count, d.1) in
     let h = bare (with_count n nothing) in
     (record { row = _; found = refl; root = refl; holds = h; leaves = q.leaves none_left }, n)

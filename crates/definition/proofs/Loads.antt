@@ -14,7 +14,9 @@ use Rattle.definition.specs.Tag as Tag
 use Rattle.definition.specs.Source.{Place, is_some}
 use Rattle.definition.specs.Node.{Rec, at_place, nums_bytes, rec_bytes, recs_bytes}
 use Rattle.definition.specs.Fallible.{Err, err_body, err_bytes, errs_bytes}
-use Rattle.definition.specs.Act.{Items}
+use Rattle.definition.specs.Token.{Tok}
+use Rattle.definition.specs.Act.{Items, St, gives}
+use Rattle.definition.specs.Losses.{losses, parse_tokens}
 use Rattle.definition.specs.Operations.{whole, file_bytes}
 use Rattle.definition.specs.Demand.{file_of}
 use Rattle.definition.specs.Format as F
@@ -32,7 +34,7 @@ use Rattle.definition.proofs.LeavesAnswers.{Known}
 use Rattle.definition.proofs.LeavesStatements.{module_leaves}
 use Rattle.definition.proofs.Fit.{recs_length_append}
 use Rattle.definition.proofs.Claim.{file_is}
-use Rattle.definition.proofs.ErrorsMade.{Somewhere, Fine, errors_fine}
+use Rattle.definition.proofs.ErrorsMade.{Somewhere, FineTo, Fine, Kept, errors_fine, full_fine}
 use Rattle.definition.proofs.StoredFields.{taken, two_bytes, placed, numbers_body}
 use Rattle.definition.proofs.StoredWalk.{ahead_none, ahead_both, walk_found}
 
@@ -188,36 +190,51 @@ error_body top k q e h a b c d =
     ∙ taken (F.byte 0 k) [] (e.got ∷ []) (record { byte = e.expected; count = 0 }) (omega arith)
     (between_true (omega arith) d))
 
--- whether an error is one of the reported list and of the full list
-abbrev fits : Err → Bool
-fits e = is_some (numbers (four 19 F.place_or_nowhere 54) (err_body e) no_numbers)
+-- whether an error is one of a list whose numbers go up to `top`: the reported one to 19, the full one to 21
+abbrev fits : ℕ → Err → Bool
+fits top e = is_some (numbers (four top F.place_or_nowhere 54) (err_body e) no_numbers)
 
-fine_fits : (e : Err) → Fine e → fits e ≡ true
-fine_fits e f =
-    error_body 19 54 F.place_or_nowhere e (λ ps bs n. somewhere e.place ps bs n f.place) f.low f.high f.expected f.got
+fine_fits : (top : ℕ) (e : Err) → FineTo top e → fits top e ≡ true
+fine_fits top e f =
+    error_body top 54 F.place_or_nowhere e (λ ps bs n. somewhere e.place ps bs n f.place) f.low f.high f.expected f.got
 
 fault_fits : (e : Err) → Fault e → is_some (numbers (four 4 F.place 0) (err_body e) no_numbers) ≡ true
 fault_fits e f =
     error_body 4 0 F.place e (λ ps bs n. placed e.place ps bs n f.placed) f.low f.high (omega (arith, f.expected))
     (omega (arith, f.got))
 
--- What is reported was made: if all that was made fits, so does what is reported.
+-- What is reported was made beside the losses: since all that was made fits, so does what is reported.
 miss : Err → ℕ
-miss e = pick (fits e) 0 1
+miss e = pick (fits 19 e) 0 1
 
-no_miss : (es : List Err) → All (λ e. fits e ≡ true) es → Z.tally miss es ≡ 0
+no_miss : (es : List Err) → All Fine es → Z.tally miss es ≡ 0
 unfolding miss
 no_miss [] a = refl
-no_miss (e ∷ es) a = rw a.0 (omega (arith, no_miss es a.1))
+no_miss (e ∷ es) a = rw (fine_fits 19 e a.0) (omega (arith, no_miss es a.1))
 
-all_fit : (es : List Err) → Z.tally miss es ≤ 0 → All (λ e. fits e ≡ true) es
+all_fit : (es : List Err) → Z.tally miss es ≤ 0 → All (λ e. fits 19 e ≡ true) es
 unfolding miss
 all_fit [] h = tt
-all_fit (e ∷ es) h = (go (fits e) (omega arith), all_fit es (omega arith))
+all_fit (e ∷ es) h = (go (fits 19 e) (omega arith), all_fit es (omega arith))
   where
     go : (b : Bool) → pick b 0 1 ≤ 0 → b ≡ true
     go true l = refl
     go false l = absurd (omega arith)
+
+-- what is reported fits, beside the losses
+reported_fine : (ts : List Tok) → Known ts → (i : Items) (s : St) → parse_tokens ts ≡ gives i s → Z.tally miss i.errors ≤ 0
+reported_fine ts d i s e =
+    let k : Kept (losses ts) s.full = errors_fine ts d i s e in
+    omega (
+      arith,
+      (subst (After Sums) e (Z.tokens_size miss ts)).1,
+      ap (Z.tally miss) k.full,
+      Z.tally_append miss (losses ts) k.made,
+      no_miss k.made k.fine,
+    )
+  where
+    Sums : Items → St → Type 0
+    Sums i s' = (Z.weight i.recs ≤ Z.budget ts) × (Z.tally miss (losses ts) + Z.tally miss i.errors ≤ Z.tally miss s'.full)
 
 -- ---- the file
 
@@ -255,7 +272,7 @@ module _ (es : List Err) (i : Items) (full : List Err) (r : Rooted i.recs (modul
   unfolding file_bytes tail tree root recs_bytes rec_bytes nums_bytes
   flat = rw (recs_append, append-nil (errs_bytes Tag.FullError full)) (simp append_assoc)
 
-  walks_file : All Fault es → All Fine full → Z.tally miss i.errors ≤ Z.tally miss full
+  walks_file : All Fault es → All (FineTo 21) full → Z.tally miss i.errors ≤ 0
       → walk 0 0 (waiting []) (file_bytes es i full) ≡ steps (file_steps es i full)
   unfolding file_steps tail tree root find rows walk
   walks_file a b t =
@@ -265,11 +282,11 @@ module _ (es : List Err) (i : Items) (full : List Err) (r : Rooted i.recs (modul
       ∙ ap (ahead (rec_steps 0 tree)) (errors (length (recs_bytes i.recs) + 5))
       ∙ ap steps (simp append_assoc refl)
     where
-      made_fit : All (λ e. fits e ≡ true) full
-      made_fit = all_map Fine (λ e. fits e ≡ true) fine_fits full b
+      full_fit : All (λ e. fits 21 e ≡ true) full
+      full_fit = all_map (FineTo 21) (λ e. fits 21 e ≡ true) (fine_fits 21) full b
 
-      reported_fit : All (λ e. fits e ≡ true) i.errors
-      reported_fit = all_fit i.errors (omega (arith, no_miss full made_fit))
+      reported_fit : All (λ e. fits 19 e ≡ true) i.errors
+      reported_fit = all_fit i.errors t
 
       errors : (n : ℕ)
           → walk 0 n (closed 0) tail
@@ -284,7 +301,7 @@ module _ (es : List Err) (i : Items) (full : List Err) (r : Rooted i.recs (modul
           (errs_bytes Tag.ReportedError i.errors ++ last) _
           (λ j u. walks_errors Tag.ReportedError 2 _ refl refl (λ b c. refl) i.errors reported_fit second j
           (omega arith) last _
-          (λ k v. walks_errors Tag.FullError 3 _ refl refl (λ b c. refl) full made_fit third k (omega arith) [] []
+          (λ k v. walks_errors Tag.FullError 3 _ refl refl (λ b c. refl) full full_fit third k (omega arith) [] []
           (λ m _. refl)
           ∙ ap steps (append-nil (err_steps third Tag.FullError full))))
 
@@ -295,14 +312,12 @@ unfolding load
 loads s o a z =
     let k : Known a.toks = (a.made.good, a.made.tokens) in
     let l : _ = module_leaves a.toks k a.items a.last a.parsed in
-    let b : Z.tally miss a.items.errors ≤ Z.tally miss a.last.full =
-    (subst (After (λ i s'. (Z.weight i.recs ≤ Z.budget a.toks) × (Z.tally miss i.errors ≤ Z.tally miss s'.full)))
-    a.parsed (Z.module_size miss a.toks)).1 in
+    let b : Z.tally miss a.items.errors ≤ 0 = reported_fine a.toks k a.items a.last a.parsed in
     let n : length (file_bytes a.errors a.items a.last.full) ≤ 65536 = omega (arith, room s o z, a.bytes) in
     ap load (file_is s o a)
     ∙ rw (load, le-ltb 65536 (length (file_bytes a.errors a.items a.last.full)) n)
     (walks_file a.errors a.items a.last.full l.0 (omega (arith, recs_length a.items.recs, (light a).0)) a.made.faults
-    (errors_fine a.toks k a.items a.last a.parsed) b)
+    (full_fine a.toks k a.items a.last a.parsed) b)
 
 -- Every file that the whole operation writes of an accepted script is accepted, with its records and errors as steps.
 pub whole_loads : (s o : List ℕ) (z : (whole s o).number ≡ 0)

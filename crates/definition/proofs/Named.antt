@@ -8,6 +8,7 @@ use native.Mathlib.Omega.{arith}
 use lib.Dec.{ltb}
 use lib.ListN.{length, drop}
 use Rattle.definition.specs.Kind as K
+use Rattle.definition.specs.Choice.{pick}
 use Rattle.definition.specs.ParseError as E
 use Rattle.definition.specs.Source.{Place, nowhere}
 use Rattle.definition.specs.Fallible.{Err, Fallible, Ans, ok, fatal}
@@ -17,15 +18,18 @@ use Rattle.definition.specs.Act.{Level, BitOr, BitXor, BitAnd, Shift, AddSub, Mu
 use Rattle.definition.specs.Act.{Role, Act, done, peek, consume, make, when◌then◌else◌, call, loop, panic, ◌>>=◌, or_return, ◌>>?◌, St, begin, Res, gives, advance, push, run}
 use Rattle.definition.specs.Parser as P
 use Rattle.definition.specs.Parser.{error, rule, turn, loops, parse, parse_module}
+use Rattle.definition.specs.Losses.{losses, parse_tokens}
 use Rattle.definition.proofs.Tests.{clash, All, all_append, is_in, ◌∈◌, here, there}
 use Rattle.definition.proofs.Later as Later
 use Rattle.definition.proofs.Ind.{join, limit}
+use Rattle.definition.proofs.Losses.{losses_all, tokens_after}
 
 -- the errors that name nothing, and those that name any token got and nothing else
 abbrev pub naming_none : List ℕ
 naming_none =
     E.Identifier ∷ E.EndOfFile ∷ E.StatementAtEnd ∷ E.ExpressionAtEnd ∷ E.ArraySize ∷ E.ArraySizePositive ∷ E.TypeAtEnd
-    ∷ E.BodyAtEnd ∷ E.ListAtEnd ∷ E.NameAfterType ∷ E.PathAfterUse ∷ E.CompoundAtEnd ∷ []
+    ∷ E.BodyAtEnd ∷ E.ListAtEnd ∷ E.NameAfterType ∷ E.PathAfterUse ∷ E.CompoundAtEnd
+    ∷ E.CharacterLost ∷ E.AssemblyNotClosed ∷ []
 
 abbrev pub naming_got : List ℕ
 naming_got = E.Expression ∷ E.Type' ∷ E.InList ∷ []
@@ -517,13 +521,21 @@ module _ (us : List Tok) where
       (λ l t. loops_kept (λ h u. parse n h u) (λ h u. parse_kept n h u) (suc (suc (length t.tokens))) l t) (rule g) s
       ((safe_rule g).makes s.tokens k.tokens) k
 
-module_kept : (ts : List Tok) → KeptAfter ts (parse_module ts)
+-- a loss names nothing
+losses_right : (us ts : List Tok) → All (Right us) (losses ts)
+losses_right us ts = losses_all (Right us) ts (λ t _. alone _ t.place (named (t is K.Minus)))
+  where
+    named : (b : Bool) → is_in (pick b E.CharacterLost E.AssemblyNotClosed) naming_none ≡ true
+    named true = refl
+    named false = refl
+
+module_kept : (ts : List Tok) → KeptAfter ts (parse_module (losses ts) ts)
 unfolding parse_module
 module_kept ts =
     loops_kept ts (λ g s. parse 96 g s) (λ g s. parse_kept ts 96 g s) (suc (suc (length ts))) (Module (P.no_items []))
-    (begin ts)
-    (record { tokens = record { count = 0; least = omega arith; tokens = refl }; full = tt })
+    (begin (losses ts) ts)
+    (record { tokens = record { count = 0; least = omega arith; tokens = refl }; full = losses_right ts ts })
 
 -- each entry of the full list is right
-pub full_right : (ts : List Tok) (i : Items) (s : St) → parse_module ts ≡ gives i s → All (Right ts) s.full
-full_right ts i s e = (subst (KeptAfter ts) e (module_kept ts)).full
+pub full_right : (ts : List Tok) (i : Items) (s : St) → parse_tokens ts ≡ gives i s → All (Right ts) s.full
+full_right ts i s e = (subst (KeptAfter ts) e (tokens_after (λ _ s'. Kept ts s') ts (λ _. module_kept ts))).full

@@ -14,8 +14,8 @@ use Rattle.definition.specs.Choice.{pick}
 use Rattle.definition.specs.Classes.{between}
 use Rattle.definition.specs.Source.{Place, Ch, nowhere, utf8, characters}
 use Rattle.definition.specs.Fallible.{Err}
-use Rattle.definition.specs.Token.{Tok, tok}
-use Rattle.definition.specs.Records.{has_text, token_words, tokens_words, tokens_text, errors_words, TokenWords, words_at, part, text_fits, valid_alone, valid_after, place_of, text_end, token_of, token_before, tokens_of, ErrorWords, error_at, valid_error, error_of, error_before, errors_of}
+use Rattle.definition.specs.Token.{Tok}
+use Rattle.definition.specs.Records.{has_text, can_lose, token_words, tokens_words, tokens_text, errors_words, TokenWords, words_at, part, text_fits, valid_alone, valid_after, place_of, text_end, token_of, token_before, tokens_of, ErrorWords, error_at, valid_error, error_of, error_before, errors_of}
 use Rattle.definition.specs.Tokenizer as Z
 use Rattle.definition.specs.Tokenizer.{tokenize}
 use Rattle.definition.specs.Operations.{Validated, both, validate}
@@ -75,7 +75,7 @@ words n t =
       start = pick (has_text t.kind) n 0;
       size = length t.text;
       base = t.base;
-      seventh = 0;
+      seventh = pick t.lost 1 0;
       eighth = 0;
     }
 
@@ -84,6 +84,16 @@ line_fits p h = between_true h.line_low (omega arith)
 
 column_fits : (p : Place) → Placed 1 p → between 1 16384 p.column ≡ true
 column_fits p h = between_true h.column_low (omega arith)
+
+-- the seventh word says whether the token lost something, and fits its kind
+lost_fits : (b l : Bool) → (b ≡ false → l ≡ false) → leb (pick l 1 0) (pick b 1 0) ≡ true
+lost_fits true true f = refl
+lost_fits true false f = refl
+lost_fits false l f = rw (f refl) refl
+
+lost_back : (l : Bool) → eqb (pick l 1 0) 1 ≡ l
+lost_back true = refl
+lost_back false = refl
 
 -- a token whose text is in the text slice, after n bytes
 module _ (t : Tok) (g : Good t) (text before rest : List ℕ) (n : ℕ) (e : text ≡ before ++ (t.text ++ rest))
@@ -117,11 +127,11 @@ module _ (t : Tok) (g : Good t) (text before rest : List ℕ) (n : ℕ) (e : tex
   alone =
       both_true (both_true (both_true (both_true (both_true
       (both_true (both_true (between_true g.formed.low g.formed.high) (line_fits t.place g.placed))
-      (column_fits t.place g.placed)) g.formed.base) refl) refl) fits)
+      (column_fits t.place g.placed)) g.formed.base) (lost_fits (can_lose t.kind) t.lost g.formed.losing)) refl) fits)
       (rw part_is g.formed.integer)
 
   token_is : token_of text (words n t) ≡ t
-  token_is = ap (λ (x : List ℕ). tok t.kind t.place x t.base) part_is
+  token_is = λ x. record { kind = t.kind; place = t.place; text = part_is x; base = t.base; lost = lost_back t.lost x }
 
 text_after : (t : Tok) (n e : ℕ) → e ≤ n → pick (has_text t.kind) (leb e (words n t).start) true ≡ true
 text_after t n e h = go (has_text t.kind)

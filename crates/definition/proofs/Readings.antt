@@ -10,14 +10,13 @@ use Rattle.definition.specs.Ascii.{ascii}
 use Rattle.definition.specs.Source.{Place, Ch, code, characters}
 use Rattle.definition.specs.Kind as K
 use Rattle.definition.specs.Tokenizer.{quoted, one_unknown, digits, zero_turn, token_text}
+use Rattle.definition.specs.Fallible.{Err}
 use Rattle.definition.specs.Act.{Items, Res, gives, refused}
+use Rattle.definition.specs.Losses.{losses}
 use Rattle.definition.specs.Parser.{parse_module}
 use Rattle.definition.specs.Demand.{tokens_of_script}
 
--- an escape other than `
--- r`, `
--- n`, `
--- t` is unknown, also a backslash or a quote
+-- an escape other than `r`, `n` and `t` is unknown, also a backslash or a quote
 pub unknown_escape : (c : Ch) (cs : List Ch) → (c.byte ≡ 114 → ⊥) → (c.byte ≡ 110 → ⊥) → (c.byte ≡ 116 → ⊥)
     → quoted true (c ∷ cs) ≡ one_unknown (quoted false cs)
 unfolding quoted
@@ -51,6 +50,16 @@ reported (gives i s) = map (λ e. e.place.column) i.errors
 reported (refused n) = []
 
 -- errors are not sorted by place: those of the body come before those of the parameters
-pub unsorted : reported (parse_module (tokens_of_script (ascii "fn f(1:T){+;}"))) ≡ 11 ∷ 12 ∷ 6 ∷ []
+pub unsorted : reported (parse_module [] (tokens_of_script (ascii "fn f(1:T){+;}"))) ≡ 11 ∷ 12 ∷ 6 ∷ []
 unfolding tokens_of_script parse_module ascii
 unsorted = refl
+
+-- the numbers and columns of losses: white space that a Minus consumed is none, and they are placed at the dash and at
+-- `asm`
+abbrev numbered : List Err → List ℕ
+numbered [] = []
+numbered (e ∷ es) = e.number ∷ e.place.column ∷ numbered es
+
+pub lost : numbered (losses (tokens_of_script (ascii "a - b -c asm {} asm{"))) ≡ 20 ∷ 7 ∷ 21 ∷ 17 ∷ []
+unfolding tokens_of_script losses ascii
+lost = refl

@@ -297,7 +297,7 @@ token_of m = tok m.got nowhere m.text m.base
 
 unplaced : {t : Tok} → Formed t → Formed (tok t.kind nowhere t.text t.base)
 unplaced f =
-    record { low = f.low; high = f.high; base = f.base; textless = f.textless; utf8 = f.utf8; integer = f.integer }
+    record { low = f.low; high = f.high; base = f.base; textless = f.textless; losing = λ _. refl; utf8 = f.utf8; integer = f.integer }
 
 -- the kinds that a message names are kinds of tokens
 abbrev Fits : Meaning → List Part → Type 0

@@ -14,10 +14,11 @@ use Rattle.definition.specs.Tokenizer as Z
 use Rattle.definition.specs.Tokenizer.{tokenize}
 use Rattle.definition.specs.Act as A
 use Rattle.definition.specs.Act.{Items, Res}
-use Rattle.definition.specs.Parser.{parse_module}
+use Rattle.definition.specs.Losses.{parse_tokens}
 use Rattle.definition.specs.Operations.{Outcome, file, refused, file_bytes, read_tokens}
 use Rattle.definition.proofs.Tests.{passed, between_bounds}
-use Rattle.definition.proofs.Total.{Moves, module_moves}
+use Rattle.definition.proofs.Total.{Moves}
+use Rattle.definition.proofs.Losses.{tokens_move}
 use Rattle.definition.proofs.Tokens.{TokensOf, script_tokens}
 
 -- the tokenizer refuses with 4 to 7
@@ -28,7 +29,7 @@ tokenize_refuses s cs h e n r = between_bounds 4 7 n (passed _ (subst TokensOf r
 -- the parser refuses with 10 to 12
 pub read_refuses : (t : Tok) (ts : List Tok) (es : List Err) (n : ℕ) → read_tokens (t ∷ ts) es ≡ refused n → (10 ≤ n) × (n ≤ 12)
 unfolding read_tokens
-read_refuses t ts es n e = between_bounds 10 12 n (passed _ (go (parse_module (t ∷ ts)) (module_moves (t ∷ ts)) e))
+read_refuses t ts es n e = between_bounds 10 12 n (passed _ (go (parse_tokens (t ∷ ts)) (tokens_move (t ∷ ts)) e))
   where
     go : (r : Res Items) → Moves r
         → elim r as (λ _. Outcome) [ A.gives i s ↦ file (file_bytes es i s.full) | A.refused m ↦ refused m ]

@@ -1,18 +1,19 @@
--- The reported errors are entries of the full list, and none is reported more often than it is made. Assumes nothing.
+-- The reported errors are entries of the full list beside the losses, and none is reported more often than it is made.
+-- Assumes nothing.
 use mathlib.Core.Path.{◌≡◌, refl, subst}
 use mathlib.Core.Bool.{Bool, true, ◌&&◌}
 use mathlib.Core.List.{List}
-use Prim.Native.Nat.{ℕ, ◌≤◌}
+use Prim.Native.Nat.{ℕ, ◌+◌, ◌≤◌}
 use borrow.Author.Tests.{eqb-true, eq-eqb}
 use lib.Dec.{eqb}
 use Rattle.definition.specs.Choice.{pick}
 use Rattle.definition.specs.Fallible.{Err}
 use Rattle.definition.specs.Token.{Tok}
 use Rattle.definition.specs.Act.{Items, St, gives}
-use Rattle.definition.specs.Parser.{parse_module}
+use Rattle.definition.specs.Losses.{losses, parse_tokens}
 use Rattle.definition.proofs.Tests.{both_true, parts_true}
 use Rattle.definition.proofs.Later.{After}
-use Rattle.definition.proofs.Size.{weight, budget, tally, module_size}
+use Rattle.definition.proofs.Size.{weight, budget, tally, tokens_size}
 
 -- equality of errors, field by field
 abbrev pub same_error : Err → Err → Bool
@@ -40,9 +41,9 @@ same_error_self e =
     (both_true (eq-eqb e.place.line _ refl) (both_true (eq-eqb e.place.column _ refl)
     (both_true (eq-eqb e.expected _ refl) (eq-eqb e.got _ refl))))
 
--- an error is reported at most as often as it is in the full list
-pub reported_is_made : (e : Err) (ts : List Tok) (i : Items) (s : St) → parse_module ts ≡ gives i s
-    → times e i.errors ≤ times e s.full
+-- an error is reported at most as often as it is in the full list beside the losses
+pub reported_is_made : (e : Err) (ts : List Tok) (i : Items) (s : St) → parse_tokens ts ≡ gives i s
+    → times e (losses ts) + times e i.errors ≤ times e s.full
 reported_is_made e ts i s g =
-    (subst (After (λ i s'. (weight i.recs ≤ budget ts) × (times e i.errors ≤ times e s'.full))) g
-    (module_size (λ x. pick (same_error e x) 1 0) ts)).1
+    (subst (After (λ i s'. (weight i.recs ≤ budget ts) × (times e (losses ts) + times e i.errors ≤ times e s'.full))) g
+    (tokens_size (λ x. pick (same_error e x) 1 0) ts)).1

@@ -15,9 +15,11 @@ use Rattle.definition.specs.Token.{Tok, next_token, ◌is◌}
 use Rattle.definition.specs.Act.{Node, Items, Goal, Loop, Module, Body, ListOf, Operators, Casts, Suffixes, Modifiers, Left, Act, done, peek, consume, make, when◌then◌else◌, call, loop, panic, St, begin, Res, gives, advance, push, run}
 use Rattle.definition.specs.Parser as P
 use Rattle.definition.specs.Parser.{rule, turn, loops, parse, parse_module}
+use Rattle.definition.specs.Losses.{losses, parse_tokens}
 use Rattle.definition.specs.Operations.{whole, file_bytes}
-use Rattle.definition.proofs.Later.{Later, toks, After}
+use Rattle.definition.proofs.Later.{Later, toks, After, weaken}
 use Rattle.definition.proofs.Ind.{join, limit, wp, wp_always, wp_bind, module_ind}
+use Rattle.definition.proofs.Losses.{tokens_after}
 use Rattle.definition.proofs.Tests.{is_kind}
 use Rattle.definition.proofs.Size as Z
 use Rattle.definition.proofs.Tokens.{Kinds, texts}
@@ -66,14 +68,23 @@ at_end [] k e = refl
 at_end (t ∷ ts) k e = absurd (omega (arith, is_kind t K.End e, k.0))
 
 -- a reading that is not refused has read all tokens
-pub all_read : (ts : List Tok) → Kinds ts → (i : Items) (s : St) → parse_module ts ≡ gives i s → toks s.read ≡ ts
-all_read ts k i s e =
-    go (subst (After (λ i s'. Later (begin ts) s' × (next_token s'.tokens is K.End ≡ true))) e
-    (module_ind G L R M (λ s. tt) (λ e s. tt) (λ g s. wp_always G L R M (G g s) (rule g) s (λ a s'. tt)) turns ts))
+pub all_read : (ts : List Tok) → Kinds ts → (i : Items) (s : St) → parse_tokens ts ≡ gives i s → toks s.read ≡ ts
+all_read ts k i s e = go (subst (After Ended) e (tokens_after Ended ts (λ _. ended)))
   where
-    go : Later (begin ts) s × (next_token s.tokens is K.End ≡ true) → toks s.read ≡ ts
+    start : St
+    start = begin (losses ts) ts
+
+    Ended : Items → St → Type 0
+    Ended i s' = Later start s' × (next_token s'.tokens is K.End ≡ true)
+
+    ended : After Ended (parse_module (losses ts) ts)
+    ended =
+        module_ind G L R M (λ s. tt) (λ e s. tt) (λ g s. wp_always G L R M (G g s) (rule g) s (λ a s'. tt)) turns
+        (losses ts) ts
+
+    go : Ended i s → toks s.read ≡ ts
     go h =
-        let l : Later (begin ts) s = h.0 in
+        let l : Later start s = h.0 in
         let n : s.tokens ≡ [] = at_end s.tokens (kinds_drop (toks l.eaten) s.tokens (subst Kinds l.tokens k)) h.1 in
         ap toks l.read ∙ sym (l.tokens ∙ ap (λ (x : List Tok). toks l.eaten ++ x) n ∙ append-nil (toks l.eaten))
 
@@ -114,11 +125,11 @@ parse_few (suc n) g s h =
     (λ l t k. loops_few (λ h u. parse n h u) (λ h u j. parse_few n h u j) (suc (suc (length t.tokens))) l t k)
     (rule g) s h
 
-module_few : (ts : List Tok) → After Few (parse_module ts)
+module_few : (full : List Err) (ts : List Tok) → length full ≤ 255 → After Few (parse_module full ts)
 unfolding parse_module
-module_few ts =
+module_few full ts h =
     loops_few (λ g s. parse 96 g s) (λ g s h. parse_few 96 g s h) (suc (suc (length ts)))
-    (Module (P.no_items [])) (begin ts) (omega arith)
+    (Module (P.no_items [])) (begin full ts) h
 
 -- ---- lengths
 
@@ -164,13 +175,13 @@ abbrev pub Light : Items → St → Type 0
 Light i s = (Z.weight i.recs ≤ 49152) × (length i.errors ≤ length s.full) × (length s.full ≤ 255)
 
 -- readings of tokens within the limits are light
-pub light_reading : (ts : List Tok) → length ts ≤ 2048 → texts ts ≤ 16384 → (i : Items) (s : St) → parse_module ts ≡ gives i s
+pub light_reading : (ts : List Tok) → length ts ≤ 2048 → texts ts ≤ 16384 → (i : Items) (s : St) → parse_tokens ts ≡ gives i s
     → Light i s
 light_reading ts n x i s e =
-    let w : Paid i s = subst (After Paid) e (Z.module_size (λ _. 1) ts) in (
+    let w : Paid i s = subst (After Paid) e (weaken (parse_tokens ts) (λ i s' p. omega arith) (Z.tokens_size (λ _. 1) ts)) in (
       omega (arith, w.0, budget_bound ts),
       omega (arith, w.1, tally_one i.errors, tally_one s.full),
-      subst (After Few) e (module_few ts),
+      subst (After Few) e (tokens_after Few ts (module_few (losses ts) ts)),
     )
   where
     Paid : Items → St → Type 0

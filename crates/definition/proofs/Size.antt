@@ -17,9 +17,11 @@ unfoldable pub use Rattle.definition.specs.Cost.{spend as budget}
 use Rattle.definition.specs.Act.{Node, Items, Goal, Statement, Expression, Unary, Type', Loop, Module, Body, ListOf, Operators, Casts, Suffixes, Modifiers, Listed, Parameters, Arguments, StructFields, ArrayValues, StructValues, Level, Left, Words, Act, St, push, next, done, ◌>>=◌, ◌>>?◌}
 use Rattle.definition.specs.Parser as P
 use Rattle.definition.specs.Parser.{rule, turn, statement_rule, expression_rule, unary_rule, type_rule, list_turn, body_turn, module_turn, operators_turn, casts_turn, suffixes_turn, modifiers_turn, Typed, parse, parse_module}
+use Rattle.definition.specs.Losses.{losses, parse_tokens}
 use Rattle.definition.proofs.Tests.{is_kind, not_end}
 use Rattle.definition.proofs.Later.{Later, next_state, After, weaken}
 use Rattle.definition.proofs.Ind.{EachAns, mapping_positive, comparisons_positive, wp, wp_mono, follow, try, via, wp_find, wp_bitwise_or, wp_cascade, parse_ind, module_ind}
+use Rattle.definition.proofs.Losses.{tokens_after}
 
 abbrev pub place_size : Option Place → ℕ
 place_size none = 0
@@ -60,7 +62,7 @@ module _ (f : Err → ℕ) where
   tally [] = 0
   tally (e ∷ es) = f e + tally es
 
-  tally_append : (xs ys : List Err) → tally (xs ++ ys) ≡ tally xs + tally ys
+  pub tally_append : (xs ys : List Err) → tally (xs ++ ys) ≡ tally xs + tally ys
   tally_append [] ys = omega arith
   tally_append (x ∷ xs) ys = omega (arith, tally_append xs ys)
 
@@ -594,6 +596,15 @@ module _ (f : Err → ℕ) where
   pub goal_size : (n : ℕ) (g : Goal) (s : St) → After (λ a s'. Later s s' × G g s a s') (parse n g s)
   goal_size n g s = parse_ind G L R M (λ s. r_ok s.tokens) (λ e s. tt) rules turns n g s
 
-  -- for a whole reading: the bytes of the records are within the budget, and the reported errors among those made
-  pub module_size : (ts : List Tok) → After (λ i s'. (weight i.recs ≤ budget ts) × (tally i.errors ≤ tally s'.full)) (parse_module ts)
-  module_size ts = weaken (parse_module ts) (λ i s' p. omega arith) (module_ind G L R M (λ s. r_ok s.tokens) (λ e s. tt) rules turns ts)
+  -- for a whole reading: the bytes of the records are within the budget, and the reported errors among those made, beside
+  -- those that were there before
+  pub module_size : (full : List Err) (ts : List Tok)
+      → After (λ i s'. (weight i.recs ≤ budget ts) × (tally full + tally i.errors ≤ tally s'.full)) (parse_module full ts)
+  module_size full ts =
+      weaken (parse_module full ts) (λ i s' p. omega arith)
+      (module_ind G L R M (λ s. r_ok s.tokens) (λ e s. tt) rules turns full ts)
+
+  -- beside the losses
+  pub tokens_size : (ts : List Tok)
+      → After (λ i s'. (weight i.recs ≤ budget ts) × (tally (losses ts) + tally i.errors ≤ tally s'.full)) (parse_tokens ts)
+  tokens_size ts = tokens_after _ ts (λ _. module_size (losses ts) ts)

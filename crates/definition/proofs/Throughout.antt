@@ -47,10 +47,10 @@ module _ (G : Goal → St → Ans Node → St → Type 0) (L : (l : Loop) → St
     module _ (rules : (g : Goal) (s : St) → I s.tokens → wp G L Known Any (rule g) (G g s) s)
         (turns : (l : Loop) (s : St) → I s.tokens → wp G L Known Any (turn l) (L l s) s) where
       -- what holds after a whole reading, if the invariant I holds of its tokens
-      pub module_known : (ts : List Tok) → I ts
-          → After (λ i s'. L (Module (no_items [])) (begin ts) i s') (parse_module ts)
-      module_known ts i =
-          weaken (parse_module ts) (λ a s' p. p.1 i)
+      pub module_known : (full : List Err) (ts : List Tok) → I ts
+          → After (λ i s'. L (Module (no_items [])) (begin full ts) i s') (parse_module full ts)
+      module_known full ts i =
+          weaken (parse_module full ts) (λ a s' p. p.1 i)
           (module_ind G' L' None Any (λ s. tt) (λ e s. tt)
           (λ g s. carry (I s.tokens) (G g s) (rule g) s (λ x. x) (rules g s))
-          (λ l s. carry (I s.tokens) (L l s) (turn l) s (λ x. x) (turns l s)) ts)
+          (λ l s. carry (I s.tokens) (L l s) (turn l) s (λ x. x) (turns l s)) full ts)

@@ -1,7 +1,7 @@
 -- The tokens and token errors of a script: each is well formed, the tokens are in the order of their places, and all
 -- fit their records. Assumes nothing.
 use mathlib.Core.Path.{◌≡◌, refl, sym, ap, subst}
-use mathlib.Core.Bool.{Bool, true, false, ◌&&◌, ◌||◌}
+use mathlib.Core.Bool.{Bool, true, false, ◌&&◌, ◌||◌, not}
 use mathlib.Core.Option.{some}
 use mathlib.Core.List.{List, [], ◌∷◌, ◌++◌}
 use Prim.Native.Nat.{ℕ, zero, suc, ◌+◌, ◌-◌, ◌≤◌, ◌<◌}
@@ -16,17 +16,17 @@ use Rattle.definition.specs.Kind as K
 use Rattle.definition.specs.Source.{Place, same_place, Ch, code, nowhere, characters}
 use Rattle.definition.specs.Fallible.{Err}
 use Rattle.definition.specs.Token.{Tok, ◌is◌}
-use Rattle.definition.specs.Records.{base_fits, comes_after}
+use Rattle.definition.specs.Records.{base_fits, can_lose, comes_after}
 use Rattle.definition.specs.Tokenizer as Z
-use Rattle.definition.specs.Tokenizer.{Turn, goes, refused, Span, Quoted, Run, ends, foreign, Class, Foreign, White, Comment, Pair, Symbol, Quote, Word, Dash, Zero, Digit, Unknown, Tokens, tokens, turn, tokenize, tokenize_from, comment, digits, assembly, quoted, word, white, look, drop_one}
+use Rattle.definition.specs.Tokenizer.{Turn, goes, refused, Span, Quoted, Run, ends, foreign, Class, Tokens, tokens, turn, tokenize, tokenize_from, comment, digits, assembly, closed, quoted, word, white, look, drop_one}
 use Rattle.definition.specs.Sentence.{character_at}
 use Rattle.definition.proofs.Shown.{Apart, Distinct, same_self}
-use Rattle.definition.proofs.Tests.{clash, both_true, right_true, chosen, picked, counted, All, all_append, all_replicate, all_map, ◌∈◌, here, there, each}
+use Rattle.definition.proofs.Tests.{clash, both_true, chosen, picked, counted, All, all_append, all_replicate, all_map, ◌∈◌, here, there, each}
 use Rattle.definition.proofs.Characters.{spelling, Sound, utf8_char}
 use Rattle.definition.proofs.Codes.{coded_digit}
 pub use Rattle.definition.proofs.Scans.{Placed}
 use Rattle.definition.proofs.Scans.{key, Placed, Chars, bytes, Script, script, Ran, ran_none, ran_one, ran_drop, ran_more, ran_less, ran_trans, ran_look, comment_ran, SpanOf, digits_ran, digits_some, assembly_spans, QuotedOf, quoted_spans, ClosedOf, quoted_closed, RunOf, word_spans, lettered, lettered_append, char_lettered, WordOf, word_letters, white_spans}
-use Rattle.definition.proofs.Formed.{Formed, Plain, plain_bounds, plain_formed, pair_plain, symbol_plain, keyword_plain, Classed, is_foreign, is_white, is_comment, is_pair, is_symbol, is_quote, is_word, is_dash, is_zero, is_digit, is_unknown, classed, text_formed, Numeral, dash_numeral, numeral, or_zero_numeral, integer_formed, digits_all, digit_first}
+use Rattle.definition.proofs.Formed.{Formed, same_is, Plain, plain_bounds, plain_formed, pair_plain, symbol_plain, keyword_plain, Classed, is_foreign, is_white, is_comment, is_pair, is_symbol, is_quote, is_word, is_dash, is_zero, is_digit, is_unknown, classed, text_formed, Numeral, dash_numeral, numeral, or_zero_numeral, integer_formed, digits_all, digit_first}
 
 -- ---- one turn: at most one token, and errors, placed at its first character
 
@@ -73,13 +73,6 @@ record ErrorAt (p : Place) (e : Err) : Type 0 where
 error_at : (n : ℕ) (p : Place) → 1 ≤ n → n ≤ 4 → ErrorAt p (Z.token_error n p)
 error_at n p l h = record { place = refl; low = l; high = h; expected = refl; got = refl }
 
-same_length : (xs ys : List ℕ) → Z.same xs ys ≡ true → length xs ≡ length ys
-unfolding Z.same
-same_length [] [] e = refl
-same_length [] (y ∷ ys) e = clash (sym e)
-same_length (x ∷ xs) [] e = clash (sym e)
-same_length (x ∷ xs) (y ∷ ys) e = ap suc (same_length xs ys (right_true (eqb x y) (Z.same xs ys) e))
-
 or_zero_length : (xs : List ℕ) → length (Z.or_zero xs) ≤ 1 + length xs
 or_zero_length [] = omega arith
 or_zero_length (x ∷ xs) = omega arith
@@ -107,13 +100,17 @@ module _ (c : Ch) (cs : List Ch) where
   gives_none : (rest : List Ch) (n : ℕ) (es : List Err) → Ran cs rest n → All (ErrorAt c.place) es → Turned c cs rest es []
   gives_none rest n es r a = record { ran = ran_less r; token = tt; errors = a }
 
-  plain_turned : (rest : List Ch) (n k : ℕ) → Ran cs rest n → Plain k → 0 < k → TurnOf c cs (Z.token rest k c.place)
-  plain_turned rest n k r p h =
+  plain_losing : (rest : List Ch) (n k : ℕ) (l : Bool) → Ran cs rest n → Plain k → 0 < k → (can_lose k ≡ false → l ≡ false)
+      → TurnOf c cs (Z.token_losing rest k c.place [] l)
+  plain_losing rest n k l r p h q =
       let b = plain_bounds k p h in
       gives_token rest n [] _ r refl
       (rw (ne_eqb k K.String (λ z. omega (arith, b)), ne_eqb k K.InlineAssemblyFragment (λ z. omega (arith, b)))
       (omega arith))
-      (plain_formed k c.place p h) (rw (ne_eqb k K.Identifier (λ z. omega (arith, b)))) tt
+      (plain_formed k c.place l p h q) (rw (ne_eqb k K.Identifier (λ z. omega (arith, b)))) tt
+
+  plain_turned : (rest : List Ch) (n k : ℕ) → Ran cs rest n → Plain k → 0 < k → TurnOf c cs (Z.token rest k c.place)
+  plain_turned rest n k r p h = plain_losing rest n k false r p h (λ _. refl)
 
   string_turned : (k : ℕ) → Chars k cs → (q : Quoted) → QuotedOf cs q → ClosedOf cs q
       → TurnOf c cs (Z.string_turn c.place q)
@@ -121,7 +118,7 @@ module _ (c : Ch) (cs : List Ch) where
   string_turned k h q p l =
       chosen (TurnOf c cs) q.closed _ _
       (λ e. gives_token q.rest (suc (length q.text)) _ _ (ran_more p.ran (l e)) refl (omega arith)
-      (text_formed K.String c.place q.text refl refl (omega arith) (omega arith) (p.utf8 k h)) refl unknown)
+      (text_formed K.String c.place q.text false refl refl (omega arith) (omega arith) (λ _. refl) (p.utf8 k h)) refl unknown)
       (λ _. gives_none q.rest (length q.text) _ p.ran
       (all_append (ErrorAt c.place) (replicate q.unknown (Z.token_error 1 c.place))
       (Z.token_error 2 c.place ∷ []) unknown (error_at 2 c.place (omega arith) (omega arith), tt)))
@@ -139,8 +136,8 @@ module _ (c : Ch) (cs : List Ch) where
   assembly_turned k h before n o l (ends s) p =
       chosen (TurnOf c cs) (eqb (look s.rest) 123) _ _
       (λ e. gives_token a.rest (1 + n + length a.text) [] _ (opened e) refl (omega (arith, l))
-      (text_formed K.InlineAssemblyFragment c.place a.text refl refl (omega arith) (omega arith)
-      (b.utf8 k (ran_on.keeps k h))) refl tt)
+      (text_formed K.InlineAssemblyFragment c.place a.text (not (closed (drop_one s.rest))) refl refl (omega arith)
+      (omega arith) clash (b.utf8 k (ran_on.keeps k h))) refl tt)
       (λ _. gives_none (drop_one s.rest) 0 _ ran_on (error_at 3 c.place (omega arith) (omega arith), tt))
     where
       a : Span
@@ -164,10 +161,10 @@ module _ (c : Ch) (cs : List Ch) where
   word_turned k h w l (ends s) p q =
       chosen (TurnOf c cs) (Z.same x (ascii "asm")) _ _
       (λ e. assembly_turned k h s.rest (length s.text) p.ran
-      (omega (arith, size, same_length x (ascii "asm") e)) (white s.rest) (white_spans s.rest))
+      (omega (arith, size, ap length (same_is x (ascii "asm") e))) (white s.rest) (white_spans s.rest))
       (λ _. counted (TurnOf c cs) (Z.keyword x) _ _
       (gives_token s.rest (length s.text) [] _ p.ran refl (omega (arith, size))
-      (text_formed K.Identifier c.place x refl refl (omega arith) (omega arith) (utf8_char c s.text w.0 (p.utf8 k h)))
+      (text_formed K.Identifier c.place x false refl refl (omega arith) (omega arith) (λ _. refl) (utf8_char c s.text w.0 (p.utf8 k h)))
       (lettered_append (spelling c) s.text (char_lettered c w.1 (rw l)) q) tt)
       (λ j e. plain_turned s.rest (length s.text) (suc j) p.ran (subst Plain e (keyword_plain x)) (omega arith)))
     where
@@ -208,25 +205,14 @@ dash_turned c (d ∷ cs) =
     (λ e. integer_turned c (d ∷ cs) 10 (45 ∷ (digits 10 (d ∷ cs)).text) (digits 10 (d ∷ cs)).rest _ refl
     (digits_ran 10 (d ∷ cs)) (omega arith)
     (dash_numeral (digits 10 (d ∷ cs)).text (digits_all 10 (d ∷ cs)) (digits_some d cs e)))
-    (λ _. plain_turned c (d ∷ cs) cs 0 K.Minus (ran_one d cs) (record { plain = refl }) (omega arith)))
+    (λ _. plain_losing c (d ∷ cs) cs 0 K.Minus (not (C.is_white (code d))) (ran_one d cs) (record { plain = refl })
+    (omega arith) clash))
 
 turned : (c : Ch) (cs : List Ch) (k : ℕ) → Sound c → Chars k cs → TurnOf c cs (turn c cs)
 unfolding turn
 turned c cs k w h = go (Z.class (code c) (look cs)) (classed (code c) (look cs))
   where
-    go : (x : Class) → Classed (code c) (look cs) x → TurnOf c cs (elim x as (λ _. Turn) [
-      | Foreign ↦ refused 4
-      | White ↦ Z.nothing cs
-      | Comment ↦ Z.nothing (comment (drop_one cs))
-      | Pair ↦ Z.token (drop_one cs) (Z.pair (code c) (look cs)) c.place
-      | Symbol ↦ Z.token cs (Z.symbol (code c)) c.place
-      | Quote ↦ Z.string_turn c.place (quoted false cs)
-      | Word ↦ Z.word_turn c.place (Z.run_ahead (spelling c) (word cs))
-      | Dash ↦ Z.dash_turn c.place cs
-      | Zero ↦ Z.zero_turn c.place cs
-      | Digit ↦ Z.integer c.place 10 (c.byte ∷ []) (digits 10 cs)
-      | Unknown ↦ goes cs (Z.token_error 4 c.place ∷ []) []
-    ])
+    go : (x : Class) → Classed (code c) (look cs) x → TurnOf c cs (Z.turn_by x c cs)
     go x is_foreign = tt
     go x is_white = gives_none c cs cs 0 [] (ran_none cs) tt
     go x is_comment = gives_none c cs (comment (drop_one cs)) 0 [] (ran_trans (ran_drop cs) (comment_ran (drop_one cs))) tt
@@ -393,25 +379,26 @@ module _ (p : Place) (r n : ℕ) where
     faults = all_append Fault es fs h.faults (all_map (ErrorAt p) Fault (fault b) fs e);
   }
 
--- one turn of the loop: a refusal with 4 to 7, or the loop goes on, with at most 2,048 tokens and 255 errors
-module _ (P : Tokens → Type 0) (refuses : (j : ℕ) → T (C.between 4 7 j) → P (Tokens.refused j)) where
-  stepped : (n : ℕ) (x : Ch) (cs : List Ch) (ts : List Tok) (es : List Err) (t : Turn) → TurnOf x cs t
-      → ((cs' : List Ch) (ts' : List Tok) (es' : List Err) → Turned x cs cs' es' ts'
-      → length ts + length ts' ≤ 2048 → length es + length es' ≤ 255
-      → P (tokenize_from 2048 n cs' (ts ++ ts') (es ++ es')))
+-- one turn of the loop, with at most `most` tokens and 255 errors: it is refused, or the loop goes on
+module _ (most : ℕ) (P : Tokens → Type 0) (six : P (Tokens.refused 6)) (seven : P (Tokens.refused 7)) (Q : Turn → Type 0)
+    (refuses : (j : ℕ) → Q (refused j) → P (Tokens.refused j)) where
+  pub stepped : (n : ℕ) (ts : List Tok) (es : List Err) (t : Turn) → Q t
+      → ((cs' : List Ch) (ts' : List Tok) (es' : List Err) → Q (goes cs' es' ts')
+      → length ts + length ts' ≤ most → length es + length es' ≤ 255
+      → P (tokenize_from most n cs' (ts ++ ts') (es ++ es')))
       → P (elim t as (λ _. Tokens) [
         | refused j ↦ Tokens.refused j
         | goes cs' es' ts' ↦ elim (leb (length es + length es') 255) as (λ _. Tokens) [
           | false ↦ Tokens.refused 7
-          | true ↦ elim (leb (length ts + length ts') 2048) as (λ _. Tokens)
-              [ false ↦ Tokens.refused 6 | true ↦ tokenize_from 2048 n cs' (ts ++ ts') (es ++ es') ]
+          | true ↦ elim (leb (length ts + length ts') most) as (λ _. Tokens)
+              [ false ↦ Tokens.refused 6 | true ↦ tokenize_from most n cs' (ts ++ ts') (es ++ es') ]
         ]
       ])
-  stepped n x cs ts es (refused j) p f = refuses j p
-  stepped n x cs ts es (goes cs' es' ts') p f =
+  stepped n ts es (refused j) q f = refuses j q
+  stepped n ts es (goes cs' es' ts') q f =
       chosen P (leb (length es + length es') 255) _ _
-      (λ y. chosen P (leb (length ts + length ts') 2048) _ _
-      (λ z. f cs' ts' es' p (leb-true _ _ z) (leb-true _ _ y)) (λ _. refuses 6 tt)) (λ _. refuses 7 tt)
+      (λ y. chosen P (leb (length ts + length ts') most) _ _
+      (λ z. f cs' ts' es' q (leb-true _ _ z) (leb-true _ _ y)) (λ _. six)) (λ _. seven)
 
 tokens_from : (n : ℕ) (cs : List Ch) (ts : List Tok) (es : List Err) (k : ℕ) → length cs < n → Chars k cs
     → widths ts + bytes cs ≤ 16384 → Have k ts es → length ts ≤ 2048 → length es ≤ 255
@@ -430,7 +417,7 @@ tokens_from (suc n) [] ts es k f c b h m w = record {
   errors = w;
 }
 tokens_from (suc n) (x ∷ cs) ts es k f c b h m w =
-    stepped TokensOf (λ j p. p) n x cs ts es (turn x cs) (turned x cs (key x.place) c.2 c.3)
+    stepped 2048 TokensOf tt tt (TurnOf x cs) (λ j p. p) n ts es (turn x cs) (turned x cs (key x.place) c.2 c.3)
     (λ cs' ts' es' t z y. tokens_from n cs' (ts ++ ts') (es ++ es') (key x.place)
     (omega (arith, t.ran.fewer)) (t.ran.keeps (key x.place) c.3) (fits cs' ts' es' t)
     (more cs' ts' es' t) (rw length-append z) (rw length-append y))
@@ -491,7 +478,7 @@ module _ (us : List Ch) where
   stand_from zero cs ts es k c i a = tt
   stand_from (suc n) [] ts es k c i a = a
   stand_from (suc n) (x ∷ cs) ts es k c i a =
-      stepped Stand (λ j p. tt) n x cs ts es (turn x cs) (turned x cs (key x.place) c.2 c.3)
+      stepped 2048 Stand tt tt (TurnOf x cs) (λ j p. tt) n ts es (turn x cs) (turned x cs (key x.place) c.2 c.3)
       (λ cs' ts' es' t _ _. stand_from n cs' (ts ++ ts') (es ++ es') (key x.place)
       (t.ran.keeps (key x.place) c.3)
       (λ d m. i d (there (t.ran.within d m))) (more es' t.errors))

@@ -8,7 +8,7 @@ use lib.Dec.{ltb, T}
 use lib.ListN.{length, length-append}
 use Rattle.definition.specs.Classes.{between}
 use Rattle.definition.specs.Kind as K
-use Rattle.definition.specs.Fallible.{Ans, ok, fatal}
+use Rattle.definition.specs.Fallible.{Err, Ans, ok, fatal}
 use Rattle.definition.specs.Node.{byte}
 use Rattle.definition.specs.Token.{Tok, next_token, tail, ◌is◌}
 use Rattle.definition.specs.Act.{Node, Goal, Loop, Module, Body, ListOf, Operators, Casts, Suffixes, Modifiers, Listed, Parameters, Arguments, StructFields, ArrayValues, StructValues, Left, Consumed, Act, done, peek, consume, make, when◌then◌else◌, call, loop, panic, St, begin, Res, gives, refused, after, plain, advance, push, run, next, or_return, ◌>>=◌, ◌>>?◌}
@@ -304,12 +304,12 @@ parse_moves (suc n) g s =
     (suc (suc (length t.tokens))) l t (omega (arith, rank_le l)))
     (rule g) any s (plenty (2 + length s.tokens) (rule g) any s s (later_refl s) (omega arith) (λ s' d. tt))
 
-pub module_moves_within : (n : ℕ) (ts : List Tok) → Moves (parse_module_within n ts)
+pub module_moves_within : (n : ℕ) (full : List Err) (ts : List Tok) → Moves (parse_module_within n full ts)
 unfolding parse_module_within
-module_moves_within n ts =
+module_moves_within n full ts =
     loops_moves (λ g s. parse n g s) (λ g s. parse_after n g s) (λ g s. parse_moves n g s)
-    (suc (suc (length ts))) (Module (P.no_items [])) (begin ts) (omega arith)
+    (suc (suc (length ts))) (Module (P.no_items [])) (begin full ts) (omega arith)
 
-pub module_moves : (ts : List Tok) → Moves (parse_module ts)
+pub module_moves : (full : List Err) (ts : List Tok) → Moves (parse_module full ts)
 unfolding parse_module
-module_moves ts = module_moves_within 96 ts
+module_moves full ts = module_moves_within 96 full ts

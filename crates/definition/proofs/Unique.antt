@@ -15,14 +15,16 @@ use Rattle.definition.specs.Source.{Place}
 use Rattle.definition.specs.Node.{byte, two, Rec}
 use Rattle.definition.specs.Fallible.{Fallible, Ans, ok, fatal}
 use Rattle.definition.specs.Token.{Tok, next_token, tail}
-use Rattle.definition.specs.Act.{Node, Items, Goal, Statement, Expression, Unary, Type', Loop, Module, Body, ListOf, Operators, Casts, Suffixes, Modifiers, Parameters, Words, plain, St, begin, Res, gives, ◌>>=◌, ◌>>?◌}
+use Rattle.definition.specs.Act.{Node, Items, Goal, Statement, Expression, Unary, Type', Loop, Module, Body, ListOf, Operators, Casts, Suffixes, Modifiers, Parameters, Words, plain, St, begin, gives, ◌>>=◌, ◌>>?◌}
 use Rattle.definition.specs.Parser as P
+use Rattle.definition.specs.Losses.{losses, parse_tokens}
 use Rattle.definition.proofs.Ind.{follow}
 use Rattle.definition.proofs.Strip.{Norm, symbol, named, strip}
 use Rattle.definition.proofs.Later.{Later, After, next_state}
 use Rattle.definition.proofs.Unparse.{Entry, entry, Gathered, gathered, gather, unparse, unparse_append, step, sym1, comma, on_list, returning}
 use Rattle.definition.proofs.Shown.{Distinct, distinct_tail, distinct_later, Grew, grew_refl, ◌▸◌, grew_as, took_modifier, took_symbol, took_name, Shows, after0, after1, ShowsItems, items_none, items_join}
 use Rattle.definition.proofs.Clean.{Clean, clean_module}
+use Rattle.definition.proofs.Losses.{tokens_after}
 use Rattle.definition.proofs.ShownAnswers.{Sequel, G, L, cwp, expects, identifier, calls, joined, R, M}
 use Rattle.definition.proofs.ShownExpressions.{suffixes_shown, ListShown, list_shown, list_turn_shown, after_items, unary_shown, casts_shown, operators_shown, expression_shown, type_shown}
 use Rattle.definition.proofs.ShownStatements.{declaration_shown, items_as, BodyShown, body_shown, body_turn_shown, statement_shown}
@@ -248,26 +250,32 @@ turns (Modifiers w) s = modifiers_shown w s
 -- ---- the theorem
 
 -- the tree of a reading without errors shows all tokens read
-clean_shows : (ts : List Tok) → Distinct ts → (i : Items) (s : St) → P.parse_module ts ≡ gives i s → s.full ≡ []
+clean_shows : (ts : List Tok) → Distinct ts → (i : Items) (s : St) → parse_tokens ts ≡ gives i s → s.full ≡ []
     → gather [] i.count (unparse i.recs []) ≡ gathered (strip s.read) []
 unfolding strip
 clean_shows ts d i s e f =
-    go
-    (subst (λ (r : Res Items). After (λ i s'. Later (begin ts) s'
-    × (Clean (begin ts) s' → Sequel [] (P.no_items []) (begin ts) i s')) r)
-    e (clean_module G L Distinct distinct_tail (λ s s' l h. distinct_later s s' l h) (λ g s i. rules g s)
-    (λ l s i. turns l s) ts d))
+    go (subst (After Shows) e (tokens_after Shows ts (λ _. shows)))
   where
-    go : Later (begin ts) s × (Clean (begin ts) s → Sequel [] (P.no_items []) (begin ts) i s)
-        → gather [] i.count (unparse i.recs []) ≡ gathered (strip s.read) []
+    start : St
+    start = begin (losses ts) ts
+
+    Shows : Items → St → Type 0
+    Shows i s' = Later start s' × (Clean start s' → Sequel [] (P.no_items []) start i s')
+
+    shows : After Shows (P.parse_module (losses ts) ts)
+    shows =
+        clean_module G L Distinct distinct_tail (λ s s' l h. distinct_later s s' l h) (λ g s i. rules g s)
+        (λ l s i. turns l s) (losses ts) ts d
+
+    go : Shows i s → gather [] i.count (unparse i.recs []) ≡ gathered (strip s.read) []
     go h =
-        let q : Sequel [] (P.no_items []) (begin ts) i s = h.1 (omega (arith, ap length f)) in
+        let q : Sequel [] (P.no_items []) start i s = h.1 (omega (arith, ap length f)) in
         (q.shows [] (items_none [] [])).on [] ∙ ap (λ (l : List Norm). gathered l [])
         (sym (append-nil q.toks) ∙ sym q.grew.by)
 
 -- two readings without errors and with equal trees have the same stripped tokens
-pub unique : (ts us : List Tok) → Distinct ts → Distinct us → (i j : Items) (s t : St) → P.parse_module ts ≡ gives i s
-    → P.parse_module us ≡ gives j t → s.full ≡ [] → t.full ≡ []
+pub unique : (ts us : List Tok) → Distinct ts → Distinct us → (i j : Items) (s t : St) → parse_tokens ts ≡ gives i s
+    → parse_tokens us ≡ gives j t → s.full ≡ [] → t.full ≡ []
     → i.recs ≡ j.recs → i.count ≡ j.count → strip s.read ≡ strip t.read
 unique ts us d d' i j s t e e' f f' r c =
     ap (λ (g : Gathered). g.toks)

@@ -15,7 +15,7 @@ use Rattle.definition.specs.Classes.{between}
 use Rattle.definition.specs.Source.{Place, nowhere}
 use Rattle.definition.specs.Fallible.{Err}
 use Rattle.definition.specs.Token.{Tok}
-use Rattle.definition.specs.Records.{TokenWords, words_at, has_text, base_fits, text_fits, comes_after, valid_alone, valid_after, place_of, text_end, token_of, token_before, tokens_of, ErrorWords, error_at, valid_error, error_of, error_before, errors_of}
+use Rattle.definition.specs.Records.{TokenWords, words_at, has_text, can_lose, base_fits, text_fits, comes_after, valid_alone, valid_after, place_of, text_end, token_of, token_before, tokens_of, ErrorWords, error_at, valid_error, error_of, error_before, errors_of}
 use Rattle.definition.specs.Operations.{Validated, both, validate}
 use Rattle.definition.proofs.Tests.{left_true, right_true, between_bounds}
 
@@ -45,7 +45,7 @@ fits X w g =
     let l = between 1 16384 w.line in
     let c = between 1 16384 w.column in
     let b = base_fits w.kind w.base in
-    let x = eqb w.seventh 0 in
+    let x = leb w.seventh (pick (can_lose w.kind) 1 0) in
     let y = eqb w.eighth 0 in
     let z = pick (has_text w.kind) (text_fits X w) (eqb w.start 0 && eqb w.size 0) in
     let t = left_true (k && l && c && b && x && y && z) _ g in

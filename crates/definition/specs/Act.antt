@@ -95,7 +95,7 @@ infixr 20 ◌>>?◌
 abbrev pub ◌>>?◌ : {A B : Type 0} → Act (Ans A) → (Fallible A → Act (Ans B)) → Act (Ans B)
 m >>? f = m >>= or_return f
 
--- the state: the tokens left, the tokens read with the role of each, and every error made
+-- the state: the tokens left, the tokens read with the role of each, and the full list
 pub record Consumed : Type 0 where
   pub tok : Tok
   pub role : Role
@@ -105,9 +105,9 @@ pub record St : Type 0 where
   pub read : List Consumed
   pub full : List Err
 
--- the state that the parser begins in
-abbrev pub begin : List Tok → St
-begin ts = record { tokens = ts; read = []; full = [] }
+-- the state that the parser begins in, with these entries in the full list
+abbrev pub begin : List Err → List Tok → St
+begin full ts = record { tokens = ts; read = []; full = full }
 
 -- what is read of the tokens left: the first one, or nothing at the end
 abbrev pub now_read : (Tok → Role) → List Tok → List Consumed

@@ -9,7 +9,7 @@ use Rattle.definition.specs.Token.{Tok, number}
 use Rattle.definition.specs.Tokenizer as Z
 use Rattle.definition.specs.Tokenizer.{tokenize}
 use Rattle.definition.specs.Act.{Role, plain, group, final, size, Consumed, Items, Res, gives, refused}
-use Rattle.definition.specs.Parser.{parse_module}
+use Rattle.definition.specs.Losses.{parse_tokens}
 use Rattle.definition.specs.Operations.{whole}
 
 -- ---- the file
@@ -58,7 +58,7 @@ read_by (refused n) = []
 
 -- each token with its role in the Rust's steps
 unfoldable pub reading : List ℕ → List Consumed
-reading s = read_by (parse_module (tokens_of_script s))
+reading s = read_by (parse_tokens (tokens_of_script s))
 
 -- the words `distinct` and `internal`
 abbrev pub is_modifier : ℕ → Bool

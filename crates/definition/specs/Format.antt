@@ -110,7 +110,7 @@ rows =
     row T.Module root (count ∷ []) (λ b c. replicate c item) ∷
     row T.TokenError (error 1) (byte 1 4 ∷ place ∷ byte 0 0 ∷ byte 0 0 ∷ []) (λ b c. []) ∷
     row T.ReportedError (error 2) (byte 1 19 ∷ place_or_nowhere ∷ byte 0 54 ∷ byte 0 54 ∷ []) (λ b c. []) ∷
-    row T.FullError (error 3) (byte 1 19 ∷ place_or_nowhere ∷ byte 0 54 ∷ byte 0 54 ∷ []) (λ b c. []) ∷
+    row T.FullError (error 3) (byte 1 21 ∷ place_or_nowhere ∷ byte 0 54 ∷ byte 0 54 ∷ []) (λ b c. []) ∷
     []
 
 -- the row of a tag

@@ -215,6 +215,8 @@ parse_error_number ParseError.NameAfterType = P.NameAfterType
 parse_error_number ParseError.PathAfterUse = P.PathAfterUse
 parse_error_number ParseError.CompoundAtEnd = P.CompoundAtEnd
 parse_error_number ParseError.Compound = P.Compound
+parse_error_number ParseError.CharacterLost = P.CharacterLost
+parse_error_number ParseError.AssemblyNotClosed = P.AssemblyNotClosed
 
 abbrev pub ParseErrorNumber : ParseError → ℕ → Type 0
 ParseErrorNumber error n = n ≡ parse_error_number error

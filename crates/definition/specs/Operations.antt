@@ -11,7 +11,7 @@ use Rattle.definition.specs.Tokenizer as Z
 use Rattle.definition.specs.Tokenizer.{tokenize_within, tokenize}
 use Rattle.definition.specs.Act as A
 use Rattle.definition.specs.Act.{Items}
-use Rattle.definition.specs.Parser.{parse_module_within, parse_module}
+use Rattle.definition.specs.Losses.{parse_tokens_within, parse_tokens}
 use Rattle.definition.specs.Records.{tokens_words, tokens_text, errors_words, tokens_of, errors_of}
 
 -- a slice of n words or bytes: what was written, then zeros
@@ -63,13 +63,13 @@ file_bytes es i full =
 
 -- reads tokens, where at most n counted calls of the parser may be open
 unfoldable pub read_tokens_within : ℕ → List Tok → List Err → Outcome
-unfolding parse_module_within file_bytes
+unfolding parse_tokens_within file_bytes
 read_tokens_within n [] es = refused 9
 read_tokens_within n (t ∷ ts) es =
-    elim (parse_module_within n (t ∷ ts)) [ A.gives i s ↦ file (file_bytes es i s.full) | A.refused k ↦ refused k ]
+    elim (parse_tokens_within n (t ∷ ts)) [ A.gives i s ↦ file (file_bytes es i s.full) | A.refused k ↦ refused k ]
 
 unfoldable pub read_tokens : List Tok → List Err → Outcome
-unfolding read_tokens_within parse_module
+unfolding read_tokens_within parse_tokens
 read_tokens ts es = read_tokens_within 96 ts es
 
 -- the number, the count of file bytes, and the file slice

@@ -1,4 +1,4 @@
--- The numbers of the parser's errors (docs/FORMAT.md, Errors of the parser). Assumes nothing.
+-- The numbers of the parser's errors (docs/FORMAT.md, Errors of the parser), and of losses. Assumes nothing.
 use Rattle.std.specs.Prelude.{ℕ}
 
 abbrev pub TopLevel : ℕ
@@ -57,3 +57,9 @@ CompoundAtEnd = 18
 
 abbrev pub Compound : ℕ
 Compound = 19
+
+abbrev pub CharacterLost : ℕ
+CharacterLost = 20
+
+abbrev pub AssemblyNotClosed : ℕ
+AssemblyNotClosed = 21

@@ -576,8 +576,8 @@ unfoldable pub parse : ℕ → Goal → St → Res (Ans Node)
 parse zero g s = refused 10
 parse (suc n) g s = run (λ h t. parse n h t) (λ l t. loops (λ h u. parse n h u) (suc (suc (length t.tokens))) l t) (rule g) s
 
--- the whole parser, where at most n counted calls may be open
-unfoldable pub parse_module_within : ℕ → List Tok → Res Items
+-- the whole parser from a full list on, where at most n counted calls may be open
+unfoldable pub parse_module_within : ℕ → List Err → List Tok → Res Items
 unfolding run ◌>>=◌ number ascii typed parse_typed_identifier parse_named_type parse_compound_struct_field
     parse_list after_item list_turn parse_array_type type_rule parse_group parse_atom parse_field_access_or_index
     suffixes_turn parse_sizeof parse_call prefix unary_rule parse_cast casts_turn parse_mul parse_add_sub
@@ -586,8 +586,8 @@ unfolding run ◌>>=◌ number ascii typed parse_typed_identifier parse_named_ty
     parse_if after_expression expression_statement statement_rule function_body function parse_function_definition
     modifiers_turn alias_rule parse_type_alias path_rule parse_use parse_top_level_var_declaration
     parse_top_level_item module_turn loops parse
-parse_module_within n ts = loops (λ g s. parse n g s) (suc (suc (length ts))) (Module (no_items [])) (begin ts)
+parse_module_within n full ts = loops (λ g s. parse n g s) (suc (suc (length ts))) (Module (no_items [])) (begin full ts)
 
-unfoldable pub parse_module : List Tok → Res Items
+unfoldable pub parse_module : List Err → List Tok → Res Items
 unfolding parse_module_within
-parse_module ts = parse_module_within 96 ts
+parse_module full ts = parse_module_within 96 full ts

@@ -7,16 +7,21 @@ use Rattle.definition.specs.Classes.{between, is_digit_of}
 use Rattle.definition.specs.Source.{Place, utf8}
 use Rattle.definition.specs.Fallible.{Err}
 use Rattle.definition.specs.Kind as K
-use Rattle.definition.specs.Token.{Tok, tok, dashed}
+use Rattle.definition.specs.Token.{Tok, dashed}
 
 -- ---- writing
 
 abbrev pub has_text : ℕ → Bool
 has_text k = eqb k K.Identifier || eqb k K.Integer || eqb k K.String || eqb k K.InlineAssemblyFragment
 
--- kind, line, column, text start, text length, base, 0, 0; n is the length of the text before this token's
+-- the kinds that can lose something
+abbrev pub can_lose : ℕ → Bool
+can_lose k = eqb k K.Minus || eqb k K.InlineAssemblyFragment
+
+-- kind, line, column, text start, text length, base, 1 if it lost something, 0; n is the length of the text before this
+-- token's
 abbrev pub token_words : ℕ → Tok → List ℕ
-token_words n t = t.kind ∷ t.place.line ∷ t.place.column ∷ pick (has_text t.kind) n 0 ∷ length t.text ∷ t.base ∷ 0 ∷ 0 ∷ []
+token_words n t = t.kind ∷ t.place.line ∷ t.place.column ∷ pick (has_text t.kind) n 0 ∷ length t.text ∷ t.base ∷ pick t.lost 1 0 ∷ 0 ∷ []
 
 unfoldable pub tokens_words : ℕ → List Tok → List ℕ
 tokens_words n [] = []
@@ -74,7 +79,7 @@ unfoldable pub valid_alone : List ℕ → TokenWords → Bool
 unfolding utf8 all_digits
 valid_alone text w =
     between K.Identifier K.InlineAssemblyFragment w.kind && between 1 16384 w.line && between 1 16384 w.column
-    && base_fits w.kind w.base && eqb w.seventh 0 && eqb w.eighth 0
+    && base_fits w.kind w.base && leb w.seventh (pick (can_lose w.kind) 1 0) && eqb w.eighth 0
     && pick (has_text w.kind) (text_fits text w) (eqb w.start 0 && eqb w.size 0)
     && pick (eqb w.kind K.Integer) (integer_text w.base (part text w)) true
 
@@ -93,7 +98,7 @@ abbrev pub text_end : ℕ → TokenWords → ℕ
 text_end e w = pick (has_text w.kind) (w.start + w.size) e
 
 abbrev pub token_of : List ℕ → TokenWords → Tok
-token_of text w = tok w.kind (place_of w) (part text w) w.base
+token_of text w = record { kind = w.kind; place = place_of w; text = part text w; base = w.base; lost = eqb w.seventh 1 }
 
 abbrev pub token_before : Tok → Option (List Tok) → Option (List Tok)
 token_before t none = none

@@ -16,7 +16,7 @@ use Rattle.definition.specs.TokenError as TokenError
 use Rattle.definition.specs.Tokenizer as Z
 use Rattle.definition.specs.Tokenizer.{tokenize}
 use Rattle.definition.specs.Act as A
-use Rattle.definition.specs.Parser.{parse_module}
+use Rattle.definition.specs.Losses.{parse_tokens}
 use Rattle.definition.specs.Records.{has_text}
 use Rattle.definition.specs.Operations.{Written, kept, written, file}
 
@@ -124,7 +124,7 @@ token_messages =
     ∷ (words "unexpected character: " ∷ character ∷ [])
     ∷ []
 
--- the messages of `parser.rs`, by number
+-- the messages of `parser.rs`, by number; then those of losses
 unfoldable pub parser_messages : List (List Part)
 parser_messages =
     []
@@ -147,6 +147,8 @@ parser_messages =
     ∷ (words "expected string after `use`" ∷ [])
     ∷ (words "expected start of compound, got end of file" ∷ [])
     ∷ (words "unexpected token for compound literal " ∷ got ∷ [])
+    ∷ (words "character lost after minus" ∷ [])
+    ∷ (words "assembly not closed" ∷ [])
     ∷ []
 
 unfoldable pub token_sentence : Meaning → List ℕ
@@ -212,10 +214,10 @@ pub data Examined : Type 0 where
 
 -- the steps of the whole operation, without its file
 unfoldable pub parsed : List Ch → Z.Tokens → Examined
-unfolding parse_module
+unfolding parse_tokens
 parsed cs (Z.tokens [] es) = refused 9
 parsed cs (Z.tokens (t ∷ ts) es) =
-    elim (parse_module (t ∷ ts)) [
+    elim (parse_tokens (t ∷ ts)) [
       | A.gives i s ↦ found (record { chars = cs; toks = t ∷ ts; token_errors = es; reported = i.errors; full = s.full })
       | A.refused n ↦ refused n
     ]

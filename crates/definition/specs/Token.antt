@@ -4,16 +4,22 @@ use Rattle.definition.specs.Ascii.{char}
 use Rattle.definition.specs.Source.{Place, nowhere}
 use Rattle.definition.specs.Kind as K
 
--- `Token`: four kinds have a text, Integer has a base; else they are empty and 0
+-- `Token`: four kinds have a text, Integer has a base; else they are empty and 0. Beside the Rust's: whether a Minus or
+-- assembly lost something
 pub record Tok : Type 0 where
   pub kind : ℕ
   pub place : Place
   pub text : List ℕ
   pub base : ℕ
+  pub lost : Bool
 
--- the constructor by kind, place, text and base
+-- one that lost nothing, by kind, place, text and base
 abbrev pub tok : ℕ → Place → List ℕ → ℕ → Tok
-tok k p text base = record { kind = k; place = p; text = text; base = base }
+tok k p text base = record { kind = k; place = p; text = text; base = base; lost = false }
+
+-- one of two kinds that can lose something, by kind, place, text and whether it did
+abbrev pub tok_losing : ℕ → Place → List ℕ → Bool → Tok
+tok_losing k p text l = record { kind = k; place = p; text = text; base = 0; lost = l }
 
 -- what `peek` and `next` give if no token is left
 abbrev pub end_token : Tok

@@ -1,5 +1,5 @@
 -- `tokenize` of `tokenizer.rs` (docs/FORMAT.md, Tokens): the turns of its loop, and the loop. Assumes nothing.
-use Rattle.std.specs.Prelude.{Bool, true, false, ◌&&◌, List, [], ◌∷◌, ◌++◌, ℕ, zero, suc, ◌+◌, eqb, ltb, leb, length, replicate}
+use Rattle.std.specs.Prelude.{Bool, true, false, ◌&&◌, ◌||◌, not, List, [], ◌∷◌, ◌++◌, ℕ, zero, suc, ◌+◌, eqb, ltb, leb, length, replicate}
 use Prim.Native.String as S
 use Rattle.definition.specs.Ascii.{ascii, char}
 use Rattle.definition.specs.Choice.{◌⇒◌, pick, first}
@@ -8,7 +8,7 @@ use Rattle.definition.specs.TokenError as E
 use Rattle.definition.specs.Source.{Place, Ch, code}
 use Rattle.definition.specs.Fallible.{Err}
 use Rattle.definition.specs.Kind as K
-use Rattle.definition.specs.Token.{Tok, tok}
+use Rattle.definition.specs.Token.{Tok, tok, tok_losing}
 
 -- ---- fixed spellings; 0 for bytes that are none of them
 
@@ -75,6 +75,9 @@ token_text cs k p text base = goes cs [] (tok k p text base ∷ [])
 abbrev pub token : List Ch → ℕ → Place → Turn
 token cs k p = token_text cs k p [] 0
 
+abbrev pub token_losing : List Ch → ℕ → Place → List ℕ → Bool → Turn
+token_losing cs k p text l = goes cs [] (tok_losing k p text l ∷ [])
+
 abbrev pub token_error : ℕ → Place → Err
 token_error n p = record { number = n; place = p; expected = 0; got = 0 }
 
@@ -114,14 +117,14 @@ or_zero (d ∷ ds) = d ∷ ds
 abbrev pub integer : Place → ℕ → List ℕ → Span → Turn
 integer p base before s = token_text s.rest K.Integer p (or_zero (before ++ s.text)) base
 
--- after a dash: an arrow, an integer, or Minus, which consumes the next character too
+-- after a dash: an arrow, an integer, or Minus, which consumes the next character too: lost, unless it is white space
 unfoldable pub dash_turn : Place → List Ch → Turn
 unfolding digits
 dash_turn p [] = refused 5
 dash_turn p (c ∷ cs) =
     elim (eqb c.byte (char ">")) [
       | true ↦ token cs K.RArrow p
-      | false ↦ elim (is_digit c.byte) [ true ↦ integer p 10 (char "-" ∷ []) (digits 10 (c ∷ cs)) | false ↦ token cs K.Minus p ]
+      | false ↦ elim (is_digit c.byte) [ true ↦ integer p 10 (char "-" ∷ []) (digits 10 (c ∷ cs)) | false ↦ token_losing cs K.Minus p [] (not (is_white (code c))) ]
     ]
 
 -- after a `0` that begins a number; the `0` is dropped
@@ -200,13 +203,18 @@ unfoldable pub assembly : List Ch → Span
 assembly [] = record { text = []; rest = [] }
 assembly (c ∷ cs) = elim (eqb c.byte (char "}")) [ true ↦ record { text = []; rest = cs } | false ↦ ahead (c.byte ∷ c.more) (assembly cs) ]
 
+-- whether a `}` ends it
+unfoldable pub closed : List Ch → Bool
+closed [] = false
+closed (c ∷ cs) = eqb c.byte (char "}") || closed cs
+
 -- after `asm` and white space: `{` and the text; another character is consumed, with an error
 unfoldable pub assembly_turn : Place → Run → Turn
-unfolding assembly
+unfolding assembly closed
 assembly_turn p foreign = refused 4
 assembly_turn p (ends s) =
     elim (eqb (look s.rest) (char "{")) [
-      | true ↦ let a = assembly (drop_one s.rest) in token_text a.rest K.InlineAssemblyFragment p a.text 0
+      | true ↦ let cs = drop_one s.rest in let a = assembly cs in token_losing a.rest K.InlineAssemblyFragment p a.text (not (closed cs))
       | false ↦ goes (drop_one s.rest) (token_error E.NoAssembly p ∷ []) []
     ]
 
@@ -233,22 +241,23 @@ class c d =
     (eqb c (char "\"") ⇒ Quote) ∷ (is_letter c ⇒ Word) ∷ (eqb c (char "-") ⇒ Dash) ∷ (eqb c (char "0") ⇒ Zero) ∷ (is_digit c ⇒ Digit) ∷ [])
     Unknown
 
+-- the turn at a character, by its class
+abbrev pub turn_by : Class → Ch → List Ch → Turn
+turn_by Foreign c cs = refused 4
+turn_by White c cs = nothing cs
+turn_by Comment c cs = nothing (comment (drop_one cs))
+turn_by Pair c cs = token (drop_one cs) (pair (code c) (look cs)) c.place
+turn_by Symbol c cs = token cs (symbol (code c)) c.place
+turn_by Quote c cs = string_turn c.place (quoted false cs)
+turn_by Word c cs = word_turn c.place (run_ahead (c.byte ∷ c.more) (word cs))
+turn_by Dash c cs = dash_turn c.place cs
+turn_by Zero c cs = zero_turn c.place cs
+turn_by Digit c cs = integer c.place 10 (c.byte ∷ []) (digits 10 cs)
+turn_by Unknown c cs = goes cs (token_error E.UnknownCharacter c.place ∷ []) []
+
 unfoldable pub turn : Ch → List Ch → Turn
 unfolding class pair symbol comment quoted string_turn word word_turn dash_turn zero_turn digits
-turn c cs =
-    elim (class (code c) (look cs)) [
-      | Foreign ↦ refused 4
-      | White ↦ nothing cs
-      | Comment ↦ nothing (comment (drop_one cs))
-      | Pair ↦ token (drop_one cs) (pair (code c) (look cs)) c.place
-      | Symbol ↦ token cs (symbol (code c)) c.place
-      | Quote ↦ string_turn c.place (quoted false cs)
-      | Word ↦ word_turn c.place (run_ahead (c.byte ∷ c.more) (word cs))
-      | Dash ↦ dash_turn c.place cs
-      | Zero ↦ zero_turn c.place cs
-      | Digit ↦ integer c.place 10 (c.byte ∷ []) (digits 10 cs)
-      | Unknown ↦ goes cs (token_error E.UnknownCharacter c.place ∷ []) []
-    ]
+turn c cs = turn_by (class (code c) (look cs)) c cs
 
 -- ---- the loop
 

@@ -73,6 +73,13 @@ impl Kind {
             Kind::Identifier | Kind::Integer | Kind::String | Kind::InlineAssemblyFragment
         )
     }
+
+    // Whether its tokens can lose something.
+    pub fn can_lose(self) -> bool
+        ensures { result ≡ R.can_lose (kind_number self) }
+    {
+        matches!(self, Kind::Minus | Kind::InlineAssemblyFragment)
+    }
 }
 
 impl From<Kind> for u32 {

@@ -1,4 +1,4 @@
-// The parser's errors.
+// The errors of the full list: those of the parser, and losses.
 ghost use Rattle.definition.specs.Numbers.{ParseErrorNumber};
 
 #[derive(Clone, Copy, PartialEq, Eq)]
@@ -22,6 +22,8 @@ pub enum ParseError {
     PathAfterUse = 17,
     CompoundAtEnd = 18,
     Compound = 19,
+    CharacterLost = 20,
+    AssemblyNotClosed = 21,
 }
 
 impl From<ParseError> for usize {

@@ -1,6 +1,7 @@
 -- What the functions on answers ensure. Assumes nothing.
 use Rattle.std.specs.Prelude.{◌≡◌, List, [], ◌∷◌, ◌++◌, ℕ, ◌+◌, ◌-◌, ◌<◌, ◌≤◌, ltb, length, take, drop}
 use Rattle.definition.specs.Choice.{pick}
+use Rattle.definition.specs.declared.refusal.Refusal.{Refusal}
 use Rattle.fallible.specs.declared.parser.State.{State}
 use Rattle.fallible.specs.declared.error.Error.{Error}
 use Rattle.fallible.specs.Answer.{nowhere, Status, Done, Fatal, Refused, Answer}
@@ -29,6 +30,17 @@ pub record Raised (expected : Answer) (r f : List Error) (s : State) (e : Error)
   pub is : a ≡ expected
   pub reported : s.full < 255 → errs r' (s.reported + 1) ≡ errs r s.reported ++ (err_of e ∷ [])
   pub full : s.full < 255 → errs f' (s.full + 1) ≡ errs f s.full ++ (err_of e ∷ [])
+
+-- the error e is the last of the full list
+pub record Entered (f : List Error) (s : State) (e : Error) (f' : List Error) (s' : State) : Type 0 where
+  pub few : s.full < 255
+  pub state : s' ≡ record { at = s.at; pos = s.pos; reported = s.reported; full = s.full + 1 }
+  pub full : errs f' (s.full + 1) ≡ errs f s.full ++ (err_of e ∷ [])
+
+-- no more is entered
+pub record Filled (s : State) (x : Refusal) : Type 0 where
+  pub many : 255 ≤ s.full
+  pub refusal : x ≡ Refusal.Errors
 
 -- ---- what `?` drops
 

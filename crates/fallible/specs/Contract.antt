@@ -1,5 +1,5 @@
 -- The records of Tallies, Answers and Orders, stated over the parameters of the functions. Assumes nothing.
-use Rattle.std.specs.Prelude.{◌≡◌, Result, Option, ⊤, List, ℕ}
+use Rattle.std.specs.Prelude.{◌≡◌, Result, MatchResult, Option, ⊤, List, ℕ}
 use Rattle.std.specs.Borrow.{MutBor}
 use Rattle.definition.specs.Slices.{old, new}
 use Rattle.definition.specs.declared.place.Place.{Place}
@@ -45,6 +45,10 @@ Refuses n refusal s s' r = stopped r s' ≡ A.refused_at n s (refusal_number ref
 -- an error is made, and the parser goes on
 abbrev pub Notes : ℕ → Error → Parser → Parser → Result ⊤ Refusal → Type 0
 Notes n e p p' r = A.Raised (A.noted n p.state) p.reported p.full p.state e p'.reported p'.full (told r p'.state)
+
+-- an error is entered in the full list alone, or refused
+abbrev pub Enters : Error → Parser → Parser → Result ⊤ Refusal → Type 0
+Enters e p p' r = MatchResult r (λ _. A.Entered p.full p.state e p'.full p'.state) (A.Filled p.state)
 
 -- an error is made, and is fatal
 abbrev pub Raises : ℕ → Error → Parser → Parser → Stop → Type 0

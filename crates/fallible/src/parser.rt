@@ -25,7 +25,7 @@ pub struct Parser {
 }
 
 impl Parser {
-    // Before the first token: no error, and the file is empty.
+    // Before the first token: no error and no loss, and the file is empty.
     pub fn new() -> Parser
         ensures { result.state ≡ record { at = 0; pos = 0; reported = 0; full = 0 } }
     {

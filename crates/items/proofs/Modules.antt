@@ -124,8 +124,9 @@ module _ {w x : List ℕ} {n d count : ℕ} {o : List ℕ} {r f : List Error} {s
 
 -- ---- `module`
 
-pub module_reads : {w x : List ℕ} {n d : ℕ} {o : List ℕ} {r f : List Error} {o1 : List ℕ} {r1 f1 : List Error} {a : Answer}
-    → LoopOn items_on w x n d 0 o r f (record { at = 0; pos = 0; reported = 0; full = 0 }) o1 r1 f1 a → ReadsModule w x n d o1 r1 f1 a
+pub module_reads : {w x : List ℕ} {n d : ℕ} {o : List ℕ} {r f : List Error} {k : ℕ} {o1 : List ℕ} {r1 f1 : List Error} {a : Answer}
+    → LoopOn items_on w x n d 0 o r f (record { at = 0; pos = 0; reported = 0; full = k }) o1 r1 f1 a
+    → ReadsModule w x n d (errs f k) o1 r1 f1 a
 unfolding errs recs_bytes
 module_reads L =
     record {

@@ -77,10 +77,10 @@ pub record Modified (w : List ℕ) (n : ℕ) (distinct internal : Bool) (at : �
 
 -- ---- the module
 
--- after all n tokens: the records from the file's first byte on, both lists, and the count of items
-pub record ReadsModule (w x : List ℕ) (n d : ℕ) (o : List ℕ) (r f : List Error) (a : Answer) : Type 0 where
+-- after all n tokens, from a full list on: the records from the file's first byte on, both lists, and the count of items
+pub record ReadsModule (w x : List ℕ) (n d : ℕ) (full : List Err) (o : List ℕ) (r f : List Error) (a : Answer) : Type 0 where
   pub room : a.state.pos ≤ budget w n 0
   pub reported : a.state.reported ≤ a.state.full
   pub few : a.state.full ≤ 255
   pub never : a.status ≡ Fatal → ⊥
-  pub is : Shows items [] [] [] [] w x n o r f a (go d (items_on (P.no_items []) >>= as_answer) (begin (rest w x n 0)))
+  pub is : Shows items [] [] [] [] w x n o r f a (go d (items_on (P.no_items []) >>= as_answer) (begin full (rest w x n 0)))

@@ -1,9 +1,9 @@
 -- The answers of Read are those of the definition: one law for each return of the functions. Assumes nothing.
-use mathlib.Core.Path.{◌≡◌, refl, sym, ap, ap₂, ◌∙◌, subst}
+use mathlib.Core.Path.{◌≡◌, refl, sym, ap, ap₂, ◌∙◌}
 use mathlib.Core.Bool.{Bool, true, false}
 use mathlib.Core.Option.{Option, none, some}
 use mathlib.Core.List.{List, [], ◌∷◌, map}
-use Prim.Native.Nat.{ℕ, suc, ◌*◌, ◌-◌, ◌/◌, ◌≤◌, ◌<◌}
+use Prim.Native.Nat.{ℕ, ◌*◌, ◌-◌, ◌/◌, ◌≤◌, ◌<◌}
 use native.Mathlib.Omega.{arith}
 use lib.Dec.{ltb}
 use lib.ListN.{length, take}
@@ -13,111 +13,27 @@ use Rattle.std.specs.Prelude.{Result, Ok, Err}
 use Rattle.definition.specs.declared.refusal.Refusal.{Refusal}
 use Rattle.definition.specs.Numbers.{refusal_number}
 use Rattle.definition.specs.Source.{is_some}
-use Rattle.definition.specs.Node.{recs_bytes}
 use Rattle.definition.specs.Fallible as F
-use Rattle.definition.specs.Fallible.{Fallible, Ans, ok, fatal}
 use Rattle.definition.specs.Token.{Tok}
 use Rattle.definition.specs.Operations as O
 use Rattle.definition.specs.Operations.{filled, file_bytes}
-use Rattle.definition.specs.Act.{Items, St, begin, Res, gives, refused, after, run, ◌>>=◌}
-use Rattle.definition.specs.Parser as P
-use Rattle.definition.specs.Parser.{parse_module}
-use Rattle.definition.specs.Go.{go}
-use Rattle.definition.proofs.Flat.{go_bind, go_module}
-use Rattle.fallible.specs.Answer.{Status, Done, Refused, Answer}
+use Rattle.definition.specs.Act.{Items, St, Res, gives, refused}
+use Rattle.definition.specs.Losses.{parse_tokens}
 use Rattle.fallible.specs.declared.error.Error.{Error}
+use Rattle.fallible.specs.declared.parser.State.{State}
 use Rattle.fallible.specs.Lists.{errs}
 use Rattle.slices.specs.Cleared.{Cleared}
 use Rattle.slices.proofs.Clearing.{cleared_filled}
 use Rattle.steps.specs.Tokens.{rest, Held}
-use Rattle.steps.specs.Shows.{st_of, Asked, ShowsOf, items}
+use Rattle.steps.specs.Shows.{Asked}
 use Rattle.steps.proofs.Records.{rest_cons, rest_nil}
-use Rattle.steps.proofs.Answers.{good_of}
-use Rattle.expression_laws.specs.Post.{as_answer}
 use Rattle.token_records.proofs.Chunks.{chunks_length, chunks_part}
 use Rattle.validate.specs.Tested.{Tested}
 use Rattle.validate.proofs.Accepted.{There, there, absent, tested}
-use Rattle.items.specs.Rules.{items_on}
-use Rattle.items.specs.Items.{ReadsModule}
 use Rattle.error_fields.specs.Errors.{recorded}
 use Rattle.error_fields.proofs.Records.{recorded_is, records_are}
 use Rattle.parser.specs.Answer.{answer, tree_file, RestWritten, Bounded}
-
--- ---- the answer of `module`
-
-abbrev answered : ℕ → Res Items → Res (Ans Items)
-answered d q = after q (λ i S. go d (as_answer i) S)
-
-item_of : Res (Ans Items) → Items
-item_of (gives (ok y) S) = y.item
-item_of (gives (fatal es) S) = P.no_items []
-item_of (refused n) = P.no_items []
-
-errors_in : Res (Ans Items) → List F.Err
-errors_in (gives (ok y) S) = y.errors
-errors_in (gives (fatal es) S) = es
-errors_in (refused n) = []
-
-state_in : St → Res (Ans Items) → St
-state_in T (gives y S) = S
-state_in T (refused n) = T
-
-number_of : Res (Ans Items) → ℕ
-number_of (gives y S) = 0
-number_of (refused n) = suc n
-
--- items as an answer are those items
-gave : (d : ℕ) (q : Res Items) (y : Fallible Items) (T : St) → answered d q ≡ gives (ok y) T
-    → (q ≡ gives y.item T) × (y.item.errors ≡ y.errors)
-unfolding go run item_of errors_in state_in number_of
-gave d (gives i S) y T e =
-    let a : i ≡ y.item = ap item_of e in
-    let b : S ≡ T = ap (state_in T) e in
-    (rw (a, b), sym (ap (λ (j : Items). j.errors) a) ∙ ap errors_in e)
-gave d (refused n) y T e = absurd (let z : suc n ≡ 0 = ap number_of e in omega (arith, z))
-
-refuses : (d : ℕ) (q : Res Items) (n : ℕ) → answered d q ≡ refused n → q ≡ refused n
-unfolding go run number_of
-refuses d (gives i S) n e = absurd (let z : 0 ≡ suc n = ap number_of e in omega (arith, z))
-refuses d (refused m) n e = let z : suc m ≡ suc n = ap number_of e in let y : m ≡ n = omega (arith, z) in rw y
-
-module _ {w x : List ℕ} {n : ℕ} {o : List ℕ} {r f : List Error} {a : Answer} (B : ReadsModule w x n 96 o r f a) where
-  -- the answer of `module` is that of the definition's parser
-  parsed : answered 96 (parse_module (rest w x n 0))
-      ≡ go 96 (items_on (P.no_items []) >>= as_answer) (begin (rest w x n 0))
-  parsed = sym (go_bind 96 (items_on (P.no_items [])) as_answer _ ∙ ap (λ (q : Res Items). answered 96 q) (go_module (rest w x n 0)))
-
-  -- the tree: the items, their records from the file's first byte on, and both lists
-  pub record Tree : Type 0 where
-    pub tree : Items
-    pub state : St
-    pub is : parse_module (rest w x n 0) ≡ gives tree state
-    pub full : state.full ≡ errs f a.state.full
-    pub recs : take a.state.pos o ≡ recs_bytes tree.recs
-    pub reported : errs r a.state.reported ≡ tree.errors
-    pub count : tree.count ≡ a.count
-
-  -- a good answer has a tree; a refused one is refused by the definition; no answer is fatal
-  pub tree_of : a.status ≡ Done → Tree
-  tree_of z =
-      let g = good_of z B.is in
-      let e = gave 96 (parse_module (rest w x n 0)) _ _ (parsed ∙ g.is) in
-      record {
-        tree = g.item;
-        state = st_of w x n f g.read a.state;
-        is = e.0;
-        full = refl;
-        recs = g.tree;
-        reported = g.reported ∙ sym e.1;
-        count = g.holds;
-      }
-
-  pub refused_with : (k : ℕ) → a.status ≡ Refused k → parse_module (rest w x n 0) ≡ refused k
-  refused_with k z =
-      refuses 96 (parse_module (rest w x n 0)) k (parsed
-      ∙ subst (λ (h : Status). ShowsOf h items [] [] [] [] w x n o r f a
-      (go 96 (items_on (P.no_items []) >>= as_answer) (begin (rest w x n 0)))) z
-      B.is.told)
+use Rattle.parser.specs.Losses.{Parsed}
 
 -- ---- the definition's answer for at least one token
 
@@ -126,10 +42,10 @@ outcome : List F.Err → Res Items → O.Outcome
 outcome es (gives i S) = O.file (file_bytes es i S.full)
 outcome es (refused n) = O.refused n
 
-opened : (o : List ℕ) (ts : List Tok) (es : List F.Err) → 0 < length ts → O.read_validated o ts es ≡ O.written o (outcome es (parse_module ts))
+opened : (o : List ℕ) (ts : List Tok) (es : List F.Err) → 0 < length ts → O.read_validated o ts es ≡ O.written o (outcome es (parse_tokens ts))
 unfolding O.read_tokens outcome
 opened o [] es h = absurd (omega arith)
-opened o (t ∷ ts) es h = one (parse_module (t ∷ ts))
+opened o (t ∷ ts) es h = one (parse_tokens (t ∷ ts))
   where
     one : (r : Res Items)
         → O.written o
@@ -139,7 +55,7 @@ opened o (t ∷ ts) es h = one (parse_module (t ∷ ts))
     one (refused n) = refl
 
 written_of : (o : List ℕ) (ts : List Tok) (es : List F.Err) (i : Items) (S : St) → 0 < length ts
-    → parse_module ts ≡ gives i S
+    → parse_tokens ts ≡ gives i S
     → O.read_validated o ts es
     ≡ record {
       number = 0;
@@ -149,7 +65,7 @@ written_of : (o : List ℕ) (ts : List Tok) (es : List F.Err) (i : Items) (S : S
 unfolding outcome
 written_of o ts es i S h e = opened o ts es h ∙ ap (λ (r : Res Items). O.written o (outcome es r)) e
 
-none_of : (o : List ℕ) (ts : List Tok) (es : List F.Err) (n : ℕ) → 0 < length ts → parse_module ts ≡ refused n
+none_of : (o : List ℕ) (ts : List Tok) (es : List F.Err) (n : ℕ) → 0 < length ts → parse_tokens ts ≡ refused n
     → O.read_validated o ts es ≡ record { number = n; bytes = 0; file = filled (length o) [] }
 unfolding outcome
 none_of o ts es n h e = opened o ts es h ∙ ap (λ (r : Res Items). O.written o (outcome es r)) e
@@ -174,21 +90,19 @@ module _ (T X : List ℕ) (n m : ℕ) (h : Held T n) (q : Bounded T n m) where
         room = omega (arith, lo, q.room, h.few);
       }
 
-module _ (T X : List ℕ) (n : ℕ) (es : List F.Err) (o : List ℕ) {o1 : List ℕ} {r1 f1 : List Error} {a : Answer}
-    (B : ReadsModule T X n 96 o1 r1 f1 a) (some_n : 0 < n) (l : length o1 ≡ length o) where
-  pub read_refused : {o2 : List ℕ} (m : Refusal) → a.status ≡ Refused (refusal_number m) → Cleared o1 0 o2
+module _ (T X : List ℕ) (n : ℕ) (es : List F.Err) (o : List ℕ) {o1 : List ℕ} (some_n : 0 < n) (l : length o1 ≡ length o) where
+  pub read_refused : {o2 : List ℕ} (m : Refusal) → parse_tokens (rest T X n 0) ≡ refused (refusal_number m) → Cleared o1 0 o2
       → answer (Err m) o2 ≡ O.read_validated o (rest T X n 0) es
   read_refused {o2} m z C =
       ap (λ (f : List ℕ). answer (Err m) f) (cleared_filled o 0 [] C refl l (omega arith))
-      ∙ sym (none_of o (rest T X n 0) es (refusal_number m) (some_tokens T X n some_n) (refused_with B _ z))
+      ∙ sym (none_of o (rest T X n 0) es (refusal_number m) (some_tokens T X n some_n) z)
 
-  pub read_done : {o2 : List ℕ} {b : ℕ} → a.status ≡ Done
-      → RestWritten o1 a.state.pos a.count es r1 a.state.reported f1 a.state.full o2 b
+  pub read_done : {r1 f1 : List Error} {s : State} {k : ℕ} {o2 : List ℕ} {b : ℕ} → Parsed T X n o1 r1 f1 s k
+      → RestWritten o1 s.pos k es r1 s.reported f1 s.full o2 b
       → answer (Ok b) o2 ≡ O.read_validated o (rest T X n 0) es
   unfolding file_bytes
-  read_done {o2} {b} z C =
-      let g = tree_of B z in
-      let ws : tree_file (take a.state.pos o1) a.count es (errs r1 a.state.reported) (errs f1 a.state.full) ≡ file_bytes es g.tree g.state.full =
+  read_done {r1} {f1} {s} {k} {o2} {b} g C =
+      let ws : tree_file (take s.pos o1) k es (errs r1 s.reported) (errs f1 s.full) ≡ file_bytes es g.tree g.state.full =
       same_file es g.recs (sym g.count) g.reported (sym g.full) in
       let bytes : b ≡ length (file_bytes es g.tree g.state.full) = C.end ∙ ap length ws in
       let file : o2 ≡ filled (length o) (file_bytes es g.tree g.state.full) = C.is

@@ -1,6 +1,8 @@
 // Read: parses token records to a tree file.
 #![tactic(auto)]
 
+pub mod losses;
+
 ghost use Rattle.std.specs.Prelude.{◌≡◌, ◌<◌, ◌≤◌, length};
 ghost use Rattle.definition.specs.Operations as O;
 ghost use Rattle.parser.specs.Answer.{answer};
@@ -12,7 +14,7 @@ use definition::refusal::Refusal;
 use definition::tag::Tag;
 use error_fields::error_fields;
 use fallible::parser::Parser;
-use items::module;
+use losses::parse_tokens;
 use node::{Numbers, Record, write_record};
 use slices::fill_from;
 use steps::tokens::Tokens;
@@ -47,10 +49,10 @@ pub fn read_tokens(tokens: Tokens, errors: &[[u32; 4]], file: &mut [u8]) -> Resu
         ≡ O.read_validated file.old (rest tokens.entry.records.now tokens.entry.text.now tokens.entry.count 0) (recorded_in errors) }
 {
     let mut parser = Parser::new();
-    let read = module(tokens, file, &mut parser, limit::NESTING);
-    let Ok(count) = read else {
+    let parsed = parse_tokens(tokens, file, &mut parser);
+    let Ok(count) = parsed else {
         fill_from(file, 0, 0);
-        return read;
+        return parsed;
     };
     Ok(end_file(file, count, errors, &parser))
 }

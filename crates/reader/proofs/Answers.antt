@@ -1,13 +1,15 @@
 -- What holds of each answer of `read_script`, by its contract. Assumes nothing.
-use mathlib.Core.Path.{◌≡◌, ap, sym}
+use mathlib.Core.Path.{◌≡◌, ap, sym, ◌∙◌}
 use mathlib.Core.List.{List}
 use Prim.Native.Nat.{ℕ, ◌+◌, ◌≤◌}
 use native.Mathlib.Omega.{arith}
 use lib.ListN.{length, take}
 use Rattle.definition.specs.Operations as O
 use Rattle.definition.specs.Operations.{whole}
-use Rattle.definition.specs.Demand.{file_of, tokens_of_script}
+use Rattle.definition.specs.Demand.{file_of, full_entries, tokens_of_script}
+use Rattle.definition.specs.Pieces.{LostNothing}
 use Rattle.definition.specs.TreeRecords.{tree_records}
+use Rattle.definition.proofs.Claim.{clean_lost_nothing}
 use Rattle.definition.proofs.Room.{room}
 use Rattle.definition.proofs.TreeRecords.{script_records}
 use Rattle.std.specs.Prelude.{Result, Ok}
@@ -32,3 +34,7 @@ module _ (s o : List ℕ) {o' : List ℕ} {r : Result ℕ Refusal} (e : answer r
   -- its tree has at most two records more than the script has tokens
   pub answer_records : tree_records (take n o') ≤ 2 + length (tokens_of_script s)
   answer_records = omega (arith, ap tree_records file_is, script_records s o number_is)
+
+  -- if it has no entry of the full list, nothing of the script is lost
+  pub answer_lost_nothing : full_entries (take n o') ≡ 0 → LostNothing s
+  answer_lost_nothing h = clean_lost_nothing s o number_is (ap full_entries file_is ∙ h)

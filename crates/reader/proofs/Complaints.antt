@@ -16,7 +16,7 @@ use Rattle.definition.specs.Tokenizer as Z
 use Rattle.definition.specs.Tokenizer.{tokenize}
 use Rattle.definition.specs.Act as A
 use Rattle.definition.specs.Act.{Items, Res}
-use Rattle.definition.specs.Parser.{parse_module}
+use Rattle.definition.specs.Losses.{parse_tokens}
 use Rattle.definition.specs.Operations as O
 use Rattle.definition.specs.Operations.{kept}
 use Rattle.definition.specs.Sentence as S
@@ -27,17 +27,15 @@ use Rattle.definition.specs.declared.refusal.Refusal.{Refusal}
 use Rattle.source.specs.Place as P
 use Rattle.source.specs.Place.{Stands, origin}
 use Rattle.token_records.specs.declared.State.{State}
-use Rattle.fallible.specs.Answer as W
-use Rattle.fallible.specs.Answer.{Answer}
 use Rattle.fallible.specs.declared.error.Error.{Error}
+use Rattle.fallible.specs.declared.parser.State as W
 use Rattle.fallible.specs.Lists.{err_of, errs}
 use Rattle.error_fields.proofs.Records.{records_are}
 use Rattle.steps.specs.Tokens.{rest}
 use Rattle.tokenizer.specs.Run.{Done, NotDone}
 use Rattle.tokenizer.proofs.Answer.{the_characters, within_limit}
-use Rattle.items.specs.Items.{ReadsModule}
 use Rattle.parser.specs.Answer.{answer}
-use Rattle.parser.proofs.Readings.{Tree, tree_of, refused_with}
+use Rattle.parser.specs.Losses.{Parsed}
 use Rattle.sentences.specs.Said.{Short}
 use Rattle.reader.specs.declared.found.ErrorList.{ErrorList}
 use Rattle.reader.specs.Found.{entry_of, found_of}
@@ -54,11 +52,11 @@ result cs ts es (A.gives i st) =
     S.found (record { chars = cs; toks = ts; token_errors = es; reported = i.errors; full = st.full })
 result cs ts es (A.refused n) = S.refused n
 
-parsed_by : (cs : List Ch) (ts : List Tok) (es : List F.Err) (q : Res Items) → (length ts ≡ 0 → ⊥) → parse_module ts ≡ q
+parsed_by : (cs : List Ch) (ts : List Tok) (es : List F.Err) (q : Res Items) → (length ts ≡ 0 → ⊥) → parse_tokens ts ≡ q
     → S.parsed cs (Z.tokens ts es) ≡ result cs ts es q
 unfolding S.parsed
 parsed_by cs [] es q n e = absurd (n refl)
-parsed_by cs (t ∷ ts) es q n e = one (parse_module (t ∷ ts)) ∙ ap (result cs (t ∷ ts) es) e
+parsed_by cs (t ∷ ts) es q n e = one (parse_tokens (t ∷ ts)) ∙ ap (result cs (t ∷ ts) es) e
   where
     one : (p : Res Items) → elim p as (λ _. S.Examined) [
       | A.gives i st ↦ S.found
@@ -103,26 +101,23 @@ module _ (s : List ℕ) (z : Stands s origin) (h : length s ≤ 16384) where
 
     module _ (k : f.tokens ≡ 0 → ⊥) where
       -- by the reading of the tokens
-      reading : (q : Res Items) → parse_module (rest T X f.tokens 0) ≡ q
+      reading : (q : Res Items) → parse_tokens (rest T X f.tokens 0) ≡ q
           → S.examine s ≡ result (P.rest s origin) (rest T X f.tokens 0) d.es q
       reading q e =
           tokenized ∙ parsed_by (P.rest s origin) (rest T X f.tokens 0) d.es q
           (λ m. k (d.holds.tokens ∙ sym (ap length (records s z h d).tokens) ∙ m)) e
 
-      module _ {o : List ℕ} {r l : List Error} {a : Answer} (B : ReadsModule T X f.tokens 96 o r l a) where
-        pub examine_refused : (m : Refusal) → a.status ≡ W.Refused (N.refusal_number m) → S.examine s ≡ S.refused (N.refusal_number m)
-        examine_refused m x = reading (A.refused (N.refusal_number m)) (refused_with B _ x)
+      pub examine_refused : (m : Refusal) → parse_tokens (rest T X f.tokens 0) ≡ A.refused (N.refusal_number m)
+          → S.examine s ≡ S.refused (N.refusal_number m)
+      examine_refused m x = reading (A.refused (N.refusal_number m)) x
 
-        module _ (x : a.status ≡ W.Done) where
-          outcome : Tree B
-          outcome = tree_of B x
-
-          pub examine_found : S.examine s ≡ S.found (found_of s (rest T X f.tokens 0) (first_chunks 4 f.errors E) (take a.state.reported r) (take a.state.full l))
-          unfolding errs
-          examine_found =
-              reading (A.gives outcome.tree outcome.state) outcome.is
-              ∙ same_found (P.rest s origin) (rest T X f.tokens 0) (sym (records_are entry_of (λ w v. refl) E f.errors 0 d.es (records s z h d).errors))
-              (sym outcome.reported) outcome.full
+      pub examine_found : {o : List ℕ} {r l : List Error} {u : W.State} {k : ℕ} → Parsed T X f.tokens o r l u k
+          → S.examine s ≡ S.found (found_of s (rest T X f.tokens 0) (first_chunks 4 f.errors E) (take u.reported r) (take u.full l))
+      unfolding errs
+      examine_found g =
+          reading (A.gives g.tree g.state) g.is
+          ∙ same_found (P.rest s origin) (rest T X f.tokens 0) (sym (records_are entry_of (λ w v. refl) E f.errors 0 d.es (records s z h d).errors))
+          (sym g.reported) g.full
 
 -- ---- the entry at a position
 

@@ -16,6 +16,7 @@ use Rattle.steps.specs.Tokens.{rest}
 use Rattle.tokenizer.specs.Contract.{RunAsks}
 use Rattle.reader.specs.declared.found.ErrorList.{ErrorList}
 use Rattle.reader.specs.declared.found.Found.{Found}
+use Rattle.parser.specs.Losses.{begun}
 use Rattle.reader.specs.Found.{found_of, reported_in, full_in}
 
 -- ---- sentences
@@ -54,7 +55,7 @@ found_in x = found_of x.script.now (tokens_in x) x.errors.now (reported_in x.par
 abbrev pub ExamineAsks : Slice → MutSlice → MutSlice → MutSlice → MutSlice → MutBor Parser → Type 0
 ExamineAsks script tokens errors text file parser =
     RunAsks 2048 script tokens errors text × (65536 ≤ length file.now) ×
-    (parser.now.state ≡ record { at = 0; pos = 0; reported = 0; full = 0 })
+    (parser.now.state ≡ begun 0)
 
 abbrev pub FoundIn : Lent → Result Found Refusal → Type 0
 FoundIn script r =

@@ -13,7 +13,7 @@ use definition::limit;
 use definition::refusal::{Refusal, number_and_count};
 use fallible::error::Error;
 use fallible::parser::Parser;
-use items::module;
+use parser::losses::parse_tokens;
 use sentences::{say_parser_error, say_token_error};
 use slices::fill_from;
 use source::admitted;
@@ -42,7 +42,7 @@ fn examine<'a>(
         count: state.tokens,
         text,
     };
-    module(tokens, file, parser, limit::NESTING)?;
+    parse_tokens(tokens, file, parser)?;
     Ok(Found {
         script,
         tokens,

@@ -14,7 +14,7 @@ use Rattle.std.proofs.lemmas.List.{get_or_past}
 use Rattle.definition.specs.Choice.{first}
 use Rattle.definition.specs.Source.{Ch, lead}
 use Rattle.definition.specs.Classes.{is_digit_of}
-use Rattle.definition.specs.Tokenizer.{Span, ahead, digits, assembly}
+use Rattle.definition.specs.Tokenizer.{Span, ahead, digits, assembly, closed}
 use Rattle.definition.specs.Tokenizer as Z
 use Rattle.classes.specs.Found.{nonzero}
 use Rattle.classes.proofs.Found.{no_byte}
@@ -23,7 +23,7 @@ use Rattle.slices.proofs.Writing.{wrote_none}
 use Rattle.source.specs.declared.Cursor.{Cursor}
 use Rattle.source.specs.Place.{Stands, Stepped, rest, char, more, along_line}
 use Rattle.source.proofs.Laws.{rest_head, rest_end, along_law}
-use Rattle.scan.specs.Scan.{Passes, Passed, Asks, Spanned, span_while, span_of, QuotedAs}
+use Rattle.scan.specs.Scan.{Passes, Passed, Asks, Spanned, EndsAs, span_while, span_of, QuotedAs}
 
 -- ---- looking and skipping
 
@@ -195,6 +195,41 @@ asm_go c cs h = rw (ne_eqb _ _ h, assembly)
 pub asm_stop : (c : Ch) (cs : List Ch) → c.byte ≡ 125 → assembly (c ∷ cs) ≡ empty cs
 unfolding assembly
 asm_stop c cs h = rw (eq-eqb _ _ h, assembly)
+
+-- the invariant of assembly: it is closed, as from the start, or not
+pub record Assembling (s : List ℕ) (c₀ : Cursor) (x₀ : List ℕ) (n₀ : ℕ) (c : Cursor) (x : List ℕ) (n : ℕ) : Type 0 where
+  pub spans : Spanning assembly s c₀ x₀ n₀ c x n
+  pub closes : closed (rest s c) ≡ closed (rest s c₀)
+
+closed_none : closed [] ≡ false
+unfolding closed
+closed_none = refl
+
+closed_go : (c : Ch) (cs : List Ch) → (c.byte ≡ 125 → ⊥) → closed (c ∷ cs) ≡ closed cs
+unfolding closed
+closed_go c cs h = rw (ne_eqb _ _ h, closed)
+
+closed_stop : (c : Ch) (cs : List Ch) → c.byte ≡ 125 → closed (c ∷ cs) ≡ true
+unfolding closed
+closed_stop c cs h = rw (eq-eqb _ _ h, closed)
+
+module _ {s : List ℕ} {c₀ : Cursor} {x₀ : List ℕ} {n₀ : ℕ} {c : Cursor} {x : List ℕ} {n : ℕ}
+    (q : Assembling s c₀ x₀ n₀ c x n) where
+  pub assembling_more : {d : Cursor} {x' : List ℕ} {m : ℕ} → Stepped s c d → (get_or s c.at 0 ≡ 125 → ⊥)
+      → Wrote x n ((char s c).byte ∷ (char s c).more) x' m → m ≤ d.at → Assembling s c₀ x₀ n₀ d x' m
+  assembling_more st h w r =
+      record {
+        spans = spanning_more q.spans st (asm_go _ _ h) w r;
+        closes = sym (ap closed st.chars ∙ closed_go _ _ h) ∙ q.closes;
+      }
+
+  pub assembling_close : {d : Cursor} → Stepped s c d → get_or s c.at 0 ≡ 125
+      → EndsAs s c₀ x₀ n₀ (closed (rest s c₀)) (assembly (rest s c₀)) x (Ok (record { cursor = d; n = n }))
+  assembling_close st h = (sym q.closes ∙ ap closed st.chars ∙ closed_stop _ _ h, spanning_past q.spans st (asm_stop _ _ h))
+
+  pub assembling_out : length s ≤ c.at
+      → EndsAs s c₀ x₀ n₀ (closed (rest s c₀)) (assembly (rest s c₀)) x (Err (record { cursor = c; n = n }))
+  assembling_out h = (sym q.closes ∙ ap closed (rest_end s c h) ∙ closed_none, spanning_out q.spans h asm_none)
 
 -- the bytes of a character: one alone, or those from its offset to that of the next
 module _ {s : List ℕ} {c d : Cursor} {x : List ℕ} {n : ℕ} {x' : List ℕ} {m : ℕ} (st : Stepped s c d) where

@@ -1,6 +1,6 @@
 -- The records of Scan, stated over the parameters of the functions: first what is specific to a function, then its
 -- parameters in order. Assumes nothing.
-use Rattle.std.specs.Prelude.{Result, List, ◌∷◌, ℕ}
+use Rattle.std.specs.Prelude.{Bool, Result, List, ◌∷◌, ℕ}
 use Rattle.definition.specs.Slices.{Slice, MutSlice, Lent, MutLent, at_entry, old, new}
 use Rattle.definition.specs.Source.{Ch}
 use Rattle.definition.specs.Tokenizer.{Span, Run, Quoted}
@@ -42,6 +42,10 @@ CharPut s c text n r = Wrote (old text) n ((char (at_entry s) c).byte ∷ (char 
 
 abbrev pub Spanned : (List Ch → Span) → Lent → Cursor → MutLent → ℕ → Scan → Type 0
 Spanned f s c text n r = S.Spanned (at_entry s) c (old text) n (f (rest (at_entry s) c)) (new text) r
+
+-- g says whether the scan was closed
+abbrev pub EndsAs : (List Ch → Bool) → (List Ch → Span) → Lent → Cursor → MutLent → ℕ → Result Scan Scan → Type 0
+EndsAs g f s c text n r = S.EndsAs (at_entry s) c (old text) n (g (rest (at_entry s) c)) (f (rest (at_entry s) c)) (new text) r
 
 abbrev pub Stopped : (List Ch → Run) → Lent → Cursor → MutLent → ℕ → Scan → Type 0
 Stopped f s c text n r = S.Stopped (at_entry s) c (old text) n (f (rest (at_entry s) c)) (new text) r

@@ -42,6 +42,10 @@ pub record Spanned (s : List ℕ) (c : Cursor) (x : List ℕ) (n : ℕ) (d : Spa
   pub wrote : Wrote x n d.text x' r.n
   pub room : r.n ≤ r.cursor.at
 
+-- it ended after what closes it, or at the end of the script
+abbrev pub EndsAs : (s : List ℕ) (c : Cursor) (x : List ℕ) (n : ℕ) → Bool → Span → List ℕ → Result Scan Scan → Type 0
+EndsAs s c x n b d x' r = MatchResult r (λ e. (b ≡ true) × Spanned s c x n d x' e) (λ e. (b ≡ false) × Spanned s c x n d x' e)
+
 -- the answers of a test for bytes are those of `holds`
 abbrev pub Tells : (ℕ → Bool → Type 0) → (ℕ → Bool) → Type 0
 Tells answers holds = (b : ℕ) → (r : Bool) → b < 256 → answers b r → r ≡ holds b
@@ -105,6 +109,6 @@ abbrev pub span_of : Z.Quoted → Span
 span_of q = record { text = q.text; rest = q.rest }
 
 pub record QuotedAs (s : List ℕ) (c : Cursor) (x : List ℕ) (n : ℕ) (q : Z.Quoted) (x' : List ℕ) (r : Body) : Type 0 where
-  pub end : MatchResult r.end (λ e. (q.closed ≡ true) × Spanned s c x n (span_of q) x' e) (λ e. (q.closed ≡ false) × Spanned s c x n (span_of q) x' e)
+  pub end : EndsAs s c x n q.closed (span_of q) x' r.end
   pub unknown : r.unknown ≡ q.unknown
   pub few : r.unknown ≤ 16384

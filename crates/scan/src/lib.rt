@@ -4,9 +4,11 @@
 ghost use Rattle.std.specs.Prelude.{ℕ, Bool, false, true, ◌≡◌, ◌+◌, ◌<◌, ◌≤◌, ltb, length, get_or, unwrap_or};
 ghost use Rattle.definition.specs.Tokenizer as Z;
 ghost use Rattle.slices.specs.Written.{Wrote};
-ghost use Rattle.source.specs.Place.{Stands, Stepped, rest};
+ghost use Rattle.definition.specs.Classes.{is_white};
+ghost use Rattle.definition.specs.Source.{code as number};
+ghost use Rattle.source.specs.Place.{Stands, Stepped, rest, char};
 ghost use Rattle.scan.specs.Scan.{LineEnd, Tells, span_while, word_bytes};
-ghost use Rattle.scan.specs.Contract.{Passes, Asks, Passed, Skips, SkippedAs, Known, CharPut, Spanned, Stopped, QuotedAs};
+ghost use Rattle.scan.specs.Contract.{Passes, Asks, Passed, Skips, SkippedAs, Known, CharPut, Spanned, Stopped, EndsAs, QuotedAs};
 
 use classes::character::{is_blank, is_digit_of, is_white, is_word, is_word_byte};
 use classes::spelling::escape;
@@ -87,13 +89,21 @@ pub fn blanks(s: &[u8], from: Cursor) -> Cursor
     c
 }
 
+// Whether the character at `c` is white space. One above 255 is none.
+pub fn is_white_at(s: &[u8], c: Cursor) -> bool
+    requires { Passes s c × (c.at < length s.now) }
+    ensures { result ≡ is_white (number (char s.now c)) }
+{
+    code(s, c).is_ok_and(is_white)
+}
+
 // Skips white space, up to another character.
 pub fn white(s: &[u8], from: Cursor) -> Cursor
     requires { Passes s from }
     ensures { SkippedAs Z.white s from result }
 {
     let mut c = from;
-    while c.at < s.len() && code(s, c).is_ok_and(is_white) {
+    while c.at < s.len() && is_white_at(s, c) {
         c = step(s, c);
     }
     c
@@ -204,22 +214,22 @@ pub fn wide_word(s: &[u8], from: Cursor, text: &mut [u8], start: usize) -> Scan
     Scan { cursor: c, n }
 }
 
-// Scans inline assembly up to `}`, which is consumed, or the end.
-pub fn assembly(s: &[u8], from: Cursor, text: &mut [u8], start: usize) -> Scan
+// Scans inline assembly: `Ok` after the `}` that closes it, which is consumed, `Err` at the end of the script.
+pub fn assembly(s: &[u8], from: Cursor, text: &mut [u8], start: usize) -> Result<Scan, Scan>
     requires { Asks s from text start }
-    ensures { Spanned Z.assembly s from text start result }
+    ensures { EndsAs Z.closed Z.assembly s from text start result }
 {
     let mut c = from;
     let mut n = start;
     while c.at < s.len() {
         let next = step(s, c);
         if s[c.at] == b'}' {
-            return Scan { cursor: next, n };
+            return Ok(Scan { cursor: next, n });
         }
         n = put_char(s, c, next, text, n);
         c = next;
     }
-    Scan { cursor: c, n }
+    Err(Scan { cursor: c, n })
 }
 
 // ---- strings

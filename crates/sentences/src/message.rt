@@ -36,7 +36,7 @@ pub fn say_token_message(
     }
 }
 
-// Writes the message of an error of the parser, with the kind expected and the token got.
+// Writes the message of an error of the parser, with the kind expected and the token got; or that of a loss.
 #[tactic(auto, unfolding(definition::specs::Sentence::parser_sentence, definition::specs::Sentence::parser_messages, definition::specs::Sentence::compose, definition::specs::Ascii::ascii))]
 pub fn say_parser_message(
     sentence: &mut Sentence<'_>,
@@ -95,5 +95,7 @@ pub fn say_parser_message(
             sentence.say_all(b"unexpected token for compound literal ");
             sentence.say_token(got);
         }
+        ParseError::CharacterLost => sentence.say_all(b"character lost after minus"),
+        ParseError::AssemblyNotClosed => sentence.say_all(b"assembly not closed"),
     }
 }

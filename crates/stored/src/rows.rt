@@ -110,7 +110,7 @@ fn role(tag: Tag, body: Body) -> Option<Role>
             .byte(0, 54)
             .error(2),
         Tag::FullError => body
-            .byte(1, 19)
+            .byte(1, 21)
             .place_or_nowhere()
             .byte(0, 54)
             .byte(0, 54)

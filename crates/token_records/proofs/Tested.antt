@@ -14,7 +14,7 @@ use Rattle.std.specs.List.{AllWithin, HoldsAt}
 use Rattle.definition.specs.Choice.{pick}
 use Rattle.definition.specs.Classes as C
 use Rattle.definition.specs.Records as R
-use Rattle.definition.specs.Records.{TokenWords, all_digits, some_digits, base_fits, has_text, valid_alone, words_at, part, text_of}
+use Rattle.definition.specs.Records.{TokenWords, all_digits, some_digits, base_fits, can_lose, has_text, valid_alone, words_at, part, text_of}
 use Rattle.definition.proofs.Tests.{clash, left_true, right_true, and_false}
 use Rattle.definition.proofs.Validated.{fits}
 use Rattle.token_records.specs.Tested.{text_fits}
@@ -57,24 +57,32 @@ abbrev with_words : TokenWords → ℕ → ℕ → ℕ → TokenWords
 with_words w k seventh eighth = record { kind = k; line = w.line; column = w.column; start = w.start; size = w.size; base = w.base; seventh = seventh; eighth = eighth }
 
 abbrev words : TokenWords → ℕ → TokenWords
-words w k = with_words w k 0 0
+words w k = with_words w k (pick (eqb w.seventh 1) 1 0) 0
+
+-- a seventh word that fits is that of the token
+seventh_back : (n : ℕ) (b : Bool) → leb n (pick b 1 0) ≡ true → pick (eqb n 1) 1 0 ≡ n
+seventh_back zero b e = refl
+seventh_back (suc zero) b e = refl
+seventh_back (suc (suc n)) true e = absurd (omega (arith, leb-true _ _ e))
+seventh_back (suc (suc n)) false e = absurd (omega (arith, leb-true _ _ e))
 
 -- the tests of the code, where a kind has the number of the record's
-module _ (text : List ℕ) (w : TokenWords) {k : ℕ} (e : k ≡ w.kind) (h : w.kind ≤ 54) {n v b x : Bool} (i : n ≡ not (eqb k 0))
-    (p : v ≡ (C.between 1 16384 w.line && C.between 1 16384 w.column)) (q : b ≡ base_fits k w.base) where
+module _ (text : List ℕ) (w : TokenWords) {k : ℕ} (e : k ≡ w.kind) (h : w.kind ≤ 54) {n v b l x : Bool} (i : n ≡ not (eqb k 0))
+    (p : v ≡ (C.between 1 16384 w.line && C.between 1 16384 w.column)) (q : b ≡ base_fits k w.base)
+    (o : l ≡ leb w.seventh (pick (can_lose k) 1 0)) where
   module _ (r : x ≡ text_fits text (words w k)) where
-    valid_is : (n && v && b && eqb w.seventh 0 && eqb w.eighth 0 && x) ≡ valid_alone text w
+    valid_is : (n && v && b && l && eqb w.eighth 0 && x) ≡ valid_alone text w
     unfolding valid_alone
-    valid_is = rw (real k (omega arith) i, p, q, r, e) (simp and_assoc)
+    valid_is = rw (real k (omega arith) i, p, q, o, r, e) (simp and_assoc)
 
-    pub valid_true : (n && v && b && eqb w.seventh 0 && eqb w.eighth 0 && x) ≡ true → (valid_alone text w ≡ true) × (words w k ≡ w)
+    pub valid_true : (n && v && b && l && eqb w.eighth 0 && x) ≡ true → (valid_alone text w ≡ true) × (words w k ≡ w)
     valid_true t =
-        let f = left_true (n && v && b && eqb w.seventh 0 && eqb w.eighth 0) x t in
-        let y = eqb-true _ _ (right_true (n && v && b && eqb w.seventh 0) (eqb w.eighth 0) f) in
-        let z = eqb-true _ _ (right_true (n && v && b) (eqb w.seventh 0) (left_true (n && v && b && eqb w.seventh 0) (eqb w.eighth 0) f)) in
-        (sym valid_is ∙ t, ap (words w) e ∙ ap₂ (with_words w w.kind) (sym z) (sym y))
+        let f = left_true (n && v && b && l && eqb w.eighth 0) x t in
+        let y = eqb-true _ _ (right_true (n && v && b && l) (eqb w.eighth 0) f) in
+        let z = seventh_back _ _ (sym o ∙ right_true (n && v && b) l (left_true (n && v && b && l) (eqb w.eighth 0) f)) in
+        (sym valid_is ∙ t, ap (words w) e ∙ ap₂ (with_words w w.kind) z (sym y))
 
-    pub valid_false : (n && v && b && eqb w.seventh 0 && eqb w.eighth 0 && x) ≡ false → valid_alone text w ≡ false
+    pub valid_false : (n && v && b && l && eqb w.eighth 0 && x) ≡ false → valid_alone text w ≡ false
     valid_false t = sym valid_is ∙ t
 
 pub no_kind : (text : List ℕ) (w : TokenWords) → 54 < w.kind → valid_alone text w ≡ false

@@ -1,6 +1,9 @@
 -- What pushing a token or errors ensures of the slices and the state. Assumes nothing.
-use Rattle.std.specs.Prelude.{◌≡◌, List, [], ◌∷◌, Result, MatchResult, ℕ, ◌+◌, ◌*◌, ◌<◌, ◌≤◌, length}
+use Rattle.std.specs.Prelude.{◌≡◌, false, List, [], ◌∷◌, Result, MatchResult, ℕ, ◌+◌, ◌*◌, ◌<◌, ◌≤◌, length}
+use Rattle.definition.specs.Choice.{pick}
 use Rattle.definition.specs.Fallible.{Err}
+use Rattle.definition.specs.declared.kind.Kind.{Kind}
+use Rattle.definition.specs.declared.place.Place.{Place}
 use Rattle.definition.specs.Numbers.{kind_number}
 use Rattle.definition.specs.declared.refusal.Refusal.{Refusal}
 use Rattle.definition.specs.Records.{errors_words}
@@ -8,9 +11,13 @@ use Rattle.slices.specs.Written.{Wrote}
 use Rattle.token_records.specs.declared.State.{State}
 use Rattle.token_records.specs.declared.Token.{Token}
 
+-- a token without text or base that lost nothing
+abbrev pub plain_token : Kind → Place → Token
+plain_token k p = record { kind = k; place = p; start = 0; size = 0; base = 0; lost = false }
+
 -- the words of a token
 abbrev pub words_of_token : Token → List ℕ
-words_of_token t = kind_number t.kind ∷ t.place.line ∷ t.place.column ∷ t.start ∷ t.size ∷ t.base ∷ 0 ∷ 0 ∷ []
+words_of_token t = kind_number t.kind ∷ t.place.line ∷ t.place.column ∷ t.start ∷ t.size ∷ t.base ∷ pick t.lost 1 0 ∷ 0 ∷ []
 
 pub record ErrorsWent (E : List ℕ) (f : State) (es : List Err) (E' : List ℕ) (r : State) : Type 0 where
   pub few : f.errors + length es ≤ 255

@@ -19,7 +19,7 @@ text_fits text w =
     && pick (eqb w.kind K.Integer) (integer_text w.base (R.part text w)) true
 
 abbrev pub words_of : Token → TokenWords
-words_of t = record { kind = kind_number t.kind; line = t.place.line; column = t.place.column; start = t.start; size = t.size; base = t.base; seventh = 0; eighth = 0 }
+words_of t = record { kind = kind_number t.kind; line = t.place.line; column = t.place.column; start = t.start; size = t.size; base = t.base; seventh = pick t.lost 1 0; eighth = 0 }
 
 -- the token of the words of a record, or none where they are not valid
 abbrev pub Validates : List ℕ → TokenWords → Option Token → Type 0

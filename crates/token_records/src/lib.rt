@@ -1,13 +1,14 @@
 // Token and error records as words in lent slices: writes and validates them; the text of a token.
 #![tactic(auto)]
 
-ghost use Rattle.std.specs.Prelude.{◌≡◌, ◌&&◌, ◌+◌, ◌*◌, ◌<◌, ◌≤◌, length, replicate};
+ghost use Rattle.std.specs.Prelude.{◌≡◌, ◌&&◌, ◌+◌, ◌*◌, ◌<◌, ◌≤◌, leb, length, replicate};
+ghost use Rattle.definition.specs.Choice.{pick};
 ghost use Rattle.definition.specs.Classes as C;
 ghost use Rattle.definition.specs.Records as R;
 ghost use Rattle.definition.specs.Tokenizer as Z;
 ghost use Rattle.definition.specs.Numbers.{kind_number, token_error_number};
 ghost use Rattle.definition.specs.Places.{place_of};
-ghost use Rattle.token_records.specs.Push.{words_of_token};
+ghost use Rattle.token_records.specs.Push.{words_of_token, plain_token};
 ghost use Rattle.token_records.specs.Tested.{Validates, part_fits, text_fits, words_of};
 ghost use Rattle.token_records.specs.Contract.{TokenPushed, ErrorsPushed};
 
@@ -33,8 +34,8 @@ pub struct State {
     pub text: usize,
 }
 
-// A token, as its record has it: its kind and place, its part of the text, and its base, 0 but for an integer. The base
-// is a number, as it is in `is_digit_of`: a record that is read can have any number there.
+// A token, as its record has it: its kind and place, its part of the text, its base, 0 but for an integer, and whether it
+// lost something. The base is a number, as it is in `is_digit_of`: a record that is read can have any number there.
 #[derive(Clone, Copy)]
 pub struct Token {
     pub kind: Kind,
@@ -42,9 +43,24 @@ pub struct Token {
     pub start: u32,
     pub size: u32,
     pub base: u32,
+    pub lost: bool,
 }
 
 impl Token {
+    // One without text or base that lost nothing.
+    pub fn new(kind: Kind, place: Place) -> Token
+        ensures { result ≡ plain_token kind place }
+    {
+        Token {
+            kind,
+            place,
+            start: 0,
+            size: 0,
+            base: 0,
+            lost: false,
+        }
+    }
+
     // Where its part of the text begins and ends.
     pub fn part(self) -> (usize, usize)
         ensures { (result.0 ≡ self.start) × (result.1 ≡ self.start + self.size) }
@@ -74,7 +90,7 @@ pub fn push_token(
         token.start,
         token.size,
         token.base,
-        0,
+        u32::from(token.lost),
         0,
     ];
     put_all(tokens, 8 * st.tokens, &record);
@@ -121,6 +137,13 @@ fn base_fits(kind: Kind, base: u32) -> bool
     } else {
         base == 0
     }
+}
+
+// Whether the seventh word fits: 1 is for kinds that can lose something.
+fn lost_fits(kind: Kind, seventh: u32) -> bool
+    ensures { result ≡ leb seventh (pick (R.can_lose (kind_number kind)) 1 0) }
+{
+    seventh <= u32::from(kind.can_lose())
 }
 
 const LARGEST_LINE_OR_COLUMN: u32 = 16384;
@@ -172,11 +195,12 @@ pub fn valid_token(words: &[u32; 8], text: &[u8]) -> Option<Token>
         start,
         size,
         base,
+        lost: seventh == 1,
     };
     let fields_fit = (kind != Kind::End)
         & valid_place(token.place)
         & base_fits(kind, base)
-        & (seventh == 0)
+        & lost_fits(kind, seventh)
         & (eighth == 0);
     if fields_fit & text_fits(token, text) {
         Some(token)

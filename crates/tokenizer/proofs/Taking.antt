@@ -12,7 +12,7 @@ use native.Mathlib.Omega.{arith}
 use lib.ListN.{length, get_or}
 use Rattle.definition.specs.Source.{Ch, code}
 use Rattle.definition.specs.Records.{has_text}
-use Rattle.definition.specs.Tokenizer.{Turn, goes, refused, Foreign, White, Comment, Pair, Symbol, Quote, Word, Dash, Zero, Digit, Unknown}
+use Rattle.definition.specs.Tokenizer.{Turn, goes, refused, Pair, Symbol, Digit}
 use Rattle.definition.specs.Tokenizer as Z
 use Rattle.definition.proofs.Codes.{coded_digit}
 use Rattle.definition.proofs.Formed.{Classed, classed, pair_plain, symbol_plain, plain_textless}
@@ -32,29 +32,13 @@ use Rattle.turns.specs.Turn.{at_cursor, token_record, Ready, bounded, Turned}
 use Rattle.tokenizer.specs.Run.{Taken, turn_of}
 use Rattle.turns.proofs.Turned.{passed_none, on_text, end_nothing, end_errors, end_plain}
 
-abbrev pub of_class : Ch → List Ch → Z.Class → Turn
-of_class c cs x =
-    elim x as (λ _. Turn) [
-      | Foreign ↦ refused 4
-      | White ↦ Z.nothing cs
-      | Comment ↦ Z.nothing (Z.comment (Z.drop_one cs))
-      | Pair ↦ Z.token (Z.drop_one cs) (Z.pair (code c) (Z.look cs)) c.place
-      | Symbol ↦ Z.token cs (Z.symbol (code c)) c.place
-      | Quote ↦ Z.string_turn c.place (Z.quoted false cs)
-      | Word ↦ Z.word_turn c.place (Z.run_ahead (c.byte ∷ c.more) (Z.word cs))
-      | Dash ↦ Z.dash_turn c.place cs
-      | Zero ↦ Z.zero_turn c.place cs
-      | Digit ↦ Z.integer c.place 10 (c.byte ∷ []) (Z.digits 10 cs)
-      | Unknown ↦ goes cs (Z.token_error 4 c.place ∷ []) []
-    ]
-
-turn_class : (c : Ch) (cs : List Ch) → Z.turn c cs ≡ of_class c cs (Z.class (code c) (Z.look cs))
+turn_class : (c : Ch) (cs : List Ch) → Z.turn c cs ≡ Z.turn_by (Z.class (code c) (Z.look cs)) c cs
 unfolding Z.turn
 turn_class c cs = refl
 
 -- the turn at a character of the class x
-pub turn_begins : (c : Ch) (cs : List Ch) {x : Z.Class} → x ≡ Z.class (code c) (Z.look cs) → Z.turn c cs ≡ of_class c cs x
-turn_begins c cs e = turn_class c cs ∙ ap (of_class c cs) (sym e)
+pub turn_begins : (c : Ch) (cs : List Ch) {x : Z.Class} → x ≡ Z.class (code c) (Z.look cs) → Z.turn c cs ≡ Z.turn_by x c cs
+turn_begins c cs e = turn_class c cs ∙ ap (λ (y : Z.Class). Z.turn_by y c cs) (sym e)
 
 -- a foreign character is refused
 pub taken_foreign : {most : ℕ} {s T E X : List ℕ} {st : State} {T' E' X' : List ℕ} → Stands s st.cursor → st.cursor.at < length s
@@ -82,7 +66,7 @@ module _ {s : List ℕ} (st : State) {c : Cursor} {n d : ℕ} {k : Class} (x : C
     (z : Stepped s st.cursor c) (m : n ≡ code (char s st.cursor)) (h : d ≡ Z.look (rest s c))
     (e : class_of k ≡ Z.class n d) {most : ℕ} {T X : List ℕ} (a : Ready most s T X st st.cursor) where
   abbrev begun : Turn
-  begun = of_class (char s st.cursor) (rest s c) (class_of x)
+  begun = Z.turn_by (class_of x) (char s st.cursor) (rest s c)
 
   class_here : class_of x ≡ Z.class (code (char s st.cursor)) (Z.look (rest s c))
   class_here = sym (ap class_of told) ∙ e ∙ ap (Z.class n) h ∙ ap (λ (i : ℕ). Z.class i (Z.look (rest s c))) m
@@ -127,7 +111,7 @@ module _ {s : List ℕ} (st : State) {c : Cursor} {n d : ℕ} {k : Class} (x : C
 
   taken_plain : {E : List ℕ} {cs : List Ch} {q : Cursor} {y : ℕ} {r : Result State Refusal} {T' : List ℕ} → Passed s c cs q
       → begun ≡ Z.token cs y (placed st.cursor) → has_text y ≡ false
-      → TokenPushed most T (at_cursor st q) (token_record st.cursor y 0 0 0) T' r
+      → TokenPushed most T (at_cursor st q) (token_record st.cursor y 0 0 0 false) T' r
       → Taken most (turn_of (rest s st.cursor)) s st T E X r T' E X
   taken_plain p f g w = taken (end_plain a.few room p f g w)
 
@@ -141,7 +125,7 @@ module _ {s : List ℕ} (st : State) {c : Cursor} {n d : ℕ} {k : Class} (y : K
     (m : n ≡ code (char s st.cursor)) (h : d ≡ Z.look (rest s c)) (e : class_of k ≡ Z.class n d)
     {most : ℕ} {T X E T' : List ℕ} {r : Result State Refusal} (a : Ready most s T X st st.cursor) where
   pub taken_pair : {q : Cursor} → k ≡ Class.Pair y → kind_number y ≡ Z.pair n d → Passed s c (Z.drop_one (rest s c)) q
-      → TokenPushed most T (at_cursor st q) (token_record st.cursor (kind_number y) 0 0 0) T' r
+      → TokenPushed most T (at_cursor st q) (token_record st.cursor (kind_number y) 0 0 0 false) T' r
       → Taken most (turn_of (rest s st.cursor)) s st T E X r T' E X
   taken_pair told f p w =
       let g : kind_number y ≡ Z.pair (code (char s st.cursor)) (Z.look (rest s c)) = rw (sym m, sym h) f in
@@ -150,7 +134,7 @@ module _ {s : List ℕ} (st : State) {c : Cursor} {n d : ℕ} {k : Class} (y : K
       (rw f (plain_textless _ (pair_plain n d))) w
 
   pub taken_symbol : k ≡ Class.Symbol y → kind_number y ≡ Z.symbol n
-      → TokenPushed most T (at_cursor st c) (token_record st.cursor (kind_number y) 0 0 0) T' r
+      → TokenPushed most T (at_cursor st c) (token_record st.cursor (kind_number y) 0 0 0 false) T' r
       → Taken most (turn_of (rest s st.cursor)) s st T E X r T' E X
   taken_symbol told f w =
       let g : kind_number y ≡ Z.symbol (code (char s st.cursor)) = rw (sym m) f in

@@ -1,13 +1,14 @@
 -- The laws of the turns for numbers and for a dash. Assumes nothing.
 use mathlib.Core.Path.{◌≡◌, refl, sym, ap, ◌∙◌}
-use mathlib.Core.Bool.{Bool, true, false}
+use mathlib.Core.Bool.{Bool, true, false, not}
 use mathlib.Core.List.{List, [], ◌∷◌, ◌++◌}
 use Prim.Native.Nat.{ℕ, ◌-◌, ◌<◌, ◌≤◌}
 use native.Mathlib.Omega.{arith}
 use borrow.Author.Tests.{eq-eqb, ne_eqb}
 use lib.ListN.{length, get_or}
 use Rattle.std.specs.Prelude.{Option, None, unwrap_or, Result, Err}
-use Rattle.definition.specs.Source.{Place, Ch}
+use Rattle.definition.specs.Choice.{pick}
+use Rattle.definition.specs.Source.{Place, Ch, code}
 use Rattle.definition.specs.declared.refusal.Refusal.{Refusal}
 use Rattle.definition.specs.Token.{Tok, tok}
 use Rattle.definition.specs.Classes as C
@@ -15,7 +16,7 @@ use Rattle.definition.specs.Kind as K
 use Rattle.definition.specs.Tokenizer.{refused}
 use Rattle.definition.specs.Tokenizer as Z
 use Rattle.source.specs.declared.Cursor.{Cursor}
-use Rattle.source.specs.Place.{Stepped, rest}
+use Rattle.source.specs.Place.{Stepped, rest, char}
 use Rattle.source.proofs.Laws.{rest_end}
 use Rattle.slices.specs.Written.{Wrote}
 use Rattle.scan.specs.Scan.{Passed}
@@ -117,7 +118,7 @@ unfolding Z.dash_turn
 dash_digit p c cs e f = rw (ne_eqb _ _ e, f, Z.dash_turn)
 
 dash_minus : (p : Place) (c : Ch) (cs : List Ch) → (c.byte ≡ 62 → ⊥) → C.is_digit c.byte ≡ false
-    → Z.dash_turn p (c ∷ cs) ≡ Z.token cs K.Minus p
+    → Z.dash_turn p (c ∷ cs) ≡ Z.token_losing cs K.Minus p [] (not (C.is_white (code c)))
 unfolding Z.dash_turn
 dash_minus p c cs e f = rw (ne_eqb _ _ e, f, Z.dash_turn)
 
@@ -141,9 +142,11 @@ module _ {most : ℕ} {s : List ℕ} {st : State} {c : Cursor} {T X : List ℕ} 
         → (E : List ℕ) → Turned most (Z.dash_turn p (rest s c)) s st c T E X r T' E X
     arrow_law e g E = end_plain a.0.few a.0.asks.room (passed_step z) (ap (Z.dash_turn p) z.chars ∙ dash_arrow _ _ _ e) refl g
 
-    pub minus_law : {v : Bool} → (get_or s c.at 0 ≡ 62 → ⊥) → v ≡ C.is_digit (get_or s c.at 0) → v ≡ false
-        → TokenPushed most T (at_cursor st d) (K.Minus ∷ p.line ∷ p.column ∷ 0 ∷ 0 ∷ 0 ∷ 0 ∷ 0 ∷ []) T' r
+    pub minus_law : {v w : Bool} → (get_or s c.at 0 ≡ 62 → ⊥) → v ≡ C.is_digit (get_or s c.at 0) → v ≡ false
+        → w ≡ C.is_white (code (char s c))
+        → TokenPushed most T (at_cursor st d) (K.Minus ∷ p.line ∷ p.column ∷ 0 ∷ 0 ∷ 0 ∷ pick (not w) 1 0 ∷ 0 ∷ []) T' r
         → (E : List ℕ) → Turned most (Z.dash_turn p (rest s c)) s st c T E X r T' E X
-    minus_law e f v g E =
+    minus_law e f v q g E =
         end_plain a.0.few a.0.asks.room (passed_step z)
-        (ap (Z.dash_turn p) z.chars ∙ dash_minus _ _ _ e (sym f ∙ v)) refl g
+        (ap (Z.dash_turn p) z.chars ∙ dash_minus _ _ _ e (sym f ∙ v)
+        ∙ ap (λ (l : Bool). Z.token_losing (rest s d) K.Minus p [] (not l)) (sym q)) refl g

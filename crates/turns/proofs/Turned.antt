@@ -5,7 +5,7 @@ use Rattle.std.specs.Prelude as P
 use Rattle.std.specs.Prelude.{Result}
 use Rattle.definition.specs.Numbers.{refusal_number}
 use Rattle.definition.specs.declared.refusal.Refusal.{Refusal}
-use mathlib.Core.Bool.{true, false}
+use mathlib.Core.Bool.{Bool, true, false}
 use mathlib.Core.List.{List, [], ◌∷◌, ◌++◌, append-nil}
 use Prim.Native.Nat.{ℕ, ◌+◌, ◌-◌, ◌*◌, ◌≤◌}
 use native.Mathlib.Omega.{arith}
@@ -14,6 +14,7 @@ use lib.Dec.{leb}
 use lib.ListN.{length, take, drop, length-append}
 use lib.Seq.{take-add, drop_at, take-take, take-append-le, length-take-le}
 use Rattle.definition.specs.Source.{Place, Ch}
+use Rattle.definition.specs.Choice.{pick}
 use Rattle.definition.specs.Fallible.{Err}
 use Rattle.definition.specs.Token.{Tok}
 use Rattle.definition.specs.Records.{has_text, token_words, tokens_words, tokens_text, errors_words}
@@ -221,15 +222,15 @@ end_refused {most} {st = st} x e l = stopped x (ap (bounded most st.errors st.to
 
 pub with_words : {most : ℕ} {T : List ℕ} {f : State} {T' : List ℕ} {r : Result State Refusal} (k : Tok) {x y z : ℕ}
     → has_text k.kind ≡ true → y ≡ x → z ≡ length k.text
-    → TokenPushed most T f (k.kind ∷ k.place.line ∷ k.place.column ∷ y ∷ z ∷ k.base ∷ 0 ∷ 0 ∷ []) T' r
+    → TokenPushed most T f (k.kind ∷ k.place.line ∷ k.place.column ∷ y ∷ z ∷ k.base ∷ pick k.lost 1 0 ∷ 0 ∷ []) T' r
     → TokenPushed most T f (token_words x k) T' r
 with_words k {x} e f g p = rw (e, sym f, sym g) p
 
 -- a token without text, at a later cursor
 pub end_plain : {most : ℕ} {t : Turn} {s : List ℕ} {st : State} {c : Cursor} {T E X : List ℕ} {cs : List Ch} {d : Cursor}
-    {k : ℕ} {p : Place} {T' : List ℕ} {r : Result State Refusal}
-    → Few most st → st.text ≤ c.at → Passed s c cs d → t ≡ Z.token cs k p → has_text k ≡ false
-    → TokenPushed most T (at_cursor st d) (k ∷ p.line ∷ p.column ∷ 0 ∷ 0 ∷ 0 ∷ 0 ∷ 0 ∷ []) T' r
+    {k : ℕ} {p : Place} {l : Bool} {T' : List ℕ} {r : Result State Refusal}
+    → Few most st → st.text ≤ c.at → Passed s c cs d → t ≡ Z.token_losing cs k p [] l → has_text k ≡ false
+    → TokenPushed most T (at_cursor st d) (k ∷ p.line ∷ p.column ∷ 0 ∷ 0 ∷ 0 ∷ pick l 1 0 ∷ 0 ∷ []) T' r
     → Turned most t s st c T E X r T' E X
 end_plain w h q e f g = end_token w (on_text w q wrote_none (omega (arith, q.forward))) e (rw f g)
 

@@ -1,6 +1,6 @@
 -- The laws of the turns for words and inline assembly. Assumes nothing.
 use mathlib.Core.Path.{◌≡◌, refl, sym, ap, ◌∙◌}
-use mathlib.Core.Bool.{Bool, true, false}
+use mathlib.Core.Bool.{Bool, true, false, not}
 use mathlib.Core.List.{List, [], ◌∷◌, ◌++◌}
 use Prim.Native.Nat.{ℕ, zero, suc, ◌-◌, ◌≤◌}
 use native.Mathlib.Omega.{arith}
@@ -14,7 +14,8 @@ use Rattle.definition.specs.declared.refusal.Refusal.{Refusal}
 use Rattle.definition.specs.Numbers.{kind_number}
 use Rattle.classes.specs.Found.{nonzero}
 use Rattle.classes.proofs.Found.{kind_is, kind_there, no_kind}
-use Rattle.definition.specs.Token.{tok}
+use Rattle.definition.specs.Choice.{pick}
+use Rattle.definition.specs.Token.{tok, tok_losing}
 use Rattle.definition.specs.Tokenizer.{Span, Turn, goes, refused}
 use Rattle.definition.specs.Tokenizer as Z
 use Rattle.definition.proofs.Formed.{keyword_plain, plain_textless}
@@ -36,10 +37,12 @@ asm_foreign : (p : Place) → Z.assembly_turn p Z.foreign ≡ refused 4
 unfolding Z.assembly_turn
 asm_foreign p = refl
 
+-- the turn of the assembly that cs has after its brace
+abbrev fragment : Place → List Ch → Turn
+fragment p cs = let a = Z.assembly cs in Z.token_losing a.rest K.InlineAssemblyFragment p a.text (not (Z.closed cs))
+
 asm_open : (p : Place) (s : Span) → Z.look s.rest ≡ 123
-    → Z.assembly_turn p (Z.ends s)
-    ≡ Z.token_text (Z.assembly (Z.drop_one s.rest)).rest K.InlineAssemblyFragment p
-    (Z.assembly (Z.drop_one s.rest)).text 0
+    → Z.assembly_turn p (Z.ends s) ≡ fragment p (Z.drop_one s.rest)
 unfolding Z.assembly_turn
 asm_open p s e = rw (eq-eqb _ _ e, Z.assembly_turn)
 
@@ -57,18 +60,17 @@ module _ {most : ℕ} {s : List ℕ} {st : State} {c w : Cursor} {T X : List ℕ
 
   module _ (k : stop_at (rest s w) ≡ Z.ends (record { text = []; rest = rest s w })) {d : Cursor}
       (pd : Passed s w (Z.drop_one (rest s w)) d) where
-    pub asm_open_law : {E X₁ : List ℕ} {n : Scan} {r : Result State Refusal} {T' : List ℕ} → Z.look (rest s w) ≡ 123
-        → Spanned s d X st.text (Z.assembly (rest s d)) X₁ n →
+    pub asm_open_law : {E X₁ : List ℕ} {n : Scan} {r : Result State Refusal} {T' : List ℕ} {b : Bool} → Z.look (rest s w) ≡ 123
+        → (Z.closed (rest s d) ≡ b) × Spanned s d X st.text (Z.assembly (rest s d)) X₁ n →
         TokenPushed most T (at_text st n.cursor n.n)
-        (K.InlineAssemblyFragment ∷ p.line ∷ p.column ∷ st.text ∷ (n.n - st.text) ∷ 0 ∷ 0 ∷ 0 ∷ []) T' r
+        (K.InlineAssemblyFragment ∷ p.line ∷ p.column ∷ st.text ∷ (n.n - st.text) ∷ 0 ∷ pick (not b) 1 0 ∷ 0 ∷ []) T' r
         → Turned most (Z.assembly_turn p (Z.white (rest s c))) s st c T E X r T' E X₁
-    asm_open_law e sp g =
-        let y : Z.assembly (rest s d) ≡ Z.assembly (Z.drop_one (rest s w)) = ap Z.assembly pd.is in
+    asm_open_law e q g =
+        let sp = q.1 in
         end_token a.few (on_text a.few (passed_trans (passed_trans z.passed pd) sp.passed) sp.wrote sp.room)
-        (ap (Z.assembly_turn p) (z.is ∙ k) ∙ asm_open p _ e
-        ∙ ap (λ (q : Span). Z.token_text q.rest K.InlineAssemblyFragment p q.text 0) (sym y))
-        (with_words (tok K.InlineAssemblyFragment p (Z.assembly (rest s d)).text 0) refl refl
-        (omega (arith, sp.wrote.count)) g)
+        (ap (Z.assembly_turn p) (z.is ∙ k) ∙ asm_open p _ e ∙ ap (fragment p) (sym pd.is))
+        (with_words (tok_losing K.InlineAssemblyFragment p (Z.assembly (rest s d)).text (not (Z.closed (rest s d)))) refl refl
+        (omega (arith, sp.wrote.count)) (rw (sym q.0) at g))
 
     pub asm_other_law : {E E' : List ℕ} {r : Result State Refusal} → (Z.look (rest s w) ≡ 123 → ⊥)
         → ErrorsPushed E (at_cursor st d) (Z.token_error 3 p ∷ []) E' r

@@ -1,6 +1,6 @@
 -- What a turn requires and ensures: the records of Turn, stated over its parameters, with slices as they are now, or
 -- at entry and at exit. First the turn of the definition, then the parameters in order. Assumes nothing.
-use Rattle.std.specs.Prelude.{List, ◌∷◌, ℕ, ◌-◌, ◌<◌, length, Result}
+use Rattle.std.specs.Prelude.{Bool, List, ◌∷◌, ℕ, ◌-◌, ◌<◌, length, Result}
 use Rattle.definition.specs.Slices.{MutSlice, MutLent, old, new}
 use Rattle.definition.specs.Source.{Place, Ch}
 use Rattle.definition.specs.Tokenizer as Z
@@ -24,14 +24,14 @@ Begun t text = Asks t.s.now t.st.cursor text.now t.st.text × (t.st.cursor.at < 
 abbrev pub first : Turn → List ℕ
 first t = let c = char t.s.now t.st.cursor in c.byte ∷ c.more
 
--- a token without text is pushed, at the end of the turn
-abbrev pub Plain : ℕ → Turn → MutLent → Result State Refusal → Type 0
-Plain k t tokens r = TokenPushed (T.token_record t.st.cursor k 0 0 0) t.most tokens (T.at_cursor t.st t.c) r
+-- a token without text is pushed, at the end of the turn; whether it lost something
+abbrev pub Plain : ℕ → Bool → Turn → MutLent → Result State Refusal → Type 0
+Plain k lost t tokens r = TokenPushed (T.token_record t.st.cursor k 0 0 0 lost) t.most tokens (T.at_cursor t.st t.c) r
 
 -- a token is pushed whose text was written up to the end of a scan
-abbrev pub WithText : ℕ → ℕ → Turn → Scan → MutLent → Result State Refusal → Type 0
-WithText k base t end tokens r =
-    TokenPushed (T.token_record t.st.cursor k t.st.text (end.n - t.st.text) base) t.most tokens (T.at_text t.st end.cursor end.n) r
+abbrev pub WithText : ℕ → ℕ → Bool → Turn → Scan → MutLent → Result State Refusal → Type 0
+WithText k base lost t end tokens r =
+    TokenPushed (T.token_record t.st.cursor k t.st.text (end.n - t.st.text) base lost) t.most tokens (T.at_text t.st end.cursor end.n) r
 
 -- the turn f, given the place of the token and the characters from c on
 abbrev pub Turned : (Place → List Ch → Z.Turn) → Turn → MutLent → MutLent → MutLent → Result State Refusal → Type 0

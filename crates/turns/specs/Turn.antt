@@ -1,5 +1,5 @@
 -- What a turn of the tokenizer's loop ensures of the state and the slices. Assumes nothing.
-use Rattle.std.specs.Prelude.{◌≡◌, Result, MatchResult, List, [], ◌∷◌, ℕ, ◌+◌, ◌*◌, ◌≤◌, leb, length}
+use Rattle.std.specs.Prelude.{◌≡◌, Bool, Result, MatchResult, List, [], ◌∷◌, ℕ, ◌+◌, ◌*◌, ◌≤◌, leb, length}
 use Rattle.definition.specs.Fallible.{Err}
 use Rattle.definition.specs.Numbers.{refusal_number}
 use Rattle.definition.specs.declared.refusal.Refusal.{Refusal}
@@ -21,8 +21,8 @@ abbrev pub at_cursor : State → Cursor → State
 at_cursor f c = at_text f c f.text
 
 -- the words of a token that begins at c
-abbrev pub token_record : Cursor → ℕ → ℕ → ℕ → ℕ → List ℕ
-token_record c kind start size base = kind ∷ c.line ∷ c.column ∷ start ∷ size ∷ base ∷ 0 ∷ 0 ∷ []
+abbrev pub token_record : Cursor → ℕ → ℕ → ℕ → ℕ → Bool → List ℕ
+token_record c kind start size base lost = kind ∷ c.line ∷ c.column ∷ start ∷ size ∷ base ∷ pick lost 1 0 ∷ 0 ∷ []
 
 -- the state is within the limits
 pub record Few (most : ℕ) (f : State) : Type 0 where

@@ -4,6 +4,7 @@
 
 ghost use Rattle.std.specs.Prelude.{false, [], ◌∷◌, option_to_list, ◌≡◌, ◌*◌, ◌<◌, ◌≤◌, length};
 ghost use Rattle.definition.specs.Tokenizer as Z;
+ghost use Rattle.definition.specs.Kind as K;
 ghost use Rattle.definition.specs.Numbers.{kind_number, token_error_number};
 ghost use Rattle.source.specs.Place.{placed};
 ghost use Rattle.token_records.specs.Contract.{ErrorsPushed};
@@ -17,8 +18,8 @@ use definition::place::Place;
 use definition::refusal::Refusal;
 use definition::token_error::TokenError;
 use scan::{
-    Scan, assembly, digits, is_wide, known, look, put_char, quoted, skip, white, wide_word,
-    word_bytes,
+    Scan, assembly, digits, is_white_at, is_wide, known, look, put_char, quoted, skip, white,
+    wide_word, word_bytes,
 };
 use slices::put;
 use source::{Cursor, step};
@@ -41,15 +42,22 @@ pub struct Turn<'a> {
 // Ends the turn at `c` with a token that has no text.
 pub fn plain(turn: Turn, kind: Kind, tokens: &mut [u32]) -> Result<State, Refusal>
     requires { Few turn.most turn.st × (8 * turn.most ≤ length tokens.old) }
-    ensures { Plain (kind_number kind) turn.entry tokens result }
+    ensures { Plain (kind_number kind) false turn.entry tokens result }
+{
+    let Turn { most, st, c, .. } = turn;
+    let token = Token::new(kind, Place::from(st.cursor));
+    push_token(most, tokens, State { cursor: c, ..st }, token)
+}
+
+// Ends the turn at `c` with a Minus, and says whether the character that it consumed is lost.
+fn minus(turn: Turn, lost: bool, tokens: &mut [u32]) -> Result<State, Refusal>
+    requires { Few turn.most turn.st × (8 * turn.most ≤ length tokens.old) }
+    ensures { Plain K.Minus lost turn.entry tokens result }
 {
     let Turn { most, st, c, .. } = turn;
     let token = Token {
-        kind,
-        place: Place::from(st.cursor),
-        start: 0,
-        size: 0,
-        base: 0,
+        lost,
+        ..Token::new(Kind::Minus, Place::from(st.cursor))
     };
     push_token(most, tokens, State { cursor: c, ..st }, token)
 }
@@ -63,15 +71,29 @@ fn with_text(
     tokens: &mut [u32],
 ) -> Result<State, Refusal>
     requires { Few turn.most turn.st × (8 * turn.most ≤ length tokens.old) × (turn.st.text ≤ end.n) × (end.n ≤ 16384) }
-    ensures { WithText (kind_number kind) base turn.entry end tokens result }
+    ensures { WithText (kind_number kind) base false turn.entry end tokens result }
 {
     let Turn { most, st, .. } = turn;
     let token = Token {
-        kind,
-        place: Place::from(st.cursor),
         start: st.text as u32,
         size: (end.n - st.text) as u32,
         base,
+        ..Token::new(kind, Place::from(st.cursor))
+    };
+    push_token(most, tokens, at_scan(st, end), token)
+}
+
+// Ends the turn where the scan of assembly did, and says whether its end is lost.
+fn fragment(turn: Turn, end: Scan, lost: bool, tokens: &mut [u32]) -> Result<State, Refusal>
+    requires { Few turn.most turn.st × (8 * turn.most ≤ length tokens.old) × (turn.st.text ≤ end.n) × (end.n ≤ 16384) }
+    ensures { WithText K.InlineAssemblyFragment 0 lost turn.entry end tokens result }
+{
+    let Turn { most, st, .. } = turn;
+    let token = Token {
+        start: st.text as u32,
+        size: (end.n - st.text) as u32,
+        lost,
+        ..Token::new(Kind::InlineAssemblyFragment, Place::from(st.cursor))
     };
     push_token(most, tokens, at_scan(st, end), token)
 }
@@ -139,7 +161,8 @@ pub fn zero_turn(turn: Turn, tokens: &mut [u32], text: &mut [u8]) -> Result<Stat
     integer_turn(Turn { c, ..turn }, None, base, tokens, text)
 }
 
-// After a dash: an arrow `->`, a negative integer, or Minus, which consumes the next character too.
+// After a dash: an arrow `->`, a negative integer, or Minus, which consumes the next character too. That is lost, unless
+// it is white space.
 pub fn dash_turn(turn: Turn, tokens: &mut [u32], text: &mut [u8]) -> Result<State, Refusal>
     requires { Ready turn tokens text × (turn.st.text < turn.c.at) }
     ensures { TurnedClean Z.dash_turn turn.entry tokens text result }
@@ -156,7 +179,8 @@ pub fn dash_turn(turn: Turn, tokens: &mut [u32], text: &mut [u8]) -> Result<Stat
     if is_digit(b) {
         return integer_turn(turn, Some(b'-'), 10, tokens, text);
     }
-    plain(Turn { c: d, ..turn }, Kind::Minus, tokens)
+    let lost = !is_white_at(s, c);
+    minus(Turn { c: d, ..turn }, lost, tokens)
 }
 
 // ---- words
@@ -182,8 +206,10 @@ fn asm_turn(
         };
         return with_error(st, end, TokenError::NoAssembly, errors);
     };
-    let end = assembly(s, d, text, st.text);
-    with_text(turn, end, Kind::InlineAssemblyFragment, 0, tokens)
+    match assembly(s, d, text, st.text) {
+        Ok(end) => fragment(turn, end, false, tokens),
+        Err(end) => fragment(turn, end, true, tokens),
+    }
 }
 
 const ASSEMBLY: &[u8] = b"asm";

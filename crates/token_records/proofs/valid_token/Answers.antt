@@ -9,9 +9,9 @@ returns-in_default c = no_kind _ (words_at c.args.words.now 0) c.in_default.ensu
 pub returns-then-fields_fit-text_fits : goal.returns-then-fields_fit-text_fits
 returns-then-fields_fit-text_fits c =
     valid_true _ (words_at c.args.words.now 0) c.in-Ok.ensures.0 c.in-Ok.ensures.1 {n = c.ne.result} (search rules)
-    c.valid_place.ensures c.base_fits.ensures c.text_fits.ensures c.if-fields_fit-text_fits.true
+    c.valid_place.ensures c.base_fits.ensures c.lost_fits.ensures c.text_fits.ensures c.if-fields_fit-text_fits.true
 
 pub returns-else-fields_fit-text_fits : goal.returns-else-fields_fit-text_fits
 returns-else-fields_fit-text_fits c =
     valid_false _ (words_at c.args.words.now 0) c.in-Ok.ensures.0 c.in-Ok.ensures.1 {n = c.ne.result} (search rules)
-    c.valid_place.ensures c.base_fits.ensures c.text_fits.ensures c.if-fields_fit-text_fits.false
+    c.valid_place.ensures c.base_fits.ensures c.lost_fits.ensures c.text_fits.ensures c.if-fields_fit-text_fits.false

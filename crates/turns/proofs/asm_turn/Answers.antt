@@ -20,7 +20,12 @@ returns-in_default c = elim c.in_default.branch [
       (λ e. absurd (cc (looked_end c.look.ensures w.in_default.is ∙ e))) c.with_error.ensures
 ]
 
-pub returns : goal.returns
-returns c =
+pub returns-in-Ok : goal.returns-in-Ok
+returns-in-Ok c =
     asm_open_law _ c.requires.0 c.white-w.ensures c.in_ok-known.ensures c.skip-d.ensures
-    (sym c.in-Some-eq123.ensures ∙ c.in-Some-eq123.field-0-test) c.assembly-end.ensures c.with_text.ensures
+    (sym c.in-Some-eq123.ensures ∙ c.in-Some-eq123.field-0-test) (rw c.in-Ok.is at c.assembly.ensures) c.fragment.ensures
+
+pub returns-in-Err : goal.returns-in-Err
+returns-in-Err c =
+    asm_open_law _ c.requires.0 c.white-w.ensures c.in_ok-known.ensures c.skip-d.ensures
+    (sym c.in-Some-eq123.ensures ∙ c.in-Some-eq123.field-0-test) (rw c.in-Err.is at c.assembly.ensures) c.fragment-in-Err.ensures

@@ -54,3 +54,11 @@ returns-in-CompoundAtEnd c = rw c.in-CompoundAtEnd.is c.say_all-in-CompoundAtEnd
 pub returns-in-Compound : goal.returns-in-Compound
 unfolding compose parser_messages parser_sentence ascii
 returns-in-Compound c = rw c.in-Compound.is (told_last c.say_all-in-Compound.ensures c.say_token-in-Compound.ensures)
+
+pub returns-in-CharacterLost : goal.returns-in-CharacterLost
+unfolding compose parser_messages parser_sentence ascii
+returns-in-CharacterLost c = rw c.in-CharacterLost.is c.say_all-in-CharacterLost.ensures
+
+pub returns-in-AssemblyNotClosed : goal.returns-in-AssemblyNotClosed
+unfolding compose parser_messages parser_sentence ascii
+returns-in-AssemblyNotClosed c = rw c.in-AssemblyNotClosed.is c.say_all-in-AssemblyNotClosed.ensures
