@@ -19,7 +19,7 @@ struct Question {
 /// The file, or the refusal.
 type Answer = Result<Vec<u8>, u8>;
 
-const QUESTIONS: [Question; 6] = [
+const QUESTIONS: [Question; 7] = [
     Question {
         what: "begins a word",
         script: "var @: T;",
@@ -50,6 +50,12 @@ const QUESTIONS: [Question; 6] = [
         script: "var x: T;@",
         yes: |answer, _| errors(answer).first() == Some(&[4, 0, 1, 0, 10, 0, 0].as_slice()),
         said: |c| known(c) && !(c.is_whitespace() || c.is_alphabetic() || c.is_ascii_digit() || SIGNS.contains(c)),
+    },
+    Question {
+        what: "is lost after a dash",
+        script: "var x: T;-@",
+        yes: |answer, _| errors(answer).contains(&[20, 0, 1, 0, 10, 0, 0].as_slice()),
+        said: |c| !(known(c) && c.is_whitespace() || c.is_ascii_digit() || c == '>'),
     },
     Question { what: "is refused", script: "var x: T;@", yes: |answer, _| *answer == Err(4), said: |c| !known(c) },
 ];

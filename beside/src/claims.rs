@@ -4,7 +4,7 @@ use crate::ask;
 use crate::classes::{self, Class};
 use crate::compare::Tally;
 use crate::show;
-use formats::{Field, Tokens};
+use formats::{Field, Tokens, MINUS};
 use marked::rules;
 
 /// Prints the scripts of which a statement is wrong; whether there are none.
@@ -27,6 +27,7 @@ fn broken(records: &Tokens, file: &[u8]) -> Vec<String> {
     let (fields, rest) = formats::fields(file);
     let errors = |tag: u8| fields.iter().filter(move |(t, _)| *t == tag).map(|(_, body)| *body).collect::<Vec<_>>();
     let (reported, full) = (errors(0x60), errors(0x61));
+    let (lost, made) = full.iter().copied().partition::<Vec<_>, _>(|error| error[0] >= 20);
     let tree = fields.iter().filter(|(tag, _)| *tag < 0x60).count();
     let statements = [
         ("a token record is bad", good_tokens(records)),
@@ -34,7 +35,9 @@ fn broken(records: &Tokens, file: &[u8]) -> Vec<String> {
         ("the tree has more than two records more than there are tokens", tree <= records.tokens.len() + 2),
         ("an error has 0:0 or not, against its number", full.iter().all(|e| place_fits(e))),
         ("an error has kinds or not, against its number", full.iter().all(|e| kinds_fit(e))),
-        ("a reported error is not in the full list", within(&reported, &full)),
+        ("the full list has other losses than the token records", file.is_empty() || losses(records) == lost),
+        ("a loss is not before the parser's errors", full.starts_with(&lost)),
+        ("a reported error is not in the full list", within(&reported, &made)),
         ("the fields are not in order", rest.is_empty() && in_order(&fields)),
         ("a record of the tree has the place 0:0", fields.iter().all(placed)),
     ];
@@ -53,6 +56,17 @@ fn good_tokens(records: &Tokens) -> bool {
     records.tokens.len() <= 2_048
         && end as usize == records.text.len()
         && rules::good_tokens(&records.tokens, &records.text)
+}
+
+/// The entries of the full list that the token records call for.
+fn losses(records: &Tokens) -> Vec<Vec<u8>> {
+    let lost = records.tokens.iter().filter(|token| token[6] != 0);
+    lost.map(|[kind, line, column, ..]| {
+        let [_, _, a, b] = line.to_be_bytes();
+        let [_, _, c, d] = column.to_be_bytes();
+        vec![if *kind == MINUS { 20 } else { 21 }, a, b, c, d, 0, 0]
+    })
+    .collect()
 }
 
 fn place_fits(error: &[u8]) -> bool {

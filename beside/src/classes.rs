@@ -1,16 +1,16 @@
 //! The named classes of scripts: NAME, NAME:COUNT or NAME:COUNT:SEED.
 
 use crate::random::Random;
-use crate::{corpus, damage, fixed, grammar, latin, stored_files, texts};
+use crate::{corpus, damage, fixed, grammar, latin, loss_scripts, stored_files, texts};
 
 const NAMES: &str = "valid damaged soup bytes utf8 boundary limit-length limit-places limit-tokens limit-errors \
-                     limit-entries limit-nesting limit-sizes limit-counts paper constructs tests sequences short pieces \
-                     latin texts";
+                     limit-entries limit-losses limit-nesting limit-sizes limit-counts paper constructs tests \
+                     sequences short pieces latin texts losses";
 
 /// What `coverage` runs, and any command that is given no class.
-pub const DEFAULT: [&str; 11] = [
-    "paper", "constructs", "boundary", "utf8", "latin", "sequences:2", "pieces:3", "valid:5000", "damaged:20000",
-    "soup:20000", "bytes:5000",
+pub const DEFAULT: [&str; 12] = [
+    "paper", "constructs", "boundary", "utf8", "latin", "losses", "sequences:2", "pieces:3", "valid:5000",
+    "damaged:20000", "soup:20000", "bytes:5000",
 ];
 
 pub struct Class {
@@ -76,6 +76,7 @@ pub fn scripts(class: &Class, each: &mut dyn FnMut(&[u8])) {
         "short" => return damage::short(class.count, each),
         "pieces" => return damage::pieces(class.count, each),
         "latin" => return latin::scripts(class.count, each),
+        "losses" => return loss_scripts::scripts(class.count, each),
         "valid" => valid,
         "damaged" => damage::damaged,
         "soup" => damage::soup,

@@ -4,7 +4,7 @@ use crate::ask;
 use crate::classes::{self, Class};
 use crate::lists::{self, Case};
 use crate::{sentence_coverage, show, stored_coverage};
-use formats::{Given, FILE_SIZE, KINDS, TOKEN_SLICES};
+use formats::{Given, ASSEMBLY, FILE_SIZE, KINDS, MINUS, TOKEN_SLICES};
 use std::collections::BTreeMap;
 
 /// How many scripts or cases have it at least once, by sort and number.
@@ -79,6 +79,7 @@ const BEGINS: &str = "letters above 127 that begin a word";
 const CONTINUES: &str = "characters above 127 in a word";
 const REPORTED: &str = "reported errors (60)";
 const FULL: &str = "full list (61)";
+const LOST: &str = "kinds at which something is lost";
 const EXPECTED: &str = "expected kinds";
 const GOT: &str = "kinds met in errors";
 const TAG: &str = "tags";
@@ -90,6 +91,7 @@ fn found_in(script: &[u8]) -> Vec<(&'static str, u32)> {
     let mut found = Vec::new();
     if let Ok(records) = &answer.tokenised {
         found.extend(records.tokens.iter().map(|token| (KIND, token[0])));
+        found.extend(records.tokens.iter().filter(|token| token[6] == 1).map(|token| (LOST, token[0])));
     }
     match answer.whole {
         Err(number) => found.push((REFUSAL, number as u32)),
@@ -147,6 +149,7 @@ fn found_in_case(case: &Case) -> Vec<(&'static str, u32)> {
         Given::Tokenise { .. } => {
             let tokens = exit.words[0].chunks(8).take(exit.counts[0]);
             found.extend(tokens.clone().map(|token| (KIND, token[0])));
+            found.extend(tokens.clone().filter(|token| token[6] == 1).map(|token| (LOST, token[0])));
             tokens.filter(|token| token[0] == 1).for_each(|token| in_word(token, &exit.bytes, &mut found));
             found.extend(exit.words[1].chunks(4).take(exit.counts[1]).map(|error| (TOKEN_ERROR, error[0])));
         }
@@ -181,6 +184,7 @@ fn print_list(sort: &str, met: &Met) -> bool {
     .to_vec();
     if tokenise {
         complete.push(met.print(KIND, &numbers(1, 54), kind));
+        complete.push(met.print(LOST, &[MINUS, ASSEMBLY], kind));
         complete.push(met.print(BEGINS, &letters(), code));
         complete.push(met.print(CONTINUES, &in_words(), code));
     } else {
@@ -194,6 +198,7 @@ fn print(met: &Met) -> bool {
         met.print(REFUSAL, &[1, 2, 4, 5, 6, 7, 9, 10, 11, 12], plain),
         met.print(TOKEN_ERROR, &numbers(1, 4), plain),
         met.print(KIND, &numbers(1, 54), kind),
+        met.print(LOST, &[MINUS, ASSEMBLY], kind),
         print_files(met),
     ];
     let all = complete.iter().all(|one| *one);
@@ -211,7 +216,7 @@ fn print_files(met: &Met) -> bool {
     let operators = [numbers(0, 7), numbers(16, 20)].concat();
     let complete = [
         met.print(REPORTED, &numbers(1, 19), plain),
-        met.print(FULL, &numbers(1, 19), plain),
+        met.print(FULL, &numbers(1, 21), plain),
         met.print(TAG, &tags, |tag| format!("{tag:02X} {}", show::tag_name(tag as u8))),
         met.print(OPERATOR, &operators, plain),
         met.print(EXPECTED, &expected, kind),

@@ -1,5 +1,6 @@
 //! The oracle's tokens, tree and errors in the formats of docs/FORMAT.md.
 
+use crate::losses;
 use crate::node::*;
 use crate::source::SourceLocation;
 use crate::tokenizer::{Token, TokenKind, TokenizeError};
@@ -14,15 +15,18 @@ fn place(loc: &SourceLocation) -> Place {
     Place { line, column }
 }
 
-pub fn tokens(tokens: &[Token], errors: &[TokenizeError]) -> Tokens {
+pub fn tokens(script: &str, tokens: &[Token], errors: &[TokenizeError]) -> Tokens {
     let mut records = Tokens::default();
     for token in tokens {
-        records.tokens.push(token_record(token, &mut records.text));
+        let mut record = token_record(token, &mut records.text);
+        record[6] = losses::seventh(script, &record);
+        records.tokens.push(record);
     }
     records.errors = errors.iter().map(token_error).collect();
     records
 }
 
+/// The record of a token; what was lost at it is not in it yet.
 fn token_record(token: &Token, text: &mut Vec<u8>) -> formats::Token {
     let at = place(&token.loc);
     let kind = kind_number(&format!("{:?}", token.kind)) as u32;

@@ -361,12 +361,13 @@ fn times(part: &str, count: usize) -> String {
 type Part = fn(&mut dyn FnMut(&[u8]));
 
 /// The scripts at the limits of docs/FORMAT.md: one short, exact, one over.
-pub const LIMITS: [(&str, Part); 8] = [
+pub const LIMITS: [(&str, Part); 9] = [
     ("limit-length", script_length),
     ("limit-places", places),
     ("limit-tokens", token_count),
     ("limit-errors", token_errors),
     ("limit-entries", full_entries),
+    ("limit-losses", losses),
     ("limit-nesting", nesting),
     ("limit-sizes", array_sizes),
     ("limit-counts", counts),
@@ -485,6 +486,52 @@ fn full_entries(each: &mut dyn FnMut(&[u8])) {
     let fewer = times("+", 254);
     for last in ["fn f", "fn f(){", "var x:T=(+", "type type", "use use", "var 1:T;", "var x:[", "type", "fn f(){a."] {
         each(format!("{fewer}{last}").as_bytes());
+    }
+}
+
+/// A declaration that is read, with so many losses.
+fn losing(count: usize) -> String {
+    format!("var x:T=a{};", times("-.b", count))
+}
+
+/// Losses, with the errors and refusals of the parser before and after them.
+fn losses(each: &mut dyn FnMut(&[u8])) {
+    let mut script = |script: String| each(script.as_bytes());
+    let stars = |count| format!("var p:{}T;", times("*", count));
+    for count in [254, 255, 256, 257] {
+        let lost = losing(count);
+        for after in ["", ";", "asm{", "asm{}"] {
+            script(format!("{lost}{after}"));
+        }
+        // white space is not lost
+        script(format!("{}{lost}", losing(10).replace('.', " ")));
+    }
+    for count in [255, 256] {
+        let lost = losing(count);
+        for after in ["type", "use", "var y:T=a.", "var y:T=f(1 2);", ";type", "€", "-", "asm"] {
+            script(format!("{lost}{after}"));
+        }
+        script(format!("{lost}{}", stars(95)));
+        script(format!("{lost}{}", stars(96)));
+        // entered before the parser begins
+        script(format!("{}{lost}", stars(96)));
+        script(format!(";{lost}"));
+    }
+    // an entry of each sort for each Minus
+    for count in [127, 128] {
+        script(times("-a", count));
+    }
+    for (lost, made) in [(249, 6), (250, 5), (250, 6), (155, 100), (155, 101), (1, 254), (1, 255), (2, 254)] {
+        script(format!("{}{}", losing(lost), times(";", made)));
+        script(format!("{}{}", times(";", made), losing(lost)));
+        script(format!("{}{}type", times(";", made), losing(lost)));
+        script(format!("{}{}asm{{", times(";", made), losing(lost - 1)));
+    }
+    // the refusals of the tokenizer come first
+    let lost = losing(256);
+    for after in [times("$", 255), times("$", 256), times(";", 1_529), times(";", 1_530), times("asm x", 256)] {
+        script(format!("{lost}{after}"));
+        script(format!("{after}{lost}"));
     }
 }
 

@@ -1,6 +1,6 @@
 //! What the oracle answers, in the formats of docs/FORMAT.md.
 
-/// Eight words: kind, line, column, text start, text length, base, 0, 0.
+/// Eight words: kind, line, column, text start, text length, base, whether something was lost at it, 0.
 pub type Token = [u32; 8];
 
 /// Four words: number, line, column, 0.
@@ -112,7 +112,7 @@ impl Runs {
 pub const FILLER: u8 = 0xA5;
 pub const FILLER_WORD: u32 = 0xA5A5_A5A5;
 
-/// An error of the parser: number, line, column, expected kind, kind met.
+/// An error of the parser, or a loss: number, line, column, expected kind, kind met.
 #[derive(Clone, Copy, Debug, PartialEq, Eq)]
 pub struct Error {
     pub number: u8,
@@ -170,6 +170,10 @@ pub const STEP_WORDS: usize = 87_380;
 /// The largest line and column, and the largest end of a text.
 pub const PLACE_LIMIT: u32 = 16_384;
 pub const TEXT_LIMIT: usize = 16_384;
+
+/// The kinds of the tokens at which something can be lost.
+pub const MINUS: u32 = 23;
+pub const ASSEMBLY: u32 = 54;
 
 /// The spelling of the kinds in the Rust, from kind 1 on.
 pub const KINDS: [&str; 54] = [

@@ -101,7 +101,11 @@ impl<'a> Body<'a> {
 
 /// Tests the body of an error field.
 fn error(tag: u8, mut body: Body) -> Option<()> {
-    let (numbers, kinds) = if tag == TOKEN_ERROR { (4, 0) } else { (19, 54) };
+    let (numbers, kinds) = match tag {
+        TOKEN_ERROR => (4, 0),
+        REPORTED => (19, 54),
+        _ => (21, 54),
+    };
     body.one_of(1..=numbers)?;
     if tag == TOKEN_ERROR { body.place()? } else { body.place_or_end()? };
     body.at_most(kinds)?;

@@ -1,7 +1,8 @@
 //! Hand-made records for Read, each with the number that the rules of docs/FORMAT.md give it.
 
 use crate::altered;
-use formats::{Passed, Token, TokenError, Tokens, FILE_SIZE, PLACE_LIMIT, TEXT_LIMIT};
+use formats::{Passed, Token, TokenError, Tokens, ASSEMBLY, FILE_SIZE, MINUS, PLACE_LIMIT, TEXT_LIMIT};
+use marked::losses;
 
 pub struct Case {
     pub sort: &'static str,
@@ -13,10 +14,11 @@ pub struct Case {
 /// Adds the cases of a sort.
 type Sort = fn(&mut Made);
 
-const SORTS: [(&str, Sort); 14] = [
+const SORTS: [(&str, Sort); 15] = [
     ("kinds", kinds),
     ("places", places),
     ("bases and last words", bases),
+    ("losses", lost),
     ("where texts stand", texts),
     ("ends of texts", ends),
     ("UTF-8", utf8),
@@ -67,6 +69,17 @@ impl Made {
         self.records(number, &Tokens { tokens: vec![token], errors: Vec::new(), text: text.to_vec() });
     }
 
+    /// A good token of a kind alone, with a word changed.
+    fn alone(&mut self, number: u8, kind: u32, word: usize, value: u32) {
+        let mut token = match kind {
+            IDENTIFIER | STRING | ASSEMBLY => [kind, 1, 1, 0, 1, 0, 0, 0],
+            INTEGER => [kind, 1, 1, 0, 1, 10, 0, 0],
+            _ => [kind, 1, 1, 0, 0, 0, 0, 0],
+        };
+        token[word] = value;
+        self.records(number, &Tokens { tokens: vec![token], errors: Vec::new(), text: b"10".to_vec() });
+    }
+
     /// `SCRIPT` with token errors.
     fn errors(&mut self, number: u8, errors: &[TokenError]) {
         self.records(number, &Tokens { errors: errors.to_vec(), ..of(SCRIPT) });
@@ -85,12 +98,13 @@ const COLUMN: usize = 2;
 const START: usize = 3;
 const LENGTH: usize = 4;
 const BASE: usize = 5;
+const SEVENTH: usize = 6;
+const EIGHTH: usize = 7;
 
 // kinds with text
 const IDENTIFIER: u32 = 1;
 const INTEGER: u32 = 2;
 const STRING: u32 = 3;
-const ASSEMBLY: u32 = 54;
 const TEXT_KINDS: [u32; 3] = [IDENTIFIER, STRING, ASSEMBLY];
 
 /// The records of a script that Tokenise accepts.
@@ -114,21 +128,30 @@ fn changed(script: &str, change: impl FnOnce(&mut Passed)) -> Passed {
     passed
 }
 
+/// What a token of a kind alone gives: nothing is after `type` and `use`.
+fn number_alone(kind: u32) -> u8 {
+    if [15, 18].contains(&kind) { 11 } else { 0 }
+}
+
+/// A type with so many stars.
+fn stars(count: usize, after: &str) -> String {
+    format!("var p: {}{after}", "*".repeat(count))
+}
+
+/// A script in the lines after some tokens that have a line each.
+fn after(before: Vec<Token>, script: &str) -> Tokens {
+    let mut records = of(script);
+    for token in &mut records.tokens {
+        token[LINE] += before.len() as u32;
+    }
+    records.tokens = [before, records.tokens].concat();
+    records
+}
+
 fn kinds(made: &mut Made) {
     for kind in 1..=54 {
-        let token = match kind {
-            IDENTIFIER | STRING | ASSEMBLY => [kind, 1, 1, 0, 1, 0, 0, 0],
-            INTEGER => [kind, 1, 1, 0, 1, 10, 0, 0],
-            _ => [kind, 1, 1, 0, 0, 0, 0, 0],
-        };
-        let mut alone = |number: u8, word: usize, value: u32| {
-            let mut token = token;
-            token[word] = value;
-            made.records(number, &Tokens { tokens: vec![token], errors: Vec::new(), text: b"10".to_vec() });
-        };
-        // nothing after `type` and `use`
-        let number = if [15, 18].contains(&kind) { 11 } else { 0 };
-        alone(number, KIND, kind);
+        let mut alone = |number: u8, word: usize, value: u32| made.alone(number, kind, word, value);
+        alone(number_alone(kind), KIND, kind);
         if kind == INTEGER {
             alone(0, BASE, 2);
             alone(0, BASE, 16);
@@ -208,11 +231,119 @@ fn bases(made: &mut Made) {
         }
     }
     for token in [0, 1, 5, 8, LAST] {
-        for word in [6, 7] {
-            made.word(8, token, word, 1);
-            made.word(8, token, word, u32::MAX);
+        // the last is an assembly
+        made.word(if token == LAST { 0 } else { 8 }, token, SEVENTH, 1);
+        made.word(8, token, SEVENTH, u32::MAX);
+        made.word(8, token, EIGHTH, 1);
+        made.word(8, token, EIGHTH, u32::MAX);
+    }
+}
+
+/// Tokens of a kind at which something was lost, each in a line of its own.
+fn losing(kind: u32, count: u32) -> Vec<Token> {
+    let mut tokens = repeated(kind, count);
+    tokens.iter_mut().for_each(|token| token[SEVENTH] = 1);
+    tokens
+}
+
+/// The seventh word, and the entries of the full list that it makes.
+fn lost(made: &mut Made) {
+    for kind in 1..=54 {
+        let lost = if losses::can_lose(kind) { 0 } else { 8 };
+        for (number, value) in [(number_alone(kind), 0), (lost, 1), (8, 2), (8, u32::MAX)] {
+            made.alone(number, kind, SEVENTH, value);
         }
     }
+    // after another token, of kinds that have something in common with the two
+    for kind in [IDENTIFIER, STRING, 22, 24, 51, 53] {
+        let tokens = [[50, 1, 1, 0, 0, 0, 0, 0], [kind, 1, 2, 0, 0, 0, 1, 0]].to_vec();
+        made.records(8, &Tokens { tokens, ..Tokens::default() });
+    }
+    for kind in [MINUS, ASSEMBLY] {
+        // some of them are 1 in 8, 16 or 31 bits
+        for value in [3, 4, 256, 256 + 1, 65_536, 65_536 + 1, 1 << 31, (1 << 31) + 1] {
+            made.alone(8, kind, SEVENTH, value);
+        }
+    }
+    // the other words beside it
+    for (script, at, kind) in [("var x:T=a -bc;", 6, 22), ("asm{x", 0, IDENTIFIER)] {
+        let changes = [(0, SEVENTH, 1), (0, SEVENTH, 0), (8, EIGHTH, 1), (8, BASE, 1), (8, LINE, 0), (8, KIND, kind)];
+        for (number, word, value) in changes {
+            made.passed(number, changed(script, |h| h.tokens[8 * at + word] = value));
+        }
+    }
+    // what the records say counts, whatever was in the script
+    for script in [
+        "fn f(){left -dx;}", "var x:T=a - b -c;", "asm{x}", "asm{x", "asm{}asm{", "asm{}var x:T=a -b;",
+        "fn f(){a -b;asm{c}d - e;}asm{",
+    ] {
+        let records = of(script);
+        made.records(0, &records);
+        let mut all = altered::spread(&records);
+        for at in (0..records.tokens.len()).filter(|at| losses::can_lose(records.tokens[*at][KIND])) {
+            let mut other = records.clone();
+            other.tokens[at][SEVENTH] ^= 1;
+            made.records(0, &other);
+            all.tokens[at][SEVENTH] = 1;
+        }
+        made.records(0, &all);
+    }
+    losses_and_errors(made);
+    losses_refused(made);
+}
+
+/// 255 entries, and what the parser meets with them.
+fn losses_and_errors(made: &mut Made) {
+    // no item begins with a Minus, so that each is two entries
+    for (number, kind, count) in
+        [(0, ASSEMBLY, 255), (12, ASSEMBLY, 256), (12, ASSEMBLY, 257), (0, MINUS, 127), (12, MINUS, 128)]
+    {
+        made.records(number, &Tokens { tokens: losing(kind, count), ..Tokens::default() });
+    }
+    let (read, refused) = (stars(95, "T;"), stars(96, "T;"));
+    let entries = [
+        (0, 254, ";"),
+        (12, 255, ";"),
+        (0, 249, ";;;;;;"),
+        (12, 250, ";;;;;;"),
+        (0, 254, "fn f(){c(w -1);}"),
+        (12, 255, "fn f(){c(w -1);}"),
+        (11, 255, "type"),
+        (12, 256, "type"),
+        (11, 254, ";use"),
+        (12, 255, ";use"),
+        (12, 256, "var x:T=a."),
+        (0, 255, &read),
+        (10, 255, &refused),
+        (12, 256, &refused),
+    ];
+    for (number, count, script) in entries {
+        made.records(number, &after(losing(ASSEMBLY, count), script));
+    }
+    // entered before the parser begins, also where they stand after what it meets
+    for (number, script, count) in [(0, ";;;;;;", 249), (12, ";;;;;;", 250), (10, &refused, 255), (12, &refused, 256)] {
+        let mut records = of(script);
+        let mut later = losing(ASSEMBLY, 1 + count).split_off(1);
+        later.iter_mut().for_each(|token| token[START] = records.text.len() as u32);
+        records.tokens.extend(later);
+        made.records(number, &records);
+    }
+}
+
+/// 256 losses beside the other refusals.
+fn losses_refused(made: &mut Made) {
+    let mut with = |number: u8, change: fn(&mut Passed)| {
+        let mut passed = Passed::new(&Tokens { tokens: losing(ASSEMBLY, 256), ..Tokens::default() });
+        change(&mut passed);
+        made.passed(number, passed);
+    };
+    with(12, |h| h.file = 70_000);
+    with(3, |h| h.file = FILE_SIZE - 1);
+    with(8, |h| h.tokens[8 * 255 + EIGHTH] = 1);
+    with(8, |h| h.tokens[8 * 255 + SEVENTH] = 2);
+    with(8, |h| h.error_count = 1);
+    with(9, |h| h.token_count = 0);
+    with(0, |h| h.token_count = 255);
 }
 
 fn texts(made: &mut Made) {
@@ -516,7 +647,6 @@ fn file_slices(made: &mut Made) {
 }
 
 fn parser(made: &mut Made) {
-    let stars = |count: usize, after: &str| format!("var p: {}{after}", "*".repeat(count));
     let groups = |count: usize| format!("var x:T={}a{};", "(".repeat(count), ")".repeat(count));
     let nested = [
         (0, stars(95, "T;")),
@@ -539,15 +669,8 @@ fn parser(made: &mut Made) {
         // with token errors the slice is filled with zeros too
         made.records(number, &Tokens { errors: vec![[4, 1, 1, 0]; 3], ..of(&script) });
     }
-    // an error for each semicolon, then a script in the lines after them
-    let after = |count: u32, script: &str| {
-        let mut records = of(script);
-        for token in &mut records.tokens {
-            token[LINE] += count;
-        }
-        records.tokens = [repeated(50, count), records.tokens].concat();
-        records
-    };
+    // an error for each semicolon
+    let after = |count: u32, script: &str| after(repeated(50, count), script);
     let entries = [
         (0, 255, SCRIPT),
         (12, 256, SCRIPT),

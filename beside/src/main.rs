@@ -21,6 +21,7 @@ mod linked_sentences;
 #[cfg(library)]
 mod linked_stored;
 mod lists;
+mod loss_scripts;
 mod made;
 mod noticed;
 mod random;

@@ -73,10 +73,11 @@ const MARKS: &[Mark] = &[
 const FILES: [&str; 5] = ["source.rs", "fallible.rs", "node.rs", "tokenizer.rs", "parser.rs"];
 
 /// The files beside the five that the crates have, and their names there.
-const BESIDE: [(&str, &str); 8] = [
+const BESIDE: [(&str, &str); 9] = [
     ("decode.rs", "decode.rs"),
     ("encode.rs", "encode.rs"),
     ("judge.rs", "judge.rs"),
+    ("losses.rs", "losses.rs"),
     ("marks.rs", "marks.rs"),
     ("operations.rs", "operations.rs"),
     ("respelt.rs", "respelt.rs"),

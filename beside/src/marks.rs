@@ -1,4 +1,4 @@
-//! The log of parser errors, and the refusals that the marked copy meets in its steps.
+//! The full list, and the refusals that the marked copy meets in its steps.
 
 use crate::source::SourceLocation;
 use crate::tokenizer::{Token, TokenizeError};
@@ -32,19 +32,19 @@ pub fn wrong(number: usize) -> bool {
 /// More than a reading that ends has.
 const MOST_TESTS: usize = 100_000_000;
 
-/// Before a reading: no error is made and no call is open.
+/// Before a reading: there are no entries, and no call is open.
 pub fn begin() {
     FULL.with(|full| full.borrow_mut().clear());
     MESSAGES.with(|messages| messages.borrow_mut().clear());
     OPEN.with(|open| open.set(0));
 }
 
-/// The parser's errors in the order made.
+/// The losses, then the parser's errors in the order made.
 pub fn full_list() -> Vec<Error> {
     FULL.with(|full| full.borrow().clone())
 }
 
-/// Their messages, in the same order.
+/// The messages of the parser's errors, in the same order.
 pub fn messages() -> Vec<String> {
     MESSAGES.with(|messages| messages.borrow().clone())
 }
@@ -67,14 +67,18 @@ pub fn made(what: &str, description: &str, loc: &SourceLocation) {
     if what != "parse" {
         return;
     }
-    let error = crate::encode::error(description, loc);
+    enter(crate::encode::error(description, loc));
+    MESSAGES.with(|messages| messages.borrow_mut().push(description.to_owned()));
+}
+
+/// Puts an entry at the end of the full list.
+pub fn enter(error: Error) {
     FULL.with(|full| {
         if cfg!(marked) && full.borrow().len() == 255 {
             refuse(12);
         }
         full.borrow_mut().push(error);
     });
-    MESSAGES.with(|messages| messages.borrow_mut().push(description.to_owned()));
 }
 
 /// A character that reaches one of the three class tests.

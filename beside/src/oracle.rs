@@ -7,6 +7,7 @@ pub mod decode;
 pub mod encode;
 pub mod fallible;
 pub mod judge;
+pub mod losses;
 pub mod marks;
 pub mod node;
 pub mod operations;
@@ -43,7 +44,7 @@ macro_rules! frontend_error {
     };
 }
 
-use formats::{Answer, Sentences, Tokens, PANIC};
+use formats::{Answer, Error, Sentences, Tokens, PANIC};
 use std::panic::{catch_unwind, AssertUnwindSafe};
 
 /// Tokenise's answer to a script that is UTF-8 and not too long.
@@ -61,7 +62,7 @@ struct Found {
 fn tokenise(script: &str) -> Result<Found, u8> {
     let input = source::SourceInputType::buffer();
     let (tokens, errors) = caught(|| tokenizer::tokenize(script, input))?;
-    let records = encode::tokens(&tokens, &errors);
+    let records = encode::tokens(script, &tokens, &errors);
     let messages = errors.into_iter().map(|e| e.description).collect();
     Ok(Found { tokens, messages, records })
 }
@@ -95,19 +96,27 @@ pub fn read_records(records: &Tokens) -> Result<Vec<u8>, u8> {
 
 /// The file, and the sentences of the parser's two lists.
 fn read(tokens: Vec<tokenizer::Token>, records: &Tokens) -> Result<(Vec<u8>, Sentences), u8> {
-    marks::begin();
-    let result = caught(|| parser::Parser::new(tokens.into_iter().peekable()).parse_module())?;
+    let losses = losses::entries(records);
+    let result = caught(|| {
+        marks::begin();
+        losses.iter().copied().for_each(marks::enter);
+        parser::Parser::new(tokens.into_iter().peekable()).parse_module()
+    })?;
     let reported: Vec<_> =
         result.errors().iter().map(|e| encode::error(&e.description, &e.loc)).collect();
     let messages = result.errors().iter().map(|e| e.description.clone()).collect();
-    let lists = sentences(messages, marks::messages());
+    let lists = sentences(&losses, messages, marks::messages());
     let file = encode::file(&result.ignore_errors(), &records.errors, &reported, &marks::full_list());
     Ok((file, lists))
 }
 
-fn sentences(reported: Vec<String>, full: Vec<String>) -> Sentences {
-    let respelt = |messages: Vec<String>| messages.iter().map(|message| respelt::sentence(message)).collect();
-    Sentences { token_errors: Vec::new(), reported: respelt(reported), full: respelt(full) }
+/// The sentences of the parser's errors and of the losses, which stand first in the full list.
+fn sentences(losses: &[Error], reported: Vec<String>, made: Vec<String>) -> Sentences {
+    let respelt =
+        |messages: Vec<String>| -> Vec<String> { messages.iter().map(|message| respelt::sentence(message)).collect() };
+    let lost = losses.iter().map(|loss| losses::sentence(loss.number).to_owned());
+    let full = lost.chain(respelt(made)).collect();
+    Sentences { token_errors: Vec::new(), reported: respelt(reported), full }
 }
 
 /// Runs steps of the Rust: what they give, or the refusal that they met.

@@ -1,5 +1,6 @@
 //! What docs/FORMAT.md says of the records that Read is passed.
 
+use crate::losses;
 use formats::{Passed, Token, TokenError, Tokens, FILE_SIZE, PLACE_LIMIT, TEXT_LIMIT};
 
 /// The records that are passed, or the refusal before any work.
@@ -67,7 +68,7 @@ pub fn good_token(token: &Token, text: &[u8]) -> bool {
         && base_fits
         && (has_text(token) || (start == 0 && length == 0))
         && std::str::from_utf8(own).is_ok()
-        && seventh == 0
+        && (seventh == 0 || (seventh == 1 && losses::can_lose(kind)))
         && eighth == 0
 }
 

@@ -2,6 +2,7 @@
 
 use crate::{ask, damage, texts};
 use formats::{Given, Sentences, FULL, REPORTED, SCRIPT_LIMIT, TOKEN_ERRORS};
+use marked::losses;
 
 pub const LISTS: [u32; 3] = [TOKEN_ERRORS, REPORTED, FULL];
 
@@ -42,16 +43,19 @@ impl Cases<'_> {
         self.put(script, list, position, bytes.saturating_add_signed(more));
     }
 
-    /// The first entry of the full list, or of the reported one in each second turn where it is the same; in some turns
-    /// with a slice that is longer, or also with one that is too short.
+    /// The parser's first error in the full list, or the first of the reported one in each second turn where it is the
+    /// same; in some turns with a slice that is longer, or also with one that is too short.
     fn first(&mut self, script: &str) {
         let script = script.as_bytes();
         self.turn += 1;
-        let Sentences { reported, full, .. } = ask::answer(script).sentences;
-        let list = if self.turn % 2 == 0 && reported.first() == full.first() { REPORTED } else { FULL };
-        self.exact(script, list, 0, [0, 1, 0, 0, 9][self.turn % 5]);
+        let answer = ask::answer(script);
+        let losses = answer.tokenised.map_or(0, |records| losses::entries(&records).len());
+        let Sentences { reported, full, .. } = answer.sentences;
+        let same = reported.first() == full.get(losses);
+        let (list, position) = if self.turn % 2 == 0 && same { (REPORTED, 0) } else { (FULL, losses as u64) };
+        self.exact(script, list, position, [0, 1, 0, 0, 9][self.turn % 5]);
         if self.turn % 7 == 0 {
-            self.exact(script, list, 0, -1);
+            self.exact(script, list, position, -1);
         }
     }
 
@@ -69,13 +73,14 @@ impl Cases<'_> {
 /// The cases that are written out here.
 pub fn made(each: &mut dyn FnMut(&str, Given)) {
     type Part = fn(&mut Cases);
-    let parts: [(&'static str, Part); 10] = [
+    let parts: [(&'static str, Part); 11] = [
         ("kinds", kinds),
         ("ends", ends),
         ("characters", characters),
         ("names", names),
         ("texts", quoted),
         ("token errors", token_errors),
+        ("losses", lost),
         ("positions", positions),
         ("slices", slices),
         ("refusals", refusals),
@@ -221,6 +226,32 @@ fn token_errors(cases: &mut Cases) {
     }
     for script in ["é×é²³ «a»", "asm × a", "asm é ×", "\"é\\é×\" ÷", "-××", "1² 0x×", "\"×"] {
         cases.all(script);
+    }
+}
+
+/// Both losses, alone and before and between errors, with slices that are too short or longer.
+fn lost(cases: &mut Cases) {
+    let scripts = [
+        "fn f(){left -dx;}", "asm{", "var x:T=a -bc -de;asm {nop", "+ -a + -\"asm{", "-\0-\u{10FFFF}-- - -\n",
+        "$ -? asm x -y", "fn f(){c(w -1, -x);}", "fn f", "asm {x}", "var x:T=a - b;",
+    ];
+    for script in scripts {
+        cases.all(script);
+    }
+    for script in ["-a", "asm{"] {
+        for more in [-30, -1, 1, 70] {
+            cases.exact(script.as_bytes(), FULL, 0, more);
+        }
+    }
+    // 255 entries, and more
+    let most = format!("var x:T=a{};", "-.b".repeat(254));
+    for position in [0, 253, 254, 255] {
+        cases.exact(format!("{most}asm{{").as_bytes(), FULL, position, 0);
+        cases.exact(format!("{most}+").as_bytes(), FULL, position, 0);
+    }
+    for script in [format!("{most}+asm{{"), "-a".repeat(128)] {
+        cases.put(script.as_bytes(), FULL, 0, 60);
+        cases.put(script.as_bytes(), TOKEN_ERRORS, 0, 0);
     }
 }
 

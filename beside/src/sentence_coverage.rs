@@ -129,7 +129,7 @@ pub fn print(met: &Met) -> bool {
         met.print(SLICE, &numbers(0, SLICE_STATES.len() as u32 - 1), |state| SLICE_STATES[state as usize].to_owned()),
         met.print(TOKEN_ERROR, &numbers(1, 4), plain),
         met.print(REPORTED_ERROR, &numbers(1, 19), plain),
-        met.print(FULL_ERROR, &numbers(1, 19), plain),
+        met.print(FULL_ERROR, &numbers(1, 21), plain),
         met.print(EXPECTED, &EXPECTED_KINDS, kind),
         met.print(EXPECTED_AT_END, &EXPECTED_KINDS, kind),
         met.print(GOT, &kinds_met(), |code| format!("{}: {}", code / 100, kind(code % 100))),

@@ -109,7 +109,8 @@ pub fn tokenised(answer: &Result<Tokens, u8>) -> Vec<String> {
 
 fn token(t: &formats::Token, text: &[u8]) -> String {
     let own = &text[t[3] as usize..(t[3] + t[4]) as usize];
-    format!("{} at {}:{} \"{}\" start {} base {}", kind(t[0]), t[1], t[2], own.escape_ascii(), t[3], t[5])
+    let lost = if t[6] == 0 { "" } else { " lost" };
+    format!("{} at {}:{} \"{}\" start {} base {}{lost}", kind(t[0]), t[1], t[2], own.escape_ascii(), t[3], t[5])
 }
 
 /// What Read is passed, a line for each record of its slices, stated or not.

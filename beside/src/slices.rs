@@ -10,7 +10,7 @@ const FILE_MOST: usize = 70_000;
 fn scripts() -> Vec<Vec<u8>> {
     let mut scripts: Vec<Vec<u8>> = [
         "var x:T;", "fn f(){c(w -1);}", "fn f", "use \"a\\q\" $", "asm{text}type T=*a;", "$\"", "", "€", "-", "type",
-        "×var é:x²;",
+        "×var é:x²;", "a -bc;asm{",
     ]
     .map(|script| script.as_bytes().to_vec())
     .to_vec();

@@ -2,8 +2,8 @@
 
 use crate::file_damage::{known_cut, NO_TEXT};
 use crate::tree_files::{
-    around, bytes, bytes_of, error, known, letter, other, place_bytes, plain, plain_error, record, records, row, shape,
-    small, smallest, tree, two, whole, Field, Known, COUNTED, LETTERS, WITH_TEXT,
+    around, bytes, bytes_of, error, known, letter, most_number, other, place_bytes, plain, plain_error, record,
+    records, row, shape, small, smallest, tree, two, whole, Field, Known, COUNTED, LETTERS, WITH_TEXT,
 };
 use formats::{FILE_SIZE, STEP_WORDS};
 
@@ -273,14 +273,12 @@ fn places(made: &mut Made) {
             }
         }
     }
-    // 0:0 with each number and with kinds
-    for number in 1..=19 {
-        for tag in [0x60, 0x61] {
-            made.file(0, &[empty_module(), error(tag, number, [0; 4], 0, 0)]);
-            made.file(0, &[empty_module(), error(tag, number, [0; 4], 54, 1)]);
-        }
-        if number < 5 {
-            made.file(14, &[empty_module(), error(0x62, number, [0; 4], 0, 0)]);
+    // 0:0 with each number, also one that is too large, and with kinds
+    for tag in [0x62, 0x60, 0x61] {
+        for number in 1..=most_number(tag) + 3 {
+            let good = tag != 0x62 && number <= most_number(tag);
+            made.file(if good { 0 } else { 14 }, &[empty_module(), error(tag, number, [0; 4], 0, 0)]);
+            made.file(if good { 0 } else { 14 }, &[empty_module(), error(tag, number, [0; 4], 54, 1)]);
         }
     }
 }
@@ -436,9 +434,9 @@ fn utf8(made: &mut Made) {
 
 fn errors(made: &mut Made) {
     let place = [0, 1, 0, 1];
-    for (tag, most) in [(0x62, 4), (0x60, 19), (0x61, 19)] {
+    for tag in [0x62, 0x60, 0x61] {
         for number in (0..=24).chain([127, 128, 255]) {
-            let good = (1..=most).contains(&number);
+            let good = (1..=most_number(tag)).contains(&number);
             made.file(if good { 0 } else { 14 }, &[empty_module(), error(tag, number, place, 0, 0)]);
             made.file(if good && tag != 0x62 { 0 } else { 14 }, &[empty_module(), error(tag, number, place, 1, 54)]);
             let other = [0x40, 0, 0, number.max(1)];
@@ -446,11 +444,18 @@ fn errors(made: &mut Made) {
         }
         for kind in [0, 1, 2, 53, 54, 55, 56, 127, 128, 255] {
             let good = kind == 0 || (tag != 0x62 && kind < 55);
-            for number in [1, 2, 3, 4] {
+            for number in [1, 2, 3, 4, most_number(tag)] {
                 made.file(if good { 0 } else { 14 }, &[empty_module(), error(tag, number, place, kind, 0)]);
                 made.file(if good { 0 } else { 14 }, &[empty_module(), error(tag, number, place, 0, kind)]);
             }
         }
+    }
+    // the full list may have its numbers in any order
+    let full = [21, 1, 20, 19, 20].map(|number| error(0x61, number, place, 0, 0));
+    made.file(0, &[&[empty_module()], &full[..]].concat());
+    for number in [20, 21] {
+        let reported = error(0x60, number, place, 0, 0);
+        made.file(14, &[&[empty_module(), plain_error(0x60), reported], &full[..]].concat());
     }
 }
 

@@ -2,7 +2,7 @@
 
 use crate::coverage::{numbers, plain, Met, NUMBER};
 use crate::lists::Case;
-use crate::tree_files::{bytes_of, place_bytes, records, COUNTED, WITH_TEXT};
+use crate::tree_files::{bytes_of, most_number, place_bytes, records, COUNTED, WITH_TEXT};
 use formats::{Given, FILE_SIZE, STEP_WORDS};
 use marked::judge;
 
@@ -189,11 +189,9 @@ pub fn print(met: &Met) -> bool {
         .flat_map(|tag| [0, 1, 256, 2_048].map(|count| code(tag, crate::tree_files::shape(tag, count, 0).1.len())))
         .collect();
     let bytes = with_byte.iter().flat_map(|tag| bytes_of(*tag).into_iter().map(|byte| code(*tag, byte as usize)));
-    let errors = [
-        (1..=4).map(|number| code(0x62, number)).collect(),
-        pairs(&[0x60, 0x61], &(1..=19).collect::<Vec<usize>>()),
-    ]
-    .concat();
+    let errors = |tag: u8| (1..=most_number(tag)).map(move |number| code(tag, number as usize));
+    let with_end: Vec<u32> = [0x60, 0x61].into_iter().flat_map(errors).collect();
+    let errors: Vec<u32> = [0x62, 0x60, 0x61].into_iter().flat_map(errors).collect();
     let tag = |tag: u32| format!("{tag:02X}");
     let pair = |code: u32| format!("{:02X}: {}", code >> 16, code & 0xFFFF);
     let place = |code: u32| {
@@ -217,7 +215,7 @@ pub fn print(met: &Met) -> bool {
         met.print(TEXT, &pairs(&WITH_TEXT, &[0, 1]), pair),
         met.print(NO_TEXT, &tags(&WITH_TEXT), tag),
         met.print(ERROR, &errors, pair),
-        met.print(AT_END, &pairs(&[0x60, 0x61], &(1..=19).collect::<Vec<usize>>()), pair),
+        met.print(AT_END, &with_end, pair),
     ];
     complete.iter().all(|one| *one)
 }

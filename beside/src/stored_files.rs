@@ -13,9 +13,9 @@ use formats::FILE_SIZE;
 /// The classes of files alone.
 pub const NAMES: &str = "edges trees fields each-byte each-tag each-cut";
 
-pub const DEFAULT: [&str; 14] = [
+pub const DEFAULT: [&str; 15] = [
     "edges", "each-byte:12", "each-tag:12", "each-cut:200", "trees:20000", "fields:50000", "paper", "constructs",
-    "boundary", "latin:6", "tests", "valid:3000", "damaged:3000", "soup:3000",
+    "boundary", "latin:6", "losses:1", "tests", "valid:3000", "damaged:3000", "soup:3000",
 ];
 
 /// How many damaged files there are for an accepted one.

@@ -225,6 +225,15 @@ pub fn error(tag: u8, number: u8, place: [u8; 4], expected: u8, got: u8) -> Fiel
     Field { tag, body: [&[number][..], &place, &[expected, got]].concat(), children: 0 }
 }
 
+/// The largest number of an error in a list.
+pub fn most_number(tag: u8) -> u8 {
+    match tag {
+        0x62 => 4,
+        0x60 => 19,
+        _ => 21,
+    }
+}
+
 pub fn plain_error(tag: u8) -> Field {
     error(tag, 1, [0, 1, 0, 1], 0, 0)
 }
@@ -265,13 +274,14 @@ pub fn random_file(random: &mut Random) -> Vec<Field> {
 }
 
 pub fn random_error(random: &mut Random, tag: u8) -> Field {
+    let number = 1 + random.below(most_number(tag) as usize) as u8;
     if tag == 0x62 {
-        return error(tag, 1 + random.below(4) as u8, random_place(random), 0, 0);
+        return error(tag, number, random_place(random), 0, 0);
     }
     let place = if random.chance(30) { [0; 4] } else { random_place(random) };
     let mut kind = || if random.chance(40) { 0 } else { random.below(55) as u8 };
     let (expected, got) = (kind(), kind());
-    error(tag, 1 + random.below(19) as u8, place, expected, got)
+    error(tag, number, place, expected, got)
 }
 
 pub fn random_place(random: &mut Random) -> [u8; 4] {
