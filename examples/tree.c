@@ -1,12 +1,12 @@
 /*
  * tree SCRIPT: reads a script with dn_read, loads its tree file with dn_load and prints its tree, a line for each
- * node, children indented below their parent; then the errors, each with its sentence by dn_sentence and its line
- * of the script.
+ * node, children indented below their parent; then the errors and losses, each with its sentence by dn_sentence and
+ * its line of the script.
  * tree --file FILE: loads a stored tree file and prints the same of it. Without its script there are no sentences
  * and no lines: an error is printed as its numbers.
  * `-` is standard input.
  *
- * Status: 0 read without an error, 1 read with errors, 2 refused, 3 something else failed.
+ * Status: 0 read without an error or a loss, 1 read with errors, 2 refused, 3 something else failed.
  *
  * C99 and C++11. A file may be broken, and dn_load refuses it then: what it accepts is not tested here again.
  */
@@ -391,7 +391,7 @@ static const char *list_name(uint32_t tag)
     case DN_TAG_REPORTED_ERROR:
         return "Errors of the parser that the Rust front end reports";
     default:
-        return "All errors of the parser";
+        return "All losses and errors of the parser";
     }
 }
 

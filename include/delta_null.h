@@ -1,8 +1,8 @@
 /*
  * delta_null.h: reading Delta Null placement scripts from C.
  *
- * dn_read takes a script and writes its tree file to a buffer of yours: the tree, and every error that
- * was found in the script.
+ * dn_read takes a script and writes its tree file to a buffer of yours: the tree, and every error and loss
+ * that was found in the script.
  *
  *     static uint8_t file[DN_FILE_BUFFER_BYTES];
  *     size_t bytes;
@@ -25,16 +25,21 @@
  *
  * DN_OK says that the script was read, or the file loaded, not that the script is good. Look at the errors,
  * which come after DN_TAG_MODULE: the part of the script that an error is about may be missing from the tree.
- * DN_TAG_TOKEN_ERROR fields are all errors of the tokenizer, DN_TAG_FULL_ERROR fields all errors of the
- * parser. That there is no DN_TAG_REPORTED_ERROR field proves nothing: errors in the arguments of a call
- * and in the fields of a struct type are not reported.
+ * DN_TAG_TOKEN_ERROR fields are all errors of the tokenizer, DN_TAG_FULL_ERROR fields all losses and all
+ * errors of the parser. That there is no DN_TAG_REPORTED_ERROR field proves nothing: losses, and errors in
+ * the arguments of a call and in the fields of a struct type, are not reported.
  *
  * A dash before a digit belongs to the number: in centre(width -12) the argument is width, -12 is lost,
  * and the error is in the full list alone: unexpected token Integer("-12", 10) in list. Write width - 12.
  *
- * Two things are lost without an error. A minus consumes the character after it, so that a - b is read
- * as it looks, and a -bc as a - c. Assembly with no closing brace runs to the end of the script:
- * asm { fn f(w: T) is read as assembly alone, and there is no function f.
+ * A minus consumes the character after it, so that a - b is read as it looks, and a -bc as a - c. If it is
+ * not white space, that is a loss: DN_PARSE_ERROR_CHARACTER_LOST, in the full list alone. Assembly with no
+ * closing brace runs to the end of the script: asm { fn f(w: T) is read as assembly alone, and there is no
+ * function f. That is the other loss, DN_PARSE_ERROR_ASSEMBLY_NOT_CLOSED.
+ *
+ * A script is clean if it is read and its file has no DN_TAG_FULL_ERROR field. Then each of its characters is
+ * in a token, white space, a comment or something that a DN_TAG_TOKEN_ERROR field is about; and two clean
+ * scripts with the same tree have the same tokens, but for what docs/FORMAT.md lists, such as parentheses.
  *
  * In the repository, docs/FORMAT.md defines the language, the tree file and each answer, and examples/tree.c
  * prints the tree of a script or of a stored file, with the errors of a script in words.
@@ -66,16 +71,16 @@ extern "C" {
  * is 0 it rises for both. PATCH rises where neither did.
  */
 #define DN_VERSION_MAJOR 0
-#define DN_VERSION_MINOR 4
+#define DN_VERSION_MINOR 5
 #define DN_VERSION_PATCH 0
-#define DN_VERSION_STRING "0.4.0"
+#define DN_VERSION_STRING "0.5.0"
 
 /* ---- limits ---- */
 
 #define DN_MAX_SCRIPT_BYTES 16384 /* bytes of a script */
 #define DN_MAX_TOKENS 2048        /* tokens of a script */
 #define DN_MAX_TOKEN_ERRORS 255   /* token errors of a script */
-#define DN_MAX_ERRORS 255         /* errors of the parser: entries of the full list */
+#define DN_MAX_ERRORS 255         /* entries of the full list: losses and errors of the parser */
 #define DN_MAX_NESTING 96         /* open calls of the parser for statements, expressions, prefixed
                                      operands and types */
 #define DN_MAX_STEPS 21845        /* steps of a tree file */
@@ -121,7 +126,7 @@ enum dn_number {
     DN_REFUSED_NO_TOKENS = 9,        /* the script has no token */
     DN_REFUSED_NESTED_TOO_DEEP = 10, /* more than DN_MAX_NESTING calls are open */
     DN_REFUSED_END_AFTER_WORD = 11,  /* the script ends right after `type`, `use` or the dot of `.name` */
-    DN_REFUSED_TOO_MANY_ERRORS = 12, /* more than DN_MAX_ERRORS */
+    DN_REFUSED_TOO_MANY_ERRORS = 12, /* more than DN_MAX_ERRORS; by losses alone, it comes before 10 and 11 */
 
     /* refused by dn_sentence alone, of a script that is read */
     DN_REFUSED_SENTENCE_LENGTH = 13, /* the sentence buffer is shorter than the sentence */
@@ -161,7 +166,8 @@ uint32_t dn_read(const uint8_t *script, size_t script_len,
 /*
  * Writes the sentence of one error of script[0 .. script_len - 1] to sentence[0 .. sentence_len - 1]: what
  * the error says in words, without its place. It is the message of the Rust front end, where a token has the
- * name of its kind, with its text and base: unexpected token Integer("-12", 10) in list.
+ * name of its kind, with its text and base: unexpected token Integer("-12", 10) in list. Losses, for which the
+ * Rust has no message, have: character lost after minus; assembly not closed.
  *
  *     list      is the tag of the error's field: DN_TAG_TOKEN_ERROR, DN_TAG_REPORTED_ERROR or
  *               DN_TAG_FULL_ERROR.
@@ -209,10 +215,12 @@ uint32_t dn_sentence(const uint8_t *script, size_t script_len, uint32_t list, si
  * has the length, the numbers and the text that enum dn_tag says, so a program need not test them again.
  * Lines and columns are 1 to 16384, or both 0 in the two lists of the parser; counts are at most 2048; text is
  * UTF-8. Each record has the children that enum dn_tag says, but any statement may be a function's body, and
- * DN_TAG_VOID may stand wherever a type may. Each file that dn_read writes is accepted.
+ * DN_TAG_VOID may stand wherever a type may. Losses are in DN_TAG_FULL_ERROR alone. Each file that dn_read
+ * writes is accepted.
  *
  * Not tested: whether there is a script with this tree, how many records or errors there are, whether the
- * text of a DN_TAG_INTEGER is digits, whether a reported error is in the full list.
+ * text of a DN_TAG_INTEGER is digits, whether a reported error is in the full list, whether losses come first
+ * there.
  *
  * Skipped fields. A field with a tag from 0x70 on has no step. It may stand anywhere, after DN_TAG_MODULE
  * too, and have any body. Its bytes count for the length of the file, and cut short it is
@@ -359,7 +367,8 @@ enum dn_tag {
 
     /* errors, each u8 number, u16 line, u16 column, u8 expected kind, u8 got kind (enum dn_kind) */
     DN_TAG_REPORTED_ERROR = 0x60, /* enum dn_parse_error: what the Rust front end reports, in its order */
-    DN_TAG_FULL_ERROR = 0x61,     /* enum dn_parse_error: all that the parser made, in the order made */
+    DN_TAG_FULL_ERROR = 0x61,     /* enum dn_parse_error: losses, then all that the parser made, in the
+                                     order made */
     DN_TAG_TOKEN_ERROR = 0x62     /* enum dn_token_error: all; both kinds are DN_KIND_NONE */
 };
 
@@ -399,9 +408,10 @@ enum dn_token_error {
 };
 
 /*
- * The number of DN_TAG_REPORTED_ERROR and DN_TAG_FULL_ERROR. Those with "end" are at the end of the
- * script and have the place 0:0. Where "expected" or "got" is not named, that kind is DN_KIND_NONE.
- * dn_sentence has the words for each.
+ * The number of DN_TAG_REPORTED_ERROR and DN_TAG_FULL_ERROR; the two losses are in DN_TAG_FULL_ERROR alone,
+ * before all others, in the order of the script. Those with "end" are at the end of the script and have the
+ * place 0:0. Where "expected" or "got" is not named, that kind is DN_KIND_NONE. dn_sentence has the words for
+ * each.
  */
 enum dn_parse_error {
     DN_PARSE_ERROR_TOP_LEVEL = 1,            /* no item of a module begins so: got */
@@ -423,7 +433,13 @@ enum dn_parse_error {
     DN_PARSE_ERROR_NAME_AFTER_TYPE = 16,     /* no identifier after `type` */
     DN_PARSE_ERROR_PATH_AFTER_USE = 17,      /* no string after `use` */
     DN_PARSE_ERROR_COMPOUND_AT_END = 18,     /* end, after # */
-    DN_PARSE_ERROR_COMPOUND = 19             /* no compound begins so: got */
+    DN_PARSE_ERROR_COMPOUND = 19,            /* no compound begins so: got */
+
+    /* losses */
+    DN_PARSE_ERROR_CHARACTER_LOST = 20,     /* a minus consumed a character that is not white space; at the
+                                               dash */
+    DN_PARSE_ERROR_ASSEMBLY_NOT_CLOSED = 21 /* no closing brace: assembly ran to the end of the script; at
+                                               `asm` */
 };
 
 /* kinds of tokens; KW_ are words that the language keeps */
