@@ -14,7 +14,7 @@ use Rattle.std.proofs.lemmas.List.{get_or_past}
 use Rattle.definition.specs.Choice.{first}
 use Rattle.definition.specs.Source.{Ch, lead}
 use Rattle.definition.specs.Classes.{is_digit_of}
-use Rattle.definition.specs.Tokenizer.{Span, ahead, digits, assembly, closed}
+use Rattle.definition.specs.Tokenizer.{Span, ahead, comment, digits, assembly, closed}
 use Rattle.definition.specs.Tokenizer as Z
 use Rattle.classes.specs.Found.{nonzero}
 use Rattle.classes.proofs.Found.{no_byte}
@@ -83,6 +83,16 @@ while_stops holds (c ∷ cs) {d} {ds} e = go (holds c.byte) refl (while_stops ho
         let g : c ∷ cs ≡ d ∷ ds = sym (ap left (while_stop holds c cs f)) ∙ e in
         let h : c ≡ d = cc in
         ap (λ (x : Ch). holds x.byte) (sym h) ∙ f
+
+-- ---- a comment: at a character that it consumes, at the newline that ends it
+
+pub comment_go : (c : Ch) (cs : List Ch) → (c.byte ≡ 10 → ⊥) → comment (c ∷ cs) ≡ comment cs
+unfolding comment
+comment_go c cs h = rw (ne_eqb _ _ h, comment)
+
+pub comment_stop : (c : Ch) (cs : List Ch) → c.byte ≡ 10 → comment (c ∷ cs) ≡ cs
+unfolding comment
+comment_stop c cs h = rw (eq-eqb _ _ h, comment)
 
 -- ---- scans that write; F is the definition's scan
 
@@ -183,6 +193,9 @@ pub digits_while : (b : ℕ) (cs : List Ch) → span_while (is_digit_of b) cs �
 unfolding span_while digits
 digits_while b [] = refl
 digits_while b (c ∷ cs) = ap (λ (s : Span). elim (is_digit_of b c.byte) as (λ _. Span) [ true ↦ ahead (c.byte ∷ []) s | false ↦ empty (c ∷ cs) ]) (digits_while b cs)
+
+pub digits_go : (b : ℕ) (c : Ch) (cs : List Ch) → is_digit_of b c.byte ≡ true → digits b (c ∷ cs) ≡ ahead (c.byte ∷ []) (digits b cs)
+digits_go b c cs h = rw (← digits_while b (c ∷ cs), ← digits_while b cs) (while_go (is_digit_of b) c cs h)
 
 pub asm_none : assembly [] ≡ empty []
 unfolding assembly
@@ -418,7 +431,8 @@ module _ {s : List ℕ} {c₀ : Cursor} {x₀ : List ℕ} {n₀ : ℕ} {c : Curs
       record {
         end = quoting_done st.stands (omega (arith, st.wide)) (omega (arith, ap length st.chars)) e;
         unknown = omega (arith, q.counts, ap (λ (y : Z.Quoted). y.unknown) e);
-        few = omega (arith, q.few, q.asks.stands.inside, q.asks.small);
+        few = omega (arith, q.few, st.wide);
+        small = omega (arith, q.few, q.asks.stands.inside, q.asks.small);
       }
 
   pub quoting_out : length s ≤ c.at → QuotedAs s c₀ x₀ n₀ (Q s c₀) x (record { end = Err (record { cursor = c; n = n }); unknown = u })
@@ -427,7 +441,8 @@ module _ {s : List ℕ} {c₀ : Cursor} {x₀ : List ℕ} {n₀ : ℕ} {c : Curs
       record {
         end = quoting_done q.asks.stands (omega arith) (omega arith) e;
         unknown = omega (arith, q.counts, ap (λ (y : Z.Quoted). y.unknown) e);
-        few = omega (arith, q.few, q.asks.stands.inside, q.asks.small);
+        few = q.few;
+        small = omega (arith, q.few, q.asks.stands.inside, q.asks.small);
       }
 
   pub quoting_slash_out : {d : Cursor} → Stepped s c d → get_or s c.at 0 ≡ 92 → length s ≤ d.at
@@ -437,5 +452,6 @@ module _ {s : List ℕ} {c₀ : Cursor} {x₀ : List ℕ} {n₀ : ℕ} {c : Curs
       record {
         end = quoting_done st.stands (omega (arith, st.wide)) (omega (arith, ap length st.chars)) e;
         unknown = omega (arith, q.counts, ap (λ (y : Z.Quoted). y.unknown) e);
-        few = omega (arith, q.few, st.wide, st.stands.inside, q.asks.small);
+        few = omega (arith, q.few, st.wide);
+        small = omega (arith, q.few, st.wide, st.stands.inside, q.asks.small);
       }

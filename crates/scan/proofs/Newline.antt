@@ -6,7 +6,7 @@ use mathlib.Core.Option.{some}
 use Prim.Native.Nat.{ℕ, zero, suc, pred, ◌+◌, ◌-◌, ◌<◌, ◌≤◌}
 use native.Mathlib.Numerals.{add-one}
 use native.Mathlib.Omega.{arith}
-use borrow.Author.Tests.{ne_eqb, eq-eqb, lt-leb}
+use borrow.Author.Tests.{ne_eqb, lt-leb}
 use lib.Dec.{leb}
 use lib.ListN.{length, get_or, drop, length-append, drop_of_length-le}
 use lib.Seq.{drop-cons}
@@ -17,6 +17,7 @@ use Rattle.source.specs.declared.Cursor.{Cursor}
 use Rattle.source.specs.Place.{Stands, rest, at_of, or_none}
 use Rattle.source.proofs.Laws.{Small, lead_small, after_lead, after_more, none_some, and_then_head, and_then_tail}
 use Rattle.scan.specs.Scan.{LineEnd, Passed}
+use Rattle.scan.proofs.Laws.{comment_go, comment_stop}
 
 -- the decoder is between two characters at an offset, or within one that is no newline
 abbrev Open : Pending → ℕ → ℕ → Type 0
@@ -33,14 +34,6 @@ record Inside (bs : List ℕ) (at line : ℕ) (cs : List Ch) : Type 0 where
   shorter : length ds ≤ length cs
   on_line : p.place.line ≡ line
   between : Open q p.offset at
-
-comment_more : (c : Ch) (cs : List Ch) → (c.byte ≡ 10 → ⊥) → comment (c ∷ cs) ≡ comment cs
-unfolding comment
-comment_more c cs h = rw (ne_eqb c.byte 10 h, comment)
-
-comment_ends : (c : Ch) (cs : List Ch) → c.byte ≡ 10 → comment (c ∷ cs) ≡ cs
-unfolding comment
-comment_ends c cs h = rw (eq-eqb c.byte 10 h, comment)
 
 within_on : {bs : List ℕ} {at line : ℕ} {ds cs : List Ch} → comment ds ≡ comment cs → length ds ≤ length cs
     → Inside bs at line ds → Inside bs at line cs
@@ -70,7 +63,7 @@ ends {bs} p {l} m h e f o =
       p = past p l m;
       ds = or_none left;
       is = and_then_tail (char_at p l m) left _ e;
-      same = sym (ap comment d ∙ comment_more _ _ h);
+      same = sym (ap comment d ∙ comment_go _ _ h);
       shorter = omega (arith, ap length d);
       on_line = rw (ne_eqb l 10 h) f;
       between = o;
@@ -136,7 +129,7 @@ at_newline {bs} {at} {line} {cs} i = go i.q i.between i.is
         let newline = char_at i.p 10 [] in
         let left = decode fresh (past i.p 10 []) bs in
         let d : i.ds ≡ newline ∷ or_none left = and_then_head newline left _ e in
-        let same : or_none left ≡ comment cs = sym (comment_ends newline _ refl) ∙ sym (ap comment d) ∙ i.same in
+        let same : or_none left ≡ comment cs = sym (comment_stop newline _ refl) ∙ sym (ap comment d) ∙ i.same in
         let x : 1 + i.p.offset ≡ at + 1 = omega (arith, o) in
         let y : suc i.p.place.line ≡ line + 1 = omega (arith, i.on_line) in (
           rw (sym x, sym y) (and_then_tail newline left _ e ∙ ap some same),

@@ -111,4 +111,5 @@ span_of q = record { text = q.text; rest = q.rest }
 pub record QuotedAs (s : List ℕ) (c : Cursor) (x : List ℕ) (n : ℕ) (q : Z.Quoted) (x' : List ℕ) (r : Body) : Type 0 where
   pub end : EndsAs s c x n q.closed (span_of q) x' r.end
   pub unknown : r.unknown ≡ q.unknown
-  pub few : r.unknown ≤ 16384
+  pub few : MatchResult r.end (λ e. r.unknown ≤ e.cursor.at) (λ e. r.unknown ≤ e.cursor.at)
+  pub small : r.unknown ≤ 16384
