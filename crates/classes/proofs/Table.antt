@@ -36,16 +36,22 @@ pub record Searching {A : Type 0} (t : A → Bool) (k : A → ℕ) (xs : List A)
   pub is : found t k (drop i xs) ≡ a
   pub nonzero : nonzeros k (drop i xs) ≡ true
 
+-- what is found is the answer of the first entry whose test holds, whatever it is
+pub search_found : {A : Type 0} (t : A → Bool) (k : A → ℕ) (xs : List A) {i a : ℕ} (x : A) → found t k (drop i xs) ≡ a
+    → i < length xs → t (get_or xs i x) ≡ true → k (get_or xs i x) ≡ a
+unfolding found
+search_found t k xs {i} x f h e = rw (drop-cons xs i x h, e) at f
+
 some_of : (n : ℕ) → ltb 0 n ≡ true → Some n ≡ nonzero n
 some_of zero e = clash (sym e)
 some_of (suc n) e = refl
 
 module _ {A : Type 0} {t : A → Bool} {k : A → ℕ} {xs : List A} {i a : ℕ} (q : Searching t k xs i a) where
-  pub search_found : (x : A) → i < length xs → t (get_or xs i x) ≡ true → Some (k (get_or xs i x)) ≡ nonzero a
-  unfolding found nonzeros
-  search_found x h e =
+  pub search_some : (x : A) → i < length xs → t (get_or xs i x) ≡ true → Some (k (get_or xs i x)) ≡ nonzero a
+  unfolding nonzeros
+  search_some x h e =
       some_of _ (left_true (ltb 0 (k (get_or xs i x))) _ (rw (drop-cons xs i x h) at q.nonzero))
-      ∙ ap nonzero (rw (drop-cons xs i x h, e) at q.is)
+      ∙ ap nonzero (search_found t k xs x q.is h e)
 
   pub search_more : (x : A) → i < length xs → t (get_or xs i x) ≡ false → Searching t k xs (i + 1) a
   unfolding found nonzeros
