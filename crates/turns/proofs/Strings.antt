@@ -16,7 +16,7 @@ use Rattle.definition.specs.Kind as K
 use Rattle.definition.specs.Tokenizer.{goes, refused}
 use Rattle.definition.specs.Tokenizer as Z
 use Rattle.source.specs.declared.Cursor.{Cursor}
-use Rattle.source.specs.Place.{rest, placed}
+use Rattle.source.specs.Place.{rest}
 use Rattle.scan.specs.declared.Body.{Body}
 use Rattle.scan.specs.declared.Scan.{Scan}
 use Rattle.scan.specs.Scan.{Spanned, span_of, QuotedAs}
@@ -45,11 +45,9 @@ body s c = Z.quoted false (rest s c)
 abbrev escapes : ℕ → Place → List Err
 escapes n p = replicate n (Z.token_error 1 p)
 
+-- p is the place of the token and of the errors
 module _ {most : ℕ} {s : List ℕ} {st : State} {c : Cursor} {T X X₁ : List ℕ} {q : Body}
-    (a : Ready most s T X st c) (u : QuotedAs s c X st.text (body s c) X₁ q) where
-  abbrev p : Place
-  p = placed st.cursor
-
+    (p : Place) (a : Ready most s T X st c) (u : QuotedAs s c X st.text (body s c) X₁ q) where
   too_many : 255 < st.errors + length (escapes (body s c).unknown p) → (t : Bool) → (body s c).closed ≡ t
       → bounded most st.errors st.tokens (Z.string_turn p (body s c)) ≡ refused 7
   too_many h true f =
@@ -71,7 +69,7 @@ module _ {most : ℕ} {s : List ℕ} {st : State} {c : Cursor} {T X X₁ : List 
     module _ {d : Scan} {o : Bool} (y : ((body s c).closed ≡ o) × Spanned s c X st.text (span_of (body s c)) X₁ d) where
       pub string_closed_law : {T' : List ℕ} {r : Result State Refusal} → o ≡ true
           → TokenPushed most T (at_text e d.cursor d.n)
-          (K.String ∷ e.cursor.line ∷ e.cursor.column ∷ e.text ∷ (d.n - e.text) ∷ 0 ∷ 0 ∷ 0 ∷ []) T' r
+          (K.String ∷ p.line ∷ p.column ∷ e.text ∷ (d.n - e.text) ∷ 0 ∷ 0 ∷ 0 ∷ []) T' r
           → Turned most (Z.string_turn p (body s c)) s st c T E X r T' E₁ X₁
       string_closed_law f x =
           let k : Tok = tok K.String p (body s c).text 0 in
@@ -86,10 +84,10 @@ module _ {most : ℕ} {s : List ℕ} {st : State} {c : Cursor} {T X X₁ : List 
           })
           (string_closed p _ (y.0 ∙ f)
           ∙ ap (λ (v : ℕ). goes (body s c).rest (escapes v p) (k ∷ [])) (sym u.unknown))
-          (with_words k refl z.text (omega (arith, y.1.wrote.count, z.text)) (rw z.cursor at x))
+          (with_words k refl z.text (omega (arith, y.1.wrote.count, z.text)) x)
 
       pub string_open_law : {E₂ : List ℕ} {r : Result State Refusal} → o ≡ false
-          → ErrorsPushed E₁ (at_text e d.cursor e.text) (Z.token_error 2 (placed e.cursor) ∷ []) E₂ r
+          → ErrorsPushed E₁ (at_text e d.cursor e.text) (Z.token_error 2 p ∷ []) E₂ r
           → Turned most (Z.string_turn p (body s c)) s st c T E X r T E₂ X₁
       string_open_law f x =
           let l : st.text ≤ length X = omega (arith, a.asks.room, a.asks.wide, a.asks.small, a.asks.stands.inside) in
@@ -104,4 +102,4 @@ module _ {most : ℕ} {s : List ℕ} {st : State} {c : Cursor} {T X X₁ : List 
           })
           (string_open p _ (y.0 ∙ f)
           ∙ ap (λ (v : ℕ). goes (body s c).rest (escapes v p ++ (Z.token_error 2 p ∷ [])) []) (sym u.unknown))
-          (rw (z.text, z.cursor) at x)
+          (rw z.text at x)
