@@ -1,5 +1,6 @@
 -- One law for each return of `item` and `list`. Assumes nothing.
 use mathlib.Core.Path.{◌≡◌, refl, sym, ap, ◌∙◌, subst}
+use mathlib.Core.Logic.{◌⊎◌, inl, inr}
 use mathlib.Core.List.{List, [], append-nil}
 use Prim.Native.Nat.{ℕ, ◌≤◌, ◌<◌}
 use native.Mathlib.Omega.{arith}
@@ -23,12 +24,22 @@ use Rattle.steps.specs.Shows.{st_of, Asked, ShowsOf, Shows, node, token, items, 
 use Rattle.steps.proofs.Records.{yes, no, fore, adv}
 use Rattle.steps.proofs.Moves.{asked_moved}
 use Rattle.steps.proofs.Answers.{Stopped, say, errs_join}
-use Rattle.leaves.specs.Leaves.{Counted, with_errors, Next, CommasOf, Commas}
+use Rattle.leaves.specs.declared.Listed.{Listed}
+use Rattle.leaves.specs.declared.Listed.TheVariants as I
+use Rattle.leaves.specs.Leaves.{listed_of, Counted, with_errors, Next, CommasOf, Commas}
 use Rattle.leaves.proofs.Atoms.{Ended, Alive}
 use Rattle.expression_laws.specs.Post.{as_answer, ReadsList, LoopOn, listed_on}
 use Rattle.expression_laws.proofs.Types.{moved_onward, paid}
 use Rattle.expression_laws.proofs.Loops.{answered, not_fatal, refusal, loop_ended, loop_closed, loop_refused, joined}
 use Rattle.fallible.specs.declared.error.Error.{Error}
+
+-- ---- `item`
+
+pub item_argument : {w x : List ℕ} {n d : ℕ} {o o1 : List ℕ} {r f r1 f1 : List Error} {s : State} {a : Answer} {what : Listed}
+    → (what ≡ I.Arguments) ⊎ (what ≡ I.ArrayValues) → Reads node w x n d P.parse_expression o r f s o1 r1 f1 a
+    → Reads node w x n d (P.item (listed_of what)) o r f s o1 r1 f1 a
+item_argument (inl z) u = rw z u
+item_argument (inr z) u = rw z u
 
 -- ---- `list`
 

@@ -288,6 +288,7 @@ module _ {w x : List ℕ} {n d : ℕ} {o : List ℕ} {r f : List Error} {s : Sta
             (raise_same d {S = st_of w x n f rd s} (sym i) refl)) (raise_shows node q.asks g d rd o);
       }
 
+module _ {w x : List ℕ} {n d : ℕ} {o : List ℕ} {r f : List Error} {s : State} {t : Token} (u : Seen w x n s.at t) where
   pub other_reads : {o1 : List ℕ} {r1 f1 : List Error} {y : Answer} → (kind_number t.kind ≡ 6 → ⊥) → (kind_number t.kind ≡ 5 → ⊥)
       → (kind_number t.kind ≡ 39 → ⊥) → (kind_number t.kind ≡ 7 → ⊥) → (kind_number t.kind ≡ 8 → ⊥)
       → (kind_number t.kind ≡ 9 → ⊥) → (kind_number t.kind ≡ 10 → ⊥) → (kind_number t.kind ≡ 54 → ⊥)

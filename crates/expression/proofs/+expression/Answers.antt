@@ -16,7 +16,7 @@ use Rattle.leaves.specs.Leaves.{level_of}
 use Rattle.expression_laws.proofs.Levels.{levels_stop, not_some, operators_none, levels_start, levels_more, levels_end, levels_pass, and_on, and_none, and_found, casts_none, casts_more, compare_on, compare_none, compare_found, operators_more}
 use Rattle.steps.proofs.Constructs.{then_stops, deep, down}
 use Rattle.expression_laws.proofs.Names.{bare_stops, field_follows, field_stops, field_room, field_done, named_reads, colon_stops, colon_read, identifier_name, identifier_end, identifier_refused, identifier_noted}
-use Rattle.expression_laws.proofs.Lists.{list_refused, list_on, rest_end, rest_closed, rest_item, rest_comma, rest_next, rest_asked}
+use Rattle.expression_laws.proofs.Lists.{item_argument, list_refused, list_on, rest_end, rest_closed, rest_item, rest_comma, rest_next, rest_asked}
 use Rattle.expression_laws.proofs.Operands.{name_operand}
 use Rattle.fallible.proofs.Calls.{left, passed_on, is_done, is_stop, stop_is, not_refused, item_is, refused_is, exit_refused, is_whole, is_refused, refusal_is, not_whole}
 use Rattle.steps.proofs.Answers.{goes_alike}
@@ -39,6 +39,9 @@ expression-returns-then-nesting-eq0 t c =
 
 pub expression-returns : goal.expression-returns
 expression-returns t c = down Expression c.if-nesting-eq0.false c.boolean.ensures
+
+pub item-returns-in-Arguments : goal.item-returns-in-Arguments
+item-returns-in-Arguments t c = item_argument c.in-Arguments.is c.expression.ensures
 
 pub list-returns-in_err-recover : goal.list-returns-in_err-recover
 list-returns-in_err-recover t c = let g = sym c.recover.ensures ∙ c.in_err-recover.was in

@@ -146,7 +146,7 @@ statement_rule-returns-in-End t c =
 
 pub statement_rule-returns-in_default : goal.statement_rule-returns-in_default
 statement_rule-returns-in_default t c =
-    other_reads c.requires c.peek-t.ensures (other_number c.in_default.not-KwReturn) (other_number c.in_default.not-KwVar) (other_number c.in_default.not-LBrace)
+    other_reads c.peek-t.ensures (other_number c.in_default.not-KwReturn) (other_number c.in_default.not-KwVar) (other_number c.in_default.not-LBrace)
     (other_number c.in_default.not-KwLoop) (other_number c.in_default.not-KwWhile) (other_number c.in_default.not-KwBreak) (other_number c.in_default.not-KwIf) (other_number c.in_default.not-InlineAssemblyFragment)
     (other_number c.in_default.not-End) c.expression_statement.ensures
 
