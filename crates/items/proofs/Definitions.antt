@@ -31,7 +31,6 @@ use Rattle.steps.specs.declared.tokens.Token.{Token}
 use Rattle.steps.specs.Tokens.{rest, budget, Held, Seen}
 use Rattle.steps.specs.Shows.{st_of, Asked, Good, Shows, Reads, node, token, items, Expects, Expected, NodeWritten}
 use Rattle.steps.proofs.Records.{yes, no, fore, adv}
-use Rattle.steps.proofs.Moves.{asked_seen}
 use Rattle.steps.proofs.Answers.{Stopped, say, good_of, stops, follows, wrapped, writes_node}
 use Rattle.steps.proofs.Following.{expects_after}
 use Rattle.expression_laws.specs.Post.{as_answer}
@@ -318,31 +317,29 @@ pub record Opened (w x : List ℕ) (n d : ℕ) (o : List ℕ) (r f : List Error)
       → Reads node w x n d (P.function (place_of t.place) (flag external)) o r' f' s' o1 r1 f1 y
       → Reads node w x n d P.parse_function_definition o r f s o1 r1 f1 y
 
-module _ {w x : List ℕ} {n d : ℕ} {o : List ℕ} {r f : List Error} {s : State} {t : Token} (q : Asked w n o r f s) (u : Seen w x n s.at t) where
-  pub opened_external : kind_number t.kind ≡ 19 → Opened w x n d o r f s t true r f (fore s t)
+module _ {w x : List ℕ} {n d : ℕ} {o : List ℕ} {r f : List Error} {s : State} {t : Token} (u : Seen w x n s.at t)
+    {o1 : List ℕ} {r1 f1 : List Error} {y : Answer} where
+  pub definition_external : kind_number t.kind ≡ 19
+      → Reads node w x n d (P.function (place_of t.place) 1) o r f (fore s t) o1 r1 f1 y
+      → Reads node w x n d P.parse_function_definition o r f s o1 r1 f1 y
   unfolding go run P.parse_function_definition
-  opened_external h = record {
-    asked = asked_seen q u;
-    reads = λ B. record {
-      moved = omega arith;
-      on = omega arith;
-      is =
-          λ rd. say (rw (run, yes u h)
-          (ap (λ (S : St). go d (P.function (next_token (rest w x n s.at)).place 1) S) (adv s u (λ _. plain) f rd _)
-          ∙ ap (λ (p : Place). go d (P.function p 1) (st_of w x n f (past w x n s.at rd) (fore s t))) (u.place x)))
-          (B.is (past w x n s.at rd));
-    };
+  definition_external h B = record {
+    moved = omega arith;
+    on = omega arith;
+    is =
+        λ rd. say (rw (run, yes u h)
+        (ap (λ (S : St). go d (P.function (next_token (rest w x n s.at)).place 1) S) (adv s u (λ _. plain) f rd _)
+        ∙ ap (λ (p : Place). go d (P.function p 1) (st_of w x n f (past w x n s.at rd) (fore s t))) (u.place x)))
+        (B.is (past w x n s.at rd));
   }
 
-  pub opened_whole : (kind_number t.kind ≡ 19 → ⊥) → Opened w x n d o r f s t false r f s
+  pub definition_whole : (kind_number t.kind ≡ 19 → ⊥) → Reads node w x n d (P.function (place_of t.place) 0) o r f s o1 r1 f1 y
+      → Reads node w x n d P.parse_function_definition o r f s o1 r1 f1 y
   unfolding go run P.parse_function_definition
-  opened_whole m = record {
-    asked = q;
-    reads = λ B. record {
-      moved = B.moved;
-      on = B.on;
-      is = λ rd. say
-          (rw (run, no u m) (ap (λ (p : Place). go d (P.function p 0) (st_of w x n f rd s)) (u.place x)))
-          (B.is rd);
-    };
+  definition_whole m B = record {
+    moved = B.moved;
+    on = B.on;
+    is = λ rd. say
+        (rw (run, no u m) (ap (λ (p : Place). go d (P.function p 0) (st_of w x n f rd s)) (u.place x)))
+        (B.is rd);
   }

@@ -1,8 +1,9 @@
 use Rattle.steps.proofs.SameKind.{equal_kinds, unequal_kinds}
 use Rattle.definition.specs.declared.kind.Kind.{Kind}
+use Rattle.steps.proofs.Moves.{asked_seen}
 use Rattle.fallible.proofs.Calls.{left, stop_is}
 use Rattle.items.specs.Items.{flag}
-use Rattle.items.proofs.Definitions.{Opened, opened_external, opened_whole, function_stops, function_unnamed, function_asked, function_reads, whole_stops}
+use Rattle.items.proofs.Definitions.{Opened, definition_external, definition_whole, function_stops, function_unnamed, function_asked, function_reads, whole_stops}
 use mathlib.Core.Path.{◌≡◌, refl, ap}
 use Rattle.std.specs.Prelude.{ℕ, List, Result}
 use Rattle.definition.specs.Parser as P
@@ -20,10 +21,13 @@ opened : (c : Joined-external) → let t = c.args.tokens in let p = c.args.parse
     Opened t.records.now t.text.now t.count c.args.nesting c.args.file.now p.reported p.full p.state c.peek-t.result
     c.eq-external.result q.reported q.full q.state
 opened c = elim c.if-external.branch [
-  | then-external w ↦ rw (w.parser-is, w.if-external.true)
-      (opened_external c.requires c.peek-t.ensures (equal_kinds c.peek-t.result.kind Kind.KwExtern c.eq-external.ensures w.if-external.true))
-  | else-external w ↦ rw (w.parser-is, w.if-external.false)
-      (opened_whole c.requires c.peek-t.ensures (unequal_kinds c.peek-t.result.kind Kind.KwExtern c.eq-external.ensures w.if-external.false))
+  | then-external w ↦
+      let k = equal_kinds c.peek-t.result.kind Kind.KwExtern c.eq-external.ensures w.if-external.true in
+      rw (w.parser-is, w.if-external.true)
+      (record { asked = asked_seen c.requires c.peek-t.ensures; reads = definition_external c.peek-t.ensures k })
+  | else-external w ↦
+      let k = unequal_kinds c.peek-t.result.kind Kind.KwExtern c.eq-external.ensures w.if-external.false in
+      rw (w.parser-is, w.if-external.false) (record { asked = c.requires; reads = definition_whole c.peek-t.ensures k })
 ]
 
 pub returns-in_err-expect : goal.returns-in_err-expect
