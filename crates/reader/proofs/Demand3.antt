@@ -9,15 +9,15 @@ use Rattle.std.specs.Prelude.{Result}
 use Rattle.definition.specs.declared.refusal.Refusal.{Refusal}
 use Rattle.parser.specs.Answer.{answer}
 use Rattle.reader.specs.OneTree.{OneTree}
-use Rattle.reader.proofs.Answers.{number_is, file_is}
+use Rattle.reader.proofs.Answers.{accepted_number, accepted_file}
 
 -- for the script s and the file slice o the answer is r, with o' at exit; for t and p it is q, with p' at exit
 pub one_tree_of_answers : (s o t p : List ℕ) {o' p' : List ℕ} {r q : Result ℕ Refusal} → answer r o' ≡ whole s o
     → answer q p' ≡ whole t p → OneTree s o' r t p' q
 one_tree_of_answers s o t p a b n m x y h k e =
     one_tree s t o p
-    (number_is s o a x)
-    (number_is t p b y)
-    (ap full_entries (file_is s o a x) ∙ h)
-    (ap full_entries (file_is t p b y) ∙ k)
-    (ap tree (file_is s o a x) ∙ e ∙ sym (ap tree (file_is t p b y)))
+    (accepted_number s o a x)
+    (accepted_number t p b y)
+    (ap full_entries (accepted_file s o a x) ∙ h)
+    (ap full_entries (accepted_file t p b y) ∙ k)
+    (ap tree (accepted_file s o a x) ∙ e ∙ sym (ap tree (accepted_file t p b y)))
