@@ -46,7 +46,7 @@ use Rattle.fallible.specs.declared.error.Error.{Error}
 -- ---- `compound`
 
 -- the values, and their record
-abbrev values_rule : A.Listed → ℕ → S.Place → Act (Ans Node)
+abbrev pub values_rule : A.Listed → ℕ → S.Place → Act (Ans Node)
 values_rule k tag p = P.parse_list k >>= λ i. P.good (P.node i.recs tag p (two i.count ∷ []) []) i.errors
 
 module _ {w x : List ℕ} {n d : ℕ} {o : List ℕ} {r f : List Error} {o1 : List ℕ} {r1 f1 : List Error} {o2 : List ℕ} {s : State} {b y : Answer} (k : A.Listed) (tag : Tag) (place : Place) (there : 0 < present n s.at) (B : ReadsList w x n d k o r f s o1 r1 f1 b)
@@ -105,28 +105,38 @@ module _ {w x : List ℕ} {n d : ℕ} {o : List ℕ} {r f r1 f1 : List Error} {s
         }
 
     module _ {t : Token} (u : Seen w x n a.state.at t) where
-      module _ {o1 : List ℕ} {r2 f2 : List Error} {o2 : List ℕ} {b y : Answer} where
-        pub compound_array : kind_number t.kind ≡ 43 → ReadsList w x n d A.ArrayValues o r1 f1 a.state o1 r2 f2 b
-            → NodeWritten o1 b (placed t.place Tag.CompoundArray (Two b.count) []) o2 y
-            → Reads node w x n d P.parse_compound o r f s o2 r2 f2 y
+      -- the rest is the values; or they are read, and their record is written
+      module _ {o1 : List ℕ} {r2 f2 : List Error} {y : Answer} where
+        pub compound_array : kind_number t.kind ≡ 43
+            → Reads node w x n d (values_rule A.ArrayValues 0x30 (place_of t.place)) o r1 f1 a.state o1 r2 f2 y
+            → Reads node w x n d P.parse_compound o r f s o1 r2 f2 y
         unfolding go run
-        compound_array h B F =
-            let R = values_reads A.ArrayValues Tag.CompoundArray t.place (omega (arith, u.present, h)) B F in
+        compound_array h R =
             compound_on (values_rule A.ArrayValues 0x30 (place_of t.place))
             (λ rd. rw (run, no {k = 0} u (λ e. omega (arith, h)), yes u h)
             (ap (λ (p : S.Place). go d (values_rule A.ArrayValues 0x30 p) (st_of w x n f1 rd a.state)) (u.place x)))
             R.moved R.is
 
-        pub compound_struct : kind_number t.kind ≡ 39 → ReadsList w x n d A.StructValues o r1 f1 a.state o1 r2 f2 b
-            → NodeWritten o1 b (placed t.place Tag.CompoundStruct (Two b.count) []) o2 y
-            → Reads node w x n d P.parse_compound o r f s o2 r2 f2 y
+        pub compound_struct : kind_number t.kind ≡ 39
+            → Reads node w x n d (values_rule A.StructValues 0x31 (place_of t.place)) o r1 f1 a.state o1 r2 f2 y
+            → Reads node w x n d P.parse_compound o r f s o1 r2 f2 y
         unfolding go run
-        compound_struct h B F =
-            let R = values_reads A.StructValues Tag.CompoundStruct t.place (omega (arith, u.present, h)) B F in
+        compound_struct h R =
             compound_on (values_rule A.StructValues 0x31 (place_of t.place))
             (λ rd. rw (run, no {k = 0} u (λ e. omega (arith, h)), no {k = 43} u (λ e. omega (arith, h)), yes u h)
             (ap (λ (p : S.Place). go d (values_rule A.StructValues 0x31 p) (st_of w x n f1 rd a.state)) (u.place x)))
             R.moved R.is
+
+        module _ {o2 : List ℕ} {b : Answer} where
+          pub array_reads : kind_number t.kind ≡ 43 → ReadsList w x n d A.ArrayValues o r1 f1 a.state o2 r2 f2 b
+              → NodeWritten o2 b (placed t.place Tag.CompoundArray (Two b.count) []) o1 y
+              → Reads node w x n d P.parse_compound o r f s o1 r2 f2 y
+          array_reads h B F = compound_array h (values_reads A.ArrayValues Tag.CompoundArray t.place (omega (arith, u.present, h)) B F)
+
+          pub struct_reads : kind_number t.kind ≡ 39 → ReadsList w x n d A.StructValues o r1 f1 a.state o2 r2 f2 b
+              → NodeWritten o2 b (placed t.place Tag.CompoundStruct (Two b.count) []) o1 y
+              → Reads node w x n d P.parse_compound o r f s o1 r2 f2 y
+          struct_reads h B F = compound_struct h (values_reads A.StructValues Tag.CompoundStruct t.place (omega (arith, u.present, h)) B F)
 
       module _ {e : Error} {r2 f2 : List Error} {y : Answer} (q : Asks n r1 f1 a.state)
           (g : Raised (raised n a.state) r1 f1 a.state e r2 f2 y) where

@@ -1,6 +1,6 @@
 use Rattle.steps.proofs.SameKind.{same_number, other_number}
 use Rattle.fallible.proofs.Calls.{left, refusal_is, stop_is}
-use Rattle.statement.proofs.Declared.{compound_stops, compound_array, compound_struct, compound_end, compound_other}
+use Rattle.statement.proofs.Declared.{compound_stops, array_reads, struct_reads, compound_end, compound_other}
 use Rattle.steps.proofs.OneToken.{write_node_stop}
 use Rattle.steps.proofs.Moves.{asks_moved}
 use mathlib.Core.Path.{refl}
@@ -30,15 +30,15 @@ returns-in_default c =
 pub returns : goal.returns
 returns c = elim c.match-t.branch [
   | in-LBracket w ↦ let F = rw w.what-is at c.write_node.ensures in
-      compound_array c.in_ok-expect.ensures refl c.peek-t.ensures (same_number w.in-LBracket.is) (rw w.what-is at c.in_ok-count.ensures) (F _ _)
+      array_reads c.in_ok-expect.ensures refl c.peek-t.ensures (same_number w.in-LBracket.is) (rw w.what-is at c.in_ok-count.ensures) (F _ _)
   | in-LBrace w ↦ let F = rw w.what-is at c.write_node.ensures in
-      compound_struct c.in_ok-expect.ensures refl c.peek-t.ensures (same_number w.in-LBrace.is) (rw w.what-is at c.in_ok-count.ensures) (F _ _)
+      struct_reads c.in_ok-expect.ensures refl c.peek-t.ensures (same_number w.in-LBrace.is) (rw w.what-is at c.in_ok-count.ensures) (F _ _)
 ]
 
 pub returns-in_err-count : goal.returns-in_err-count
 returns-in_err-count c = rw (left c.from_residual-in_err-count.ensures.1) (elim c.match-t.branch [
-  | in-LBracket w ↦ compound_array c.in_ok-expect.ensures refl c.peek-t.ensures (same_number w.in-LBracket.is)
+  | in-LBracket w ↦ array_reads c.in_ok-expect.ensures refl c.peek-t.ensures (same_number w.in-LBracket.is)
       (rw w.what-is at c.in_err-count.ensures) (write_node_stop (refusal_is _))
-  | in-LBrace w ↦ compound_struct c.in_ok-expect.ensures refl c.peek-t.ensures (same_number w.in-LBrace.is)
+  | in-LBrace w ↦ struct_reads c.in_ok-expect.ensures refl c.peek-t.ensures (same_number w.in-LBrace.is)
       (rw w.what-is at c.in_err-count.ensures) (write_node_stop (refusal_is _))
 ])
