@@ -1,6 +1,6 @@
 -- Type aliases, `use` and variables at the top level: one law for each return of the functions. Assumes nothing.
 use mathlib.Core.Path.{◌≡◌, refl, sym, ap, ◌∙◌}
-use mathlib.Core.Bool.{Bool, true, false}
+use mathlib.Core.Bool.{false}
 use mathlib.Core.List.{List, [], ◌∷◌}
 use Prim.Native.Nat.{ℕ, ◌+◌, ◌≤◌, ◌<◌}
 use native.Mathlib.Omega.{arith}
@@ -37,16 +37,14 @@ use Rattle.leaves.proofs.Errors.{raise_reads}
 use Rattle.expression_laws.proofs.Types.{moved_onward, shown_from, record_reads, past}
 use Rattle.expression_laws.proofs.Calls.{expect_seam}
 use Rattle.statement.proofs.Statements.{clean}
-use Rattle.items.specs.declared.others.Modifiers.{Modifiers}
 use Rattle.items.specs.Rules.{naming, alias_rule, path_rule}
-use Rattle.items.specs.Items.{words_of, sum, Modified, NamedBy}
+use Rattle.items.specs.Items.{words_of, Modifies, NamedBy}
 use Rattle.fallible.specs.declared.error.Error.{Error}
 
 -- ---- `modifiers`
 
-module _ {w x : List ℕ} {n at : ℕ} {distinct internal : Bool} {t : Token} (u : Seen w x n at t) where
-  pub modifiers_none : at ≤ n → (kind_number t.kind ≡ 20 → ⊥) → (kind_number t.kind ≡ 21 → ⊥)
-      → Modified w n distinct internal at (record { distinct = distinct; internal = internal; next = at })
+module _ {w x : List ℕ} {n at : ℕ} {v : A.Words} {t : Token} (u : Seen w x n at t) where
+  pub modifiers_none : at ≤ n → (kind_number t.kind ≡ 20 → ⊥) → (kind_number t.kind ≡ 21 → ⊥) → Modifies w n v at v at
   unfolding go run P.modifiers_turn
   modifiers_none h m20 m21 = record {
     up = omega arith;
@@ -54,35 +52,34 @@ module _ {w x : List ℕ} {n at : ℕ} {distinct internal : Bool} {t : Token} (u
     room = omega arith;
     read = λ x rd. rd;
     is =
-        λ x d rd es. go_loop d (A.Modifiers (words_of distinct internal))
-        (record { tokens = rest w x n at; read = rd; full = es }) ∙ rw (run, no u m20, no u m21);
+        λ x d rd es. go_loop d (A.Modifiers v) (record { tokens = rest w x n at; read = rd; full = es })
+        ∙ rw (run, no u m20, no u m21);
   }
 
-  module _ {m : Modifiers} where
+  module _ {v' : A.Words} {next : ℕ} where
     -- a modifier is consumed
-    modifiers_on : {distinct' internal' : Bool} → Modified w n distinct' internal' t.next m
+    modifiers_on : {v₁ : A.Words} → Modifies w n v₁ t.next v' next
         → ((x : List ℕ) (d : ℕ) (rd : List Consumed) (es : List Err)
-        → go d (P.modifiers_turn (words_of distinct internal))
-        (record { tokens = rest w x n at; read = rd; full = es })
-        ≡ go d (loop (A.Modifiers (words_of distinct' internal')) done)
-        (record { tokens = rest w x n t.next; read = past w x n at rd; full = es }))
-        → Modified w n distinct internal at m
+        → go d (P.modifiers_turn v) (record { tokens = rest w x n at; read = rd; full = es })
+        ≡ go d (loop (A.Modifiers v₁) done) (record { tokens = rest w x n t.next; read = past w x n at rd; full = es }))
+        → Modifies w n v at v' next
     modifiers_on M step = record {
       up = omega arith;
       end = M.end;
       room = omega arith;
       read = λ x rd. M.read x (past w x n at rd);
       is =
-          λ x d rd es. go_loop d (A.Modifiers (words_of distinct internal))
-          (record { tokens = rest w x n at; read = rd; full = es }) ∙ step x d rd es ∙ M.is x d (past w x n at rd)
-          es;
+          λ x d rd es. go_loop d (A.Modifiers v) (record { tokens = rest w x n at; read = rd; full = es })
+          ∙ step x d rd es ∙ M.is x d (past w x n at rd) es;
     }
 
-    pub modifiers_distinct : kind_number t.kind ≡ 20 → Modified w n true internal t.next m → Modified w n distinct internal at m
+    pub modifiers_distinct : kind_number t.kind ≡ 20
+        → Modifies w n (record { distinct = 1; internal = v.internal }) t.next v' next → Modifies w n v at v' next
     unfolding go run P.modifiers_turn
     modifiers_distinct h M = modifiers_on M (λ x d rd es. rw (run, yes u h, u.tail))
 
-    pub modifiers_internal : kind_number t.kind ≡ 21 → Modified w n distinct true t.next m → Modified w n distinct internal at m
+    pub modifiers_internal : kind_number t.kind ≡ 21
+        → Modifies w n (record { distinct = v.distinct; internal = 2 }) t.next v' next → Modifies w n v at v' next
     unfolding go run P.modifiers_turn
     modifiers_internal h M = modifiers_on M (λ x d rd es. rw (run, other u h 20 refl, yes u h, u.tail))
 
@@ -220,22 +217,24 @@ onto s at = record { at = at; pos = s.pos; reported = s.reported; full = s.full 
 abbrev typed_on : Place → A.Words → Act (Ans Node)
 typed_on p v = P.expect 15 >>? λ _. alias_rule (v.distinct + v.internal) p
 
-module _ (d : ℕ) {w x : List ℕ} {n : ℕ} {o : List ℕ} {r f : List Error} {s : State} {t : Token} {m : Modifiers}
-    (q : Asked w n o r f s) (u : Seen w x n s.at t) (M : Modified w n false false s.at m) where
+module _ (d : ℕ) {w x : List ℕ} {n : ℕ} {o : List ℕ} {r f : List Error} {s : State} {t : Token} {v : A.Words} {next : ℕ}
+    (q : Asked w n o r f s) (u : Seen w x n s.at t) (M : Modifies w n (words_of false false) s.at v next) where
   modified_step : (rd : List Consumed)
       → go d P.parse_type_alias (st_of w x n f rd s)
-      ≡ go d (P.expect 15 >>? λ _. alias_rule (sum m) (place_of t.place))
-      (st_of w x n f (M.read x rd) (onto s m.next))
+      ≡ go d (P.expect 15 >>? λ _. alias_rule (v.distinct + v.internal) (place_of t.place))
+      (st_of w x n f (M.read x rd) (onto s next))
   unfolding go run P.parse_type_alias alias_rule
   modified_step rd =
       let p : Place = (next_token (rest w x n s.at)).place in
-      let S : St = st_of w x n f (M.read x rd) (onto s m.next) in
+      let S : St = st_of w x n f (M.read x rd) (onto s next) in
       loop_bind d (A.Modifiers (words_of false false)) (typed_on p) (st_of w x n f rd s)
       ∙ ap (λ (z : Res A.Words). after z (λ v T. go d (typed_on p v) T)) (M.is x d rd (errs f s.full))
-      ∙ ap (λ (p : Place). go d (P.expect 15 >>? λ _. alias_rule (sum m) p) S) (u.place x)
+      ∙ ap (λ (p : Place). go d (P.expect 15 >>? λ _. alias_rule (v.distinct + v.internal) p) S) (u.place x)
 
   -- the modifiers, and what follows them
-  pub modified_reads : {o1 : List ℕ} {r1 f1 : List Error} {y : Answer} → Reads node w x n d (P.expect 15 >>? λ _. alias_rule (sum m) (place_of t.place)) o r f (onto s m.next) o1 r1 f1 y → Reads node w x n d P.parse_type_alias o r f s o1 r1 f1 y
+  pub modified_reads : {o1 : List ℕ} {r1 f1 : List Error} {y : Answer}
+      → Reads node w x n d (P.expect 15 >>? λ _. alias_rule (v.distinct + v.internal) (place_of t.place)) o r f (onto s next) o1 r1 f1 y
+      → Reads node w x n d P.parse_type_alias o r f s o1 r1 f1 y
   unfolding present
   modified_reads R = record { moved = omega arith; on = omega arith; is = λ rd. say (modified_step rd) (R.is (M.read x rd)) }
 

@@ -64,16 +64,20 @@ words_of distinct internal = record { distinct = flag distinct; internal = 2 * f
 abbrev pub sum : Modifiers → ℕ
 sum m = flag m.distinct + 2 * flag m.internal
 
--- the loop over the modifiers, whatever the text holds and at any nesting: the modifiers, and the index of the token
--- after them
-pub record Modified (w : List ℕ) (n : ℕ) (distinct internal : Bool) (at : ℕ) (m : Modifiers) : Type 0 where
-  pub up : at ≤ m.next
-  pub end : m.next ≤ n
-  pub room : budget w n m.next ≤ budget w n at
+-- the loop over the modifiers, whatever the text holds and at any nesting: from v on it gives v', and the index of the
+-- token after them
+pub record Modifies (w : List ℕ) (n : ℕ) (v : A.Words) (at : ℕ) (v' : A.Words) (next : ℕ) : Type 0 where
+  pub up : at ≤ next
+  pub end : next ≤ n
+  pub room : budget w n next ≤ budget w n at
   pub read : List ℕ → List Consumed → List Consumed
   pub is : (x : List ℕ) (d : ℕ) (rd : List Consumed) (es : List Err)
-      → go d (loop (A.Modifiers (words_of distinct internal)) done) (record { tokens = rest w x n at; read = rd; full = es })
-      ≡ gives (words_of m.distinct m.internal) (record { tokens = rest w x n m.next; read = read x rd; full = es })
+      → go d (loop (A.Modifiers v) done) (record { tokens = rest w x n at; read = rd; full = es })
+      ≡ gives v' (record { tokens = rest w x n next; read = read x rd; full = es })
+
+-- the same of those that the code has
+abbrev pub Modified : List ℕ → ℕ → Bool → Bool → ℕ → Modifiers → Type 0
+Modified w n distinct internal at m = Modifies w n (words_of distinct internal) at (words_of m.distinct m.internal) m.next
 
 -- ---- the module
 
