@@ -105,21 +105,20 @@ module _ {w x : List ℕ} {n d : ℕ} {o : List ℕ} {r f : List Error} {s : Sta
         (λ _. place_of place) (λ _. []) [] v) S) (adv s u (λ _. plain) f rd _)))
 
 -- `;`
+followed : {w : List ℕ} {n i : ℕ} {o : List ℕ} {r f : List Error} {a : Answer} → Asked w n o r f a.state → i ≤ a.state.pos
+    → Follows n r f a i a.state.reported
+followed q hi = record { asks = q.asks; pos = hi; reported = omega arith }
+
 module _ {w x : List ℕ} {n d : ℕ} {o : List ℕ} {r f : List Error} {t : Token} {i : ℕ} {place : Place} {a : Answer}
     (q : Asked w n o r f a.state) (hi : i ≤ a.state.pos) (u : Seen w x n a.state.at t)
     (z : a.status ≡ Done) where
-  expression_after : {r1 r2 f2 : List Error} {o2 : List ℕ} {c b y : Answer} → (kind_number t.kind ≡ 26 → ⊥) → (kind_number t.kind ≡ 52 → ⊥)
-      → Abandoned r a i a.state.reported a.state.reported r1 c
-      → (Follows n r1 f c i a.state.reported → Expected w n 50 i a.state.reported r1 f c r2 f2 b)
-      → NodeWritten o b (placed place Tag.Expression None []) o2 y
+  pub expression_after : {r2 f2 : List Error} {o2 : List ℕ} {b y : Answer} → (kind_number t.kind ≡ 26 → ⊥) → (kind_number t.kind ≡ 52 → ⊥)
+      → Expected w n 50 i a.state.reported r f a r2 f2 b → NodeWritten o b (placed place Tag.Expression None []) o2 y
       → ReadsAfter w x n d (P.after_expression (place_of place)) i o r f a.state o2 r2 f2 y
   unfolding go run P.after_expression
-  expression_after {r1 = r1} {c = c} {b = b} {y = y} m26 m52 C X F =
-      let kept = subst (λ (h : Status). AbandonedOf h r a i a.state.reported a.state.reported r1 c) z C.is in
-      let p : Follows n r f a i a.state.reported = record { asks = q.asks; pos = hi; reported = omega arith } in
-      let Y = (rw (kept.0, kept.1) at X) p in
+  expression_after {b = b} {y = y} m26 m52 X F =
       record {
-        moved = written_moved Y.moved (λ z. let one : done_of b.status ≡ 1 = rw z in omega (arith, Y.high, Y.pays)) F;
+        moved = written_moved X.moved (λ z. let one : done_of b.status ≡ 1 = rw z in omega (arith, X.high, X.pays)) F;
         is = λ rd T e li tree.
             let v : Fallible Node → Act (Ans Node) = wrapped any_node [] [] 0x41 (λ _. place_of place) (λ _. []) [] in
             let A : Shows any_node T (errs r a.state.reported) [] [] w x n o r f a (gives (ok (record { item = e; errors = [] })) (st_of w x n f rd a.state)) =
@@ -135,9 +134,19 @@ module _ {w x : List ℕ} {n d : ℕ} {o : List ℕ} {r f : List Error} {t : Tok
             say (rw (run, no u m26, no u m52) (expect_seam d plain 50 v
             (gives (ok (record { item = e; errors = [] })) (st_of w x n f rd a.state))))
             (writes_node d (λ _. place_of place) (λ _. []) [] F (λ _ _. refl)
-            (expects_after p Y plain d li
+            (expects_after (followed q hi) X plain d li
             (errs_length r a.state.reported (omega (arith, q.asks))) A));
       }
+
+  -- where `abandon` was called before `expect`: it did nothing
+  nothing_after : {r1 r2 f2 : List Error} {o2 : List ℕ} {c b y : Answer} → (kind_number t.kind ≡ 26 → ⊥) → (kind_number t.kind ≡ 52 → ⊥)
+      → Abandoned r a i a.state.reported a.state.reported r1 c
+      → (Follows n r1 f c i a.state.reported → Expected w n 50 i a.state.reported r1 f c r2 f2 b)
+      → NodeWritten o b (placed place Tag.Expression None []) o2 y
+      → ReadsAfter w x n d (P.after_expression (place_of place)) i o r f a.state o2 r2 f2 y
+  nothing_after {r1 = r1} {c = c} m26 m52 C X F =
+      let kept = subst (λ (h : Status). AbandonedOf h r a i a.state.reported a.state.reported r1 c) z C.is in
+      expression_after m26 m52 ((rw (kept.0, kept.1) at X) (followed q hi)) F
 
 -- whichever there is
 module _ {w x : List ℕ} {n d : ℕ} {o : List ℕ} {r f : List Error} {s : State} {i : ℕ} {place : Place} {tags : Tags} {tag : Tag} {o1 : List ℕ} {r1 f1 r2 r3 f2 : List Error} {o2 : List ℕ} {a b c y : Answer}
@@ -155,7 +164,7 @@ module _ {w x : List ℕ} {n d : ℕ} {o : List ℕ} {r f : List Error} {s : Sta
       one Given.Expression e v = assignment_after q hi V.seen v.0 v.1 C lr lf X (rw e at F)
       one Given.Compound e v = compound_after q hi V.seen v.0 v.1 C lr lf X (rw e at F)
       one Given.Nothing e v =
-          expression_after q hi V.seen refl v.0.0 v.0.1 (rw (v.1.0, v.1.1.1.0) at C) (rw v.1.1.1.1 at X) (rw (e, v.1.1.0) at F)
+          nothing_after q hi V.seen refl v.0.0 v.0.1 (rw (v.1.0, v.1.1.1.0) at C) (rw v.1.1.1.1 at X) (rw (e, v.1.1.0) at F)
 
 -- ---- the expression, and what follows it
 
