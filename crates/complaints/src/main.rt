@@ -5,8 +5,9 @@
 // always 0.
 #![tactic(auto)]
 
-ghost use Rattle.std.specs.Prelude.{length};
+ghost use Rattle.std.specs.Prelude.{◌≡◌, length, IfSome};
 ghost use Rattle.std.specs.Iterator.{at_most};
+ghost use Rattle.definition.specs.Numbers.{tag_number};
 
 use definition::limit;
 use definition::place::Place;
@@ -29,7 +30,9 @@ struct Field<'a> {
 
 impl Field<'_> {
     // The place of an error of the list, if the field is one.
-    fn place_in(self, list: Tag) -> Option<Place> {
+    fn place_in(self, list: Tag) -> Option<Place>
+        ensures { IfSome result (λ place. (length self.body.now ≡ 7) × (self.tag ≡ tag_number list)) }
+    {
         match *self.body {
             [_, a, b, c, d, _, _] if self.tag == u8::from(list) => Some(Place {
                 line: u16::from_be_bytes([a, b]).into(),

@@ -133,6 +133,9 @@ impl fmt::Display for Counts {
     }
 }
 
+// More than the cases of any list: a list that never ends is not replayed further.
+const MOST: u64 = 1000000000;
+
 // Counts the cases of a list. Each begins with a header, as long as the slice that is lent for it; `agrees` is given
 // that, and reads the rest of the case. A case that the list ends inside differs.
 fn count_cases<R: Read, F: FnMut(&[u8], &mut R) -> Option<bool>>(
@@ -144,8 +147,7 @@ fn count_cases<R: Read, F: FnMut(&[u8], &mut R) -> Option<bool>>(
     requires callable { F.IsAlwaysCallable agrees }
 {
     let mut counts = Counts::default();
-    // The kit's form of a loop over input: it wants a bound, and a `Read` may never end.
-    for _ in 0..u64::MAX {
+    for _ in 0..MOST {
         let n = read_full(list, header);
         if n == 0 {
             break;

@@ -17,13 +17,13 @@ const FILE: usize = 70000;
 
 // ---- slices
 
-// Reads the next `n` words to the start of a slice, as `part` reads bytes.
+// Reads the next `n` words to the start of a slice, as `part` reads bytes; of more than it has room for, as many as it has.
 fn words<'a>(list: &mut Stdin, space: &'a mut [u32], n: u32) -> Option<&'a mut [u32]> {
-    let words = space.get_mut(..n as usize)?;
-    for word in words.iter_mut() {
+    let n = n as usize;
+    for word in space.iter_mut().take(n) {
         *word = number(list, 4)?;
     }
-    Some(words)
+    space.get_mut(..n)
 }
 
 // The byte of the file slice after the tree file: refusals 3, 8 and 9, which a list has as numbers, leave the slice

@@ -45,7 +45,8 @@ fn token_error(list: &mut Stdin) -> Option<[u32; 4]> {
     ])
 }
 
-// The next `count` records of the list, which it reads to the start of a slice.
+// The next `count` records of the list, which it reads to the start of a slice; none if there are fewer, or if the slice
+// is shorter. It reads those too that the slice has no room for, so that the next case begins after them.
 fn records<'a, T: Copy, F: Fn(&mut Stdin) -> Option<T>>(
     list: &mut Stdin,
     space: &'a mut [T],
@@ -54,11 +55,14 @@ fn records<'a, T: Copy, F: Fn(&mut Stdin) -> Option<T>>(
 ) -> Option<&'a [T]>
     requires { F.IsAlwaysCallable next }
 {
-    let records = space.get_mut(..count as usize)?;
-    for record in records.iter_mut() {
-        *record = next(list)?;
+    let count = count as usize;
+    for at in 0..count {
+        let record = next(list)?;
+        if let Some(place) = space.get_mut(at) {
+            *place = record;
+        }
     }
-    Some(records)
+    space.get(..count)
 }
 
 // ---- cases
@@ -91,16 +95,20 @@ fn agrees(mut header: &[u8], list: &mut Stdin) -> Option<bool> {
     } else {
         (0, 0)
     };
-    let expected_tokens = records(list, &mut expected_tokens, token_count, token)?;
-    let expected_errors = records(list, &mut expected_errors, error_count, token_error)?;
-    let expected_text = part(list, &mut expected_text, bytes as usize)?;
+    // All three are read, also after one that there is no room for.
+    let expected_tokens = records(list, &mut expected_tokens, token_count, token);
+    let expected_errors = records(list, &mut expected_errors, error_count, token_error);
+    let expected_text = part(list, &mut expected_text, bytes as usize);
+    let expected_tokens = expected_tokens?.as_flattened();
+    let expected_errors = expected_errors?.as_flattened();
+    let expected_text = expected_text?;
     let counts = got.map_or((0, 0), |found| (found.tokens, found.errors));
     let bytes = got.map(|found| found.bytes).map_err(u32::from);
     Some(
         agrees_with(bytes, refusal, expected_text)
             && counts == (token_count as usize, error_count as usize)
-            && holds(tokens, expected_tokens.as_flattened(), rest_word)
-            && holds(errors, expected_errors.as_flattened(), rest_word)
+            && holds(tokens, expected_tokens, rest_word)
+            && holds(errors, expected_errors, rest_word)
             && holds(text, expected_text, rest_byte),
     )
 }
