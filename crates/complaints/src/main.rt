@@ -31,7 +31,7 @@ struct Field<'a> {
 impl Field<'_> {
     // The place of an error of the list, if the field is one.
     fn place_in(self, list: Tag) -> Option<Place>
-        ensures { IfSome result (λ place. (length self.body.now ≡ 7) × (self.tag ≡ tag_number list)) }
+        ensures { IfSome result (λ place. (length self.entry.body.now ≡ 7) × (self.entry.tag ≡ tag_number list)) }
     {
         match *self.body {
             [_, a, b, c, d, _, _] if self.tag == u8::from(list) => Some(Place {

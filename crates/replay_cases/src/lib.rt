@@ -78,13 +78,38 @@ pub const FILLER: u8 = 0xA5;
 
 pub const FILLER_WORD: u32 = 0xA5A5A5A5;
 
+// So many elements are compared at once.
+const RUN: usize = 256;
+
+fn each_is<T: PartialEq + Copy>(slice: &[T], value: T) -> bool
+    ensures { IsTrue result ↔ All (λ x. T.eq x value ≡ true) slice.now }
+{
+    slice.iter().all(|x| *x == value)
+}
+
+// Whether all elements equal `value`. After the first run by runs: one by one they took longer than the operation.
+fn all_are<T: PartialEq + Copy>(slice: &[T], value: T) -> bool
+    ensures { IsTrue result ↔ All (λ x. T.eq x value ≡ true) slice.now }
+{
+    let Some((run, mut left)) = slice.split_at_checked(RUN) else {
+        return each_is(slice, value);
+    };
+    if !each_is(run, value) {
+        return false;
+    }
+    while let Some(after) = left.strip_prefix(run) {
+        left = after;
+    }
+    each_is(left, value)
+}
+
 // Whether a slice begins with what a case holds, and has `rest` in all places after it.
 pub fn holds<T: PartialEq + Copy>(slice: &[T], start: &[T], rest: T) -> bool
     ensures { IsTrue result ↔ ((pointwise T.eq (take (length start.now) slice.now) start.now ≡ true)
         × All (λ x. T.eq x rest ≡ true) (drop (length start.now) slice.now)) }
 {
     match slice.strip_prefix(start) {
-        Some(after) => after.iter().all(|x| *x == rest),
+        Some(after) => all_are(after, rest),
         None => false,
     }
 }

@@ -15,14 +15,16 @@ pub fn put<T: Copy>(out: &mut [T], at: usize, x: T) -> usize
     at + 1
 }
 
-// Writes the elements of `xs`, and returns the offset after them.
+// Writes the elements of `xs`, and returns the offset after them. By a loop, since the library's `copy_from_slice` is
+// compiled to `memmove`, which the C library is not to need.
 pub fn put_all<T: Copy>(out: &mut [T], at: usize, xs: &[T]) -> usize
     requires { at + length xs.now ≤ length out.old }
     ensures { Wrote out.old at xs.now out.new result }
 {
-    let end = at + xs.len();
-    out[at..end].copy_from_slice(xs);
-    end
+    for (i, x) in xs.iter().enumerate() {
+        put(out, at + i, *x);
+    }
+    at + xs.len()
 }
 
 // A slice that is written from the offset `at` on.
