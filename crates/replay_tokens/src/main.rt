@@ -12,8 +12,10 @@ const LIST_TOKEN_WORDS: usize = 17000;
 
 const LIST_ERROR_WORDS: usize = 2000;
 
-// The most token records or error records in a case: more than a script may have.
-const RECORDS: usize = 2100;
+// The records of each slice.
+const LIST_TOKENS: usize = LIST_TOKEN_WORDS / 8;
+
+const LIST_ERRORS: usize = LIST_ERROR_WORDS / 4;
 
 // ---- records
 
@@ -73,8 +75,8 @@ fn agrees(mut header: &[u8], list: &mut Stdin) -> Option<bool> {
     let mut tokens = [FILLER_WORD; LIST_TOKEN_WORDS];
     let mut errors = [FILLER_WORD; LIST_ERROR_WORDS];
     let mut text = [FILLER; BYTES];
-    let mut expected_tokens = [[0; 8]; RECORDS];
-    let mut expected_errors = [[0; 4]; RECORDS];
+    let mut expected_tokens = [[0; 8]; LIST_TOKENS];
+    let mut expected_errors = [[0; 4]; LIST_ERRORS];
     let mut expected_text = [0; BYTES];
     let script_bytes = number(&mut header, 3)?;
     let token_words = number(&mut header, 3)?;
