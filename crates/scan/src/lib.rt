@@ -252,18 +252,19 @@ pub fn quoted(s: &[u8], from: Cursor, text: &mut [u8], start: usize) -> Body
     let mut unknown = 0;
     while c.at < s.len() {
         let b = s[c.at];
-        let next = step(s, c);
         if b == b'"' {
             return Body {
-                end: Ok(Scan { cursor: next, n }),
+                end: Ok(Scan { cursor: step(s, c), n }),
                 unknown,
             };
         }
         if b != b'\\' {
+            let next = step(s, c);
             n = put_char(s, c, next, text, n);
             c = next;
             continue;
         }
+        let next = step(s, c);
         if s.len() <= next.at {
             return Body {
                 end: Err(Scan { cursor: next, n }),
