@@ -10,7 +10,7 @@ use Rattle.definition.specs.declared.refusal.Refusal.{Refusal}
 use Rattle.definition.specs.Numbers.{refusal_number}
 use Rattle.fallible.specs.declared.Stop.{Stop}
 use Rattle.fallible.specs.declared.Stop.TheVariants.{Refused}
-use Rattle.fallible.specs.Answer.{node_answer, told, stopped, recovered}
+use Rattle.fallible.specs.Answer.{Answer, node_answer, told, stopped, recovered}
 use Rattle.fallible.specs.declared.Tally.{Tally}
 use denote.Triple.Both.{Both}
 use Rattle.fallible.specs.Tallies as T
@@ -32,6 +32,12 @@ Pushed t reported full e r = T.Pushed (old reported) (old full) t e (new reporte
 
 abbrev pub Propagated : Tally → LentErrors → ℕ → ℕ → Tally → Type 0
 Propagated t reported from end r = T.Propagated (old reported) t from end (new reported) r
+
+-- ---- an error
+
+-- it is made: the answer, and the error at the end of both lists
+abbrev pub Raised : Answer → LentErrors → LentErrors → State → Error → Answer → Type 0
+Raised expected reported full st e r = A.Raised expected (old reported) (old full) st e (new reported) (new full) r
 
 -- ---- the parser
 
