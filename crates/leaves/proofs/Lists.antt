@@ -11,11 +11,11 @@ use Rattle.fallible.specs.declared.parser.State.{State}
 use Rattle.fallible.specs.Answer.{nowhere, Done, Answer}
 use Rattle.fallible.specs.Lists.{err_of, error_at}
 use Rattle.fallible.specs.Answers.{noted, Raised}
-use Rattle.steps.specs.declared.tokens.Token.{Token}
-use Rattle.steps.specs.Tokens.{rest, Seen}
+use Rattle.steps.specs.declared.tokens.Decoded.{Decoded}
+use Rattle.steps.specs.Tokens.{rest, Peeked}
 use Rattle.steps.specs.Shows.{st_of, Asks, Moved}
-use Rattle.steps.proofs.Records.{yes, no, fore, adv}
-use Rattle.steps.proofs.Moves.{stays, asks_fore, fore_moved, making_moved, moved_trans}
+use Rattle.steps.proofs.Moves.{stays, making_moved, moved_trans}
+use Rattle.steps.proofs.Decoding.{yes, no, fore, adv, asks_fore, fore_moved}
 use Rattle.leaves.specs.Leaves.{CommasOf, Commas}
 use Rattle.leaves.proofs.Errors.{made_so, makes, makes_none}
 use Rattle.fallible.specs.declared.error.Error.{Error}
@@ -25,7 +25,7 @@ make_same : (d : ℕ) (k : Listed) (i : Items) {X Y : Err} {S S' : St} → X ≡
     ≡ go d (make Y (loop (ListOf k (P.with_error i Y)) done)) S'
 make_same d k i p q = rw (p, q)
 
-module _ {w x : List ℕ} {n : ℕ} {r f : List Error} {s : State} {close : ℕ} {t : Token} (q : Asks n r f s) (v : Seen w x n s.at t) where
+module _ {w : List ℕ} {n : ℕ} {r f : List Error} {s : State} {close : ℕ} {t : Decoded} (q : Asks n r f s) (v : Peeked w n s.at t) where
   -- no error is made, and the list continues
   goes : {s' : State} (read : List ℕ → Listed → List Consumed → List Consumed) → Moved w n s.pos s.reported s s'
       → s'.pos ≡ s.pos → s'.reported ≡ s.reported

@@ -1,6 +1,8 @@
 // Functions of parser.rs that call none of the four counted ones: parts of lists, levels, literals, sizes, groups.
 #![tactic(auto)]
 
+pub mod textless;
+
 ghost use Rattle.std.specs.Prelude.{◌≡◌, ℕ, ◌+◌, ◌<◌, ◌≤◌, length};
 ghost use Rattle.definition.specs.Numbers.{kind_number};
 ghost use Rattle.definition.specs.Parser as P;
@@ -16,12 +18,12 @@ use definition::parse_error::ParseError;
 use definition::place::Place;
 use definition::refusal::Refusal;
 use definition::tag::Tag;
+use fallible::Stop;
 use fallible::error::Error;
 use fallible::parser::{Parser, State};
-use fallible::{Stop, recover};
 use node::Numbers;
 use steps::tokens::{Token, Tokens};
-use steps::{expect, write_text_node};
+use steps::write_text_node;
 
 // The kinds of lists that parse_bounded_list_of parses. An enum, as the project asks; the Rust takes a closure.
 #[derive(Clone, Copy)]
@@ -69,25 +71,12 @@ pub fn counted(item: Option<Place>, count: usize) -> usize
     }
 }
 
-// Parses the separator after a list item: a comma; the closer or the end is left; another token is an error.
+// `textless::comma`, of tokens with their text.
 pub fn comma(tokens: Tokens, parser: &mut Parser, close: Kind) -> Result<(), Refusal>
     requires { Asks tokens parser }
     ensures { Commas (kind_number close) tokens parser result }
 {
-    let t = tokens.peek(parser.state.at);
-    if let Kind::Comma = t.kind {
-        parser.state.at = t.next;
-        return Ok(());
-    }
-    if t.kind == close {
-        return Ok(());
-    }
-    if let Kind::End = t.kind {
-        return Ok(());
-    }
-    parser.state.at = t.next;
-    let error = Error::new(ParseError::InList, t.place, Kind::End, t.kind);
-    parser.note(tokens.count, error)
+    textless::comma(tokens.records(), parser, close)
 }
 
 // The value of a digit of any base.
@@ -283,7 +272,7 @@ pub fn literal(tokens: Tokens, file: &mut [u8], parser: &mut Parser) -> Result<P
     }
 }
 
-// Parses the `)` of a group. Keeps the item and errors of `called`, also if it is fatal, and adds the errors of the `)`.
+// `textless::close`, of tokens with their text.
 pub fn close(
     tokens: Tokens,
     parser: &mut Parser,
@@ -292,7 +281,5 @@ pub fn close(
     requires { Asks tokens parser }
     ensures { Closed tokens parser called result }
 {
-    recover(called)?;
-    recover(expect(tokens, parser, Kind::RParen))?;
-    called
+    textless::close(tokens.records(), parser, called)
 }

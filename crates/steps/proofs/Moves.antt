@@ -1,7 +1,7 @@
 -- How the numbers of a state change, from one state to a later one. Assumes nothing.
 use mathlib.Core.Path.{◌≡◌, refl, ap}
 use mathlib.Core.List.{List}
-use Prim.Native.Nat.{ℕ, ◌<◌}
+use Prim.Native.Nat.{ℕ, ◌≤◌, ◌<◌}
 use native.Mathlib.Omega.{arith}
 use lib.ListN.{length}
 use mathlib.Core.Bool.{Bool, true, false}
@@ -15,11 +15,14 @@ use Rattle.fallible.specs.Answers.{refused_at, one_more, making, Abandoned}
 use Rattle.steps.specs.declared.tokens.Token.{Token}
 use Rattle.steps.specs.Tokens.{budget, Seen}
 use Rattle.steps.specs.Shows.{Asks, Asked, Moved}
-use Rattle.steps.proofs.Records.{budget_nil, fore}
+use Rattle.steps.proofs.Records.{budget_nil, at_index, fore}
 
 -- at the end the budget is 0
 pub spent : (w : List ℕ) (n : ℕ) → budget w n n ≡ 0
 spent w n = budget_nil w n n (omega arith)
+
+pub asks_later : {n i : ℕ} {r f : List Error} {s : State} → Asks n r f s → i ≤ n → Asks n r f (at_index s i)
+asks_later q h = record { at = h; reported = q.reported; few = q.few; reps = q.reps; fulls = q.fulls }
 
 module _ {w : List ℕ} {n : ℕ} {r f : List Error} {s : State} (q : Asks n r f s) where
   pub stays : Moved w n s.pos s.reported s s
@@ -69,22 +72,26 @@ module _ {w : List ℕ} {n : ℕ} {r f : List Error} {s : State} (q : Asks n r f
           }
       go false g e = refused_moved 12
 
+  -- at a later index
+  pub later_moved : {i : ℕ} → s.at ≤ i → i ≤ n → budget w n i ≤ budget w n s.at → Moved w n s.pos s.reported s (at_index s i)
+  later_moved h g b =
+      record {
+        at = h;
+        end = g;
+        pos = omega arith;
+        room = omega arith;
+        reported = omega arith;
+        less = omega arith;
+        full = omega arith;
+        few = q.few;
+      }
+
   module _ {x : List ℕ} {t : Token} (v : Seen w x n s.at t) where
     pub asks_fore : Asks n r f (fore s t)
-    asks_fore = record { at = v.end; reported = q.reported; few = q.few; reps = q.reps; fulls = q.fulls }
+    asks_fore = asks_later q v.end
 
     pub fore_moved : Moved w n s.pos s.reported s (fore s t)
-    fore_moved =
-        record {
-          at = v.up;
-          end = v.end;
-          pos = omega arith;
-          room = omega arith;
-          reported = omega arith;
-          less = omega arith;
-          full = omega arith;
-          few = q.few;
-        }
+    fore_moved = later_moved v.up v.end (omega arith)
 
 pub moved_trans : {w : List ℕ} {n i j i' j' : ℕ} {s t u : State} → Moved w n i j s t → Moved w n i' j' t u → Moved w n i' j' s u
 moved_trans p q =

@@ -20,11 +20,11 @@ use Rattle.fallible.specs.Answer.{nowhere, Status, Done, Fatal, Refused, done_of
 use Rattle.fallible.specs.Lists.{err_of, error_at, errs}
 use Rattle.fallible.specs.Answers.{refused_at, one_more, making, raised, Raised}
 use Rattle.definition.specs.Node.{Rec}
-use Rattle.steps.specs.declared.tokens.Token.{Token}
-use Rattle.steps.specs.Tokens.{rest, Seen}
+use Rattle.steps.specs.declared.tokens.Decoded.{Decoded}
+use Rattle.steps.specs.Tokens.{rest, Peeked}
 use Rattle.steps.specs.Shows.{Follows, ExpectedOf, Expected, st_of, Asks, Moved, token, Expects, NodeWrittenOf, NodeWritten}
-use Rattle.steps.proofs.Records.{yes, no, other, fore, adv}
-use Rattle.steps.proofs.Moves.{asks_fore, fore_moved, making_moved, moved_trans}
+use Rattle.steps.proofs.Moves.{making_moved, moved_trans}
+use Rattle.steps.proofs.Decoding.{yes, no, other, fore, adv, asks_fore, fore_moved}
 use Rattle.steps.proofs.Answers.{not_done, Stopped, say, raise_same, raise_shows}
 
 -- ---- the answer of a raised error
@@ -44,7 +44,7 @@ making_pos h n s = go (ltb s.full 255)
     go true = refl
     go false = refl
 
-module _ {w x : List ℕ} {n : ℕ} {r f : List Error} {s : State} {t : Token} (q : Asks n r f s) (v : Seen w x n s.at t) where
+module _ {w : List ℕ} {n : ℕ} {r f : List Error} {s : State} {t : Decoded} (q : Asks n r f s) (v : Peeked w n s.at t) where
   -- the token is there
   there : {m : Role → Act (Ans Tok)} {k : ℕ} (of : Role → Role) → 0 < k → kind_number t.kind ≡ k
       → ((x : List ℕ) (role : Role) (d : ℕ) (rd : List Consumed)

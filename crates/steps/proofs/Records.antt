@@ -1,5 +1,5 @@
 -- The tokens of the records, decoded one by one. Assumes nothing.
-use mathlib.Core.Path.{◌≡◌, refl, sym, ap, ◌∙◌}
+use mathlib.Core.Path.{◌≡◌, refl, sym, ◌∙◌}
 use mathlib.Core.Bool.{true, false}
 use mathlib.Core.List.{List, [], ◌∷◌, ◌++◌}
 use Prim.Native.Nat.{ℕ, zero, suc, min, ◌+◌, ◌*◌, ◌-◌, ◌≤◌, ◌<◌}
@@ -8,9 +8,7 @@ use lib.Dec.{eqb}
 use lib.ListN.{length, take, drop, get_or, length-drop}
 use lib.Seq.{length-take-le}
 use borrow.Author.Tests.{eq-eqb, ne_eqb}
-use Rattle.definition.specs.Source.{place_at, nowhere}
 use Rattle.definition.specs.Numbers.{kind_number, KindOf}
-use Rattle.definition.specs.Places.{place_of}
 use Rattle.definition.specs.declared.kind.Kind.{Kind}
 use Rattle.definition.specs.declared.kind.NoKind.{NoKind}
 use Rattle.std.specs.Prelude.{Result, Ok, Err}
@@ -21,7 +19,7 @@ unfoldable use Rattle.definition.specs.Cost.{spend}
 use Rattle.definition.specs.Act.{Role, Consumed, advance, now_read}
 use Rattle.fallible.specs.declared.parser.State.{State}
 use Rattle.steps.specs.declared.tokens.Token.{Token}
-use Rattle.steps.specs.Tokens.{tok_at, from, rest, owed, budget, present, Held, Parts, Seen}
+use Rattle.steps.specs.Tokens.{tok_at, from, rest, owed, budget, present, Parts, Seen}
 use Rattle.steps.specs.Shows.{st_of}
 
 -- ---- tokens
@@ -73,54 +71,6 @@ pub kind_read : (r : Result Kind NoKind) {n : ℕ} {k : Kind} → k ≡ result_u
 kind_read (Ok j) e q h = rw e q.0
 kind_read (Err j) e q h = absurd (omega (arith, q.1))
 
--- ---- what `peek` gives within the tokens, and at the end
-
-module _ {w x : List ℕ} {n at : ℕ} {t : Token} where
-  pub seen_there : Held w n → Parts w x n → at < n → kind_number t.kind ≡ get_or w (8 * at) 0
-      → place_of t.place ≡ place_at (get_or w (8 * at + 1) 0) (get_or w (8 * at + 2) 0)
-      → t.text.now ≡ take (get_or w (8 * at + 3) 0 + get_or w (8 * at + 4) 0 - get_or w (8 * at + 3) 0) (drop (get_or w (8 * at + 3) 0) x)
-      → t.base ≡ get_or w (8 * at + 5) 0 → t.next ≡ at + 1 → Seen w x n at t
-  unfolding present
-  seen_there q parts h k p part b z =
-      let s = q.each at h in
-      let z' : get_or w (8 * at + 3) 0 + get_or w (8 * at + 4) 0 - get_or w (8 * at + 3) 0 ≡ get_or w (8 * at + 4) 0 = omega arith in
-      let e : t.text.now ≡ take (get_or w (8 * at + 4) 0) (drop (get_or w (8 * at + 3) 0) x) = rw z' at part in
-      let l : length t.text.now ≡ get_or w (8 * at + 4) 0 =
-      ap length e ∙ length-take-le _ _ (simp length-drop (omega (arith, parts.each at h))) in
-      record {
-        kind = λ y. rw (rest_cons w y n at h) (sym k);
-        place = λ y. rw (rest_cons w y n at h) (sym p);
-        text = rw (rest_cons w x n at h) (sym e);
-        base = λ y. rw (rest_cons w y n at h) (sym b);
-        tail = λ y. rw (rest_cons w y n at h, z);
-        pays = rw z (omega (arith, budget_cons w n at h, k, l));
-        present = omega (arith, k, s.real);
-        on = omega (arith, k, z);
-        up = omega (arith, z);
-        end = omega (arith, z);
-        bases = omega (arith, b, s.base);
-        based = λ i. omega (arith, b, s.based (sym k ∙ i));
-      }
-
-  pub seen_end : at ≤ n → n ≤ at → t.kind ≡ Kind.End → place_of t.place ≡ nowhere → t.text.now ≡ [] → t.base ≡ 0 → t.next ≡ at
-      → Seen w x n at t
-  unfolding present
-  seen_end g h k p e b z =
-      record {
-        kind = λ y. rw (rest_nil w y n at h, k);
-        place = λ y. rw (rest_nil w y n at h) (sym p);
-        text = rw (rest_nil w x n at h) (sym e);
-        base = λ y. rw (rest_nil w y n at h) (sym b);
-        tail = λ y. rw (z, rest_nil w y n at h);
-        pays = rw (z, k, e) (omega arith);
-        present = rw k (omega arith);
-        on = rw k (omega (arith, z));
-        up = omega (arith, z);
-        end = omega (arith, z);
-        bases = omega (arith, b);
-        based = λ i. absurd (cc);
-      }
-
 -- a test of the kind in the code decides that of the definition
 pub yes : {w x : List ℕ} {n at k : ℕ} {t : Token} → Seen w x n at t → kind_number t.kind ≡ k
     → (y : List ℕ) → next_token (rest w y n at) is k ≡ true
@@ -135,9 +85,13 @@ pub other : {w x : List ℕ} {n at k : ℕ} {t : Token} → Seen w x n at t → 
     → (y : List ℕ) → next_token (rest w y n at) is j ≡ false
 other v e j h y = rw (v.kind y, e) h
 
+-- the state s, at another index
+abbrev pub at_index : State → ℕ → State
+at_index s i = record { at = i; pos = s.pos; reported = s.reported; full = s.full }
+
 -- the state after a token
 abbrev pub fore : State → Token → State
-fore s t = record { at = t.next; pos = s.pos; reported = s.reported; full = s.full }
+fore s t = at_index s t.next
 
 -- reading a token advances the definition's state
 pub adv : {w x : List ℕ} {n : ℕ} {t : Token} (s : State) → Seen w x n s.at t

@@ -1,3 +1,4 @@
 pub mod Tokens
 pub mod Shows
 pub mod Contract
+pub mod Records

@@ -1,10 +1,11 @@
 -- The tokens that the records in lent slices encode, and what decoding one ensures. Assumes nothing.
-use Rattle.std.specs.Prelude.{◌≡◌, List, [], ◌∷◌, ℕ, zero, suc, min, ◌+◌, ◌*◌, ◌-◌, ◌<◌, ◌≤◌, length, get_or}
+use Rattle.std.specs.Prelude.{◌≡◌, List, [], ◌∷◌, ℕ, zero, suc, min, ◌+◌, ◌*◌, ◌-◌, ◌<◌, ◌≤◌, length, take, drop, get_or}
 use Rattle.definition.specs.Kind as K
 use Rattle.definition.specs.Numbers.{kind_number}
 use Rattle.definition.specs.Token.{Tok, next_token, tail}
 use Rattle.definition.specs.Records.{words_at, token_of}
 use Rattle.definition.specs.Places.{place_of}
+use Rattle.steps.specs.declared.tokens.Decoded.{Decoded}
 use Rattle.steps.specs.declared.tokens.Token.{Token}
 
 -- the token of the record at index i
@@ -51,7 +52,23 @@ pub record Held (w : List ℕ) (n : ℕ) : Type 0 where
 pub record Parts (w x : List ℕ) (n : ℕ) : Type 0 where
   pub each : (i : ℕ) → i < n → get_or w (8 * i + 3) 0 + get_or w (8 * i + 4) 0 ≤ length x
 
--- what `peek` ensures; of the text y it says nothing, but that the token's text is a part of x
+-- what `Records::peek` ensures, whatever the text y holds
+pub record Peeked (w : List ℕ) (n at : ℕ) (t : Decoded) : Type 0 where
+  pub kind : (y : List ℕ) → (next_token (rest w y n at)).kind ≡ kind_number t.kind
+  pub place : (y : List ℕ) → (next_token (rest w y n at)).place ≡ place_of t.place
+  pub text : (y : List ℕ) → (next_token (rest w y n at)).text ≡ take t.length (drop t.start y)
+  pub part : {y : List ℕ} → Parts w y n → t.start + t.length ≤ length y
+  pub base : (y : List ℕ) → (next_token (rest w y n at)).base ≡ t.base
+  pub tail : (y : List ℕ) → tail (rest w y n at) ≡ rest w y n t.next
+  pub pays : budget w n t.next + 16 * min (kind_number t.kind) 1 + t.length ≡ budget w n at
+  pub present : present n at ≡ min (kind_number t.kind) 1
+  pub on : at + min (kind_number t.kind) 1 ≤ t.next
+  pub up : at ≤ t.next
+  pub end : t.next ≤ n
+  pub bases : t.base ≤ 16
+  pub based : kind_number t.kind ≡ K.Integer → 0 < t.base
+
+-- what `Tokens::peek` ensures; of the text y it says nothing, but that the token's text is a part of x
 pub record Seen (w x : List ℕ) (n at : ℕ) (t : Token) : Type 0 where
   pub kind : (y : List ℕ) → (next_token (rest w y n at)).kind ≡ kind_number t.kind
   pub place : (y : List ℕ) → (next_token (rest w y n at)).place ≡ place_of t.place

@@ -7,6 +7,7 @@
 // after each call that is lent its parts (`abandon`). The file's offset is in the state, which `abandon` sets back.
 #![tactic(auto)]
 
+pub mod textless;
 pub mod tokens;
 
 ghost use Rattle.std.specs.Prelude.{[], ◌+◌, ◌<◌, ◌≤◌, length};
@@ -17,55 +18,30 @@ ghost use Rattle.node.specs.Put.{placed};
 ghost use Rattle.steps.specs.Contract.{Asks, Follows, Expects, Expected, WritesNode};
 
 use definition::kind::Kind;
-use definition::parse_error::ParseError;
 use definition::place::Place;
 use definition::tag::Tag;
-use fallible::error::Error;
+use fallible::Stop;
 use fallible::parser::{Parser, State};
-use fallible::{Stop, abandon};
 use node::{Numbers, Record, write_record};
 use tokens::Tokens;
 
-// `expect`: consumes the next token. Another kind than `wanted`, or the end, is a fatal error.
+// `textless::expect`, of tokens with their text.
 pub fn expect(tokens: Tokens, parser: &mut Parser, wanted: Kind) -> Result<Place, Stop>
     requires { Asks tokens parser × (0 < kind_number wanted) }
     ensures { Expects (λ role. P.expect_as role (kind_number wanted)) tokens parser result }
 {
-    let t = tokens.peek(parser.state.at);
-    parser.state.at = t.next;
-    if t.kind == wanted {
-        return Ok(t.place);
-    }
-    if let Kind::End = t.kind {
-        let error = Error::new(ParseError::ExpectedAtEnd, Place::NOWHERE, wanted, Kind::End);
-        return Err(parser.raise(tokens.count, error));
-    }
-    let error = Error::new(ParseError::Expected, t.place, wanted, t.kind);
-    Err(parser.raise(tokens.count, error))
+    textless::expect(tokens.records(), parser, wanted)
 }
 
-// `expect_identifier`: consumes the next token. Another kind than an identifier, or the end, is a fatal error. Apart from
-// `expect`, since both errors are others.
+// `textless::expect_identifier`, of tokens with their text.
 pub fn expect_identifier(tokens: Tokens, parser: &mut Parser) -> Result<Place, Stop>
     requires { Asks tokens parser }
     ensures { Expects (λ role. P.expect_identifier) tokens parser result }
 {
-    let t = tokens.peek(parser.state.at);
-    parser.state.at = t.next;
-    match t.kind {
-        Kind::Identifier => Ok(t.place),
-        Kind::End => {
-            let error = Error::at_end(ParseError::EndOfFile);
-            Err(parser.raise(tokens.count, error))
-        }
-        _ => {
-            let error = Error::at(ParseError::Identifier, t.place);
-            Err(parser.raise(tokens.count, error))
-        }
-    }
+    textless::expect_identifier(tokens.records(), parser)
 }
 
-// `expect(..)?` in a construct that began in the state `from`.
+// `textless::expect_after`, of tokens with their text.
 pub fn expect_after(
     tokens: Tokens,
     parser: &mut Parser,
@@ -75,9 +51,7 @@ pub fn expect_after(
     requires { Follows tokens parser from × (0 < kind_number wanted) }
     ensures { Expected (kind_number wanted) tokens parser from result }
 {
-    let before = parser.state;
-    let token = expect(tokens, parser, wanted);
-    abandon(&mut parser.reported, &mut parser.state, token, from, before)
+    textless::expect_after(tokens.records(), parser, wanted, from)
 }
 
 // Writes the record of a node, and returns its place.

@@ -1,6 +1,6 @@
 use Rattle.steps.proofs.SameKind.{same_number, other_number, equal_kinds, unequal_kinds}
 use Rattle.steps.proofs.OneToken.{expect_there, expect_end, expect_other}
-use Rattle.steps.proofs.expect.Goals as goal
+use Rattle.steps.proofs.textless.expect.Goals as goal
 
 pub returns-then-eq : goal.returns-then-eq
 returns-then-eq c =

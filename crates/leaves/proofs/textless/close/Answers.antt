@@ -1,7 +1,7 @@
 use mathlib.Core.Path.{sym, ◌∙◌}
 use Rattle.fallible.proofs.Calls.{left, refused_is, not_refused, exit_refused}
 use Rattle.leaves.proofs.Atoms.{close_refused, close_on}
-use Rattle.leaves.proofs.close.Goals as goal
+use Rattle.leaves.proofs.textless.close.Goals as goal
 
 pub returns-in_err-recover-2 : goal.returns-in_err-recover-2
 returns-in_err-recover-2 c =

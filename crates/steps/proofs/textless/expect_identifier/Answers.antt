@@ -1,6 +1,6 @@
 use Rattle.steps.proofs.SameKind.{same_number, other_number}
 use Rattle.steps.proofs.OneToken.{identifier_there, identifier_end, identifier_other}
-use Rattle.steps.proofs.expect_identifier.Goals as goal
+use Rattle.steps.proofs.textless.expect_identifier.Goals as goal
 
 pub returns-in-Identifier : goal.returns-in-Identifier
 returns-in-Identifier c = identifier_there c.requires c.peek-t.ensures (same_number c.in-Identifier.is)

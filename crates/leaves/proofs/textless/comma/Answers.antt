@@ -1,6 +1,6 @@
 use Rattle.steps.proofs.SameKind.{same_number, other_number, equal_kinds, unequal_kinds}
 use Rattle.leaves.proofs.Lists.{comma_there, comma_close, comma_end, comma_other}
-use Rattle.leaves.proofs.comma.Goals as goal
+use Rattle.leaves.proofs.textless.comma.Goals as goal
 
 pub returns-in-Comma : goal.returns-in-Comma
 returns-in-Comma c = comma_there c.requires c.peek-t.ensures (same_number c.in-Comma.is)
