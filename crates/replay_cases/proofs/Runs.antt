@@ -16,10 +16,11 @@ module _ {X : Type 0} (E : X → X → Bool) (v : X) where
 
   -- all elements equal the value just where those of the rest do, if those of the first part do
   pub after_part : (n : ℕ) (xs : List X) {part rest : List X} → part ≡ take n xs → rest ≡ drop n xs → All Is part → All Is xs ↔ All Is rest
-  after_part n xs p q all =
-      (λ h. subst (All Is) (sym q) (All-drop Is n xs h),
-      λ h. subst (All Is) (take-append-drop n xs)
-           (All-append Is (take n xs) (drop n xs) (subst (All Is) p all) (subst (All Is) q h)))
+  after_part n xs p q all = (
+    λ h. subst (All Is) (sym q) (All-drop Is n xs h),
+    λ h. subst (All Is) (take-append-drop n xs)
+        (All-append Is (take n xs) (drop n xs) (subst (All Is) p all) (subst (All Is) q h)),
+  )
 
   as_run : IsPartialEquivalence E → (xs run : List X) → pointwise E xs run ≡ true → All Is run → All Is xs
   as_run laws [] run h all = All-nil Is

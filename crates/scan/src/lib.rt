@@ -254,7 +254,10 @@ pub fn quoted(s: &[u8], from: Cursor, text: &mut [u8], start: usize) -> Body
         let b = s[c.at];
         if b == b'"' {
             return Body {
-                end: Ok(Scan { cursor: step(s, c), n }),
+                end: Ok(Scan {
+                    cursor: step(s, c),
+                    n,
+                }),
                 unknown,
             };
         }

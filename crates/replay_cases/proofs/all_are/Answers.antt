@@ -7,9 +7,10 @@ use Rattle.replay_cases.proofs.all_are.Goals as goal
 pub returns-then-not-each_is : goal.returns-then-not-each_is
 returns-then-not-each_is g c =
     let P = Is g.T.PartialEq.eq c.args.value in
-    let part = c.in-Some.ensures.cases.1 in
-    (λ no. search (no, rules),
-    λ all. subst IsTrue c.if-not-each_is.true (c.each_is-2.ensures.1 (subst (All P) (sym part) (All-take P 256 c.args.slice.now all))))
+    let part = c.in-Some.ensures.cases.1 in (
+      λ no. search (no, rules),
+      λ all. subst IsTrue c.if-not-each_is.true (c.each_is-2.ensures.1 (subst (All P) (sym part) (All-take P 256 c.args.slice.now all))),
+    )
 
 pub loop-after-init : goal.loop-after-init
 loop-after-init g c =
