@@ -1,5 +1,5 @@
 -- The records of Leaves, stated over the parameters of the functions. Assumes nothing.
-use Rattle.std.specs.Prelude.{ℕ, Result, Option, ⊤}
+use Rattle.std.specs.Prelude.{List, ℕ, Result, Option, ⊤}
 use Rattle.std.specs.Borrow.{MutBor}
 use Rattle.definition.specs.Slices.{MutSlice, MutLent, old, new}
 use Rattle.definition.specs.Node.{Rec}
@@ -24,19 +24,25 @@ Literal tokens file parser =
 abbrev pub Counted : Option Place → ℕ → ℕ → Type 0
 Counted item count r = L.Counted (item_status item) count r
 
-abbrev pub Commas : ℕ → LentTokens → MutParser → Result ⊤ Refusal → Type 0
-Commas close tokens parser r =
+-- `comma`, on the n records w
+abbrev pub CommasIn : List ℕ → ℕ → ℕ → MutParser → Result ⊤ Refusal → Type 0
+CommasIn w n close parser r =
     let p = parser.entry.now in
     let q = parser.exit.now in
-    L.Commas tokens.entry.records.now tokens.entry.count p.reported p.full p.state close q.reported q.full
-    (told r q.state)
+    L.Commas w n p.reported p.full p.state close q.reported q.full (told r q.state)
+
+abbrev pub Commas : ℕ → LentTokens → MutParser → Result ⊤ Refusal → Type 0
+Commas close tokens parser r = CommasIn tokens.entry.records.now tokens.entry.count close parser r
+
+-- `close`, on the n records w
+abbrev pub ClosedIn : List ℕ → ℕ → MutParser → Result Place Stop → Result Place Stop → Type 0
+ClosedIn w n parser called r =
+    let p = parser.entry.now in
+    let q = parser.exit.now in
+    L.Closed w n p.reported p.full (node_answer called p.state) q.reported q.full (node_answer r q.state)
 
 abbrev pub Closed : LentTokens → MutParser → Result Place Stop → Result Place Stop → Type 0
-Closed tokens parser called r =
-    let p = parser.entry.now in
-    let q = parser.exit.now in
-    L.Closed tokens.entry.records.now tokens.entry.count p.reported p.full (node_answer called p.state)
-    q.reported q.full (node_answer r q.state)
+Closed tokens parser called r = ClosedIn tokens.entry.records.now tokens.entry.count parser called r
 
 -- the token t is consumed and its record is written
 abbrev pub WritesNode : Rec → MutLent → Both Token Token → Both (MutBor State) (MutBor State) → Place → Type 0

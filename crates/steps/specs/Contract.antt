@@ -1,7 +1,7 @@
 -- What the functions of the parser require and ensure: the records of Shows, stated over their parameters, with
 -- slices as they are now, or at entry and at exit. First what is specific to a function, then its parameters in
 -- order. Assumes nothing.
-use Rattle.std.specs.Prelude.{ℕ, Result, Ok, Err}
+use Rattle.std.specs.Prelude.{List, ℕ, Result, Ok, Err}
 use Rattle.std.specs.Borrow.{MutBor}
 use Rattle.definition.specs.Slices.{MutSlice, MutLent, old, new}
 use Rattle.definition.specs.Fallible.{Fallible, Ans}
@@ -60,21 +60,26 @@ GoesOn tokens file parser first from =
 
 -- ---- ensured
 
--- a function that consumes one token
-abbrev pub Expects : (Role → Act (Ans Tok)) → LentTokens → MutParser → Result Place Stop → Type 0
-Expects m tokens parser r =
+-- a function that consumes one token, of the n records w
+abbrev pub ExpectsIn : List ℕ → ℕ → (Role → Act (Ans Tok)) → MutParser → Result Place Stop → Type 0
+ExpectsIn w n m parser r =
     let p = parser.entry.now in
     let q = parser.exit.now in
-    S.Expects tokens.entry.records.now tokens.entry.count m p.reported p.full p.state q.reported q.full
-    (node_answer r q.state)
+    S.Expects w n m p.reported p.full p.state q.reported q.full (node_answer r q.state)
+
+abbrev pub Expects : (Role → Act (Ans Tok)) → LentTokens → MutParser → Result Place Stop → Type 0
+Expects m tokens parser r = ExpectsIn tokens.entry.records.now tokens.entry.count m parser r
 
 -- `expect(..)?` in a construct that goes on with a node at `place`, or with `count` items
-abbrev pub Expected : ℕ → LentTokens → MutParser → State → Result Place Stop → Type 0
-Expected wanted tokens parser from r =
+abbrev pub ExpectedIn : List ℕ → ℕ → ℕ → MutParser → State → Result Place Stop → Type 0
+ExpectedIn w n wanted parser from r =
     let p = parser.entry.now in
     let q = parser.exit.now in
-    (place : Place) (count : ℕ) → S.Expected tokens.entry.records.now tokens.entry.count wanted from.pos from.reported p.reported p.full
+    (place : Place) (count : ℕ) → S.Expected w n wanted from.pos from.reported p.reported p.full
     (going p.state place count) q.reported q.full (goes_unless r q.state place count)
+
+abbrev pub Expected : ℕ → LentTokens → MutParser → State → Result Place Stop → Type 0
+Expected wanted tokens parser from r = ExpectedIn tokens.entry.records.now tokens.entry.count wanted parser from r
 
 -- a function that parses a node by the rule m, where `nesting` more counted calls may be opened
 abbrev pub Parses : Act (Ans Node) → LentTokens → MutLent → MutParser → ℕ → Result Place Stop → Type 0

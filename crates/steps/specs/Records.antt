@@ -8,9 +8,9 @@ use Rattle.definition.specs.declared.place.Place.{Place}
 use Rattle.fallible.specs.declared.Stop.{Stop}
 use Rattle.fallible.specs.declared.parser.State.{State}
 use Rattle.fallible.specs.declared.parser.Parser.{Parser}
-use Rattle.fallible.specs.Answer.{nowhere, node_answer}
+use Rattle.fallible.specs.Answer.{nowhere}
 use Rattle.steps.specs.declared.tokens.Records.{Records}
-use Rattle.steps.specs.Contract.{MutParser, going, goes_unless}
+use Rattle.steps.specs.Contract.{MutParser, going, ExpectsIn, ExpectedIn}
 use Rattle.steps.specs.Shows as S
 use denote.Triple.Both.{Both}
 
@@ -25,15 +25,7 @@ Follows records parser from =
     S.Follows records.count parser.now.reported parser.now.full (going parser.now.state nowhere 0) from.pos from.reported
 
 abbrev pub Expects : (Role → Act (Ans Tok)) → LentRecords → MutParser → Result Place Stop → Type 0
-Expects m records parser r =
-    let p = parser.entry.now in
-    let q = parser.exit.now in
-    S.Expects records.entry.words.now records.entry.count m p.reported p.full p.state q.reported q.full
-    (node_answer r q.state)
+Expects m records parser r = ExpectsIn records.entry.words.now records.entry.count m parser r
 
 abbrev pub Expected : ℕ → LentRecords → MutParser → State → Result Place Stop → Type 0
-Expected wanted records parser from r =
-    let p = parser.entry.now in
-    let q = parser.exit.now in
-    (place : Place) (count : ℕ) → S.Expected records.entry.words.now records.entry.count wanted from.pos from.reported p.reported
-    p.full (going p.state place count) q.reported q.full (goes_unless r q.state place count)
+Expected wanted records parser from r = ExpectedIn records.entry.words.now records.entry.count wanted parser from r
