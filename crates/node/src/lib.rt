@@ -57,7 +57,9 @@ fn put_two(w: &mut Writer<'_, u8>, n: usize)
     requires { w.old.at + 2 ≤ length w.old.out.now }
     ensures { Put (u16 n) w.old w.new }
 {
-    w.put_all(&two(n));
+    let [high, low] = two(n);
+    w.put(high);
+    w.put(low);
 }
 
 // How many bytes a place takes.
@@ -99,7 +101,9 @@ fn put_numbers(w: &mut Writer<'_, u8>, numbers: Numbers)
     }
 }
 
-// Writes a record, and returns the offset after it.
+// Writes a record, and returns the offset after it. Always inlined: an error's field then has a constant size, and its body
+// is written without being stored before.
+#[inline(always)]
 pub fn write_record(file: &mut [u8], pos: usize, r: Record<'_>) -> usize
     requires { pos + 15 + length r.text.now ≤ length file.old }
     ensures { Wrote (rec_of r.entry) file pos result }
