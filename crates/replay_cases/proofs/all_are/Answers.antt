@@ -1,4 +1,4 @@
-use Rattle.std.proofs.Common.{rules, subst, sym, IsTrue, take}
+use Rattle.std.proofs.Common.{rules, subst, sym, IsTrue}
 use Rattle.std.specs.List.{All}
 use Rattle.std.proofs.lemmas.List.Elements.{All-take}
 use Rattle.replay_cases.proofs.Runs.{Is, after_part, after_run}
