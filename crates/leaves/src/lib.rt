@@ -72,6 +72,7 @@ pub fn counted(item: Option<Place>, count: usize) -> usize
 }
 
 // `textless::comma`, of tokens with their text.
+#[inline(always)]
 pub fn comma(tokens: Tokens, parser: &mut Parser, close: Kind) -> Result<(), Refusal>
     requires { Asks tokens parser }
     ensures { Commas (kind_number close) tokens parser result }
@@ -273,6 +274,7 @@ pub fn literal(tokens: Tokens, file: &mut [u8], parser: &mut Parser) -> Result<P
 }
 
 // `textless::close`, of tokens with their text.
+#[inline(always)]
 pub fn close(
     tokens: Tokens,
     parser: &mut Parser,

@@ -26,6 +26,7 @@ use node::{Numbers, Record, write_record};
 use tokens::Tokens;
 
 // `textless::expect`, of tokens with their text.
+#[inline(always)]
 pub fn expect(tokens: Tokens, parser: &mut Parser, wanted: Kind) -> Result<Place, Stop>
     requires { Asks tokens parser × (0 < kind_number wanted) }
     ensures { Expects (λ role. P.expect_as role (kind_number wanted)) tokens parser result }
@@ -34,6 +35,7 @@ pub fn expect(tokens: Tokens, parser: &mut Parser, wanted: Kind) -> Result<Place
 }
 
 // `textless::expect_identifier`, of tokens with their text.
+#[inline(always)]
 pub fn expect_identifier(tokens: Tokens, parser: &mut Parser) -> Result<Place, Stop>
     requires { Asks tokens parser }
     ensures { Expects (λ role. P.expect_identifier) tokens parser result }
@@ -42,6 +44,7 @@ pub fn expect_identifier(tokens: Tokens, parser: &mut Parser) -> Result<Place, S
 }
 
 // `textless::expect_after`, of tokens with their text.
+#[inline(always)]
 pub fn expect_after(
     tokens: Tokens,
     parser: &mut Parser,

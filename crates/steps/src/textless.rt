@@ -12,7 +12,9 @@ use fallible::error::Error;
 use fallible::parser::{Parser, State};
 use fallible::{Stop, abandon};
 
-// `expect`: consumes the next token. Another kind than `wanted`, or the end, is a fatal error.
+// `expect`: consumes the next token. Another kind than `wanted`, or the end, is a fatal error. Always inlined, as its like on
+// `Tokens`: a call stores the tokens and the place, and reads them back.
+#[inline(always)]
 pub fn expect(records: Records, parser: &mut Parser, wanted: Kind) -> Result<Place, Stop>
     requires { Asks records parser × (0 < kind_number wanted) }
     ensures { Expects (λ role. P.expect_as role (kind_number wanted)) records parser result }
