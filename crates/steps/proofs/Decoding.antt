@@ -1,13 +1,14 @@
--- A token decoded without its text: within the records, at their end, what it decides, and its text. Assumes nothing.
-use mathlib.Core.Path.{◌≡◌, sym, ap, ◌∙◌}
-use mathlib.Core.Bool.{true, false}
+-- A token decoded without its text: within the records, at their end, with its text, what it decides, and from one that has
+-- its text. Assumes nothing.
+use mathlib.Core.Path.{◌≡◌, refl, sym, ap, ◌∙◌}
+use mathlib.Core.Bool.{Bool, true, false}
 use mathlib.Core.List.{List, ◌++◌}
 use Prim.Native.Nat.{ℕ, ◌+◌, ◌*◌, ◌-◌, ◌≤◌, ◌<◌}
 use native.Mathlib.Omega.{arith}
-use lib.Dec.{eqb}
+use lib.Dec.{eqb, ltb}
 use lib.ListN.{length, take, drop, get_or, length-drop}
 use lib.Seq.{length-take-le}
-use borrow.Author.Tests.{eq-eqb, ne_eqb}
+use borrow.Author.Tests.{eq-eqb, ne_eqb, ltb-true, ltb-false}
 use Rattle.definition.specs.Source.{place_at, nowhere}
 use Rattle.definition.specs.Numbers.{kind_number}
 use Rattle.definition.specs.Places.{place_of}
@@ -18,9 +19,10 @@ use Rattle.definition.specs.Act.{Role, Consumed, advance, now_read}
 use Rattle.fallible.specs.declared.error.Error.{Error}
 use Rattle.fallible.specs.declared.parser.State.{State}
 use Rattle.steps.specs.declared.tokens.Decoded.{Decoded}
+use Rattle.steps.specs.declared.tokens.Token.{Token}
 use Rattle.steps.specs.Tokens.{rest, present, Held, Parts, Peeked, Seen}
 use Rattle.steps.specs.Shows.{Asks, Moved, st_of}
-use Rattle.steps.proofs.Records.{rest_cons, rest_nil, budget_cons, at_index}
+use Rattle.steps.proofs.Records.{rest_cons, rest_nil, rest_length, budget_cons, present_before, at_index}
 use Rattle.steps.proofs.Moves.{asks_later, later_moved}
 
 module _ {w : List ℕ} {n at : ℕ} {t : Decoded} where
@@ -69,12 +71,13 @@ module _ {w : List ℕ} {n at : ℕ} {t : Decoded} where
 
 module _ {w : List ℕ} {n at : ℕ} {t : Decoded} (v : Peeked w n at t) where
   -- with its text, a part of x
-  pub seen_text : {x : List ℕ} {text : Slice} → Parts w x n → text.now ≡ take (t.start + t.length - t.start) (drop t.start x)
+  pub seen_text : {x : List ℕ} {text : Slice} → t.start + t.length ≤ length x
+      → text.now ≡ take (t.start + t.length - t.start) (drop t.start x)
       → Seen w x n at (record { kind = t.kind; place = t.place; text = text; base = t.base; next = t.next })
-  seen_text {x = x} {text = text} q e =
+  seen_text {x = x} {text = text} h e =
       let z : t.start + t.length - t.start ≡ t.length = omega arith in
       let here : text.now ≡ take t.length (drop t.start x) = rw z at e in
-      let l : length text.now ≡ t.length = ap length here ∙ length-take-le _ _ (simp length-drop (omega (arith, v.part q))) in
+      let l : length text.now ≡ t.length = ap length here ∙ length-take-le _ _ (simp length-drop (omega arith)) in
       record {
         kind = v.kind;
         place = v.place;
@@ -117,3 +120,55 @@ module _ {w : List ℕ} {n : ℕ} {r f : List Error} {s : State} {t : Decoded} (
 
   pub fore_moved : Moved w n s.pos s.reported s (fore s t)
   fore_moved = later_moved q v.up v.end (omega arith)
+
+-- where the part of the token at an index starts, 0 if there is none
+abbrev pub start_at : List ℕ → ℕ → ℕ → ℕ
+start_at w n at = present n at * get_or w (8 * at + 3) 0
+
+module _ {w x : List ℕ} {n at : ℕ} {t : Token} (v : Seen w x n at t) where
+  -- its part is that of its record, or empty at the end
+  part_there : at < n → (start_at w n at ≡ get_or w (8 * at + 3) 0) × (length t.text.now ≡ get_or w (8 * at + 4) 0)
+  part_there h =
+      let k : get_or w (8 * at) 0 ≡ kind_number t.kind = rw (rest_cons w x n at h) at (v.kind x) in
+      let l = ap length (rw (rest_cons w x n at h) at (v.tail x)) in
+      let e : t.next ≡ at + 1 = omega (arith, l, rest_length w x n (at + 1), rest_length w x n t.next, v.end) in
+      (rw (present_before n at h) (omega arith), omega (arith, budget_cons w n at h, k, rw e at v.pays))
+
+  part_end : n ≤ at → (start_at w n at ≡ 0) × (length t.text.now ≡ 0)
+  part_end h =
+      let p : present n at ≡ 0 = omega (arith, v.present, v.on, v.end) in
+      (rw p (omega arith), ap length (sym (rw (rest_nil w x n at h) at v.text)))
+
+  -- a token with its text is a decoded one: the laws of `Peeked` hold of it
+  pub seen_decoded : Peeked w n at (record {
+    kind = t.kind;
+    place = t.place;
+    start = start_at w n at;
+    length = length t.text.now;
+    base = t.base;
+    next = t.next;
+  })
+  seen_decoded = record {
+    kind = v.kind;
+    place = v.place;
+    text = λ y. text y (ltb at n) refl;
+    part = λ parts. part parts (ltb at n) refl;
+    base = v.base;
+    tail = v.tail;
+    pays = v.pays;
+    present = v.present;
+    on = v.on;
+    up = v.up;
+    end = v.end;
+    bases = v.bases;
+    based = v.based;
+  }
+    where
+      text : (y : List ℕ) (b : Bool) → ltb at n ≡ b
+          → (next_token (rest w y n at)).text ≡ take (length t.text.now) (drop (start_at w n at) y)
+      text y true b = let h = ltb-true at n b in rw (rest_cons w y n at h, (part_there h).0, (part_there h).1)
+      text y false b = let h = ltb-false at n b in rw (rest_nil w y n at h, (part_end h).1)
+
+      part : {y : List ℕ} → Parts w y n → (b : Bool) → ltb at n ≡ b → start_at w n at + length t.text.now ≤ length y
+      part parts true b = let h = ltb-true at n b in rw ((part_there h).0, (part_there h).1) (parts.each at h)
+      part parts false b = let h = ltb-false at n b in rw ((part_end h).0, (part_end h).1) (omega arith)

@@ -33,6 +33,16 @@ pub rest_nil : (w x : List ℕ) (n at : ℕ) → n ≤ at → rest w x n at ≡ 
 unfolding rest from
 rest_nil w x n at h = let e : n - at ≡ 0 = omega arith in rw e
 
+-- how many they are
+from_length : (w x : List ℕ) (i k : ℕ) → length (from w x i k) ≡ k
+unfolding from
+from_length w x i zero = refl
+from_length w x i (suc k) = omega (arith, from_length w x (i + 1) k)
+
+pub rest_length : (w x : List ℕ) (n at : ℕ) → length (rest w x n at) ≡ n - at
+unfolding rest
+rest_length w x n at = from_length w x at (n - at)
+
 -- ---- what the records account for
 
 pub budget_cons : (w : List ℕ) (n at : ℕ) → at < n
